@@ -3,6 +3,12 @@
 
 mod cause;
 mod field;
+mod fields;
+mod key;
+pub mod laws;
+mod varint;
 
 pub use cause::{WireCause, WireCode};
 pub use field::{Body, Field};
+pub use fields::Fields;
+pub use varint::read_varint;

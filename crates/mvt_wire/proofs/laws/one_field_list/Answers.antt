@@ -1,0 +1,5 @@
+use Rattle.mvt_wire.proofs.Messages.{one_list}
+use Rattle.mvt_wire.proofs.laws.one_field_list.Goals as goal
+
+pub returns : goal.returns
+returns c = one_list

@@ -1,0 +1,45 @@
+//! The laws of the wire encoding, as contracts of functions that do nothing. They speak of the
+//! definitions alone, so a reader of messages can stand on them.
+
+ghost use Rattle.std.specs.Prelude.{◌≡◌, ℕ, ◌⊎◌, List, [], ◌∷◌, ◌++◌};
+ghost use Rattle.mvt_wire.specs.Varint.{IsVarint, BeginsWithVarint, EndsEarly, IsTooLong};
+ghost use Rattle.mvt_wire.specs.Field.{Entry, IsField, IsFieldSpelling, FieldDefect};
+ghost use Rattle.mvt_wire.specs.Message.{FieldList, IsMessage, HasDefect};
+ghost use Rattle.mvt_wire.specs.declared.cause.WireCause.{WireCause};
+
+/// No spelling of a varint is a proper front of another one (Protocol Buffers encoding, "Base 128
+/// Varints").
+pub fn no_varint_begins_another()
+    ensures { (spelling more : List ℕ) (m n : ℕ) → IsVarint spelling m → IsVarint (spelling ++ more) n → more ≡ [] }
+{}
+
+/// At each place stands exactly one of a varint, a varint that ends too early and one that is too
+/// long.
+pub fn varint_or_defect()
+    ensures some { (rest : List ℕ) → BeginsWithVarint rest ⊎ EndsEarly rest ⊎ IsTooLong rest }
+    ensures not_early { (rest : List ℕ) → BeginsWithVarint rest → ¬ EndsEarly rest }
+    ensures not_long { (rest : List ℕ) → BeginsWithVarint rest → ¬ IsTooLong rest }
+    ensures one_defect { (rest : List ℕ) → EndsEarly rest → ¬ IsTooLong rest }
+{}
+
+/// No spelling of a field is a proper front of another one (Protocol Buffers encoding, "Message
+/// Structure").
+pub fn no_field_begins_another()
+    ensures { (spelling more : List ℕ) (e f : Entry) → IsFieldSpelling spelling e → IsFieldSpelling (spelling ++ more) f → more ≡ [] }
+{}
+
+/// A message has one field list.
+pub fn one_field_list()
+    ensures { (bytes : List ℕ) (from : ℕ) (es fs : List Entry) → IsMessage bytes from es → IsMessage bytes from fs → es ≡ fs }
+{}
+
+/// A whole message has no defect.
+pub fn whole_or_defect()
+    ensures { (bytes : List ℕ) (from : ℕ) (es : List Entry) (cause : WireCause) → IsMessage bytes from es → ¬ HasDefect bytes from cause }
+{}
+
+/// A list of fields goes on by the field that stands behind it.
+pub fn field_list_goes_on()
+    ensures { (bytes : List ℕ) (from : ℕ) (entries : List Entry) (at next : ℕ) (entry : Entry) →
+        FieldList bytes from entries at → entry.at ≡ at → IsField bytes next entry → FieldList bytes from (entries ++ entry ∷ []) next }
+{}
