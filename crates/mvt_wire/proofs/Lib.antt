@@ -1,3 +1,5 @@
+pub mod Defects
+pub mod Entries
+pub mod Messages
 pub mod Varints
 pub mod Walks
-pub mod Messages

@@ -1,6 +1,6 @@
 -- Fields (Protocol Buffers encoding, "Message Structure"). All places are offsets in one byte list, which ends
 -- where the message ends.
-use Rattle.std.specs.Prelude.{◌≡◌, ℕ, ◌+◌, ◌*◌, ◌/◌, ◌^◌, ◌<◌, ◌≤◌, ◌⊎◌, List, length, slice_range, drop}
+use Rattle.std.specs.Prelude.{◌≡◌, ℕ, ◌+◌, ◌*◌, ◌^◌, ◌<◌, ◌≤◌, ◌⊎◌, List, length, slice_range, drop}
 use Rattle.mvt_wire.specs.Varint.{SpellsVarint, VarintDefect}
 use Rattle.mvt_wire.specs.declared.cause.WireCode.{WireCode}
 use Rattle.mvt_wire.specs.declared.cause.WireCode.TheVariants.{BadNumber, BadWireType, PastEnd}

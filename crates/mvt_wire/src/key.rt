@@ -1,4 +1,4 @@
-ghost use Rattle.std.specs.Prelude.{◌≡◌, ◌≤◌, length, IfOk, IfErr};
+ghost use Rattle.std.specs.Prelude.{◌≡◌, ◌<◌, ◌≤◌, ◌^◌, ◌↔◌, IsTrue, length, IfOk, IfErr};
 ghost use Rattle.mvt_wire.specs.Field.{FieldDefect};
 ghost use Rattle.mvt_wire.specs.Key.{IsKeyOf};
 
@@ -35,7 +35,7 @@ pub(crate) fn read_key(bytes: &[u8], at: usize) -> Result<Key, WireCause>
         Ok(read) => read,
         Err(code) => return Err(WireCause { code, at, field: 0 }),
     };
-    if key < 8 || key >= 1 << 32 {
+    if !is_key(key) {
         return Err(WireCause {
             code: WireCode::BadNumber,
             at,
@@ -62,4 +62,11 @@ pub(crate) fn read_key(bytes: &[u8], at: usize) -> Result<Key, WireCause>
         wire_type,
         end,
     })
+}
+
+/// Whether a number is a field key: below 2^32, and with a field number of at least 1.
+fn is_key(number: u64) -> bool
+    ensures { IsTrue result ↔ (8 ≤ number) × (number < 2 ^ 32) }
+{
+    number >= 8 && number < 1 << 32
 }

@@ -1,9 +1,9 @@
 //! The laws of the wire encoding, as contracts of functions that do nothing. They speak of the
 //! definitions alone, so a reader of messages can stand on them.
 
-ghost use Rattle.std.specs.Prelude.{◌≡◌, ℕ, ◌⊎◌, List, [], ◌∷◌, ◌++◌};
+ghost use Rattle.std.specs.Prelude.{◌≡◌, ℕ, ◌≤◌, ◌⊎◌, List, [], ◌∷◌, ◌++◌, length};
 ghost use Rattle.mvt_wire.specs.Varint.{IsVarint, BeginsWithVarint, EndsEarly, IsTooLong};
-ghost use Rattle.mvt_wire.specs.Field.{Entry, IsField, IsFieldSpelling, FieldDefect};
+ghost use Rattle.mvt_wire.specs.Field.{Entry, IsField, IsFieldSpelling};
 ghost use Rattle.mvt_wire.specs.Message.{FieldList, IsMessage, HasDefect};
 ghost use Rattle.mvt_wire.specs.declared.cause.WireCause.{WireCause};
 
@@ -33,9 +33,14 @@ pub fn one_field_list()
     ensures { (bytes : List ℕ) (from : ℕ) (es fs : List Entry) → IsMessage bytes from es → IsMessage bytes from fs → es ≡ fs }
 {}
 
-/// A whole message has no defect.
-pub fn whole_or_defect()
-    ensures { (bytes : List ℕ) (from : ℕ) (es : List Entry) (cause : WireCause) → IsMessage bytes from es → ¬ HasDefect bytes from cause }
+/// The bytes from a place on are a whole message, or have one defect.
+pub fn message_or_defect()
+    ensures some { (bytes : List ℕ) (from : ℕ) → from ≤ length bytes →
+        ((entries : List Entry) × IsMessage bytes from entries) ⊎ ((cause : WireCause) × HasDefect bytes from cause) }
+    ensures not_both { (bytes : List ℕ) (from : ℕ) (entries : List Entry) (cause : WireCause) →
+        IsMessage bytes from entries → ¬ HasDefect bytes from cause }
+    ensures one_defect { (bytes : List ℕ) (from : ℕ) (first second : WireCause) →
+        HasDefect bytes from first → HasDefect bytes from second → first ≡ second }
 {}
 
 /// A list of fields goes on by the field that stands behind it.

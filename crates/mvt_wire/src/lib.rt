@@ -6,6 +6,8 @@ mod field;
 mod fields;
 mod key;
 pub mod laws;
+#[cfg(test)]
+mod tests;
 mod varint;
 
 pub use cause::{WireCause, WireCode};

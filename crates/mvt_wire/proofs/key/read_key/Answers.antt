@@ -1,18 +1,15 @@
-use Rattle.std.proofs.Common.{refl, rules, arith, inl, inr}
-use Rattle.mvt_wire.specs.Field.{key, key_out_of_range}
-use Rattle.mvt_wire.proofs.Walks.{BadWireType-at}
+use Rattle.std.proofs.Common.{refl, arith}
+use Rattle.mvt_wire.specs.Field.{key}
+use Rattle.mvt_wire.proofs.Defects.{BadNumber-at, BadWireType-at}
 use Rattle.mvt_wire.proofs.key.read_key.Goals as goal
-use Rattle.mvt_wire.proofs.key.read_key.Goals.{then-key-lt8-via-then-key-lt8, then-key-lt8-via-else-key-lt8+then-key}
 
 pub returns-in-Err-clause-defect : goal.returns-in-Err-clause-defect
 returns-in-Err-clause-defect c = key _ c.in-Err.ensures.refused refl
 
-pub returns-then-key-lt8-clause-defect : goal.returns-then-key-lt8-clause-defect
-returns-then-key-lt8-clause-defect c = elim c.then-key-lt8.branch [
-  | then-key-lt8-via-then-key-lt8 w ↦ key_out_of_range _ _ c.in-Ok.ensures.found (inr w.if-key-lt8.true) refl
-  | then-key-lt8-via-else-key-lt8+then-key w ↦ key_out_of_range _ _ c.in-Ok.ensures.found (inl w.if-key.true) refl
-]
+pub returns-then-not-is_key-clause-defect : goal.returns-then-not-is_key-clause-defect
+returns-then-not-is_key-clause-defect c = BadNumber-at _ _ _ _ _ c.in-Ok.ensures.found c.is_key.ensures c.if-not-is_key.true
 
 pub returns-in_default-clause-defect : goal.returns-in_default-clause-defect
 returns-in_default-clause-defect c =
-    BadWireType-at _ _ _ _ c.in-Ok.ensures.found (omega arith) c.if-key-lt8.false (omega arith) (omega arith) (omega arith) (omega arith)
+    let is = c.is_key.ensures.0 c.if-not-is_key.false in
+    BadWireType-at _ _ _ _ c.in-Ok.ensures.found is.1 is.0 (omega arith) (omega arith) (omega arith) (omega arith)

@@ -1,4 +1,4 @@
-use Rattle.std.proofs.Common.{◌≡◌, ℕ, ◌+◌, ◌*◌, ◌^◌, ◌<◌, ◌≤◌, length, take, arith, below_more, add-one}
+use Rattle.std.proofs.Common.{◌+◌, ◌<◌, length, arith, below_more, add-one}
 use Rattle.std.proofs.Math.Nat.{pow-suc}
 use Rattle.mvt_wire.proofs.Varints.{value_step, value_step-below, weight-le, IsVarint-take}
 use Rattle.mvt_wire.proofs.varint.leading_varint.Goals as goal

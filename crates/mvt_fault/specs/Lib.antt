@@ -1,0 +1,5 @@
+pub use Rattle.serde_json.specs.Data
+pub use Rattle.serde_json.specs.Read
+pub use Rattle.serde_json.specs.Written
+pub mod Code
+pub mod Text
