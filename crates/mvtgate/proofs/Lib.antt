@@ -1,0 +1,3 @@
+pub mod EngineLemmas
+pub mod Listing
+pub mod OneAnswer

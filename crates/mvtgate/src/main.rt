@@ -1,0 +1,18 @@
+//! A gate before the publishing of Mapbox vector tiles: the program.
+#![tactic(auto)]
+
+#[cfg(test)]
+mod device;
+mod engine;
+mod fields;
+mod run;
+mod tally;
+
+use std::process::ExitCode;
+
+fn main(rt: HostRuntime) -> ExitCode {
+    ExitCode::from(match run::command_words(&rt) {
+        Ok(words) => run::run(&rt, &words),
+        Err(status) => status,
+    })
+}

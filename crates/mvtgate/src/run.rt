@@ -1,0 +1,132 @@
+//! The whole run of the program: its words, its devices and its exit status.
+ghost use Rattle.std.specs.Prelude.{◌≡◌, ◌≢◌, ◌≤◌, ◌⊎◌, IfErr};
+ghost use Rattle.clap.specs.Words.{kind_of};
+ghost use Rattle.mvtgate.specs.Status.{status_of};
+
+use crate::engine::{EngineFault, Outcome};
+use crate::fields::fields_stream;
+use crate::tally::Tally;
+use clap::error::ErrorKind;
+use clap::{Arg, ArgMatches, Command};
+use std::alloc::{AllocError, Global};
+use std::rt::{Env, Files};
+use std::{env, fs, io};
+
+/// The exit status of a command line that asks for nothing that there is.
+const BAD_WORDS: u8 = 2;
+
+/// The exit status of a run whose devices fail.
+const BAD_DEVICE: u8 = 3;
+
+/// The exit status of a run that memory does not suffice for.
+const NO_MEMORY: u8 = 4;
+
+/// Runs the program on the words of a command line, of which the first is the program's name, and
+/// returns its exit status.
+pub fn run<R: Files + Input + Print + Eprint + AllocGlobal>(rt: &R, words: &[String]) -> u8
+    ensures { result ≤ 4 }
+{
+    let Ok(command) = command_line(rt.alloc()) else {
+        return end(rt, Err(EngineFault::Memory));
+    };
+    match command.try_get_matches_from(words) {
+        Ok(matches) => run_fields(rt, file_of(&matches)),
+        Err(error) => explain(rt, &error),
+    }
+}
+
+/// The words of the command line. Where they are not to be had, a line says why, and the error is
+/// the exit status.
+pub fn command_words<R: Env + Eprint + AllocGlobal>(rt: &R) -> Result<Vec<String>, u8>
+    ensures { IfErr result (λ status. (status ≡ 2) ⊎ (status ≡ 4)) }
+{
+    let mut words = Vec::new(rt.alloc());
+    match env::args(rt) {
+        Ok(args) => {
+            for word in args {
+                if words.push(word).is_err() {
+                    return Err(end(rt, Err(EngineFault::Memory)));
+                }
+            }
+            Ok(words)
+        }
+        Err(error) if error.kind() == io::ErrorKind::OutOfMemory => {
+            Err(end(rt, Err(EngineFault::Memory)))
+        }
+        Err(_) => {
+            let _ = eprintln!(rt; "mvtgate: a word of the command line is not UTF-8");
+            Err(BAD_WORDS)
+        }
+    }
+}
+
+fn command_line<'a>(alloc: Global) -> Result<Command<'a>, AllocError> {
+    let file = Arg::new(alloc, "FILE").help("The tile; without it standard input");
+    let fields = Command::new(alloc, "fields")
+        .about("Lists the outermost fields of a tile")
+        .arg(file)?;
+    Command::new(alloc, "mvtgate")
+        .about("A gate before the publishing of Mapbox vector tiles")
+        .subcommand_required(true)
+        .subcommand(fields)
+}
+
+fn file_of<'a>(matches: &ArgMatches<'a>) -> Option<&'a str> {
+    let (_name, found) = matches.subcommand()?;
+    found.get_str("FILE")
+}
+
+/// Prints what `clap` has to say: help on standard output, and anything else as an error.
+fn explain<R: Print + Eprint>(rt: &R, error: &clap::Error) -> u8
+    ensures help { kind_of error.now ≡ ErrorKind.DisplayHelp → result ≡ 0 }
+    ensures memory { kind_of error.now ≡ ErrorKind.OutOfMemory → result ≡ 4 }
+    ensures range { result ≤ 4 }
+
+    // The program has no word for its version.
+    ensures mistake { kind_of error.now ≢ ErrorKind.DisplayHelp →
+        kind_of error.now ≢ ErrorKind.DisplayVersion →
+        kind_of error.now ≢ ErrorKind.OutOfMemory → result ≡ 2 }
+{
+    if error.kind() == ErrorKind::OutOfMemory {
+        return end(rt, Err(EngineFault::Memory));
+    }
+    let _ = error.print(rt);
+    if error.use_stderr() { BAD_WORDS } else { 0 }
+}
+
+fn run_fields<R: Files + Input + Print + Eprint + AllocGlobal>(rt: &R, file: Option<&str>) -> u8
+    ensures { result ≤ 4 }
+{
+    let mut writer = Tally::new(io::writer(rt));
+    let Some(path) = file else {
+        let mut reader = Tally::new(rt.reader());
+        return end(rt, fields_stream(rt.alloc(), &mut reader, &mut writer));
+    };
+    let Ok(opened) = fs::open(rt, path) else {
+        let _ = eprintln!(rt; "mvtgate: cannot open the tile file");
+        return BAD_DEVICE;
+    };
+    let mut reader = Tally::new(opened);
+    end(rt, fields_stream(rt.alloc(), &mut reader, &mut writer))
+}
+
+/// The status of an engine's answer. A fault of the run is told in one line on standard error, and
+/// whether that line could be written changes no status.
+fn end(rt: &impl Eprint, answer: Result<Outcome, EngineFault>) -> u8
+    ensures { result ≡ status_of answer }
+{
+    match answer {
+        Ok(Outcome::Yes) => 0,
+        Ok(Outcome::No) => 1,
+        Err(fault) => {
+            let _ = eprintln!(rt; "{fault}");
+            match fault {
+                EngineFault::Read | EngineFault::TooLarge | EngineFault::Write => BAD_DEVICE,
+                EngineFault::Memory => NO_MEMORY,
+            }
+        }
+    }
+}
+
+#[cfg(test)]
+mod tests;
