@@ -1,10 +1,10 @@
--- What the line of a message's fields is while it is written.
+-- What is known while the fields of a message are walked, and their line is written.
 use Rattle.std.proofs.Common.{◌≡◌, ℕ, ◌<◌, List, [], ◌∷◌, ◌++◌, Bool, true, false, if◌then◌else◌, length, codes, map, refl, ap, subst, sym, ◌∙◌, append_assoc}
 use Rattle.std.proofs.lemmas.List.{map_push}
 use Rattle.std.specs.List.{join_with_byte}
-use Rattle.mvt_wire.proofs.Messages.{FieldList-push}
+use Rattle.mvt_wire.proofs.Messages.{FieldList-push, whole_or_defect}
 use Rattle.mvt_wire.specs.Field.{Entry, FieldDefect, IsField}
-use Rattle.mvt_wire.specs.Message.{FieldList, HasDefect}
+use Rattle.mvt_wire.specs.Message.{FieldList, HasDefect, IsMessage}
 use Rattle.mvt_wire.specs.Walk.{Walk, FindsDefect, GivesField}
 use Rattle.mvt_wire.specs.declared.cause.WireCause.{WireCause}
 use Rattle.mvtgate.specs.FieldsLine.{field_text, fields_text, opening}
@@ -14,13 +14,41 @@ abbrev pub has_none : List Entry → Bool
 has_none [] = true
 has_none (entry ∷ entries) = false
 
+-- the walk over a message has passed these fields
+pub record Passing (input : List ℕ) (walk : Walk) (entries : List Entry) : Type 0 where
+  pub same_bytes : walk.bytes ≡ input
+  pub passed : FieldList input 0 entries walk.at
+
 -- the text so far is that of the fields that the walk has passed
 pub record Listing (input : List ℕ) (walk : Walk) (text : List ℕ) (is_first : Bool) : Type 0 where
   pub entries : List Entry
-  pub same_bytes : walk.bytes ≡ input
-  pub passed : FieldList input 0 entries walk.at
+  pub walked : Passing input walk entries
   pub written : text ≡ opening ++ fields_text entries
   pub first : is_first ≡ has_none entries
+
+-- one more field was given
+pub Passing-more : (input : List ℕ) (old new : Walk) (entries : List Entry) (entry : Entry)
+    → Passing input old entries
+    → GivesField old new entry
+    → Passing input new (entries ++ entry ∷ [])
+Passing-more input old new entries entry so_far given = record {
+  same_bytes = given.same_bytes ∙ so_far.same_bytes;
+  passed = FieldList-push input 0 entries old.at new.at entry so_far.passed given.here
+      (let at : List ℕ → Type 0 = λ bytes. IsField bytes new.at entry in subst at so_far.same_bytes given.spelled);
+}
+
+-- a defect at the place of the walk is one of the message
+pub Passing-defect : (input : List ℕ) (old new : Walk) (entries : List Entry) (cause : WireCause)
+    → Passing input old entries
+    → FindsDefect old new cause
+    → HasDefect input 0 cause
+Passing-defect input old new entries cause so_far found = record {
+  entries = entries;
+  at = old.at;
+  before = so_far.passed;
+  left = subst (λ bytes. old.at < length bytes) so_far.same_bytes found.left;
+  defect = subst (λ bytes. FieldDefect bytes old.at cause) so_far.same_bytes found.defect;
+}
 
 -- one more piece behind others
 join-push : (c : ℕ) (piece : List ℕ) (pieces : List (List ℕ)) (last : List ℕ)
@@ -67,22 +95,17 @@ pub Listing-more : (input : List ℕ) (old new : Walk) (text longer : List ℕ) 
     → Listing input new longer false
 Listing-more input old new text longer is_first entry so_far given after = record {
   entries = so_far.entries ++ entry ∷ [];
-  same_bytes = given.same_bytes ∙ so_far.same_bytes;
-  passed = FieldList-push input 0 so_far.entries old.at new.at entry so_far.passed given.here
-      (let at : List ℕ → Type 0 = λ bytes. IsField bytes new.at entry in subst at so_far.same_bytes given.spelled);
+  walked = Passing-more input old new so_far.entries entry so_far.walked given;
   written = written-push so_far.entries entry text longer is_first so_far.written so_far.first after;
   first = has_none-push so_far.entries entry;
 }
 
--- a defect at the place of the walk is one of the message
-pub Listing-defect : (input : List ℕ) (old new : Walk) (text : List ℕ) (is_first : Bool) (cause : WireCause)
+-- a whole message gives no defect
+pub Listing-whole : (input : List ℕ) (old new : Walk) (text : List ℕ) (is_first : Bool) (cause : WireCause)
     → Listing input old text is_first
+    → (entries : List Entry) × IsMessage input 0 entries
     → FindsDefect old new cause
-    → HasDefect input 0 cause
-Listing-defect input old new text is_first cause so_far found = record {
-  entries = so_far.entries;
-  at = old.at;
-  before = so_far.passed;
-  left = subst (λ bytes. old.at < length bytes) so_far.same_bytes found.left;
-  defect = subst (λ bytes. FieldDefect bytes old.at cause) so_far.same_bytes found.defect;
-}
+    → ⊥
+Listing-whole input old new text is_first cause so_far whole found =
+    let bad = Passing-defect input old new so_far.entries cause so_far.walked found in
+    whole_or_defect input 0 bad.at whole.0 bad.entries cause whole.1 bad.before bad.left bad.defect

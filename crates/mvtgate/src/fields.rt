@@ -5,12 +5,14 @@ ghost use Rattle.mvtgate.specs.Fields.{IsFieldsAnswer, fault_line};
 ghost use Rattle.mvtgate.specs.Tally.{counts_of, device_of, no_counts};
 ghost use Rattle.mvtgate.specs.declared.engine.Outcome.{Outcome};
 
+mod defect;
 pub mod laws;
 mod line;
 
 use crate::engine;
 use crate::engine::{EngineFault, Outcome};
 use crate::tally::Tally;
+use defect::first_defect;
 use line::fields_line;
 use mvt_fault::{Fault, Scope, fault_text};
 use mvt_wire::WireCause;
@@ -51,13 +53,14 @@ pub fn fields_stream<R: Read, W: Write>(
     Ok(outcome)
 }
 
-/// The answer to an input, and its line.
+/// The answer to an input, and its line. The message is walked for a defect first, so that a tile
+/// with a broken field takes memory for the line of its fault alone.
 fn answer(alloc: Global, input: &[u8]) -> Result<(Outcome, String), AllocError>
     ensures { IfOk result (λ r. IsFieldsAnswer input.now r.0 (string_bytes r.1)) }
 {
-    match fields_line(alloc, input)? {
-        Ok(line) => Ok((Outcome::Yes, line)),
-        Err(cause) => Ok((Outcome::No, fault_line(alloc, cause)?)),
+    match first_defect(input) {
+        None => Ok((Outcome::Yes, fields_line(alloc, input)?)),
+        Some(cause) => Ok((Outcome::No, fault_line(alloc, cause)?)),
     }
 }
 

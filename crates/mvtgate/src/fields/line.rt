@@ -1,19 +1,18 @@
 //! The line of a message's fields, written field by field into one text.
-ghost use Rattle.std.specs.Prelude.{◌≡◌, List, [], ◌++◌, codes, if◌then◌else◌, IfOk, IfErr, OnOk, string_bytes};
+ghost use Rattle.std.specs.Prelude.{◌≡◌, List, [], ◌++◌, codes, if◌then◌else◌, IfOk, OnOk, string_bytes};
 ghost use Rattle.mvt_wire.specs.Field.{Entry, entry_of};
-ghost use Rattle.mvt_wire.specs.Message.{HasDefect, IsMessage};
+ghost use Rattle.mvt_wire.specs.Message.{IsMessage};
 ghost use Rattle.mvtgate.specs.FieldsLine.{field_text, fields_line, payload_text, varint_text};
 
-use mvt_wire::{Body, Field, Fields, WireCause};
+use mvt_wire::{Body, Field, Fields};
 use std::alloc::{AllocError, Global};
 use std::fmt::Write;
 
-/// The line of the fields of a whole message, with its LF, or what is wrong with the first field
-/// that has a defect. The bytes are walked once.
-pub fn fields_line(alloc: Global, input: &[u8]) -> Result<Result<String, WireCause>, AllocError>
-    ensures whole { IfOk result (λ r. IfOk r (λ line. (entries : List Entry)
-        × IsMessage input.now 0 entries × (string_bytes line ≡ fields_line entries))) }
-    ensures defect { IfOk result (λ r. IfErr r (λ cause. HasDefect input.now 0 cause)) }
+/// The line of the fields of a whole message, with its LF. The bytes are walked once.
+pub fn fields_line(alloc: Global, input: &[u8]) -> Result<String, AllocError>
+    requires { (entries : List Entry) × IsMessage input.now 0 entries }
+    ensures { IfOk result (λ line. (entries : List Entry)
+        × IsMessage input.now 0 entries × (string_bytes line ≡ fields_line entries)) }
 {
     let mut line = String::from_str(alloc, "{\"fields\":[")?;
     let mut fields = Fields::new(input, 0, input.len());
@@ -21,12 +20,13 @@ pub fn fields_line(alloc: Global, input: &[u8]) -> Result<Result<String, WireCau
     'walk: while let Some(item) = fields.next_field() {
         match item {
             Ok(field) => push_field(&mut line, field, is_first)?,
-            Err(cause) => return Ok(Err(cause)),
+            // a whole message has no defect
+            Err(_cause) => unreachable!(),
         }
         is_first = false;
     }
     line.push_str("]}\n")?;
-    Ok(Ok(line))
+    Ok(line)
 }
 
 /// Writes a field behind the fields before it.

@@ -1,13 +1,13 @@
 use Rattle.std.proofs.Common.{string_bytes}
 use Rattle.std.proofs.lemmas.Result.{IfErr-at_err, IfOk-at_ok}
 use Rattle.mvt_wire.specs.Field.{entry_of}
-use Rattle.mvtgate.proofs.Listing.{Listing-defect, Listing-more}
+use Rattle.mvtgate.proofs.Listing.{Listing-more, Listing-whole}
 use Rattle.mvtgate.proofs.fields.line.fields_line.Goals as goal
 
-pub returns-in-Err-clause-defect : goal.returns-in-Err-clause-defect
-returns-in-Err-clause-defect c =
-    Listing-defect c.args.input.now c.walk.fields c.next_field.new.self (string_bytes c.walk.line) c.walk.is_first c.in-Err.cause
-    c.walk.invariant (IfErr-at_err _ c.in-Err.is c.in-Some.ensures.defect)
+pub unreachable-requires : goal.unreachable-requires
+unreachable-requires c =
+    Listing-whole c.args.input.now c.walk.fields c.next_field.new.self (string_bytes c.walk.line) c.walk.is_first c.in-Err._cause
+    c.walk.invariant c.requires (IfErr-at_err _ c.in-Err.is c.in-Some.ensures.defect)
 
 pub walk-preserved : goal.walk-preserved
 walk-preserved c =
