@@ -4,30 +4,25 @@ use Rattle.std.proofs.KnownBytes.{Appends-kept, Appends-trans}
 use Rattle.std.proofs.Math.Seq.{take-add, take-length}
 use Rattle.std.proofs.lemmas.List.{length-drop, length-take, take-take}
 use Rattle.std.specs.Io.KnownBytes.{Appends, Consumes, Keeps}
-use Rattle.mvtgate.specs.declared.engine.TheConstants.{CHUNK_LENGTH, INPUT_LIMIT, INTERRUPTION_LIMIT}
+use Rattle.mvtgate.specs.declared.engine.TheConstants.{CHUNK_LENGTH, INPUT_LIMIT}
 use Rattle.mvtgate.specs.declared.tally.Tally.{Tally}
-use Rattle.mvtgate.specs.Engine.{Writes}
+use Rattle.mvtgate.specs.Engine.{IsClean, Writes, interruption_limit}
 use Rattle.mvtgate.specs.Tally.{Counts, after_bytes, counts_of, tally_bytes}
 
--- no call on the device failed, and the run goes on past its interruptions
-pub record GoesOn {T : Type 0} (t : Tally T) (before : ℕ) : Type 0 where
-  pub failed : (counts_of t).failed ≡ 0
-  pub patient : (counts_of t).interrupted + before ≤ INTERRUPTION_LIMIT
-
 -- the input so far is what the reader gave so far, and the chunk has its whole length
-pub record Reading {T : Type 0} (known : T → Option (List ℕ)) (old new : Tally T) (chunk input : List ℕ) (before : ℕ) : Type 0 where
+pub record Reading {T : Type 0} (known : T → Option (List ℕ)) (old new : Tally T) (chunk input : List ℕ) (others : ℕ) : Type 0 where
   pub room : length chunk ≡ CHUNK_LENGTH
   pub gave : Consumes (tally_bytes known old) (tally_bytes known new) input
   pub counted : (counts_of new).bytes ≡ length input
   pub small : length input ≤ INPUT_LIMIT
-  pub clean : GoesOn new before
+  pub clean : IsClean new others
 
 -- the first bytes of the line went out
-pub record Writing {T : Type 0} (known : T → Option (List ℕ)) (old new : Tally T) (line : List ℕ) (written before : ℕ) : Type 0 where
+pub record Writing {T : Type 0} (known : T → Option (List ℕ)) (old new : Tally T) (line : List ℕ) (written others : ℕ) : Type 0 where
   pub within : written ≤ length line
   pub appended : Appends (tally_bytes known old) (tally_bytes known new) (take written line)
   pub counted : (counts_of new).bytes ≡ written
-  pub clean : GoesOn new before
+  pub clean : IsClean new others
 
 -- the bytes of the line from a place on, as the code takes them
 abbrev rest_of : List ℕ → ℕ → List ℕ
@@ -41,14 +36,14 @@ take-part line written n within =
     take-add written n line ∙ ap (λ part. take written line ++ part) (sym (take-take n (length line - written) (drop written line) below))
 
 -- a write took n more bytes of the line
-pub Writing-more : {T : Type 0} (known : T → Option (List ℕ)) (first old new : Tally T) (line : List ℕ) (written n before : ℕ)
-    → Writing known first old line written before
+pub Writing-more : {T : Type 0} (known : T → Option (List ℕ)) (first old new : Tally T) (line : List ℕ) (written n others : ℕ)
+    → Writing known first old line written others
     → Appends (tally_bytes known old) (tally_bytes known new) (take n (rest_of line written))
     → n ≤ length (rest_of line written)
     → counts_of new ≡ after_bytes (counts_of old) n
     → length line < 2 ^ 64
-    → Writing known first new line (written + n) before
-Writing-more known first old new line written n before so_far appended within counts fits =
+    → Writing known first new line (written + n) others
+Writing-more known first old new line written n others so_far appended within counts fits =
     let below : n ≤ length line - written =
     omega (arith, length-take (length line - written) (drop written line), length-drop written line) in
     let bytes : (counts_of new).bytes ≡ min ((counts_of old).bytes + n) (2 ^ 64 - 1) = ap (λ (c : Counts). c.bytes) counts in
@@ -62,7 +57,7 @@ Writing-more known first old new line written n before so_far appended within co
       appended = subst (Appends (tally_bytes known first) (tally_bytes known new)) (sym (take-part line written n within))
           (Appends-trans _ _ _ _ _ so_far.appended appended);
       counted = omega arith;
-      clean = record { failed = failed ∙ unfailed; patient = subst (λ i. i + before ≤ INTERRUPTION_LIMIT) (sym interrupted) so_far.clean.patient };
+      clean = record { failed = failed ∙ unfailed; patient = subst (λ i. i + others ≤ interruption_limit) (sym interrupted) so_far.clean.patient };
     }
 
 -- what went out stays so where the device keeps its bytes and the count of bytes stays

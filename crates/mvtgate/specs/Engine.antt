@@ -25,11 +25,11 @@ pub record Writes {T : Type 0} (known : T → Option (List ℕ)) (old new : Tall
   pub appended : Appends (tally_bytes known old) (tally_bytes known new) bytes
   pub counted : (counts_of new).bytes ≡ length bytes
 
--- a call on the device failed, or it was interrupted more often than a run bears; `before` are the interruptions of other devices
+-- a call on the device failed, or it was interrupted more often than a run bears; `others` is how often the engine's other devices were interrupted
 abbrev pub HasFailed : {T : Type 0} → Tally T → ℕ → Type 0
-HasFailed t before = (0 < (counts_of t).failed) ⊎ (interruption_limit < (counts_of t).interrupted + before)
+HasFailed t others = (0 < (counts_of t).failed) ⊎ (interruption_limit < (counts_of t).interrupted + others)
 
 -- no call on the device failed, and the run bears its interruptions
-pub record IsClean {T : Type 0} (t : Tally T) (before : ℕ) : Type 0 where
+pub record IsClean {T : Type 0} (t : Tally T) (others : ℕ) : Type 0 where
   pub failed : (counts_of t).failed ≡ 0
-  pub patient : (counts_of t).interrupted + before ≤ interruption_limit
+  pub patient : (counts_of t).interrupted + others ≤ interruption_limit

@@ -1,11 +1,13 @@
 //! What every engine does: read its whole input, and write one line.
-ghost use Rattle.std.specs.Prelude.{◌≡◌, ◌≢◌, ℕ, ◌+◌, ◌<◌, ◌≤◌, length, take, IfOk, IfErr, OnOk, OnErr};
+ghost use Rattle.std.specs.Prelude.{◌≡◌, ◌≢◌, ℕ, ◌+◌, ◌<◌, ◌≤◌, ◌⊎◌, length, take, IsTrue, IsFalse, IfOk, IfErr, OnOk, OnErr};
 ghost use Rattle.std.specs.Io.KnownBytes.{Keeps};
+ghost use Rattle.std.specs.IoError.{error_kind};
 ghost use Rattle.mvtgate.specs.Engine.{HasFailed, IsClean, ReadsWhole, Writes, input_limit, interruption_limit};
 ghost use Rattle.mvtgate.specs.Tally.{counts_of, no_counts, tally_bytes};
 
 use crate::tally::Tally;
 use std::alloc::Global;
+use std::io;
 use std::io::{ErrorKind, Read, Write};
 use thiserror::Error;
 
@@ -38,19 +40,19 @@ pub enum EngineFault {
     Memory,
 }
 
-/// Reads all that the reader gives. `before` is how often the engine's other devices were interrupted.
+/// Reads all that the reader gives. `others` is how often the engine's other devices were interrupted.
 pub fn read_whole<R: Read>(
     alloc: Global,
     reader: &mut Tally<R>,
-    before: u64,
+    others: u64,
 ) -> Result<Vec<u8>, EngineFault>
     requires fresh { counts_of reader.old ≡ no_counts }
-    requires patient { before ≤ interruption_limit }
+    requires patient { others ≤ interruption_limit }
 
     ensures whole { IfOk result (λ input. ReadsWhole R.remaining reader.old reader.new input.items) }
-    ensures clean { OnOk result (IsClean reader.new before) }
+    ensures clean { OnOk result (IsClean reader.new others) }
 
-    ensures read { result ≡ Err EngineFault.Read → HasFailed reader.new before }
+    ensures read { result ≡ Err EngineFault.Read → HasFailed reader.new others }
     ensures too_large { result ≡ Err EngineFault.TooLarge → input_limit < (counts_of reader.new).bytes }
     ensures no_write { result ≢ Err EngineFault.Write }
 {
@@ -68,10 +70,7 @@ pub fn read_whole<R: Read>(
                 }
             }
             Err(error) => {
-                if error.kind() != ErrorKind::Interrupted {
-                    return Err(EngineFault::Read);
-                }
-                if reader.interrupted() + before > INTERRUPTION_LIMIT {
+                if !may_try_again(&error, reader.interrupted(), others) {
                     return Err(EngineFault::Read);
                 }
             }
@@ -79,34 +78,34 @@ pub fn read_whole<R: Read>(
     }
 }
 
-/// Writes the whole line and flushes. `before` is how often the engine's other devices were
+/// Writes the whole line and flushes. `others` is how often the engine's other devices were
 /// interrupted. The only error is `Write`.
 pub fn write_whole<W: Write>(
     writer: &mut Tally<W>,
     line: &[u8],
-    before: u64,
+    others: u64,
 ) -> Result<(), EngineFault>
     requires fresh { counts_of writer.old ≡ no_counts }
-    requires patient { before ≤ interruption_limit }
+    requires patient { others ≤ interruption_limit }
 
     ensures whole { OnOk result (Writes W.contents writer.old writer.new line.now) }
-    ensures clean { OnOk result (IsClean writer.new before) }
+    ensures clean { OnOk result (IsClean writer.new others) }
 
-    ensures write { IfErr result (λ e. (e ≡ EngineFault.Write) × HasFailed writer.new before) }
+    ensures write { IfErr result (λ e. (e ≡ EngineFault.Write) × HasFailed writer.new others) }
     ensures prefix { OnErr result ((k : ℕ) × Writes W.contents writer.old writer.new (take k line.now)) }
 {
-    write_bytes(writer, line, before)?;
-    flush_all(writer, before)
+    write_bytes(writer, line, others)?;
+    flush_all(writer, others)
 }
 
-fn write_bytes<W: Write>(writer: &mut Tally<W>, line: &[u8], before: u64) -> Result<(), EngineFault>
+fn write_bytes<W: Write>(writer: &mut Tally<W>, line: &[u8], others: u64) -> Result<(), EngineFault>
     requires fresh { counts_of writer.old ≡ no_counts }
-    requires patient { before ≤ interruption_limit }
+    requires patient { others ≤ interruption_limit }
 
     ensures whole { OnOk result (Writes W.contents writer.old writer.new line.now) }
-    ensures clean { OnOk result (IsClean writer.new before) }
+    ensures clean { OnOk result (IsClean writer.new others) }
 
-    ensures write { IfErr result (λ e. (e ≡ EngineFault.Write) × HasFailed writer.new before) }
+    ensures write { IfErr result (λ e. (e ≡ EngineFault.Write) × HasFailed writer.new others) }
     ensures prefix { OnErr result ((k : ℕ) × Writes W.contents writer.old writer.new (take k line.now)) }
 {
     let mut written = 0;
@@ -115,10 +114,7 @@ fn write_bytes<W: Write>(writer: &mut Tally<W>, line: &[u8], before: u64) -> Res
             Ok(0) => return Err(EngineFault::Write),
             Ok(n) => written += n,
             Err(error) => {
-                if error.kind() != ErrorKind::Interrupted {
-                    return Err(EngineFault::Write);
-                }
-                if writer.interrupted() + before > INTERRUPTION_LIMIT {
+                if !may_try_again(&error, writer.interrupted(), others) {
                     return Err(EngineFault::Write);
                 }
             }
@@ -127,27 +123,37 @@ fn write_bytes<W: Write>(writer: &mut Tally<W>, line: &[u8], before: u64) -> Res
     Ok(())
 }
 
-fn flush_all<W: Write>(writer: &mut Tally<W>, before: u64) -> Result<(), EngineFault>
-    requires { IsClean writer.old before }
+fn flush_all<W: Write>(writer: &mut Tally<W>, others: u64) -> Result<(), EngineFault>
+    requires { IsClean writer.old others }
 
     ensures kept { Keeps (tally_bytes W.contents writer.old) (tally_bytes W.contents writer.new) }
     ensures bytes { (counts_of writer.new).bytes ≡ (counts_of writer.old).bytes }
-    ensures clean { OnOk result (IsClean writer.new before) }
-    ensures write { IfErr result (λ e. (e ≡ EngineFault.Write) × HasFailed writer.new before) }
+    ensures clean { OnOk result (IsClean writer.new others) }
+    ensures write { IfErr result (λ e. (e ≡ EngineFault.Write) × HasFailed writer.new others) }
 {
     'tries: loop {
         match writer.flush() {
             Ok(()) => return Ok(()),
             Err(error) => {
-                if error.kind() != ErrorKind::Interrupted {
-                    return Err(EngineFault::Write);
-                }
-                if writer.interrupted() + before > INTERRUPTION_LIMIT {
+                if !may_try_again(&error, writer.interrupted(), others) {
                     return Err(EngineFault::Write);
                 }
             }
         }
     }
+}
+
+/// Whether a call that ended in this error is made again: an interrupted call is, until the run has
+/// borne all the interruptions that it bears. `interruptions` counts those of the device, and
+/// `others` those of the engine's other devices.
+fn may_try_again(error: &io::Error, interruptions: u64, others: u64) -> bool
+    requires { others ≤ interruption_limit }
+    ensures yes { IsTrue result → (error_kind error.now ≡ ErrorKind.Interrupted)
+        × (interruptions + others ≤ interruption_limit) }
+    ensures no { IsFalse result → (error_kind error.now ≢ ErrorKind.Interrupted)
+        ⊎ (interruption_limit < interruptions + others) }
+{
+    error.kind() == ErrorKind::Interrupted && interruptions <= INTERRUPTION_LIMIT - others
 }
 
 #[cfg(test)]

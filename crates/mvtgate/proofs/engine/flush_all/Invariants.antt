@@ -1,13 +1,12 @@
 use Rattle.std.proofs.Common.{◌≡◌, ◌-◌}
 use Rattle.std.specs.Io.KnownBytes.{Keeps}
-use Rattle.mvtgate.specs.declared.engine.TheConstants.{INTERRUPTION_LIMIT}
+use Rattle.mvtgate.specs.Engine.{IsClean, interruption_limit}
 use Rattle.mvtgate.specs.Tally.{tally_bytes}
-use Rattle.mvtgate.proofs.EngineLemmas.{GoesOn}
 use Rattle.mvtgate.proofs.engine.flush_all.Given as goal
 
 abbrev pub invariant-tries : goal.invariant-tries
 invariant-tries g l = Keeps (tally_bytes g.W.Write.contents l.fn.writer) (tally_bytes g.W.Write.contents l.writer)
-    × (l.writer.bytes ≡ l.fn.writer.bytes) × GoesOn l.writer l.before
+    × (l.writer.bytes ≡ l.fn.writer.bytes) × IsClean l.writer l.others
 
 abbrev pub decreases-tries : goal.decreases-tries
-decreases-tries g l = INTERRUPTION_LIMIT - l.writer.interrupted
+decreases-tries g l = interruption_limit - l.writer.interrupted

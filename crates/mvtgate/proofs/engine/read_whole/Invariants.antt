@@ -1,10 +1,11 @@
 use Rattle.std.proofs.Common.{◌+◌, ◌-◌, length}
-use Rattle.mvtgate.specs.declared.engine.TheConstants.{INPUT_LIMIT, INTERRUPTION_LIMIT}
+use Rattle.mvtgate.specs.declared.engine.TheConstants.{INPUT_LIMIT}
+use Rattle.mvtgate.specs.Engine.{interruption_limit}
 use Rattle.mvtgate.proofs.EngineLemmas.{Reading}
 use Rattle.mvtgate.proofs.engine.read_whole.Given as goal
 
 abbrev pub invariant-chunks : goal.invariant-chunks
-invariant-chunks g l = Reading g.R.Read.remaining l.fn.reader l.reader l.chunk l.input.items l.before
+invariant-chunks g l = Reading g.R.Read.remaining l.fn.reader l.reader l.chunk l.input.items l.others
 
 abbrev pub decreases-chunks : goal.decreases-chunks
-decreases-chunks g l = (INPUT_LIMIT - length l.input.items) + (INTERRUPTION_LIMIT - l.reader.interrupted)
+decreases-chunks g l = (INPUT_LIMIT - length l.input.items) + (interruption_limit - l.reader.interrupted)

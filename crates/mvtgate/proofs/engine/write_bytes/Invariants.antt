@@ -1,10 +1,10 @@
 use Rattle.std.proofs.Common.{◌+◌, ◌-◌, length}
-use Rattle.mvtgate.specs.declared.engine.TheConstants.{INTERRUPTION_LIMIT}
+use Rattle.mvtgate.specs.Engine.{interruption_limit}
 use Rattle.mvtgate.proofs.EngineLemmas.{Writing}
 use Rattle.mvtgate.proofs.engine.write_bytes.Given as goal
 
 abbrev pub invariant-bytes : goal.invariant-bytes
-invariant-bytes g l = Writing g.W.Write.contents l.fn.writer l.writer l.line l.written l.before
+invariant-bytes g l = Writing g.W.Write.contents l.fn.writer l.writer l.line l.written l.others
 
 abbrev pub decreases-bytes : goal.decreases-bytes
-decreases-bytes g l = (length l.line - l.written) + (INTERRUPTION_LIMIT - l.writer.interrupted)
+decreases-bytes g l = (length l.line - l.written) + (interruption_limit - l.writer.interrupted)
