@@ -1,46 +1,51 @@
 use super::run;
-use std::fs;
 use std::rt::Files;
 use std::test::Fail;
+use std::{env, fs, process};
 
 const POINT: &[u8] = b"\x1a\x0e\x78\x02\x0a\x01\x61\x12\x07\x18\x01\x22\x03\x09\x32\x22";
 
-/// The statuses of runs on files that the test writes. What a run prints is left aside.
+/// The status of a run. What it prints is left aside.
+fn status(rt: &HostRuntime, texts: &[&str]) -> Result<u8, Fail> {
+    let mut words = Vec::new(rt.alloc());
+    for text in texts {
+        words.push(String::from_str(rt.alloc(), text)?)?;
+    }
+    Ok(run(rt, &words))
+}
+
 #[test]
-fn exits_with_each_status(rt: HostRuntime) -> Result<(), Fail> {
-    fs::create_dir_all(&rt, "mvtgate_test")?;
-    fs::write(&rt, "mvtgate_test/point.mvt", POINT)?;
-    fs::write(&rt, "mvtgate_test/cut.mvt", &POINT[..15])?;
-    fs::write(&rt, "mvtgate_test/large.mvt", b"".as_slice())?;
-    fs::create(&rt, "mvtgate_test/large.mvt")?.set_len(67_108_865)?;
-    let rows = [
-        (
-            ["mvtgate", "fields", "mvtgate_test/point.mvt"].as_slice(),
-            0,
-        ),
-        (["mvtgate", "fields", "--help"].as_slice(), 0),
-        (["mvtgate", "fields", "mvtgate_test/cut.mvt"].as_slice(), 1),
+fn exits_by_the_words(rt: HostRuntime) -> Result<(), Fail> {
+    for (texts, want) in [
         (["mvtgate"].as_slice(), 2),
         (["mvtgate", "nothing"].as_slice(), 2),
         (["mvtgate", "fields", "a", "b"].as_slice(), 2),
-        (
-            ["mvtgate", "fields", "mvtgate_test/missing.mvt"].as_slice(),
-            3,
-        ),
-        // a folder opens, and cannot be read
-        (["mvtgate", "fields", "mvtgate_test"].as_slice(), 3),
-        (
-            ["mvtgate", "fields", "mvtgate_test/large.mvt"].as_slice(),
-            3,
-        ),
-    ];
-    for (texts, want) in rows {
-        let mut words = Vec::new(rt.alloc());
-        for text in texts {
-            words.push(String::from_str(rt.alloc(), text)?)?;
-        }
-        assert_eq!(rt; run(&rt, &words), want, "{texts:?}");
+        (["mvtgate", "fields", "--help"].as_slice(), 0),
+    ] {
+        assert_eq!(rt; status(&rt, texts)?, want, "{texts:?}");
     }
-    fs::remove_dir_all(&rt, "mvtgate_test")?;
+    Ok(())
+}
+
+#[test]
+fn exits_by_the_file(rt: HostRuntime) -> Result<(), Fail> {
+    let name = format!(in rt.alloc(); "mvtgate_test_{}", process::id(rt.process()))?;
+    let folder = env::temp_dir(&rt)?.join(rt.alloc(), name.as_str())?;
+    fs::create_dir_all(&rt, &folder)?;
+    let point = folder.join(rt.alloc(), "point.mvt")?;
+    fs::write(&rt, &point, POINT)?;
+    let cut = folder.join(rt.alloc(), "cut.mvt")?;
+    fs::write(&rt, &cut, &POINT[..15])?;
+    let large = folder.join(rt.alloc(), "large.mvt")?;
+    fs::create(&rt, &large)?.set_len(67_108_865)?;
+    let missing = folder.join(rt.alloc(), "missing.mvt")?;
+    // (a folder opens, and cannot be read)
+    let mut statuses = Vec::new(rt.alloc());
+    for file in [&point, &cut, &large, &missing, &folder] {
+        statuses.push(status(&rt, &["mvtgate", "fields", file.as_str()])?)?;
+    }
+    // the folder goes before a wrong status ends the test
+    fs::remove_dir_all(&rt, &folder)?;
+    assert_eq!(rt; statuses.as_slice(), [0, 1, 3, 3, 3].as_slice());
     Ok(())
 }
