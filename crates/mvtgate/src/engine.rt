@@ -143,9 +143,9 @@ fn flush_all<W: Write>(writer: &mut Tally<W>, others: u64) -> Result<(), EngineF
     }
 }
 
-/// Whether a call that ended in this error is made again: an interrupted call is, until the run has
-/// borne all the interruptions that it bears. `interruptions` counts those of the device, and
-/// `others` those of the engine's other devices.
+/// Whether a call that ended in this error is made again: an interrupted call is, unless the run was
+/// interrupted more often than it bears. `interruptions` counts those of the device, this one among
+/// them, and `others` those of the engine's other devices.
 fn may_try_again(error: &io::Error, interruptions: u64, others: u64) -> bool
     requires { others ≤ interruption_limit }
     ensures yes { IsTrue result → (error_kind error.now ≡ ErrorKind.Interrupted)
