@@ -22,7 +22,7 @@ pub fn fault_text(alloc: Global, fault: &Fault) -> Result<String, AllocError>
 fn fault_object(alloc: Global, fault: &Fault) -> Result<Value, AllocError>
     ensures object { IfOk result (λ v. view v ≡ data_of fault.now) }
 
-    // Its type says so, and a proof learns it where the fault is taken apart.
+    // `field` is a u32, and a caller's proof sees that only here, where the fault is taken apart.
     ensures in_range { OnOk result (IsInRange fault.now) }
 {
     match *fault {
@@ -35,7 +35,7 @@ fn fault_object(alloc: Global, fault: &Fault) -> Result<Value, AllocError>
     }
 }
 
-// One function for each scope, since the scope says which ordinals the object has.
+// One function for each scope: several objects in one are too much for the search of proofs.
 fn wire_object(
     alloc: Global,
     code: WireCode,

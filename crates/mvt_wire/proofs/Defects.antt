@@ -1,13 +1,12 @@
 -- A place with bytes left has a field or one defect.
-use Rattle.std.proofs.Common.{◌≡◌, ◌≢◌, ℕ, ◌+◌, ◌-◌, ◌*◌, ◌/◌, ◌%◌, ◌^◌, ◌<◌, ◌≤◌, ◌⊎◌, ◌↔◌, Bool, IsTrue, true, false, inl, inr, List, length, take, drop, slice_range, refl, sym, ◌∙◌, ap, subst, arith, length-drop}
-use Rattle.std.proofs.lemmas.List.{length-take-le}
+use Rattle.std.proofs.Common.{◌≡◌, ◌≢◌, ℕ, ◌+◌, ◌*◌, ◌/◌, ◌%◌, ◌^◌, ◌<◌, ◌≤◌, ◌⊎◌, ◌↔◌, Bool, IsTrue, true, false, inl, inr, List, length, drop, slice_range, refl, sym, ◌∙◌, ap, subst, arith}
 use Rattle.std.proofs.lemmas.Bool.{cases_lt, cases_eq}
-use Rattle.mvt_wire.specs.Varint.{IsVarint, SpellsVarint, VarintDefect}
-use Rattle.mvt_wire.specs.Field.{Content, number, eight_bytes, delimited, four_bytes, Entry, wire_type_of, IsKey, IsPayload, IsField, IsRefusedType, HasLeadingVarint, PayloadEnd, FieldDefect, key, key_out_of_range, refused_type, leading_varint, past_end}
+use Rattle.mvt_wire.specs.Varint.{SpellsVarint, VarintDefect}
+use Rattle.mvt_wire.specs.Field.{Content, varint, eight_bytes, delimited, four_bytes, Entry, wire_type_of, IsKey, IsPayload, IsField, IsRefusedType, HasLeadingVarint, PayloadEnd, FieldDefect, key, key_out_of_range, refused_type, leading_varint, past_end}
 use Rattle.mvt_wire.specs.declared.cause.WireCause.{WireCause}
 use Rattle.mvt_wire.specs.declared.cause.WireCode.{WireCode}
 use Rattle.mvt_wire.specs.declared.cause.WireCode.TheVariants.{Ends, TooLong, BadNumber, BadWireType, PastEnd}
-use Rattle.mvt_wire.proofs.Varints.{begins, one_end, one_value, varint_or_defect, one_defect_of_varint}
+use Rattle.mvt_wire.proofs.Varints.{place_begins, one_end, one_value, varint_or_defect, one_defect_of_varint}
 use Rattle.mvt_wire.proofs.Entries.{one_key, IsKey-from, entry_at}
 
 abbrev pub cause_of : WireCode → ℕ → ℕ → WireCause
@@ -15,14 +14,14 @@ cause_of code at field = record { code = code; at = at; field = field }
 
 -- a wire type of a field isn't a refused one
 type_or_refused : (content : Content) → IsRefusedType (wire_type_of content) → ⊥
-type_or_refused (number value at) refused = grind arith
+type_or_refused (varint value at) refused = grind arith
 type_or_refused (eight_bytes part) refused = grind arith
 type_or_refused (delimited from part) refused = grind arith
 type_or_refused (four_bytes part) refused = grind arith
 
 -- where a payload stands, its leading varint has no defect
 payload_or_varint_defect : (bytes : List ℕ) (from to : ℕ) (content : Content) (code : WireCode) → IsPayload bytes from to content → HasLeadingVarint (wire_type_of content) → VarintDefect code (drop from bytes) → ⊥
-payload_or_varint_defect bytes from to (number value at) code p leading defect = varint_or_defect bytes from to value code p.1 defect
+payload_or_varint_defect bytes from to (varint value at) code p leading defect = varint_or_defect bytes from to value code p.1 defect
 payload_or_varint_defect bytes from to (eight_bytes part) code p (inl e) defect = absurd (omega arith)
 payload_or_varint_defect bytes from to (eight_bytes part) code p (inr e) defect = absurd (omega arith)
 payload_or_varint_defect bytes from to (delimited start part) code p leading defect = varint_or_defect bytes from start p.0 code p.1 defect
@@ -46,9 +45,9 @@ one_payload_end bytes from wire_type end other (inr (inr p)) (inr (inr q)) =
 
 -- where a payload stands, it ends within its message
 payload_within : (bytes : List ℕ) (from to end : ℕ) (content : Content) → IsPayload bytes from to content → PayloadEnd bytes from (wire_type_of content) end → end ≤ length bytes
-payload_within bytes from to end (number value at) p (inl q) = absurd (omega arith)
-payload_within bytes from to end (number value at) p (inr (inl q)) = absurd (omega arith)
-payload_within bytes from to end (number value at) p (inr (inr q)) = absurd (omega arith)
+payload_within bytes from to end (varint value at) p (inl q) = absurd (omega arith)
+payload_within bytes from to end (varint value at) p (inr (inl q)) = absurd (omega arith)
+payload_within bytes from to end (varint value at) p (inr (inr q)) = absurd (omega arith)
 payload_within bytes from to end (eight_bytes part) p q =
     let same = one_payload_end bytes from 1 end to q (inl (refl, p.0)) in omega arith
 payload_within bytes from to end (delimited start part) p q =
@@ -166,17 +165,10 @@ BadWireType-at bytes at to n spelled small numbered a b c d =
     let key = IsKey-from bytes at to n spelled small numbered in
     refused_type to (n / 8) (n % 8) key (refused (n % 8) key.low_bits a b c d) refl
 
--- a place begins with a varint, or has a defect of one
-place_begins : (bytes : List ℕ) (at : ℕ) → at ≤ length bytes → ((to n : ℕ) × SpellsVarint bytes at to n) ⊎ ((code : WireCode) × VarintDefect code (drop at bytes))
-place_begins bytes at within = elim (begins (drop at bytes)) [
-  | inl found ↦
-      let size = length-drop at bytes in
-      let span : at + found.0 - at ≡ found.0 = omega arith in
-      let present : 0 < length (take found.0 (drop at bytes)) = found.3.present in
-      let whole : length (take found.0 (drop at bytes)) ≡ found.0 = length-take-le found.0 (drop at bytes) found.2 in
-      let spelling : IsVarint (slice_range bytes at (at + found.0)) found.1 = rw span found.3 in
-      let fits : found.0 ≤ length (drop at bytes) = found.2 in
-      inl (at + found.0, found.1, record { forward = omega arith; within = omega arith; spelling = spelling })
+-- a place has a varint, or a defect with its code
+varint_begins : (bytes : List ℕ) (at : ℕ) → at ≤ length bytes → ((to n : ℕ) × SpellsVarint bytes at to n) ⊎ ((code : WireCode) × VarintDefect code (drop at bytes))
+varint_begins bytes at within = elim (place_begins bytes at within) [
+  | inl found ↦ inl found
   | inr (inl early) ↦ inr (Ends, inl (refl, early))
   | inr (inr long) ↦ inr (TooLong, inr (refl, long))
 ]
@@ -187,8 +179,8 @@ FieldOrDefect bytes at = ((to : ℕ) × (e : Entry) × (e.at ≡ at) × IsField 
 
 -- behind a key with a wire type stands its payload, or a defect
 value_begins : (bytes : List ℕ) (at to n : ℕ) → IsKey bytes at to n 0 → to ≤ length bytes → FieldOrDefect bytes at
-value_begins bytes at to n k within = elim (place_begins bytes to within) [
-  | inl found ↦ inl (found.0, entry_at n at (number found.1 to), refl, record { key_end = to; key = k; payload = (refl, found.2) })
+value_begins bytes at to n k within = elim (varint_begins bytes to within) [
+  | inl found ↦ inl (found.0, entry_at n at (varint found.1 to), refl, record { key_end = to; key = k; payload = (refl, found.2) })
   | inr bad ↦ inr (cause_of bad.0 to n, leading_varint to n 0 bad.0 k (inl refl) bad.1 refl)
 ]
 
@@ -205,7 +197,7 @@ four_begin bytes at to n k = elim (cases_lt (length bytes) (to + 4)) [
 ]
 
 delimited_begin : (bytes : List ℕ) (at to n : ℕ) → IsKey bytes at to n 2 → to ≤ length bytes → FieldOrDefect bytes at
-delimited_begin bytes at to n k within = elim (place_begins bytes to within) [
+delimited_begin bytes at to n k within = elim (varint_begins bytes to within) [
   | inr bad ↦ inr (cause_of bad.0 to n, leading_varint to n 2 bad.0 k (inr refl) bad.1 refl)
   | inl found ↦ elim (cases_lt (length bytes) (found.0 + found.1)) [
     | inl less ↦ inr (cause_of PastEnd at n, past_end to n 2 (found.0 + found.1) k (inr (inr (refl, (found.0, found.1, found.2, refl)))) less refl)
@@ -239,7 +231,7 @@ key_begins bytes at to n spelled = elim (cases_lt n 8) [
 
 -- a place with bytes left has a field or a defect
 pub field_begins : (bytes : List ℕ) (at : ℕ) → at ≤ length bytes → FieldOrDefect bytes at
-field_begins bytes at within = elim (place_begins bytes at within) [
+field_begins bytes at within = elim (varint_begins bytes at within) [
   | inl found ↦ key_begins bytes at found.0 found.1 found.2
   | inr bad ↦ inr (cause_of bad.0 at 0, key bad.0 bad.1 refl)
 ]

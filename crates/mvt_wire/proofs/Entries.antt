@@ -2,7 +2,7 @@
 use Rattle.std.proofs.Common.{◌≡◌, ℕ, ◌+◌, ◌-◌, ◌*◌, ◌/◌, ◌%◌, ◌^◌, ◌<◌, ◌≤◌, List, [], ◌++◌, length, take, drop, slice_range, sym, ◌∙◌, ap, subst, arith, length-drop, length-append}
 use Rattle.std.proofs.lemmas.List.{drop-append-le, take-append-le, nil_from_length}
 use Rattle.mvt_wire.specs.Varint.{SpellsVarint}
-use Rattle.mvt_wire.specs.Field.{Content, number, eight_bytes, delimited, four_bytes, Entry, wire_type_of, IsKey, IsPayload, IsField, IsFieldSpelling}
+use Rattle.mvt_wire.specs.Field.{Content, varint, eight_bytes, delimited, four_bytes, Entry, wire_type_of, IsKey, IsPayload, IsField, IsFieldSpelling}
 use Rattle.mvt_wire.proofs.Varints.{one_end, one_value}
 
 -- a place has at most one key: its end, its field number and its wire type
@@ -31,7 +31,7 @@ IsKey-from bytes at to n spelled small numbered =
 
 -- a place has at most one payload of a wire type
 pub one_payload : (bytes : List ℕ) (from to end : ℕ) (c d : Content) → wire_type_of c ≡ wire_type_of d → IsPayload bytes from to c → IsPayload bytes from end d → (to ≡ end) × (c ≡ d)
-one_payload bytes from to end (number m a) (number n b) same p q =
+one_payload bytes from to end (varint m a) (varint n b) same p q =
     let value : m ≡ n = one_value bytes from to end m n p.1 q.1 in
     let place : a ≡ b = p.0 ∙ sym q.0 in
     (one_end bytes from to end m n p.1 q.1, cc)
@@ -47,16 +47,16 @@ one_payload bytes from to end (delimited s a) (delimited t b) same p q =
     let place : to ≡ end = p.2 ∙ ap (λ (k : ℕ). s + k) size ∙ ap (λ (k : ℕ). k + q.0) starts ∙ sym q.2 in
     let part : a ≡ b = p.4 ∙ ap (λ (k : ℕ). slice_range bytes k to) starts ∙ ap (λ (k : ℕ). slice_range bytes t k) place ∙ sym q.4 in
     (place, cc)
-one_payload bytes from to end (number m a) (eight_bytes b) same p q = absurd (omega arith)
-one_payload bytes from to end (number m a) (delimited t b) same p q = absurd (omega arith)
-one_payload bytes from to end (number m a) (four_bytes b) same p q = absurd (omega arith)
-one_payload bytes from to end (eight_bytes a) (number n b) same p q = absurd (omega arith)
+one_payload bytes from to end (varint m a) (eight_bytes b) same p q = absurd (omega arith)
+one_payload bytes from to end (varint m a) (delimited t b) same p q = absurd (omega arith)
+one_payload bytes from to end (varint m a) (four_bytes b) same p q = absurd (omega arith)
+one_payload bytes from to end (eight_bytes a) (varint n b) same p q = absurd (omega arith)
 one_payload bytes from to end (eight_bytes a) (delimited t b) same p q = absurd (omega arith)
 one_payload bytes from to end (eight_bytes a) (four_bytes b) same p q = absurd (omega arith)
-one_payload bytes from to end (delimited s a) (number n b) same p q = absurd (omega arith)
+one_payload bytes from to end (delimited s a) (varint n b) same p q = absurd (omega arith)
 one_payload bytes from to end (delimited s a) (eight_bytes b) same p q = absurd (omega arith)
 one_payload bytes from to end (delimited s a) (four_bytes b) same p q = absurd (omega arith)
-one_payload bytes from to end (four_bytes a) (number n b) same p q = absurd (omega arith)
+one_payload bytes from to end (four_bytes a) (varint n b) same p q = absurd (omega arith)
 one_payload bytes from to end (four_bytes a) (eight_bytes b) same p q = absurd (omega arith)
 one_payload bytes from to end (four_bytes a) (delimited t b) same p q = absurd (omega arith)
 
@@ -84,8 +84,8 @@ no_field_at_end bytes from next e end here field =
     omega arith
 
 -- a field takes bytes, all within its message
-payload_extent : (bytes : List ℕ) (from to : ℕ) (content : Content) → from ≤ length bytes → IsPayload bytes from to content → (from ≤ to) × (to ≤ length bytes)
-payload_extent bytes from to (number value at) within p = let forward = p.1.forward in let inside = p.1.within in (omega arith, omega arith)
+pub payload_extent : (bytes : List ℕ) (from to : ℕ) (content : Content) → from ≤ length bytes → IsPayload bytes from to content → (from ≤ to) × (to ≤ length bytes)
+payload_extent bytes from to (varint value at) within p = let forward = p.1.forward in let inside = p.1.within in (omega arith, omega arith)
 payload_extent bytes from to (eight_bytes part) within p = (omega arith, p.1)
 payload_extent bytes from to (delimited start part) within p = let forward = p.1.forward in (omega arith, p.3)
 payload_extent bytes from to (four_bytes part) within p = (omega arith, p.1)
@@ -97,7 +97,7 @@ field_extent bytes to e field =
     (omega arith, extent.1)
 
 -- a part of a list is the same part of a longer one
-slice_range-append : (bytes more : List ℕ) (from to : ℕ) → from ≤ to → to ≤ length bytes → slice_range (bytes ++ more) from to ≡ slice_range bytes from to
+pub slice_range-append : (bytes more : List ℕ) (from to : ℕ) → from ≤ to → to ≤ length bytes → slice_range (bytes ++ more) from to ≡ slice_range bytes from to
 slice_range-append bytes more from to forward within =
     let start : from ≤ length bytes = omega arith in
     let left : to - from ≤ length (drop from bytes) = omega (arith, length-drop from bytes) in
@@ -120,7 +120,7 @@ within-append : (bytes more : List ℕ) (to : ℕ) → to ≤ length bytes → t
 within-append bytes more to within = let longer = length-append bytes more in omega arith
 
 pub IsPayload-append : (bytes more : List ℕ) (from to : ℕ) (content : Content) → IsPayload bytes from to content → IsPayload (bytes ++ more) from to content
-IsPayload-append bytes more from to (number value at) p = (p.0, SpellsVarint-append bytes more from to value p.1)
+IsPayload-append bytes more from to (varint value at) p = (p.0, SpellsVarint-append bytes more from to value p.1)
 IsPayload-append bytes more from to (eight_bytes part) p =
     let ordered : from ≤ to = omega arith in
     (p.0, within-append bytes more to p.1, p.2 ∙ sym (slice_range-append bytes more from to ordered p.1))

@@ -1,5 +1,6 @@
 pub mod Defects
 pub mod Entries
 pub mod Messages
+pub mod Pieces
 pub mod Varints
 pub mod Walks

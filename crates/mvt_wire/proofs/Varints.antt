@@ -4,8 +4,7 @@ use Rattle.std.proofs.Math.Nat.{pow-suc, pow-le-pow_right, mul-le-mul_right}
 use Rattle.std.proofs.lemmas.List.{take_more, length-take-le, get_or-take, get_or-drop, get_or_append_left}
 use Rattle.std.proofs.lemmas.List.Edits.{get_or-between, length-between}
 use Rattle.std.proofs.lemmas.Bool.{cases_lt}
-use Rattle.std.proofs.lemmas.Slice.{between_from_start}
-use Rattle.mvt_wire.specs.Varint.{sum_of_groups, IsVarint, SpellsVarint, EndsEarly, IsTooLong, VarintDefect, BeginsWithVarint}
+use Rattle.mvt_wire.specs.Varint.{sum_of_groups, IsVarint, SpellsVarint, EndsEarly, IsTooLong, VarintDefect}
 use Rattle.mvt_wire.specs.declared.cause.WireCode.{WireCode}
 
 -- one more group stands for its low seven bits, times the weight of its place
@@ -164,6 +163,10 @@ no_longer_varint spelling (byte ∷ more) m n first second =
     let low = first.ended in
     absurd (omega arith)
 
+-- a front of the rest spells a varint
+abbrev pub BeginsWithVarint : List ℕ → Type 0
+BeginsWithVarint rest = (size n : ℕ) × (size ≤ length rest) × IsVarint (take size rest) n
+
 -- the tenth group, where it is the last that a varint may have
 tenth_group : (rest : List ℕ) → 9 < length rest → ((k : ℕ) → k < 9 → 128 ≤ get_or rest k 0) → BeginsWithVarint rest ⊎ EndsEarly rest ⊎ IsTooLong rest
 tenth_group rest within earlier = elim (cases_lt (get_or rest 9 0) 2) [
@@ -197,12 +200,19 @@ begins_from (suc fuel) i rest places within earlier = elim (cases_lt i (length r
 ]
 
 -- each place begins with a varint, or has one of its defects
-pub begins : (rest : List ℕ) → BeginsWithVarint rest ⊎ EndsEarly rest ⊎ IsTooLong rest
+begins : (rest : List ℕ) → BeginsWithVarint rest ⊎ EndsEarly rest ⊎ IsTooLong rest
 begins rest = begins_from 9 0 rest (omega arith) (omega arith) (λ k h. absurd (omega arith))
 
--- a front that spells a varint, as a place
-pub front_varint : (rest : List ℕ) (size n : ℕ) → size ≤ length rest → IsVarint (take size rest) n → SpellsVarint rest 0 size n
-front_varint rest size n within spelling =
-    let present : 0 < length (take size rest) = spelling.present in
-    let whole : length (take size rest) ≡ size = length-take-le size rest within in
-    record { forward = omega arith; within = within; spelling = rw (between_from_start rest size) spelling }
+-- each place has a varint or one of its defects
+pub place_begins : (bytes : List ℕ) (at : ℕ) → at ≤ length bytes → ((to n : ℕ) × SpellsVarint bytes at to n) ⊎ EndsEarly (drop at bytes) ⊎ IsTooLong (drop at bytes)
+place_begins bytes at within = elim (begins (drop at bytes)) [
+  | inl found ↦
+      let size = length-drop at bytes in
+      let span : at + found.0 - at ≡ found.0 = omega arith in
+      let present : 0 < length (take found.0 (drop at bytes)) = found.3.present in
+      let whole : length (take found.0 (drop at bytes)) ≡ found.0 = length-take-le found.0 (drop at bytes) found.2 in
+      let spelling : IsVarint (slice_range bytes at (at + found.0)) found.1 = rw span found.3 in
+      let fits : found.0 ≤ length (drop at bytes) = found.2 in
+      inl (at + found.0, found.1, record { forward = omega arith; within = omega arith; spelling = spelling })
+  | inr bad ↦ inr bad
+]

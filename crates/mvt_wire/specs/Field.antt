@@ -12,7 +12,7 @@ use Rattle.mvt_wire.specs.declared.field.Body.TheVariants.{Varint, Fixed64, Byte
 -- A payload by its wire type: a varint with the offset of its first byte, eight bytes, the bytes after a length with
 -- the offset of the first of them, or four bytes.
 pub data Content : Type 0 where
-  number : ℕ → ℕ → Content
+  varint : ℕ → ℕ → Content
   eight_bytes : List ℕ → Content
   delimited : ℕ → List ℕ → Content
   four_bytes : List ℕ → Content
@@ -25,7 +25,7 @@ pub record Entry : Type 0 where
 
 -- the content that a reader's body shows
 abbrev pub content_of : Body → Content
-content_of (Varint value at) = number value at
+content_of (Varint value at) = varint value at
 content_of (Fixed64 part) = eight_bytes part.now
 content_of (Bytes from part) = delimited from part.now
 content_of (Fixed32 part) = four_bytes part.now
@@ -36,7 +36,7 @@ entry_of field = record { number = field.number; at = field.at; content = conten
 
 -- the wire type of a payload
 abbrev pub wire_type_of : Content → ℕ
-wire_type_of (number value at) = 0
+wire_type_of (varint value at) = 0
 wire_type_of (eight_bytes part) = 1
 wire_type_of (delimited from part) = 2
 wire_type_of (four_bytes part) = 5
@@ -51,7 +51,7 @@ pub record IsKey (bytes : List ℕ) (from to field_number wire_type : ℕ) : Typ
 -- The payload stands from one place up to another.
 abbrev pub IsPayload : List ℕ → ℕ → ℕ → Content → Type 0
 -- a varint
-IsPayload bytes from to (number value at) = (at ≡ from) × SpellsVarint bytes from to value
+IsPayload bytes from to (varint value at) = (at ≡ from) × SpellsVarint bytes from to value
 -- eight bytes
 IsPayload bytes from to (eight_bytes part) = (to ≡ from + 8) × (to ≤ length bytes) × (part ≡ slice_range bytes from to)
 -- a varint n, and n bytes
@@ -70,7 +70,7 @@ pub record IsField (bytes : List ℕ) (to : ℕ) (entry : Entry) : Type 0 where
 abbrev pub IsFieldSpelling : List ℕ → Entry → Type 0
 IsFieldSpelling bytes entry = (entry.at ≡ 0) × IsField bytes (length bytes) entry
 
--- a wire type that no field of today's encoding has, and that isn't read: groups, 6 and 7
+-- a wire type that is not read: groups (3 and 4), 6 and 7
 abbrev pub IsRefusedType : ℕ → Type 0
 IsRefusedType wire_type = (wire_type ≡ 3) ⊎ (wire_type ≡ 4) ⊎ (wire_type ≡ 6) ⊎ (wire_type ≡ 7)
 

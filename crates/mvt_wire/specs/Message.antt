@@ -1,6 +1,6 @@
 -- Messages: fields one behind another (Protocol Buffers encoding, "Message Structure").
-use Rattle.std.specs.Prelude.{◌≡◌, ℕ, ◌<◌, List, [], ◌∷◌, length}
-use Rattle.mvt_wire.specs.Field.{Entry, IsField, FieldDefect}
+use Rattle.std.specs.Prelude.{◌≡◌, ℕ, ◌+◌, ◌<◌, List, [], ◌∷◌, length}
+use Rattle.mvt_wire.specs.Field.{Content, varint, eight_bytes, delimited, four_bytes, Entry, IsField, IsFieldSpelling, FieldDefect}
 use Rattle.mvt_wire.specs.declared.cause.WireCause.{WireCause}
 
 -- the bytes from one place up to another are the spellings of these fields, one behind another
@@ -11,6 +11,24 @@ FieldList bytes from (entry ∷ entries) to = (entry.at ≡ from) × ((next : �
 -- the bytes from a place to their end are a whole message, with this field list
 abbrev pub IsMessage : List ℕ → ℕ → List Entry → Type 0
 IsMessage bytes from entries = FieldList bytes from entries (length bytes)
+
+-- a field whose places are told from that many bytes further back
+abbrev pub content_moved : ℕ → Content → Content
+content_moved by (varint value at) = varint value (by + at)
+content_moved by (eight_bytes part) = eight_bytes part
+content_moved by (delimited from part) = delimited (by + from) part
+content_moved by (four_bytes part) = four_bytes part
+
+abbrev pub moved : ℕ → Entry → Entry
+moved by entry = record { number = entry.number; at = by + entry.at; content = content_moved by entry.content }
+
+-- each piece is one field's spelling, the first of them from a place on and each next one behind it
+abbrev pub AreSpellings : ℕ → List (List ℕ) → List Entry → Type 0
+AreSpellings at [] [] = Unit {0}
+AreSpellings at (piece ∷ pieces) (entry ∷ entries) =
+    (spelled : Entry) × IsFieldSpelling piece spelled × (entry ≡ moved at spelled) × AreSpellings (at + length piece) pieces entries
+AreSpellings at [] (entry ∷ entries) = ⊥
+AreSpellings at (piece ∷ pieces) [] = ⊥
 
 -- behind whole fields, and before the end, stands a field that has a defect
 pub record HasDefect (bytes : List ℕ) (from : ℕ) (cause : WireCause) : Type 0 where

@@ -1,5 +1,5 @@
 -- Varints (Protocol Buffers encoding, "Base 128 Varints"). A byte list is any list of numbers here.
-use Rattle.std.specs.Prelude.{◌≡◌, ℕ, ◌+◌, ◌-◌, ◌*◌, ◌%◌, ◌^◌, ◌<◌, ◌≤◌, ◌⊎◌, List, [], ◌∷◌, length, slice_index, slice_range, take}
+use Rattle.std.specs.Prelude.{◌≡◌, ℕ, ◌+◌, ◌-◌, ◌*◌, ◌%◌, ◌^◌, ◌<◌, ◌≤◌, ◌⊎◌, List, [], ◌∷◌, length, slice_index, slice_range}
 use Rattle.mvt_wire.specs.declared.cause.WireCode.{WireCode}
 use Rattle.mvt_wire.specs.declared.cause.WireCode.TheVariants.{Ends, TooLong}
 
@@ -22,10 +22,6 @@ pub record SpellsVarint (bytes : List ℕ) (from to n : ℕ) : Type 0 where
   pub forward : from < to
   pub within : to ≤ length bytes
   pub spelling : IsVarint (slice_range bytes from to) n
-
--- a front of the rest spells a varint
-abbrev pub BeginsWithVarint : List ℕ → Type 0
-BeginsWithVarint rest = (size n : ℕ) × (size ≤ length rest) × IsVarint (take size rest) n
 
 -- the rest of a message or payload is a varint that ends too early: fewer than ten bytes, all from 128 on
 pub record EndsEarly (rest : List ℕ) : Type 0 where

@@ -5,7 +5,7 @@ ghost use Rattle.mvt_wire.specs.Key.{IsKeyOf};
 use crate::cause::{WireCause, WireCode};
 use crate::varint::read_varint;
 
-/// The wire types of today's fields. Groups are refused.
+/// The wire types that are read. Groups (3 and 4), 6 and 7 are refused.
 #[derive(Clone, Copy)]
 pub(crate) enum WireType {
     Varint,

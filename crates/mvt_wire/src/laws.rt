@@ -1,10 +1,11 @@
 //! The laws of the wire encoding, as contracts of functions that do nothing. They speak of the
 //! definitions alone, so a reader of messages can stand on them.
 
-ghost use Rattle.std.specs.Prelude.{◌≡◌, ℕ, ◌≤◌, ◌⊎◌, List, [], ◌∷◌, ◌++◌, length};
-ghost use Rattle.mvt_wire.specs.Varint.{IsVarint, BeginsWithVarint, EndsEarly, IsTooLong};
+ghost use Rattle.std.specs.Prelude.{◌≡◌, ℕ, ◌≤◌, ◌⊎◌, List, [], ◌∷◌, ◌++◌, length, drop};
+ghost use Rattle.std.specs.List.{concat};
+ghost use Rattle.mvt_wire.specs.Varint.{IsVarint, SpellsVarint, EndsEarly, IsTooLong};
 ghost use Rattle.mvt_wire.specs.Field.{Entry, IsField, IsFieldSpelling};
-ghost use Rattle.mvt_wire.specs.Message.{FieldList, IsMessage, HasDefect};
+ghost use Rattle.mvt_wire.specs.Message.{FieldList, IsMessage, AreSpellings, HasDefect};
 ghost use Rattle.mvt_wire.specs.declared.cause.WireCause.{WireCause};
 
 /// No spelling of a varint is a proper front of another one (Protocol Buffers encoding, "Base 128
@@ -16,9 +17,12 @@ pub fn no_varint_begins_another()
 /// At each place stands exactly one of a varint, a varint that ends too early and one that is too
 /// long.
 pub fn varint_or_defect()
-    ensures some { (rest : List ℕ) → BeginsWithVarint rest ⊎ EndsEarly rest ⊎ IsTooLong rest }
-    ensures not_early { (rest : List ℕ) → BeginsWithVarint rest → ¬ EndsEarly rest }
-    ensures not_long { (rest : List ℕ) → BeginsWithVarint rest → ¬ IsTooLong rest }
+    ensures some { (bytes : List ℕ) (at : ℕ) → at ≤ length bytes →
+        ((to n : ℕ) × SpellsVarint bytes at to n) ⊎ EndsEarly (drop at bytes) ⊎ IsTooLong (drop at bytes) }
+    ensures one_varint { (bytes : List ℕ) (at to end m n : ℕ) →
+        SpellsVarint bytes at to m → SpellsVarint bytes at end n → (to ≡ end) × (m ≡ n) }
+    ensures not_early { (bytes : List ℕ) (at to n : ℕ) → SpellsVarint bytes at to n → ¬ EndsEarly (drop at bytes) }
+    ensures not_long { (bytes : List ℕ) (at to n : ℕ) → SpellsVarint bytes at to n → ¬ IsTooLong (drop at bytes) }
     ensures one_defect { (rest : List ℕ) → EndsEarly rest → ¬ IsTooLong rest }
 {}
 
@@ -26,6 +30,13 @@ pub fn varint_or_defect()
 /// Structure").
 pub fn no_field_begins_another()
     ensures { (spelling more : List ℕ) (e f : Entry) → IsFieldSpelling spelling e → IsFieldSpelling (spelling ++ more) f → more ≡ [] }
+{}
+
+/// A message is whole exactly where its bytes are spellings of fields, joined one behind another.
+pub fn message_joins_spellings()
+    ensures joined { (pieces : List (List ℕ)) (entries : List Entry) → AreSpellings 0 pieces entries → IsMessage (concat pieces) 0 entries }
+    ensures parted { (bytes : List ℕ) (entries : List Entry) → IsMessage bytes 0 entries →
+        (pieces : List (List ℕ)) × (bytes ≡ concat pieces) × AreSpellings 0 pieces entries }
 {}
 
 /// A message has one field list.
@@ -41,6 +52,15 @@ pub fn message_or_defect()
         IsMessage bytes from entries → ¬ HasDefect bytes from cause }
     ensures one_defect { (bytes : List ℕ) (from : ℕ) (first second : WireCause) →
         HasDefect bytes from first → HasDefect bytes from second → first ≡ second }
+{}
+
+/// The fields before a message's end, or before its defect, are the longest list of fields that
+/// begins there: every other one is a front of it.
+pub fn longest_field_list()
+    ensures whole { (bytes : List ℕ) (from to : ℕ) (entries front : List Entry) →
+        IsMessage bytes from entries → FieldList bytes from front to → (rest : List Entry) × (entries ≡ front ++ rest) }
+    ensures before_defect { (bytes : List ℕ) (from to : ℕ) (cause : WireCause) (front : List Entry) (defect : HasDefect bytes from cause) →
+        FieldList bytes from front to → (rest : List Entry) × (defect.entries ≡ front ++ rest) }
 {}
 
 /// A list of fields goes on by the field that stands behind it.

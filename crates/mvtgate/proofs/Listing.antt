@@ -108,4 +108,4 @@ pub Listing-whole : (input : List ℕ) (old new : Walk) (text : List ℕ) (is_fi
     → ⊥
 Listing-whole input old new text is_first cause so_far whole found =
     let bad = Passing-defect input old new so_far.entries cause so_far.walked found in
-    whole_or_defect input 0 bad.at whole.0 bad.entries cause whole.1 bad.before bad.left bad.defect
+    whole_or_defect input 0 whole.0 cause whole.1 bad

@@ -1,6 +1,6 @@
 -- Each input has one answer, by the laws of the wire encoding.
 use Rattle.std.proofs.Common.{◌≡◌, ℕ, List, inl, inr, refl, sym, ◌∙◌, ap, arith}
-use Rattle.mvt_wire.proofs.Messages.{one_list, whole_or_defect, one_message_defect, message_or_defect}
+use Rattle.mvt_wire.proofs.Messages.{one_list, whole_or_defect, one_defect, message_or_defect}
 use Rattle.mvtgate.specs.Fields.{IsFieldsAnswer, fault_line}
 use Rattle.mvtgate.specs.FieldsLine.{fields_line}
 use Rattle.mvtgate.specs.declared.engine.Outcome.{Outcome}
@@ -14,7 +14,7 @@ some_answer input = elim (message_or_defect input 0 (omega arith)) [
 
 pub one_answer : (input : List ℕ) (first second : Outcome) (line other : List ℕ) → IsFieldsAnswer input first line → IsFieldsAnswer input second other → (first ≡ second) × (line ≡ other)
 one_answer input Yes Yes line other a b = (refl, a.2 ∙ ap fields_line (one_list input 0 a.0 b.0 a.1 b.1) ∙ sym b.2)
-one_answer input Yes No line other a b = absurd (whole_or_defect input 0 b.1.at a.0 b.1.entries b.0 a.1 b.1.before b.1.left b.1.defect)
-one_answer input No Yes line other a b = absurd (whole_or_defect input 0 a.1.at b.0 a.1.entries a.0 b.1 a.1.before a.1.left a.1.defect)
+one_answer input Yes No line other a b = absurd (whole_or_defect input 0 a.0 b.0 a.1 b.1)
+one_answer input No Yes line other a b = absurd (whole_or_defect input 0 b.0 a.0 b.1 a.1)
 one_answer input No No line other a b =
-    (refl, a.2 ∙ ap fault_line (one_message_defect input 0 a.1.at b.1.at a.1.entries b.1.entries a.0 b.0 a.1.before a.1.defect b.1.before b.1.defect) ∙ sym b.2)
+    (refl, a.2 ∙ ap fault_line (one_defect input 0 a.0 b.0 a.1 b.1) ∙ sym b.2)

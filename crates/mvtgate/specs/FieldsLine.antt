@@ -2,7 +2,7 @@
 use Rattle.std.specs.Prelude.{ℕ, List, ◌++◌, codes, length, map}
 use Rattle.std.specs.Fmt.{decimal}
 use Rattle.std.specs.List.{join_with_byte}
-use Rattle.mvt_wire.specs.Field.{Entry, Content, number, eight_bytes, delimited, four_bytes}
+use Rattle.mvt_wire.specs.Field.{Entry, Content, varint, eight_bytes, delimited, four_bytes}
 
 -- a field with a varint: the offset of its key, its number, its value
 abbrev pub varint_text : ℕ → ℕ → ℕ → List ℕ
@@ -18,7 +18,7 @@ payload_text at size field_number wire_type =
 
 -- a field by its payload
 abbrev pub content_text : ℕ → ℕ → Content → List ℕ
-content_text at field_number (number value from) = varint_text at field_number value
+content_text at field_number (varint value from) = varint_text at field_number value
 content_text at field_number (eight_bytes part) = payload_text at 8 field_number 1
 content_text at field_number (delimited from part) = payload_text at (length part) field_number 2
 content_text at field_number (four_bytes part) = payload_text at 4 field_number 5
