@@ -1,29 +1,30 @@
 ghost use Rattle.std.specs.Prelude.{◌≡◌};
 
-/// What is wrong with the wire encoding of a tile, in the order of the codes 101 to 111.
+/// What is wrong with the wire encoding of a tile (Protocol Buffers encoding, and the messages of
+/// the Mapbox Vector Tile Specification 2.1, section 4). The numbers are those of `code`.
 #[derive(Clone, Copy, Debug, PartialEq, Eq)]
 pub enum WireCode {
-    /// A varint ends too early.
+    /// 101: a varint ends too early.
     Ends = 101,
-    /// A varint is too long: its tenth byte is above 1.
+    /// 102: a varint is too long: its tenth byte is above 1.
     TooLong,
-    /// A field key is 2^32 or more, or its field number is 0.
+    /// 103: a field key is 2^32 or more, or its field number is 0.
     BadNumber,
-    /// A field key has wire type 3, 4, 6 or 7.
+    /// 104: a field key has wire type 3, 4, 6 or 7.
     BadWireType,
-    /// A payload runs past the end of its message.
+    /// 105: a payload runs past the end of its message.
     PastEnd,
-    /// A known field has another wire type than its own.
+    /// 106: a known field has another wire type than its own.
     OtherType,
-    /// A singular field occurs again.
+    /// 107: a singular field occurs again.
     Again,
-    /// A required field is missing.
+    /// 108: a required field is missing.
     Missing,
-    /// A value has none or several of its fields.
+    /// 109: a value has none or several of its fields.
     OneField,
-    /// A text isn't UTF-8.
+    /// 110: a text isn't UTF-8.
     NotUtf8,
-    /// A number is out of the range of its field.
+    /// 111: a number is out of the range of its field.
     OutOfRange,
 }
 
@@ -38,11 +39,13 @@ impl WireCode {
     }
 }
 
-/// One defect of the wire encoding: its code, the offset that it stands at, and the number of the
-/// field that it is about, or 0 where there is none.
+/// One defect of the wire encoding.
 #[derive(Clone, Copy, Debug, PartialEq, Eq)]
 pub struct WireCause {
+    /// What is wrong.
     pub code: WireCode,
+    /// The offset in bytes, counted from 0 at the first byte of all that was given.
     pub at: usize,
+    /// The number of the field, or 0 where the defect is about no field with a number.
     pub field: u32,
 }

@@ -1,12 +1,15 @@
-/// A field of a message: its number, the offset of its key, and its payload.
+/// A field of a message (Protocol Buffers encoding, "Message Structure").
 #[derive(Clone, Copy, Debug)]
 pub struct Field<'a> {
+    /// The field number, from 1 to 2^29 - 1.
     pub number: u32,
+    /// The offset of the field's key.
     pub at: usize,
     pub body: Body<'a>,
 }
 
-/// A field's payload, by its wire type. Offsets are places in the bytes that the reader was given.
+/// A field's payload, by its wire type. Offsets are in bytes, and places in all that the reader was
+/// given.
 #[derive(Clone, Copy, Debug)]
 pub enum Body<'a> {
     /// Wire type 0: the varint's value, and the offset of its first byte.
