@@ -19,6 +19,7 @@ pub struct Tally<T> {
 impl<T> Tally<T> {
     ghost use Rattle.mvtgate.specs.Tally.{counts_of, device_of, no_counts, after_bytes, after_failure, after_interruption};
 
+    /// A tally of a device, on which nothing was counted yet.
     pub fn new(device: T) -> Self
         ensures device { device_of result ≡ device }
         ensures counts { counts_of result ≡ no_counts }
