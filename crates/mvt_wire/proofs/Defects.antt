@@ -2,15 +2,12 @@
 use Rattle.std.proofs.Common.{◌≡◌, ◌≢◌, ℕ, ◌+◌, ◌*◌, ◌/◌, ◌%◌, ◌^◌, ◌<◌, ◌≤◌, ◌⊎◌, ◌↔◌, Bool, IsTrue, true, false, inl, inr, List, length, drop, slice_range, refl, sym, ◌∙◌, ap, subst, arith}
 use Rattle.std.proofs.lemmas.Bool.{cases_lt, cases_eq}
 use Rattle.mvt_wire.specs.Varint.{SpellsVarint, VarintDefect}
-use Rattle.mvt_wire.specs.Field.{Content, varint, eight_bytes, delimited, four_bytes, Entry, wire_type_of, IsKey, IsPayload, IsField, IsRefusedType, HasLeadingVarint, PayloadEnd, FieldDefect, key, key_out_of_range, refused_type, leading_varint, past_end}
+use Rattle.mvt_wire.specs.Field.{Content, cause_at, varint, eight_bytes, delimited, four_bytes, Entry, wire_type_of, IsKey, IsPayload, IsField, IsRefusedType, HasLeadingVarint, PayloadEnd, FieldDefect, key, key_out_of_range, refused_type, leading_varint, past_end}
 use Rattle.mvt_wire.specs.declared.cause.WireCause.{WireCause}
 use Rattle.mvt_wire.specs.declared.cause.WireCode.{WireCode}
 use Rattle.mvt_wire.specs.declared.cause.WireCode.TheVariants.{Ends, TooLong, BadNumber, BadWireType, PastEnd}
 use Rattle.mvt_wire.proofs.Varints.{place_begins, one_end, one_value, varint_or_defect, one_defect_of_varint}
 use Rattle.mvt_wire.proofs.Entries.{one_key, IsKey-from, entry_at}
-
-abbrev pub cause_of : WireCode → ℕ → ℕ → WireCause
-cause_of code at field = record { code = code; at = at; field = field }
 
 -- a wire type of a field isn't a refused one
 type_or_refused : (content : Content) → IsRefusedType (wire_type_of content) → ⊥
@@ -102,7 +99,7 @@ defect_or_end bytes from t end code leading defect (inr (inr p)) = varint_or_def
 -- a place has at most one defect
 pub one_field_defect : (bytes : List ℕ) (at : ℕ) (c d : WireCause) → FieldDefect bytes at c → FieldDefect bytes at d → c ≡ d
 one_field_defect bytes at c d (key a x is) (key b y also) =
-    is ∙ ap (λ (code : WireCode). cause_of code at 0) (one_defect_of_varint (drop at bytes) a b x y) ∙ sym also
+    is ∙ ap (λ (code : WireCode). cause_at code at 0) (one_defect_of_varint (drop at bytes) a b x y) ∙ sym also
 one_field_defect bytes at c d (key a x is) (key_out_of_range to n spelled range also) = absurd (varint_or_defect bytes at to n a spelled x)
 one_field_defect bytes at c d (key a x is) (refused_type to n t k r also) = absurd (varint_or_defect bytes at to _ a k.spelled x)
 one_field_defect bytes at c d (key a x is) (leading_varint to n t b k l y also) = absurd (varint_or_defect bytes at to _ a k.spelled x)
@@ -115,7 +112,7 @@ one_field_defect bytes at c d (key_out_of_range to n spelled range is) (past_end
 one_field_defect bytes at c d (refused_type to n t k r is) (key b y also) = absurd (varint_or_defect bytes at to _ b k.spelled y)
 one_field_defect bytes at c d (refused_type to n t k r is) (key_out_of_range end m spelled range also) = absurd (range_or_key bytes at end to m n t spelled range k)
 one_field_defect bytes at c d (refused_type to n t k r is) (refused_type end m s h q also) =
-    is ∙ ap (λ (field : ℕ). cause_of BadWireType at field) (one_key bytes at to end n m t s k h).numbers ∙ sym also
+    is ∙ ap (λ (field : ℕ). cause_at BadWireType at field) (one_key bytes at to end n m t s k h).numbers ∙ sym also
 one_field_defect bytes at c d (refused_type to n t k r is) (leading_varint end m s b h l y also) =
     absurd (refused_or_leading s (subst IsRefusedType (one_key bytes at to end n m t s k h).types r) l)
 one_field_defect bytes at c d (refused_type to n t k r is) (past_end end m s stop h e p also) =
@@ -127,7 +124,7 @@ one_field_defect bytes at c d (leading_varint to n t a k l x is) (refused_type e
 one_field_defect bytes at c d (leading_varint to n t a k l x is) (leading_varint end m s b h l' y also) =
     let same = one_key bytes at to end n m t s k h in
     let moved : VarintDefect a (drop end bytes) = subst (λ (place : ℕ). VarintDefect a (drop place bytes)) same.places x in
-    is ∙ ap (λ (code : WireCode). cause_of code to n) (one_defect_of_varint (drop end bytes) a b moved y) ∙ ap (λ (place : ℕ). cause_of b place n) same.places ∙ ap (λ (field : ℕ). cause_of b end field) same.numbers ∙ sym also
+    is ∙ ap (λ (code : WireCode). cause_at code to n) (one_defect_of_varint (drop end bytes) a b moved y) ∙ ap (λ (place : ℕ). cause_at b place n) same.places ∙ ap (λ (field : ℕ). cause_at b end field) same.numbers ∙ sym also
 one_field_defect bytes at c d (leading_varint to n t a k l x is) (past_end end m s stop h e p also) =
     let same = one_key bytes at to end n m t s k h in
     let moved : VarintDefect a (drop end bytes) = subst (λ (place : ℕ). VarintDefect a (drop place bytes)) same.places x in
@@ -141,7 +138,7 @@ one_field_defect bytes at c d (past_end to n t stop k e p is) (leading_varint en
     let moved : VarintDefect b (drop to bytes) = subst (λ (place : ℕ). VarintDefect b (drop place bytes)) (sym same.places) y in
     absurd (defect_or_end bytes to t stop b (subst HasLeadingVarint (sym same.types) l) moved e)
 one_field_defect bytes at c d (past_end to n t stop k e p is) (past_end end m s stop' h e' p' also) =
-    is ∙ ap (λ (field : ℕ). cause_of PastEnd at field) (one_key bytes at to end n m t s k h).numbers ∙ sym also
+    is ∙ ap (λ (field : ℕ). cause_at PastEnd at field) (one_key bytes at to end n m t s k h).numbers ∙ sym also
 
 -- three low bits that are none of a field's wire types
 pub refused : (wire_type : ℕ) → wire_type < 8 → wire_type ≢ 0 → wire_type ≢ 1 → wire_type ≢ 2 → wire_type ≢ 5 → IsRefusedType wire_type
@@ -181,26 +178,26 @@ FieldOrDefect bytes at = ((to : ℕ) × (e : Entry) × (e.at ≡ at) × IsField 
 value_begins : (bytes : List ℕ) (at to n : ℕ) → IsKey bytes at to n 0 → to ≤ length bytes → FieldOrDefect bytes at
 value_begins bytes at to n k within = elim (varint_begins bytes to within) [
   | inl found ↦ inl (found.0, entry_at n at (varint found.1 to), refl, record { key_end = to; key = k; payload = (refl, found.2) })
-  | inr bad ↦ inr (cause_of bad.0 to n, leading_varint to n 0 bad.0 k (inl refl) bad.1 refl)
+  | inr bad ↦ inr (cause_at bad.0 to n, leading_varint to n 0 bad.0 k (inl refl) bad.1 refl)
 ]
 
 eight_begin : (bytes : List ℕ) (at to n : ℕ) → IsKey bytes at to n 1 → FieldOrDefect bytes at
 eight_begin bytes at to n k = elim (cases_lt (length bytes) (to + 8)) [
-  | inl less ↦ inr (cause_of PastEnd at n, past_end to n 1 (to + 8) k (inl (refl, refl)) less refl)
+  | inl less ↦ inr (cause_at PastEnd at n, past_end to n 1 (to + 8) k (inl (refl, refl)) less refl)
   | inr room ↦ inl (to + 8, entry_at n at (eight_bytes (slice_range bytes to (to + 8))), refl, record { key_end = to; key = k; payload = (refl, room, refl) })
 ]
 
 four_begin : (bytes : List ℕ) (at to n : ℕ) → IsKey bytes at to n 5 → FieldOrDefect bytes at
 four_begin bytes at to n k = elim (cases_lt (length bytes) (to + 4)) [
-  | inl less ↦ inr (cause_of PastEnd at n, past_end to n 5 (to + 4) k (inr (inl (refl, refl))) less refl)
+  | inl less ↦ inr (cause_at PastEnd at n, past_end to n 5 (to + 4) k (inr (inl (refl, refl))) less refl)
   | inr room ↦ inl (to + 4, entry_at n at (four_bytes (slice_range bytes to (to + 4))), refl, record { key_end = to; key = k; payload = (refl, room, refl) })
 ]
 
 delimited_begin : (bytes : List ℕ) (at to n : ℕ) → IsKey bytes at to n 2 → to ≤ length bytes → FieldOrDefect bytes at
 delimited_begin bytes at to n k within = elim (varint_begins bytes to within) [
-  | inr bad ↦ inr (cause_of bad.0 to n, leading_varint to n 2 bad.0 k (inr refl) bad.1 refl)
+  | inr bad ↦ inr (cause_at bad.0 to n, leading_varint to n 2 bad.0 k (inr refl) bad.1 refl)
   | inl found ↦ elim (cases_lt (length bytes) (found.0 + found.1)) [
-    | inl less ↦ inr (cause_of PastEnd at n, past_end to n 2 (found.0 + found.1) k (inr (inr (refl, (found.0, found.1, found.2, refl)))) less refl)
+    | inl less ↦ inr (cause_at PastEnd at n, past_end to n 2 (found.0 + found.1) k (inr (inr (refl, (found.0, found.1, found.2, refl)))) less refl)
     | inr room ↦ inl (found.0 + found.1, entry_at n at (delimited found.0 (slice_range bytes found.0 (found.0 + found.1))), refl, record { key_end = to; key = k; payload = (found.1, found.2, refl, room, refl) })
   ]
 ]
@@ -214,7 +211,7 @@ payload_begins bytes at to n t k within = elim (cases_eq t 0) [
       | inl two_is ↦ delimited_begin bytes at to n (subst (λ (s : ℕ). IsKey bytes at to n s) two_is k) within
       | inr not_two ↦ elim (cases_eq t 5) [
         | inl five_is ↦ four_begin bytes at to n (subst (λ (s : ℕ). IsKey bytes at to n s) five_is k)
-        | inr not_five ↦ inr (cause_of BadWireType at n, refused_type to n t k (refused t k.low_bits not_zero not_one not_two not_five) refl)
+        | inr not_five ↦ inr (cause_at BadWireType at n, refused_type to n t k (refused t k.low_bits not_zero not_one not_two not_five) refl)
       ]
     ]
   ]
@@ -222,9 +219,9 @@ payload_begins bytes at to n t k within = elim (cases_eq t 0) [
 
 key_begins : (bytes : List ℕ) (at to n : ℕ) → SpellsVarint bytes at to n → FieldOrDefect bytes at
 key_begins bytes at to n spelled = elim (cases_lt n 8) [
-  | inl low ↦ inr (cause_of BadNumber at 0, key_out_of_range to n spelled (inr low) refl)
+  | inl low ↦ inr (cause_at BadNumber at 0, key_out_of_range to n spelled (inr low) refl)
   | inr numbered ↦ elim (cases_lt n (2 ^ 32)) [
-    | inr high ↦ inr (cause_of BadNumber at 0, key_out_of_range to n spelled (inl high) refl)
+    | inr high ↦ inr (cause_at BadNumber at 0, key_out_of_range to n spelled (inl high) refl)
     | inl small ↦ payload_begins bytes at to (n / 8) (n % 8) (IsKey-from bytes at to n spelled small numbered) spelled.within
   ]
 ]
@@ -233,5 +230,5 @@ key_begins bytes at to n spelled = elim (cases_lt n 8) [
 pub field_begins : (bytes : List ℕ) (at : ℕ) → at ≤ length bytes → FieldOrDefect bytes at
 field_begins bytes at within = elim (varint_begins bytes at within) [
   | inl found ↦ key_begins bytes at found.0 found.1 found.2
-  | inr bad ↦ inr (cause_of bad.0 at 0, key bad.0 bad.1 refl)
+  | inr bad ↦ inr (cause_at bad.0 at 0, key bad.0 bad.1 refl)
 ]

@@ -85,15 +85,29 @@ PayloadEnd bytes from wire_type end =
     ⊎ ((wire_type ≡ 5) × (end ≡ from + 4))
     ⊎ ((wire_type ≡ 2) × ((start n : ℕ) × SpellsVarint bytes from start n × (end ≡ start + n)))
 
--- What keeps a field from standing at a place that has bytes left, with the fault that says so.
+-- the cause with a code, at a place, about a field number
+abbrev pub cause_at : WireCode → ℕ → ℕ → WireCause
+cause_at code at field_number = record { code = code; at = at; field = field_number }
+
+-- What keeps a field from standing at a place that has bytes left, with the cause that says so.
 pub data FieldDefect (bytes : List ℕ) (at : ℕ) (cause : WireCause) : Type 0 where
   -- the key is no varint
-  key : (code : WireCode) → VarintDefect code (drop at bytes) → cause ≡ record { code = code; at = at; field = 0 } → FieldDefect bytes at cause
+  key : (code : WireCode)
+      → VarintDefect code (drop at bytes)
+      → cause ≡ cause_at code at 0 → FieldDefect bytes at cause
   -- the key is 2^32 or more, or its field number is 0
-  key_out_of_range : (to n : ℕ) → SpellsVarint bytes at to n → (2 ^ 32 ≤ n) ⊎ (n < 8) → cause ≡ record { code = BadNumber; at = at; field = 0 } → FieldDefect bytes at cause
+  key_out_of_range : (to n : ℕ)
+      → SpellsVarint bytes at to n → (2 ^ 32 ≤ n) ⊎ (n < 8)
+      → cause ≡ cause_at BadNumber at 0 → FieldDefect bytes at cause
   -- the wire type is 3, 4, 6 or 7
-  refused_type : (to field_number wire_type : ℕ) → IsKey bytes at to field_number wire_type → IsRefusedType wire_type → cause ≡ record { code = BadWireType; at = at; field = field_number } → FieldDefect bytes at cause
+  refused_type : (to field_number wire_type : ℕ)
+      → IsKey bytes at to field_number wire_type → IsRefusedType wire_type
+      → cause ≡ cause_at BadWireType at field_number → FieldDefect bytes at cause
   -- the payload's value or length is no varint
-  leading_varint : (to field_number wire_type : ℕ) (code : WireCode) → IsKey bytes at to field_number wire_type → HasLeadingVarint wire_type → VarintDefect code (drop to bytes) → cause ≡ record { code = code; at = to; field = field_number } → FieldDefect bytes at cause
+  leading_varint : (to field_number wire_type : ℕ) (code : WireCode)
+      → IsKey bytes at to field_number wire_type → HasLeadingVarint wire_type → VarintDefect code (drop to bytes)
+      → cause ≡ cause_at code to field_number → FieldDefect bytes at cause
   -- the payload would end behind the message
-  past_end : (to field_number wire_type end : ℕ) → IsKey bytes at to field_number wire_type → PayloadEnd bytes to wire_type end → length bytes < end → cause ≡ record { code = PastEnd; at = at; field = field_number } → FieldDefect bytes at cause
+  past_end : (to field_number wire_type end : ℕ)
+      → IsKey bytes at to field_number wire_type → PayloadEnd bytes to wire_type end → length bytes < end
+      → cause ≡ cause_at PastEnd at field_number → FieldDefect bytes at cause
