@@ -8,8 +8,8 @@ use Rattle.mvt_wire.specs.Code.{code_of}
 use Rattle.mvt_wire.specs.declared.cause.WireCode.{WireCode}
 use Rattle.mvt_wire.specs.declared.cause.WireCode.TheVariants.{Ends, TooLong, BadNumber, BadWireType, PastEnd, OtherType, Again, Missing, OneField, NotUtf8, OutOfRange}
 use Rattle.mvt_fault.specs.Text.{data_of, IsInRange, Reads}
-use Rattle.mvt_fault.specs.declared.fault.Scope.{Scope}
-use Rattle.mvt_fault.specs.declared.fault.Scope.TheVariants.{Tile, Layer, Value, Feature}
+use Rattle.mvt_wire.specs.declared.scope.Scope.{Scope}
+use Rattle.mvt_wire.specs.declared.scope.Scope.TheVariants.{Tile, Layer, Value, Feature}
 use Rattle.mvt_fault.specs.declared.fault.Fault.{Fault}
 use Rattle.mvt_fault.specs.declared.fault.Fault.TheVariants.{Wire}
 

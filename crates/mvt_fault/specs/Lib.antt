@@ -3,3 +3,4 @@ pub use Rattle.serde_json.specs.Read
 pub use Rattle.serde_json.specs.Written
 pub mod Code
 pub mod Text
+pub mod Place

@@ -5,8 +5,8 @@ use Rattle.serde_json.specs.Read.{read}
 use Rattle.serde_json.specs.Written.{compact_text}
 use Rattle.mvt_wire.specs.Code.{code_of}
 use Rattle.mvt_wire.specs.declared.cause.WireCode.{WireCode}
-use Rattle.mvt_fault.specs.declared.fault.Scope.{Scope}
-use Rattle.mvt_fault.specs.declared.fault.Scope.TheVariants.{Tile, Layer, Value, Feature}
+use Rattle.mvt_wire.specs.declared.scope.Scope.{Scope}
+use Rattle.mvt_wire.specs.declared.scope.Scope.TheVariants.{Tile, Layer, Value, Feature}
 use Rattle.mvt_fault.specs.declared.fault.Fault.{Fault}
 use Rattle.mvt_fault.specs.declared.fault.Fault.TheVariants.{Wire}
 

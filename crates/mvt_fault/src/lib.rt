@@ -6,5 +6,6 @@ mod fault;
 mod tests;
 mod text;
 
-pub use fault::{Fault, Scope, code};
+pub use fault::{Fault, code};
+pub use mvt_wire::Scope;
 pub use text::fault_text;

@@ -2,8 +2,8 @@ ghost use Rattle.std.specs.Prelude.{◌≡◌, IfOk, OnOk, string_bytes};
 ghost use Rattle.serde_json.specs.View.{view};
 ghost use Rattle.mvt_fault.specs.Text.{data_of, text_of, wire_data, IsInRange, Reads};
 
-use crate::fault::{Fault, Scope};
-use mvt_wire::WireCode;
+use crate::fault::Fault;
+use mvt_wire::{Scope, WireCode};
 use serde_json::{Value, json};
 use std::alloc::{AllocError, Global};
 

@@ -4,3 +4,8 @@ pub mod Field
 pub mod Key
 pub mod Message
 pub mod Walk
+pub mod Schema
+pub mod Number
+pub mod Scope
+pub mod WireFault
+pub mod Tile

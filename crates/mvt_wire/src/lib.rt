@@ -6,6 +6,8 @@ mod field;
 mod fields;
 mod key;
 pub mod laws;
+pub mod schema;
+mod scope;
 #[cfg(test)]
 mod tests;
 mod varint;
@@ -13,4 +15,6 @@ mod varint;
 pub use cause::{WireCause, WireCode};
 pub use field::{Body, Field};
 pub use fields::Fields;
+pub use schema::{FieldRule, Message, Occurrence, Shape};
+pub use scope::Scope;
 pub use varint::read_varint;

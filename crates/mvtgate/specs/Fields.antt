@@ -2,7 +2,7 @@
 use Rattle.std.specs.Prelude.{◌≡◌, ℕ, List, ◌++◌, codes}
 use Rattle.mvt_fault.specs.Text.{text_of}
 use Rattle.mvt_fault.specs.declared.fault.Fault.TheVariants.{Wire}
-use Rattle.mvt_fault.specs.declared.fault.Scope.TheVariants.{Tile}
+use Rattle.mvt_wire.specs.declared.scope.Scope.TheVariants.{Tile}
 use Rattle.mvt_wire.specs.Field.{Entry}
 use Rattle.mvt_wire.specs.Message.{HasDefect, IsMessage}
 use Rattle.mvt_wire.specs.declared.cause.WireCause.{WireCause}

@@ -1,0 +1,132 @@
+//! The messages of a tile and the fields that they know, as one table (Mapbox Vector Tile
+//! Specification 2.1, section 4 and its `vector_tile.proto`). Code and definitions read it.
+ghost use Rattle.std.specs.Prelude.{◌≡◌};
+ghost use Rattle.mvt_wire.specs.Schema.{rules_of, rule_of, find_rule};
+
+/// A message of a tile.
+#[derive(Clone, Copy, Debug, PartialEq, Eq)]
+pub enum Message {
+    /// Section 4.
+    Tile,
+    /// Section 4.1.
+    Layer,
+    /// Section 4.4.
+    Value,
+    /// Section 4.2.
+    Feature,
+}
+
+/// What the payload of a field is, and so which wire types are its own.
+#[derive(Clone, Copy, Debug, PartialEq, Eq)]
+pub enum Shape {
+    /// An embedded message: wire type 2.
+    Embedded,
+    /// A text in UTF-8: wire type 2.
+    Text,
+    /// Four bytes: wire type 5.
+    FourBytes,
+    /// Eight bytes: wire type 1.
+    EightBytes,
+    /// A number of 64 bits: wire type 0.
+    Uint64,
+    /// A number of 32 bits: wire type 0.
+    Uint32,
+    /// A geometry type, from 0 to 3: wire type 0.
+    GeometryType,
+    /// Numbers of 32 bits: wire type 2 where they are packed, 0 where the field states one.
+    Numbers,
+}
+
+/// How often a field stands in its message.
+#[derive(Clone, Copy, Debug, PartialEq, Eq)]
+pub enum Occurrence {
+    AnyNumber,
+    AtLeastOnce,
+    AtMostOnce,
+    Once,
+}
+
+/// What a message asks of the fields of one number.
+#[derive(Clone, Copy, Debug, PartialEq, Eq)]
+pub struct FieldRule {
+    pub number: u32,
+    pub shape: Shape,
+    pub occurrence: Occurrence,
+}
+
+macro_rules! rules {
+    ($($number:literal $shape:ident $occurrence:ident,)*) => {
+        [$(FieldRule {
+            number: $number,
+            shape: Shape::$shape,
+            occurrence: Occurrence::$occurrence,
+        }),*]
+    };
+}
+
+/// The fields of a tile (section 4).
+pub const TILE_FIELDS: [FieldRule; 1] = rules![
+    3 Embedded AnyNumber, // layers
+];
+
+/// The fields of a layer (section 4.1).
+pub const LAYER_FIELDS: [FieldRule; 6] = rules![
+    1 Text Once, // name
+    2 Embedded AnyNumber, // features
+    3 Text AnyNumber, // keys
+    4 Embedded AnyNumber, // values
+    5 Uint32 AtMostOnce, // extent
+    15 Uint32 Once, // version
+];
+
+/// The fields of a value, of which it has just one (section 4.4).
+pub const VALUE_FIELDS: [FieldRule; 7] = rules![
+    1 Text AtMostOnce,
+    2 FourBytes AtMostOnce, // float
+    3 EightBytes AtMostOnce, // double
+    4 Uint64 AtMostOnce, // int64
+    5 Uint64 AtMostOnce, // uint64
+    6 Uint64 AtMostOnce, // sint64
+    7 Uint64 AtMostOnce, // bool
+];
+
+/// The fields of a feature (section 4.2).
+pub const FEATURE_FIELDS: [FieldRule; 4] = rules![
+    1 Uint64 AtMostOnce, // id
+    2 Numbers AnyNumber, // tags
+    3 GeometryType Once, // type
+    4 Numbers AtLeastOnce, // geometry
+];
+
+impl Message {
+    /// The fields that the message knows.
+    pub fn rules(self) -> &'static [FieldRule]
+        ensures { result.now ≡ rules_of self }
+    {
+        match self {
+            Message::Tile => &TILE_FIELDS,
+            Message::Layer => &LAYER_FIELDS,
+            Message::Value => &VALUE_FIELDS,
+            Message::Feature => &FEATURE_FIELDS,
+        }
+    }
+
+    /// What the message asks of the fields of a number, or None where it doesn't know the number.
+    pub fn rule(self, number: u32) -> Option<FieldRule>
+        ensures { result ≡ rule_of self number }
+    {
+        find_rule(self.rules(), number)
+    }
+}
+
+/// The first of the rules that is about a number.
+fn find_rule(rules: &[FieldRule], number: u32) -> Option<FieldRule>
+    ensures { result ≡ find_rule rules.now number }
+{
+    for &rule in rules {
+        if rule.number == number {
+            return Some(rule);
+        }
+    }
+    None
+}
