@@ -8,6 +8,7 @@ use crate::cause::WireCode;
 /// 128 Varints"). A varint longer than its value needs is read as well, up to ten bytes.
 ///
 /// Errors: `Ends` where the bytes end before the varint does, `TooLong` where it isn't below 2^64.
+#[inline(always)]
 pub fn read_varint(bytes: &[u8], at: usize) -> Result<(u64, usize), WireCode>
     requires { at ≤ length bytes.now }
     ensures found { IfOk result (λ read. SpellsVarint bytes.now at read.1 read.0) }
@@ -15,6 +16,12 @@ pub fn read_varint(bytes: &[u8], at: usize) -> Result<(u64, usize), WireCode>
     ensures refused { IfErr result (λ code. VarintDefect code (drop at bytes.now)) }
     ensures refused_only { (code : WireCode) → VarintDefect code (drop at bytes.now) → result ≡ Err code }
 {
+    // Nearly all varints of a tile have one byte.
+    if let Some(&byte) = bytes.get(at) {
+        if byte < 128 {
+            return Ok((u64::from(byte), at + 1));
+        }
+    }
     let (value, size) = leading_varint(&bytes[at..])?;
     Ok((value, at + size))
 }
