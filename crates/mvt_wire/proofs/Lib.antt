@@ -4,3 +4,4 @@ pub mod Messages
 pub mod Pieces
 pub mod Varints
 pub mod Walks
+pub mod Zigzags

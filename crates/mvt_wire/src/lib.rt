@@ -10,11 +10,15 @@ pub mod schema;
 mod scope;
 #[cfg(test)]
 mod tests;
+mod utf8;
 mod varint;
+mod zigzag;
 
 pub use cause::{WireCause, WireCode};
 pub use field::{Body, Field};
 pub use fields::Fields;
 pub use schema::{FieldRule, Message, Occurrence, Shape};
 pub use scope::Scope;
+pub use utf8::text;
 pub use varint::read_varint;
+pub use zigzag::{unzigzag32, unzigzag64};
