@@ -1,7 +1,9 @@
 pub mod Defects
 pub mod Entries
 pub mod Messages
+pub mod PackedLists
 pub mod Pieces
+pub mod Schemas
 pub mod Varints
 pub mod Walks
 pub mod Zigzags

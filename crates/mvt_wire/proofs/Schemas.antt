@@ -1,0 +1,70 @@
+-- A message that keeps its schema has no fault of a field, and none at its end.
+use Rattle.std.proofs.Common.{◌≡◌, ℕ, suc, ◌+◌, ◌≤◌, ◌==◌, Bool, true, false, ◌⊎◌, inl, inr, List, ◌∷◌, ◌++◌, length, Some, refl, ◌∙◌, ap, subst, arith, length-append, All}
+use Rattle.std.proofs.lemmas.Bool.{both_ways, ltb-false, le-ltb, eq-eqb, cond-true}
+use Rattle.std.proofs.lemmas.List.{get_or_at}
+use Rattle.std.proofs.lemmas.List.Elements.{filter-append}
+use Rattle.mvt_wire.specs.Field.{Content, Entry}
+use Rattle.mvt_wire.specs.Number.{States}
+use Rattle.mvt_wire.specs.Schema.{rule_of, is_singular}
+use Rattle.mvt_wire.specs.Scope.{fields_of}
+use Rattle.mvt_wire.specs.Tile.{Fits, KeepsSchema}
+use Rattle.mvt_wire.specs.WireFault.{count_of, stands_in, EntryFault, other_type, again, no_text, out_of_range, packed, FieldFault, EndFault, missing, not_one}
+use Rattle.mvt_wire.specs.declared.cause.WireCause.{WireCause}
+use Rattle.mvt_wire.specs.declared.schema.FieldRule.{FieldRule}
+use Rattle.mvt_wire.specs.declared.schema.Message.{Message}
+use Rattle.mvt_wire.proofs.PackedLists.{packed_or_fault}
+
+-- the fields of a number are counted in both parts of a list
+pub count_of-append : (field_number : ℕ) (xs ys : List Entry) → count_of field_number (xs ++ ys) ≡ count_of field_number xs + count_of field_number ys
+count_of-append field_number xs ys =
+    ap length (filter-append (λ (entry : Entry). entry.number == field_number) xs ys) ∙ length-append (fields_of field_number xs) (fields_of field_number ys)
+
+-- a field counts for its own number
+pub count_of-own : (entry : Entry) (after : List Entry) → count_of entry.number (entry ∷ after) ≡ suc (count_of entry.number after)
+count_of-own entry after = ap length (cond-true (entry.number == entry.number) (entry ∷ fields_of entry.number after) (fields_of entry.number after) (eq-eqb entry.number entry.number refl))
+
+-- an element in the middle of a list
+All-middle : {X : Type 0} (P : X → Type 0) (xs : List X) (x : X) (ys : List X) → All P (xs ++ x ∷ ys) → P x
+All-middle P xs x ys all =
+    let longer = length-append xs (x ∷ ys) in
+    subst P (get_or_at xs x ys x (length xs) refl) (all (length xs) x (omega arith))
+
+-- a field that fits its rule, and is alone where it has to be, has no fault
+fits_or_fault : (rule : FieldRule) (stood : Bool) (entry : Entry) (cause : WireCause) → Fits rule entry.content → (is_singular rule.occurrence ≡ true → stood ≡ false) → EntryFault rule stood entry cause → ⊥
+fits_or_fault rule stood entry cause fits alone (other_type other is) = both_ways _ other fits.own
+fits_or_fault rule stood entry cause fits alone (again singular stands is) = both_ways stood (alone singular) stands
+fits_or_fault rule stood entry cause fits alone (no_text from part shape content not is) = not (fits.text from part shape content)
+fits_or_fault rule stood entry cause fits alone (out_of_range value at content over is) = both_ways _ (fits.in_range value at content) over
+fits_or_fault rule stood entry cause fits alone (packed from part shape content fault) =
+    let read = fits.packed from part shape content in
+    packed_or_fault from part entry.number cause read.0 (subst (λ (c : Content). States c read.0) content read.1) read.2 fault
+
+-- a field that may stand once has none of its number before it
+alone_before : (message : Message) (before : List Entry) (entry : Entry) (after : List Entry) → count_of entry.number (before ++ entry ∷ after) ≤ 1 → stands_in entry.number before ≡ false
+alone_before message before entry after few =
+    let parts = count_of-append entry.number before (entry ∷ after) in
+    let own = count_of-own entry after in
+    le-ltb 0 (count_of entry.number before) (omega arith)
+
+-- a field of a number that the message knows fits its rule
+abbrev pub FitsRule : Message → Entry → Type 0
+FitsRule message entry = (rule : FieldRule) → rule_of message entry.number ≡ Some rule → Fits rule entry.content
+
+field_or_fault : (message : Message) (entries : List Entry) (cause : WireCause) → KeepsSchema message entries → FieldFault message entries cause → ⊥
+field_or_fault message entries cause keeps fault =
+    let whole : KeepsSchema message (fault.before ++ fault.entry ∷ fault.after) = subst (λ (list : List Entry). KeepsSchema message list) fault.split keeps in
+    let fits = All-middle (FitsRule message) fault.before fault.entry fault.after whole.fits fault.rule fault.known in
+    fits_or_fault fault.rule (stands_in fault.entry.number fault.before) fault.entry cause fits
+    (λ singular. alone_before message fault.before fault.entry fault.after (whole.at_most fault.entry.number fault.rule fault.known singular)) fault.fault
+
+end_or_fault : (message : Message) (entries : List Entry) (end : ℕ) (cause : WireCause) → KeepsSchema message entries → EndFault message entries end cause → ⊥
+end_or_fault message entries end cause keeps (missing field_number rule known required none is) =
+    let present = keeps.at_least field_number rule known required in
+    let absent = ltb-false 0 (count_of field_number entries) none in
+    omega arith
+end_or_fault message entries end cause keeps (not_one value count is) = count (keeps.one value)
+
+-- a message that keeps its schema has no fault
+pub KeepsSchema-faultless : (message : Message) (entries : List Entry) (end : ℕ) (cause : WireCause) → KeepsSchema message entries → (FieldFault message entries cause ⊎ EndFault message entries end cause) → ⊥
+KeepsSchema-faultless message entries end cause keeps (inl fault) = field_or_fault message entries cause keeps fault
+KeepsSchema-faultless message entries end cause keeps (inr fault) = end_or_fault message entries end cause keeps fault
