@@ -163,7 +163,7 @@ BadWireType-at bytes at to n spelled small numbered a b c d =
     refused_type to (n / 8) (n % 8) key (refused (n % 8) key.low_bits a b c d) refl
 
 -- a place has a varint, or a defect with its code
-varint_begins : (bytes : List ℕ) (at : ℕ) → at ≤ length bytes → ((to n : ℕ) × SpellsVarint bytes at to n) ⊎ ((code : WireCode) × VarintDefect code (drop at bytes))
+pub varint_begins : (bytes : List ℕ) (at : ℕ) → at ≤ length bytes → ((to n : ℕ) × SpellsVarint bytes at to n) ⊎ ((code : WireCode) × VarintDefect code (drop at bytes))
 varint_begins bytes at within = elim (place_begins bytes at within) [
   | inl found ↦ inl found
   | inr (inl early) ↦ inr (Ends, inl (refl, early))

@@ -1,5 +1,6 @@
 pub mod Defects
 pub mod Entries
+pub mod Judgements
 pub mod Messages
 pub mod PackedLists
 pub mod Pieces

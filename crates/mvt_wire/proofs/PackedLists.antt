@@ -1,11 +1,16 @@
--- Packed lists: a place has one list of varints up to an end, of two lists one is a front of the other, and a list of
--- small numbers over a whole payload has no fault.
-use Rattle.std.proofs.Common.{◌≡◌, ℕ, ◌+◌, ◌^◌, ◌<◌, ◌≤◌, ◌⊎◌, inl, inr, suc, List, [], ◌∷◌, ◌++◌, length, get_or, drop, refl, sym, ◌∙◌, ap, subst, arith, append-nil, length-append}
+-- Packed lists: a place has one list of varints up to an end, and of two lists one is a front of the other. A payload is
+-- a list of small numbers or has a fault, and not both.
+use Rattle.std.proofs.Common.{◌≡◌, ℕ, ◌+◌, ◌^◌, ◌<◌, ◌≤◌, ◌⊎◌, inl, inr, zero, suc, List, [], ◌∷◌, ◌++◌, length, get_or, drop, refl, sym, ◌∙◌, ap, subst, arith, append-nil, length-append}
+use Rattle.std.proofs.lemmas.Bool.{cases_lt}
 use Rattle.std.proofs.lemmas.List.{get_or_at}
+use Rattle.std.proofs.lemmas.List.Elements.{All-nil, All-cons}
 use Rattle.mvt_wire.specs.Varint.{SpellsVarint, VarintDefect}
+use Rattle.mvt_wire.specs.Field.{cause_at}
 use Rattle.mvt_wire.specs.Number.{VarintList, AreSmall, PackedFault, no_varint, too_large}
 use Rattle.mvt_wire.specs.declared.cause.WireCause.{WireCause}
 use Rattle.mvt_wire.specs.declared.cause.WireCode.{WireCode}
+use Rattle.mvt_wire.specs.declared.cause.WireCode.TheVariants.{OutOfRange}
+use Rattle.mvt_wire.proofs.Defects.{varint_begins}
 use Rattle.mvt_wire.proofs.Varints.{one_end, one_value, varint_or_defect}
 
 -- a list of varints goes forward
@@ -94,3 +99,44 @@ packed_or_fault from part field_number cause numbers list small (no_varint short
 packed_or_fault from part field_number cause numbers list small (too_large shorter at next n before spelled large is) =
     let behind = whole_goes_on part 0 at numbers shorter list before in
     front_or_large part at next n numbers shorter behind.0 small behind.1 behind.2 spelled large
+
+-- no number of 32 bits stands at a place
+abbrev pub NoSmallNumber : List ℕ → ℕ → Type 0
+NoSmallNumber part at =
+    ((code : WireCode) × (at < length part) × VarintDefect code (drop at part)) ⊎ ((next n : ℕ) × SpellsVarint part at next n × (2 ^ 32 ≤ n))
+
+-- from a place on stand small numbers up to the end, or numbers up to a place where no small one stands
+abbrev pub NumbersOrStop : List ℕ → ℕ → Type 0
+NumbersOrStop part at =
+    ((numbers : List ℕ) × VarintList part at numbers (length part) × AreSmall numbers)
+    ⊎ ((numbers : List ℕ) × (stop : ℕ) × VarintList part at numbers stop × NoSmallNumber part stop)
+
+numbers_or_stop : (fuel : ℕ) (part : List ℕ) (at : ℕ) → at ≤ length part → length part ≤ at + fuel → NumbersOrStop part at
+numbers_or_stop zero part at within left = inl ([], omega arith, All-nil _)
+numbers_or_stop (suc fuel) part at within left = elim (cases_lt at (length part)) [
+  | inr none ↦ inl ([], omega arith, All-nil _)
+  | inl more ↦ elim (varint_begins part at within) [
+    | inr bad ↦ inr ([], at, refl, inl (bad.0, more, bad.1))
+    | inl found ↦ elim (cases_lt found.1 (2 ^ 32)) [
+      | inr large ↦ inr ([], at, refl, inr (found.0, found.1, found.2, large))
+      | inl small ↦
+          let forward = found.2.forward in
+          elim (numbers_or_stop fuel part found.0 found.2.within (omega arith)) [
+            | inl rest ↦ inl (found.1 ∷ rest.0, (found.0, found.2, rest.1), All-cons (λ (n : ℕ). n < 2 ^ 32) found.1 rest.0 small rest.2)
+            | inr rest ↦ inr (found.1 ∷ rest.0, rest.1, (found.0, found.2, rest.2), rest.3)
+          ]
+    ]
+  ]
+]
+
+stop_faults : (from : ℕ) (part : List ℕ) (field_number : ℕ) (numbers : List ℕ) (stop : ℕ) → VarintList part 0 numbers stop → NoSmallNumber part stop → (cause : WireCause) × PackedFault from part field_number cause
+stop_faults from part field_number numbers stop list (inl bad) = (cause_at bad.0 (from + stop) field_number, no_varint numbers stop bad.0 list bad.1 bad.2 refl)
+stop_faults from part field_number numbers stop list (inr large) = (cause_at OutOfRange (from + stop) field_number, too_large numbers stop large.0 large.1 list large.2 large.3 refl)
+
+-- a payload is a list of small numbers, or has a fault of a packed list
+pub numbers_or_fault : (from : ℕ) (part : List ℕ) (field_number : ℕ)
+    → ((numbers : List ℕ) × VarintList part 0 numbers (length part) × AreSmall numbers) ⊎ ((cause : WireCause) × PackedFault from part field_number cause)
+numbers_or_fault from part field_number = elim (numbers_or_stop (length part) part 0 (omega arith) (omega arith)) [
+  | inl whole ↦ inl whole
+  | inr bad ↦ inr (stop_faults from part field_number bad.0 bad.1 bad.2 bad.3)
+]
