@@ -1,5 +1,1 @@
-pub mod Engine
-pub mod Fields
-pub mod FieldsLine
 pub mod Status
-pub mod Tally

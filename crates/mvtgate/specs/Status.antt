@@ -1,9 +1,9 @@
 -- The status that the program exits with.
 use Rattle.std.specs.Prelude.{ℕ, Result, Ok, Err}
-use Rattle.mvtgate.specs.declared.engine.Outcome.{Outcome}
-use Rattle.mvtgate.specs.declared.engine.Outcome.TheVariants.{Yes, No}
-use Rattle.mvtgate.specs.declared.engine.EngineFault.{EngineFault}
-use Rattle.mvtgate.specs.declared.engine.EngineFault.TheVariants.{Read, TooLarge, Write, Memory}
+use Rattle.mvt_gate.specs.declared.engine.Outcome.{Outcome}
+use Rattle.mvt_gate.specs.declared.engine.Outcome.TheVariants.{Yes, No}
+use Rattle.mvt_gate.specs.declared.engine.EngineFault.{EngineFault}
+use Rattle.mvt_gate.specs.declared.engine.EngineFault.TheVariants.{Read, TooLarge, Write, Memory}
 
 -- the status of an engine's fault
 abbrev pub fault_status : EngineFault → ℕ

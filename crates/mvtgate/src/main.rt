@@ -1,12 +1,7 @@
 //! A gate before the publishing of Mapbox vector tiles: the program.
 #![tactic(auto)]
 
-#[cfg(test)]
-mod device;
-mod engine;
-mod fields;
 mod run;
-mod tally;
 
 use std::process::ExitCode;
 

@@ -3,11 +3,9 @@ ghost use Rattle.std.specs.Prelude.{◌≡◌, ◌≢◌, ◌≤◌, ◌⊎◌, 
 ghost use Rattle.clap.specs.Words.{kind_of};
 ghost use Rattle.mvtgate.specs.Status.{status_of};
 
-use crate::engine::{EngineFault, Outcome};
-use crate::fields::fields_stream;
-use crate::tally::Tally;
 use clap::error::ErrorKind;
 use clap::{Arg, ArgMatches, Command};
+use mvt_gate::{EngineFault, Outcome, Tally, fields_stream};
 use std::alloc::{AllocError, Global};
 use std::rt::{Env, Files};
 use std::{env, fs, io};

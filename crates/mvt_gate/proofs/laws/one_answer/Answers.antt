@@ -1,0 +1,8 @@
+use Rattle.mvt_gate.proofs.OneAnswer.{some_answer, one_answer}
+use Rattle.mvt_gate.proofs.laws.one_answer.Goals as goal
+
+pub returns-clause-some : goal.returns-clause-some
+returns-clause-some c = some_answer
+
+pub returns-clause-alone : goal.returns-clause-alone
+returns-clause-alone c = one_answer

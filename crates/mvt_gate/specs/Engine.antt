@@ -1,0 +1,35 @@
+-- What an engine reads and writes, as the counts of its tallies show it.
+use Rattle.std.specs.Prelude.{◌≡◌, ℕ, ◌+◌, ◌<◌, ◌≤◌, ◌⊎◌, List, length, Option}
+use Rattle.std.specs.Io.KnownBytes.{Appends, Consumes, IsAtEnd}
+use Rattle.mvt_gate.specs.declared.tally.Tally.{Tally}
+use Rattle.mvt_gate.specs.Tally.{counts_of, tally_bytes}
+
+-- how many bytes an input may have
+abbrev pub input_limit : ℕ
+input_limit = 67108864
+
+-- how many interruptions a run bears, those of all its devices together
+abbrev pub interruption_limit : ℕ
+interruption_limit = 1000
+
+-- the input is all that the reader gave, up to its end, and no read of it failed
+pub record ReadsWhole {T : Type 0} (known : T → Option (List ℕ)) (old new : Tally T) (input : List ℕ) : Type 0 where
+  pub gave : Consumes (tally_bytes known old) (tally_bytes known new) input
+  pub at_end : IsAtEnd (tally_bytes known new)
+  pub counted : (counts_of new).bytes ≡ length input
+  pub small : length input ≤ input_limit
+  pub clean : (counts_of new).failed ≡ 0
+
+-- these bytes and no others went out
+pub record Writes {T : Type 0} (known : T → Option (List ℕ)) (old new : Tally T) (bytes : List ℕ) : Type 0 where
+  pub appended : Appends (tally_bytes known old) (tally_bytes known new) bytes
+  pub counted : (counts_of new).bytes ≡ length bytes
+
+-- a call on the device failed, or it was interrupted more often than a run bears; `others` is how often the engine's other devices were interrupted
+abbrev pub HasFailed : {T : Type 0} → Tally T → ℕ → Type 0
+HasFailed t others = (0 < (counts_of t).failed) ⊎ (interruption_limit < (counts_of t).interrupted + others)
+
+-- no call on the device failed, and the run bears its interruptions
+pub record IsClean {T : Type 0} (t : Tally T) (others : ℕ) : Type 0 where
+  pub failed : (counts_of t).failed ≡ 0
+  pub patient : (counts_of t).interrupted + others ≤ interruption_limit

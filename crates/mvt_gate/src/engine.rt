@@ -1,0 +1,160 @@
+//! What every engine does: read its whole input, and write one line.
+ghost use Rattle.std.specs.Prelude.{◌≡◌, ◌≢◌, ℕ, ◌+◌, ◌<◌, ◌≤◌, ◌⊎◌, length, take, IsTrue, IsFalse, IfOk, IfErr, OnOk, OnErr};
+ghost use Rattle.std.specs.Io.KnownBytes.{Keeps};
+ghost use Rattle.std.specs.IoError.{error_kind};
+ghost use Rattle.mvt_gate.specs.Engine.{HasFailed, IsClean, ReadsWhole, Writes, input_limit, interruption_limit};
+ghost use Rattle.mvt_gate.specs.Tally.{counts_of, no_counts, tally_bytes};
+
+use crate::tally::Tally;
+use std::alloc::Global;
+use std::io;
+use std::io::{ErrorKind, Read, Write};
+use thiserror::Error;
+
+/// How many bytes an input may have.
+pub const INPUT_LIMIT: usize = 67_108_864;
+
+/// How many interruptions an engine bears, those of all its devices together.
+pub const INTERRUPTION_LIMIT: u64 = 1_000;
+
+/// How many bytes one read asks for.
+const CHUNK_LENGTH: usize = 65_536;
+
+/// What the line says: that the answer is yes, or a fault.
+#[derive(Clone, Copy, Debug, PartialEq, Eq)]
+pub enum Outcome {
+    Yes,
+    No,
+}
+
+/// Why an engine gave no answer. The text is the line that the program tells it by.
+#[derive(Clone, Copy, Debug, PartialEq, Eq, Error)]
+pub enum EngineFault {
+    #[error("mvtgate: cannot read the input")]
+    Read,
+    #[error("mvtgate: the input is larger than 67108864 bytes")]
+    TooLarge,
+    #[error("mvtgate: cannot write the output")]
+    Write,
+    #[error("mvtgate: out of memory")]
+    Memory,
+}
+
+/// Reads all that the reader gives. `others` is how often the engine's other devices were interrupted.
+pub fn read_whole<R: Read>(
+    alloc: Global,
+    reader: &mut Tally<R>,
+    others: u64,
+) -> Result<Vec<u8>, EngineFault>
+    requires fresh { counts_of reader.old ≡ no_counts }
+    requires patient { others ≤ interruption_limit }
+
+    ensures whole { IfOk result (λ input. ReadsWhole R.remaining reader.old reader.new input.items) }
+    ensures clean { OnOk result (IsClean reader.new others) }
+
+    ensures read { result ≡ Err EngineFault.Read → HasFailed reader.new others }
+    ensures too_large { result ≡ Err EngineFault.TooLarge → input_limit < (counts_of reader.new).bytes }
+    ensures no_write { result ≢ Err EngineFault.Write }
+{
+    let mut input = Vec::new(alloc);
+    let mut chunk = [0u8; CHUNK_LENGTH];
+    'chunks: loop {
+        match reader.read(&mut chunk) {
+            Ok(0) => return Ok(input),
+            Ok(n) => {
+                if n > INPUT_LIMIT - input.len() {
+                    return Err(EngineFault::TooLarge);
+                }
+                if input.extend_from_slice(&chunk[..n]).is_err() {
+                    return Err(EngineFault::Memory);
+                }
+            }
+            Err(error) => {
+                if !may_try_again(&error, reader.interrupted(), others) {
+                    return Err(EngineFault::Read);
+                }
+            }
+        }
+    }
+}
+
+/// Writes the whole line and flushes. `others` is how often the engine's other devices were
+/// interrupted. The only error is `Write`.
+pub fn write_whole<W: Write>(
+    writer: &mut Tally<W>,
+    line: &[u8],
+    others: u64,
+) -> Result<(), EngineFault>
+    requires fresh { counts_of writer.old ≡ no_counts }
+    requires patient { others ≤ interruption_limit }
+
+    ensures whole { OnOk result (Writes W.contents writer.old writer.new line.now) }
+    ensures clean { OnOk result (IsClean writer.new others) }
+
+    ensures write { IfErr result (λ e. (e ≡ EngineFault.Write) × HasFailed writer.new others) }
+    ensures prefix { OnErr result ((k : ℕ) × Writes W.contents writer.old writer.new (take k line.now)) }
+{
+    write_bytes(writer, line, others)?;
+    flush_all(writer, others)
+}
+
+fn write_bytes<W: Write>(writer: &mut Tally<W>, line: &[u8], others: u64) -> Result<(), EngineFault>
+    requires fresh { counts_of writer.old ≡ no_counts }
+    requires patient { others ≤ interruption_limit }
+
+    ensures whole { OnOk result (Writes W.contents writer.old writer.new line.now) }
+    ensures clean { OnOk result (IsClean writer.new others) }
+
+    ensures write { IfErr result (λ e. (e ≡ EngineFault.Write) × HasFailed writer.new others) }
+    ensures prefix { OnErr result ((k : ℕ) × Writes W.contents writer.old writer.new (take k line.now)) }
+{
+    let mut written = 0;
+    'bytes: while written < line.len() {
+        match writer.write(&line[written..]) {
+            Ok(0) => return Err(EngineFault::Write),
+            Ok(n) => written += n,
+            Err(error) => {
+                if !may_try_again(&error, writer.interrupted(), others) {
+                    return Err(EngineFault::Write);
+                }
+            }
+        }
+    }
+    Ok(())
+}
+
+fn flush_all<W: Write>(writer: &mut Tally<W>, others: u64) -> Result<(), EngineFault>
+    requires { IsClean writer.old others }
+
+    ensures kept { Keeps (tally_bytes W.contents writer.old) (tally_bytes W.contents writer.new) }
+    ensures bytes { (counts_of writer.new).bytes ≡ (counts_of writer.old).bytes }
+    ensures clean { OnOk result (IsClean writer.new others) }
+    ensures write { IfErr result (λ e. (e ≡ EngineFault.Write) × HasFailed writer.new others) }
+{
+    'tries: loop {
+        match writer.flush() {
+            Ok(()) => return Ok(()),
+            Err(error) => {
+                if !may_try_again(&error, writer.interrupted(), others) {
+                    return Err(EngineFault::Write);
+                }
+            }
+        }
+    }
+}
+
+/// Whether a call that ended in this error is made again: an interrupted call is, unless the run was
+/// interrupted more often than it bears. `interruptions` counts those of the device, this one among
+/// them, and `others` those of the engine's other devices.
+fn may_try_again(error: &io::Error, interruptions: u64, others: u64) -> bool
+    requires { others ≤ interruption_limit }
+    ensures yes { IsTrue result → (error_kind error.now ≡ ErrorKind.Interrupted)
+        × (interruptions + others ≤ interruption_limit) }
+    ensures no { IsFalse result → (error_kind error.now ≢ ErrorKind.Interrupted)
+        ⊎ (interruption_limit < interruptions + others) }
+{
+    error.kind() == ErrorKind::Interrupted && interruptions <= INTERRUPTION_LIMIT - others
+}
+
+#[cfg(test)]
+mod tests;

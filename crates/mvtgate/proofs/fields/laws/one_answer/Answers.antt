@@ -1,8 +1,0 @@
-use Rattle.mvtgate.proofs.OneAnswer.{some_answer, one_answer}
-use Rattle.mvtgate.proofs.fields.laws.one_answer.Goals as goal
-
-pub returns-clause-some : goal.returns-clause-some
-returns-clause-some c = some_answer
-
-pub returns-clause-alone : goal.returns-clause-alone
-returns-clause-alone c = one_answer
