@@ -1,35 +1,205 @@
 #!/usr/bin/env python3
 """Writes the inputs of bench/run into a folder: inputs.py FOLDER. Each run writes the same bytes."""
+import functools
 import os
+import random
 import sys
 
 MIB = 1 << 20
+# wire types (Protocol Buffers encoding, "Message Structure")
+VARINT, FIXED64, DELIMITED, FIXED32 = 0, 1, 2, 5
+# geometry types and commands (Mapbox Vector Tile Specification 2.1, sections 4.3.4 and 4.3.1)
+POINT, LINESTRING, POLYGON = 1, 2, 3
+MOVE_TO, LINE_TO, CLOSE_PATH = 1, 2, 7
 
 
-def repeated(field, size):
+@functools.lru_cache(maxsize=1 << 16)
+def varint(number):
+    spelled = bytearray()
+    while number > 127:
+        spelled.append(number & 127 | 128)
+        number >>= 7
+    spelled.append(number)
+    return bytes(spelled)
+
+
+def packed(numbers):
+    return b"".join(map(varint, numbers))
+
+
+def field(number, wire_type, payload):
+    """A field; the payload is a number for a varint, else the bytes."""
+    key = varint(number << 3 | wire_type)
+    if wire_type == VARINT:
+        return key + varint(payload)
+    return key + (varint(len(payload)) if wire_type == DELIMITED else b"") + payload
+
+
+def zigzag(number):
+    return 2 * number if number >= 0 else -2 * number - 1
+
+
+def command(identifier, count):
+    return count << 3 | identifier
+
+
+def parameters(steps):
+    return [zigzag(it) for step in steps for it in step]
+
+
+class Dice:
+    """Whole numbers from a fixed seed, by the one method whose sequence Python promises to keep."""
+
+    def __init__(self, seed):
+        self.random = random.Random(seed).random
+
+    def between(self, least, greatest):
+        return least + int(self.random() * (greatest - least + 1))
+
+    def one(self, choices):
+        return choices[self.between(0, len(choices) - 1)]
+
+
+def layer(name, features, keys=(), values=(), extent=4096):
+    """A layer with its fields in the order in which usual writers put them."""
+    parts = [field(1, DELIMITED, name.encode())]
+    parts += [field(2, DELIMITED, it) for it in features]
+    parts += [field(3, DELIMITED, it.encode()) for it in keys]
+    parts += [field(4, DELIMITED, it) for it in values]
+    parts += [field(5, VARINT, extent), field(15, VARINT, 2)]
+    return field(3, DELIMITED, b"".join(parts))
+
+
+def feature(kind, geometry, identifier=None, tags=b""):
+    """A feature with its fields in the same way; tags and geometry are packed already."""
+    parts = [field(1, VARINT, identifier)] if identifier is not None else []
+    parts += [field(2, DELIMITED, tags)] if tags else []
+    return b"".join(parts) + field(3, VARINT, kind) + field(4, DELIMITED, geometry)
+
+
+# Many features with tags
+
+LAYERS = ["water", "roads", "buildings", "places", "landuse", "boundaries", "transit", "addresses"]
+KEYS = "name class subclass name:en ref rank layer height admin_level surface is_tunnel osm_id oneway operator".split()
+WORDS = "residential service North Königstraße bridge Avenue primary Москва track asphalt 東京 County park school".split()
+VALUES = 4000
+
+
+def value(dice, at):
+    """Of ten values seven are strings; the other kinds take turns."""
+    if at % 10 < 7:
+        return field(1, DELIMITED, f"{dice.one(WORDS)} {dice.between(1, 999)}".encode())
+    number = at // 10
+    return [
+        field(2, FIXED32, number.to_bytes(4, "little")),
+        field(3, FIXED64, number.to_bytes(8, "little")),
+        field(4, VARINT, number),
+        field(5, VARINT, number),
+        field(6, VARINT, number),
+        field(7, VARINT, number & 1),
+    ][at % 6]
+
+
+def steps(dice, count, greatest):
+    """Steps between neighbouring positions, none of them (0, 0)."""
+    return [(dice.between(1, greatest), dice.between(-greatest, greatest)) for _ in range(count)]
+
+
+def tagged_feature(dice, at):
+    # each key once, in order, as from the columns of a table
+    count = dice.between(8, 10)
+    first = dice.between(0, len(KEYS) - count)
+    tags = packed(it for key in range(first, first + count) for it in (key, dice.between(0, VALUES - 1)))
+    start = [command(MOVE_TO, 1), *parameters([(dice.between(0, 4095), dice.between(0, 4095))])]
+    if at % 2:
+        return feature(POINT, packed(start), at, tags)
+    line = steps(dice, dice.between(1, 6), 60)
+    return feature(LINESTRING, packed([*start, command(LINE_TO, len(line)), *parameters(line)]), at, tags)
+
+
+def many_features(size):
+    dice, layers = Dice(1), []
+    for name in LAYERS:
+        values = [value(dice, at) for at in range(VALUES)]
+        features, left = [], size // len(LAYERS) - sum(map(len, values))
+        while left > 0:
+            features.append(tagged_feature(dice, len(features)))
+            # (with the key and the length before it)
+            left -= len(features[-1]) + 2
+        layers.append(layer(name, features, KEYS, values))
+    return b"".join(layers)
+
+
+# Few long geometries
+
+CHAIN = 40_000
+BAND = 1000
+
+
+def chain(dice):
+    """Steps to the right, most of them of one byte a number, that keep within a band and end at its middle."""
+    found, y = [], 0
+    for _ in range(CHAIN - 1):
+        # (what takes one byte is below 64)
+        [(across, up)] = steps(dice, 1, 60 if dice.between(1, 4) < 4 else 200)
+        up = up if abs(y + up) <= BAND else -up
+        found.append((across, up))
+        y += up
+    return [*found, (1, -y)]
+
+
+def long_geometries(size):
+    """Four lines and four polygons of one length. A polygon goes right in one band and comes back in another, and so
+    no two of its edges meet."""
+    there = chain(Dice(2))
+    right, left = packed(parameters(there)), packed(parameters((-across, up) for across, up in there))
+    half = size // 16 // len(right)
+    count = 2 * half * CHAIN
+    start = packed([command(MOVE_TO, 1), 0, 0])
+    line = start + packed([command(LINE_TO, count)]) + right * half * 2
+    to_other_band = packed(parameters([(0, 4 * BAND)]))
+    ring = start + packed([command(LINE_TO, count + 1)]) + right * half + to_other_band + left * half
+    ring += packed([command(CLOSE_PATH, 1)])
+    return layer("coastlines", [feature(LINESTRING, line)] * 4) + layer("land", [feature(POLYGON, ring)] * 4)
+
+
+# The same small field again and again
+
+
+def repeated(one, size):
     """As many copies of one field as fit in the size."""
-    return field * (size // len(field))
+    return one * (size // len(one))
 
 
-def one_payload(size):
-    """One field whose length, of four bytes, fills the size. No protobuf message begins with its payload's first byte."""
-    length = size - 5
-    groups = [length >> 7 * at & 127 for at in range(4)]
-    return bytes([0x1A, groups[0] | 128, groups[1] | 128, groups[2] | 128, groups[3]]) + b"\x07" * length
+def one_payload(begin, one, size):
+    """A field of a layer's number that fills the size: a length of four bytes, a beginning, and copies of one part."""
+    return field(3, DELIMITED, begin + repeated(one, size - 5 - len(begin)))
 
 
-SHORT = b"\x08\x05"
-# a layer with its version and a name of one letter
-LAYER = b"\x1a\x05\x78\x02\x0a\x01\x61"
+SHORT = field(1, VARINT, 5)
+# no protobuf message begins with this byte
+NO_MESSAGE = b"\x07"
+NAMED = b"\x78\x02\x0a\x01\x61"
+# The smallest messages without a wire fault: a layer with a version and an empty name, a feature with a type and an
+# empty geometry, and a value with a bool.
+SMALLEST_LAYER = b"\x1a\x04\x78\x02\x0a\x00"
+SMALLEST_FEATURE = b"\x12\x04\x18\x00\x22\x00"
+SMALLEST_VALUE = b"\x22\x02\x38\x01"
 
 INPUTS = {
-    "short_fields_16_mib": lambda: repeated(SHORT, 16 * MIB),
-    "short_fields_32_mib": lambda: repeated(SHORT, 32 * MIB),
-    # the greatest input that the program takes
-    "short_fields_64_mib": lambda: repeated(SHORT, 64 * MIB),
-    "one_payload_64_mib": lambda: one_payload(64 * MIB),
-    "small_layers_8_mib": lambda: repeated(LAYER, 8 * MIB),
+    "one_payload_64_mib": lambda: one_payload(b"", NO_MESSAGE, 64 * MIB),
+    "small_layers_8_mib": lambda: repeated(field(3, DELIMITED, NAMED), 8 * MIB),
+    "many_features_20_mb": lambda: many_features(20_000_000),
+    "long_geometries_20_mb": lambda: long_geometries(20_000_000),
 }
+# (64 MiB are the greatest input that the program takes)
+for mib in (16, 32, 64):
+    INPUTS |= {
+        f"short_fields_{mib}_mib": lambda size=mib * MIB: repeated(SHORT, size),
+        f"smallest_layers_{mib}_mib": lambda size=mib * MIB: repeated(SMALLEST_LAYER, size),
+        f"smallest_features_{mib}_mib": lambda size=mib * MIB: one_payload(NAMED, SMALLEST_FEATURE, size),
+        f"smallest_values_{mib}_mib": lambda size=mib * MIB: one_payload(NAMED, SMALLEST_VALUE, size),
+    }
 
 folder = sys.argv[1]
 os.makedirs(folder, exist_ok=True)

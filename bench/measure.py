@@ -1,13 +1,15 @@
 #!/usr/bin/env python3
-"""Times `PROGRAM fields` and `protoc --decode_raw` in turn on the same files, and prints a table of medians.
+"""Times two commands in turn on the same files, each as standard input, and prints a table of medians.
 
-usage: measure.py PROGRAM FILE.. [--tiles FOLDER]
+usage: measure.py COMMAND PEER FILE.. [--tiles FOLDER]
 
-Each file is a row of its own; the tiles of the folder, NAME.mvt, are one row, the total of a run over each.
+COMMAND and PEER are one word each, with the words of the command in it. Each file is a row of its own; the tiles of
+the folder, NAME.mvt, are one row, the total of a run over each.
 """
 import argparse
 import glob
 import os
+import shlex
 import statistics
 import subprocess
 import sys
@@ -71,27 +73,34 @@ def measure(ours, peer, files):
     return (medians[0], medians[1] if takes else None, peaks[0], peaks[1] if takes else None, len(times[0]))
 
 
+def print_row(cells):
+    print(f"| {' | '.join(cells)} |", flush=True)
+
+
 def main():
     reader = argparse.ArgumentParser()
-    reader.add_argument("program")
+    reader.add_argument("command", type=shlex.split)
+    reader.add_argument("peer", type=shlex.split)
     reader.add_argument("files", nargs="+")
     reader.add_argument("--tiles")
     said = reader.parse_args()
-    ours, peer = [said.program, "fields"], ["protoc", "--decode_raw"]
+    ours, peer = (os.path.basename(it[0]) for it in (said.command, said.peer))
     rows = [(os.path.basename(it), [it]) for it in said.files]
     tiles = sorted(glob.glob(f"{said.tiles}/*.mvt")) if said.tiles else []
     rows += [(f"{len(tiles)} real tiles, one run each", tiles)] * bool(tiles)
-    print("| Input | Bytes | mvtgate, s | protoc, s | mvtgate / protoc | mvtgate, ms a MiB | mvtgate, peak MiB | protoc, peak MiB | Runs |")
-    print("|---|---|---|---|---|---|---|---|---|", flush=True)
+    heads = ["Input", "Bytes", f"{ours}, s", f"{peer}, s", f"{ours} / {peer}"]
+    heads += [f"{ours}, ms a MiB", f"{ours}, peak MiB", f"{peer}, peak MiB", "Runs"]
+    print_row(heads)
+    print_row(["---"] * len(heads))
     for name, files in rows:
         size = sum(map(os.path.getsize, files))
-        took, peer_took, used, peer_used, runs = measure(ours, peer, files)
+        took, peer_took, used, peer_used, runs = measure(said.command, said.peer, files)
         # (over small files the time is that of starting processes)
         each = f"{1000 * took / (size / MIB):.2f}" if len(files) == 1 and size >= MIB else "-"
         cells = [name, f"{size:,}", f"{took:.3f}"]
         cells += ["refused", "-"] if peer_took is None else [f"{peer_took:.3f}", f"{took / peer_took:.2f}"]
         cells += [each, f"{used:.1f}", "-" if peer_used is None else f"{peer_used:.1f}", str(runs)]
-        print(f"| {' | '.join(cells)} |", flush=True)
+        print_row(cells)
 
 
 main()
