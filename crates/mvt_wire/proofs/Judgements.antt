@@ -18,9 +18,9 @@ use Rattle.mvt_wire.specs.declared.schema.Message.TheVariants.{Tile, Layer, Valu
 use Rattle.mvt_wire.specs.declared.schema.Shape.{Shape}
 use Rattle.mvt_wire.specs.declared.schema.Shape.TheVariants.{Embedded, Text, FourBytes, EightBytes, Uint64, Uint32, GeometryType, Numbers}
 use Rattle.mvt_wire.proofs.Entries.{entry_at}
-use Rattle.mvt_wire.proofs.Messages.{message_or_defect}
+use Rattle.mvt_wire.proofs.Messages.{one_list, message_or_defect, whole_or_defect}
 use Rattle.mvt_wire.proofs.PackedLists.{numbers_or_fault}
-use Rattle.mvt_wire.proofs.Schemas.{count_of-append, FitsRule}
+use Rattle.mvt_wire.proofs.Schemas.{count_of-append, FitsRule, KeepsSchema-faultless}
 
 -- a field fits its rule, or has a fault wherever it stands
 abbrev pub FitsOrFault : FieldRule → Bool → Entry → Type 0
@@ -121,7 +121,7 @@ Sparse-push message before entry sparse alone field_number rule known singular =
     ]
 
 -- a number has a rule or none
-rule_or_none : (o : Option FieldRule) → ((rule : FieldRule) × (o ≡ Some rule)) ⊎ (o ≡ None)
+pub rule_or_none : (o : Option FieldRule) → ((rule : FieldRule) × (o ≡ Some rule)) ⊎ (o ≡ None)
 rule_or_none None = inr refl
 rule_or_none (Some rule) = inl (rule, refl)
 
@@ -279,3 +279,10 @@ message_judged message bytes from within = elim (message_or_defect bytes from wi
     | inr fault ↦ inr (fault.0, inr (whole.0, whole.1, fault.1))
   ]
 ]
+
+-- and not both
+pub message_or_fault : (message : Message) (bytes : List ℕ) (from : ℕ) (entries : List Entry) (cause : WireCause) → IsMessage bytes from entries → KeepsSchema message entries → MessageFault message bytes from cause → ⊥
+message_or_fault message bytes from entries cause whole keeps (inl defect) = whole_or_defect bytes from entries cause whole defect
+message_or_fault message bytes from entries cause whole keeps (inr bad) =
+    let same : entries ≡ bad.0 = one_list bytes from entries bad.0 whole bad.1 in
+    KeepsSchema-faultless message bad.0 (length bytes) cause (subst (λ (list : List Entry). KeepsSchema message list) same keeps) bad.2

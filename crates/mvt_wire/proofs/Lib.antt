@@ -1,10 +1,14 @@
+pub mod Contents
 pub mod Defects
 pub mod Entries
 pub mod Judgements
 pub mod Messages
 pub mod PackedLists
 pub mod Pieces
+pub mod Records
 pub mod Schemas
+pub mod Spans
+pub mod Tiles
 pub mod Varints
 pub mod Walks
 pub mod Zigzags

@@ -1,12 +1,15 @@
-//! The laws of the wire encoding, as contracts of functions that do nothing. They speak of the
-//! definitions alone, so a reader of messages can stand on them.
+//! The laws of the wire encoding and of the messages of a tile, as contracts of functions that do
+//! nothing. They speak of the definitions alone, so a reader of messages can stand on them.
 
 ghost use Rattle.std.specs.Prelude.{◌≡◌, ℕ, ◌≤◌, ◌⊎◌, List, [], ◌∷◌, ◌++◌, length, drop};
 ghost use Rattle.std.specs.List.{concat};
 ghost use Rattle.mvt_wire.specs.Varint.{IsVarint, SpellsVarint, EndsEarly, IsTooLong};
 ghost use Rattle.mvt_wire.specs.Field.{Entry, IsField, IsFieldSpelling};
 ghost use Rattle.mvt_wire.specs.Message.{FieldList, IsMessage, AreSpellings, HasDefect};
+ghost use Rattle.mvt_wire.specs.WireFault.{WireFault};
+ghost use Rattle.mvt_wire.specs.Tile.{TileRecord, IsTile};
 ghost use Rattle.mvt_wire.specs.declared.cause.WireCause.{WireCause};
+ghost use Rattle.mvt_wire.specs.declared.scope.Scope.{Scope};
 
 /// No spelling of a varint is a proper front of another one (Protocol Buffers encoding, "Base 128
 /// Varints").
@@ -67,4 +70,18 @@ pub fn longest_field_list()
 pub fn field_list_goes_on()
     ensures { (bytes : List ℕ) (from : ℕ) (entries : List Entry) (at next : ℕ) (entry : Entry) →
         FieldList bytes from entries at → entry.at ≡ at → IsField bytes next entry → FieldList bytes from (entries ++ entry ∷ []) next }
+{}
+
+/// Bytes are a tile, or have a wire fault, and not both (Mapbox Vector Tile Specification 2.1,
+/// section 4).
+pub fn tile_or_wire_fault()
+    ensures some { (bytes : List ℕ) →
+        ((tile : TileRecord) × IsTile bytes tile) ⊎ ((scope : Scope) × (cause : WireCause) × WireFault bytes scope cause) }
+    ensures not_both { (bytes : List ℕ) (tile : TileRecord) (scope : Scope) (cause : WireCause) →
+        IsTile bytes tile → ¬ WireFault bytes scope cause }
+{}
+
+/// Bytes are at most one tile (Mapbox Vector Tile Specification 2.1, section 4).
+pub fn one_tile()
+    ensures { (bytes : List ℕ) (first second : TileRecord) → IsTile bytes first → IsTile bytes second → first ≡ second }
 {}

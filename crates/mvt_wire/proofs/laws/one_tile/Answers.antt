@@ -1,0 +1,5 @@
+use Rattle.mvt_wire.proofs.Tiles.{one_tile}
+use Rattle.mvt_wire.proofs.laws.one_tile.Goals as goal
+
+pub returns : goal.returns
+returns c = one_tile
