@@ -1,11 +1,15 @@
-//! The faults of a vector tile: what is wrong and where, with each fault's code and JSON text.
+//! The faults of a vector tile: what is wrong and where, with each fault's code, its place in the
+//! order of faults, and its JSON text.
 #![tactic(auto)]
 
 mod fault;
+pub mod laws;
+mod order;
 #[cfg(test)]
 mod tests;
 mod text;
 
-pub use fault::{Fault, code};
+pub use fault::{Fault, code, place};
 pub use mvt_wire::Scope;
+pub use order::Place;
 pub use text::fault_text;

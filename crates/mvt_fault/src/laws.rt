@@ -1,0 +1,55 @@
+//! The laws of the order of faults, as contracts of functions that do nothing, or do nothing but
+//! compare. Whoever looks for the first fault of a tile can stand on them.
+
+ghost use Rattle.std.specs.Prelude.{◌≡◌, ◌≢◌, ◌↔◌, ◌⊎◌, ℕ, List, length, IsTrue};
+ghost use Rattle.mvt_wire.specs.declared.cause.WireCode.{WireCode};
+ghost use Rattle.mvt_wire.specs.declared.scope.Scope.{Scope};
+ghost use Rattle.mvt_fault.specs.Place.{place_of, ComesFirst, IsWireFault, IsLeast};
+
+use crate::fault::Fault;
+use crate::order::Place;
+use std::cmp::Ordering;
+
+/// Each fault's place has ten numbers.
+pub fn ten_numbers()
+    ensures { (fault : Fault) → length (place_of fault) ≡ 10 }
+{}
+
+/// Places are in a total order.
+pub fn one_order()
+    ensures reflexive { (place : List ℕ) → ComesFirst place place }
+    ensures antisymmetric { (first second : List ℕ) → ComesFirst first second → ComesFirst second first → first ≡ second }
+    ensures transitive { (first second third : List ℕ) → ComesFirst first second → ComesFirst second third → ComesFirst first third }
+    ensures total { (first second : List ℕ) → ComesFirst first second ⊎ ComesFirst second first }
+{}
+
+/// `cmp` answers by that order.
+#[tactic(auto, using(crate::proofs::Places::less_tells, crate::proofs::Places::equal_tells, crate::proofs::Places::greater_tells))]
+pub fn ordering_of(first: &Place, second: &Place) -> Ordering
+    ensures less { (result ≡ Ordering.Less) ↔ (ComesFirst first.now second.now × (first.now ≢ second.now)) }
+    ensures equal { (result ≡ Ordering.Equal) ↔ (first.now ≡ second.now) }
+    ensures greater { (result ≡ Ordering.Greater) ↔ (ComesFirst second.now first.now × (first.now ≢ second.now)) }
+{
+    first.cmp(second)
+}
+
+/// `<=` answers by that order.
+#[tactic(auto, using(crate::proofs::Places::up_to_tells))]
+pub fn comes_first(first: &Place, second: &Place) -> bool
+    ensures { IsTrue result ↔ ComesFirst first.now second.now }
+{
+    first <= second
+}
+
+/// No two wire faults have one place.
+pub fn one_wire_fault_a_place()
+    ensures { (code other_code : WireCode) (scope other_scope : Scope) (at other_at field other_field : ℕ) →
+        place_of (Fault.Wire code scope at field) ≡ place_of (Fault.Wire other_code other_scope other_at other_field) →
+        Fault.Wire code scope at field ≡ Fault.Wire other_code other_scope other_at other_field }
+{}
+
+/// Bytes have at most one wire fault of least place.
+pub fn one_least_wire_fault()
+    ensures { (bytes : List ℕ) (fault other : Fault) →
+        IsLeast (IsWireFault bytes) fault → IsLeast (IsWireFault bytes) other → fault ≡ other }
+{}
