@@ -281,10 +281,7 @@ int main(int count, char** words) {
     }
     try {
         check_tile(pbf_reader{bytes});
-    } catch (const Fault& fault) {
-        std::printf("{\"fault\":\"%s\"}\n", fault.what());
-        return 1;
-    } catch (const protozero::exception& fault) {
+    } catch (const std::exception& fault) {
         std::printf("{\"fault\":\"%s\"}\n", fault.what());
         return 1;
     }
