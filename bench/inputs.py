@@ -43,8 +43,8 @@ def command(identifier, count):
     return count << 3 | identifier
 
 
-def parameters(steps):
-    return [zigzag(it) for step in steps for it in step]
+def parameters(moves):
+    return [zigzag(it) for move in moves for it in move]
 
 
 class Dice:
@@ -179,6 +179,7 @@ def one_payload(begin, one, size):
 SHORT = field(1, VARINT, 5)
 # no protobuf message begins with this byte
 NO_MESSAGE = b"\x07"
+# a version, and a name of one letter
 NAMED = b"\x78\x02\x0a\x01\x61"
 # The smallest messages without a wire fault: a layer with a version and an empty name, a feature with a type and an
 # empty geometry, and a value with a bool.
