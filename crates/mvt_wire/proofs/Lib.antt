@@ -12,3 +12,7 @@ pub mod Tiles
 pub mod Varints
 pub mod Walks
 pub mod Zigzags
+pub mod NumberEnds
+pub mod NumberFields
+pub mod NumberWalks
+pub mod VarintLists

@@ -9,3 +9,4 @@ pub mod Number
 pub mod Scope
 pub mod WireFault
 pub mod Tile
+pub mod Numbers

@@ -65,7 +65,7 @@ impl<'a> Fields<'a> {
 }
 
 /// The field at an offset, and the offset behind it.
-fn read_field(bytes: &[u8], at: usize) -> Result<(Field<'_>, usize), WireCause>
+pub(crate) fn read_field(bytes: &[u8], at: usize) -> Result<(Field<'_>, usize), WireCause>
     requires { at ≤ length bytes.now }
     ensures field { IfOk result (λ read. IsField bytes.now read.1 (entry_of read.0)) }
     ensures here { IfOk result (λ read. read.0.at ≡ at) }

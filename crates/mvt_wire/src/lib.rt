@@ -6,6 +6,7 @@ mod field;
 mod fields;
 mod key;
 pub mod laws;
+mod numbers;
 pub mod schema;
 mod scope;
 #[cfg(test)]
@@ -17,6 +18,7 @@ mod zigzag;
 pub use cause::{WireCause, WireCode};
 pub use field::{Body, Field};
 pub use fields::Fields;
+pub use numbers::Numbers;
 pub use schema::{FieldRule, Message, Occurrence, Shape};
 pub use scope::Scope;
 pub use utf8::text;
