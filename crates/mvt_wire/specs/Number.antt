@@ -1,4 +1,4 @@
--- The numbers that the fields of one number state (Protocol Buffers encoding, "Packed Repeated Fields"; "ZigZag").
+-- The numbers that the fields of one number state (Protocol Buffers encoding, "Packed Repeated Fields" and "Signed Integers").
 use Rattle.std.specs.Prelude.{◌≡◌, ℕ, ◌+◌, ◌*◌, ◌^◌, ◌<◌, ◌≤◌, List, [], ◌∷◌, ◌++◌, length, drop, All, ℤ, pos, negsuc}
 use Rattle.mvt_wire.specs.Varint.{SpellsVarint, VarintDefect}
 use Rattle.mvt_wire.specs.Field.{Content, varint, eight_bytes, delimited, four_bytes, cause_at}

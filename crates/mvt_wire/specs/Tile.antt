@@ -12,7 +12,8 @@ use Rattle.mvt_wire.specs.declared.schema.Message.{Message}
 use Rattle.mvt_wire.specs.declared.schema.Message.TheVariants.{Tile, Layer, Value, Feature}
 use Rattle.mvt_wire.specs.declared.schema.Shape.TheVariants.{Text, Numbers}
 
--- a payload that a field of a rule may have: of its own wire type, and what it is said to be
+-- a payload that keeps a rule: of an own wire type; a text in UTF-8; a number in its range; a packed list of numbers
+-- of 32 bits
 pub record Fits (rule : FieldRule) (content : Content) : Type 0 where
   pub own : is_own rule.shape (wire_type_of content) ≡ true
   pub text : (from : ℕ) (part : List ℕ) → rule.shape ≡ Text → content ≡ delimited from part → IsUtf8 part
@@ -94,10 +95,12 @@ pub data Says (field_number : ℕ) (content : Content) (value : ValueRecord) : T
   says_text : (from : ℕ) (part : List ℕ) → field_number ≡ 1 → content ≡ delimited from part → value ≡ text part → Says field_number content value
   says_float : (part : List ℕ) → field_number ≡ 2 → content ≡ four_bytes part → value ≡ float part → Says field_number content value
   says_double : (part : List ℕ) → field_number ≡ 3 → content ≡ eight_bytes part → value ≡ double part → Says field_number content value
-  -- two's complement
+  -- two's complement of 64 bits
   says_int : (n at : ℕ) → field_number ≡ 4 → content ≡ varint n at → value ≡ int (cast_signed w64 n) → Says field_number content value
   says_uint : (n at : ℕ) → field_number ≡ 5 → content ≡ varint n at → value ≡ uint n → Says field_number content value
+  -- the number whose zigzag form the varint is (Protocol Buffers encoding, "Signed Integers")
   says_sint : (z : ℤ) (at : ℕ) → field_number ≡ 6 → content ≡ varint (zigzag z) at → value ≡ sint z → Says field_number content value
+  -- true where the varint isn't 0
   says_truth : (n at : ℕ) → field_number ≡ 7 → content ≡ varint n at → value ≡ truth (not (n == 0)) → Says field_number content value
 
 -- the value that the stretch holds: what its one known field says

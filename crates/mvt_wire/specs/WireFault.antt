@@ -32,7 +32,7 @@ pub data EntryFault (rule : FieldRule) (stood : Bool) (entry : Entry) (cause : W
   -- another wire type than its own
   other_type : is_own rule.shape (wire_type_of entry.content) ≡ false
       → cause ≡ cause_at OtherType entry.at entry.number → EntryFault rule stood entry cause
-  -- a second field of a number that may stand once
+  -- a further field of a number that may stand once
   again : is_singular rule.occurrence ≡ true → stood ≡ true
       → cause ≡ cause_at Again entry.at entry.number → EntryFault rule stood entry cause
   -- a text that isn't UTF-8

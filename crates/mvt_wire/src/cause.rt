@@ -39,7 +39,7 @@ impl WireCode {
     }
 }
 
-/// One defect of the wire encoding.
+/// One fault of the wire encoding, or of the tile's schema.
 #[derive(Clone, Copy, Debug, PartialEq, Eq)]
 pub struct WireCause {
     /// What is wrong.

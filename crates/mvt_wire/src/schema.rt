@@ -27,7 +27,7 @@ pub enum Shape {
     FourBytes,
     /// Eight bytes: wire type 1.
     EightBytes,
-    /// A number of 64 bits: wire type 0.
+    /// Any varint, as a number of 64 bits has it: wire type 0.
     Uint64,
     /// A number of 32 bits: wire type 0.
     Uint32,
@@ -40,17 +40,24 @@ pub enum Shape {
 /// How often a field stands in its message.
 #[derive(Clone, Copy, Debug, PartialEq, Eq)]
 pub enum Occurrence {
+    /// Never, once or several times.
     AnyNumber,
+    /// Once or several times.
     AtLeastOnce,
+    /// Never or once.
     AtMostOnce,
+    /// Once, and not again.
     Once,
 }
 
 /// What a message asks of the fields of one number.
 #[derive(Clone, Copy, Debug, PartialEq, Eq)]
 pub struct FieldRule {
+    /// The field number, from 1 to 15.
     pub number: u32,
+    /// What the payload is.
     pub shape: Shape,
+    /// How often the field stands in its message.
     pub occurrence: Occurrence,
 }
 
