@@ -115,7 +115,7 @@ numbers_stated message field_number rule entries keeps known shape =
     stated_together rule (contents_of field_number entries) shape (contents_fit message field_number rule entries known keeps.fits)
 
 -- a field states one list of numbers
-one_stated : (content : Content) (ms ns : List ℕ) → States content ms → States content ns → ms ≡ ns
+pub one_stated : (content : Content) (ms ns : List ℕ) → States content ms → States content ns → ms ≡ ns
 one_stated (varint value at) ms ns h k = h ∙ sym k
 one_stated (eight_bytes part) ms ns h k = absurd h
 one_stated (delimited from part) ms ns h k = one_varint_list part 0 (length part) ms ns h k

@@ -13,6 +13,10 @@ pub mod Varints
 pub mod Walks
 pub mod Zigzags
 pub mod NumberEnds
+pub mod NumberFaults
 pub mod NumberFields
+pub mod NumberLaws
+pub mod NumberPlaces
+pub mod NumberStops
 pub mod NumberWalks
 pub mod VarintLists

@@ -1,28 +1,22 @@
 -- The numbers of a message from a field on, by those from the next field on.
-use Rattle.std.proofs.Common.{◌≡◌, ℕ, ◌^◌, ◌<◌, Bool, List, [], ◌∷◌, ◌++◌, Option, Some, None, cond, length, map, refl, sym, ◌∙◌, ap, subst, append_assoc}
+use Rattle.std.proofs.Common.{◌≡◌, ℕ, ◌^◌, ◌<◌, List, [], ◌∷◌, ◌++◌, Option, Some, None, length, refl, sym, ◌∙◌, ap, subst, append_assoc}
 use Rattle.std.proofs.lemmas.Bool.{eq-eqb, ne_eqb}
 use Rattle.std.proofs.lemmas.List.Elements.{All-append, All-nil}
 use Rattle.mvt_wire.specs.Field.{Content, Entry, IsField, FieldDefect}
 use Rattle.mvt_wire.specs.Number.{States, StateTogether, AreSmall}
-use Rattle.mvt_wire.specs.Scope.{fields_of, contents_of}
+use Rattle.mvt_wire.specs.Scope.{contents_of}
 use Rattle.mvt_wire.specs.Numbers.{NumberFault, at_defect, in_field, NumbersEnd}
 use Rattle.mvt_wire.specs.declared.cause.WireCause.{WireCause}
-
--- the payloads of the fields of a number, where the first field has it, and where it hasn't
-pub contents_of-same : (k : ℕ) (e : Entry) (es : List Entry) → e.number ≡ k → contents_of k (e ∷ es) ≡ e.content ∷ contents_of k es
-contents_of-same k e es is = ap (λ (b : Bool). map (λ (x : Entry). x.content) (cond b (e ∷ fields_of k es) (fields_of k es))) (eq-eqb e.number k is)
-
-pub contents_of-other : (k : ℕ) (e : Entry) (es : List Entry) → (e.number ≡ k → ⊥) → contents_of k (e ∷ es) ≡ contents_of k es
-contents_of-other k e es is_not = ap (λ (b : Bool). map (λ (x : Entry). x.content) (cond b (e ∷ fields_of k es) (fields_of k es))) (ne_eqb e.number k is_not)
+use Rattle.mvt_wire.proofs.Contents.{contents_of-own, contents_of-other}
 
 -- what the fields of a number state together, with one more in front
 pub together-cons : (k : ℕ) (e : Entry) (es : List Entry) (first rest : List ℕ) → e.number ≡ k → States e.content first → StateTogether (contents_of k es) rest → StateTogether (contents_of k (e ∷ es)) (first ++ rest)
 together-cons k e es first rest is states together =
-    subst (λ (contents : List Content). StateTogether contents (first ++ rest)) (sym (contents_of-same k e es is)) (first, rest, states, together, refl)
+    subst (λ (contents : List Content). StateTogether contents (first ++ rest)) (sym (contents_of-own k e es (eq-eqb e.number k is))) (first, rest, states, together, refl)
 
 pub together-skip : (k : ℕ) (e : Entry) (es : List Entry) (numbers : List ℕ) → (e.number ≡ k → ⊥) → StateTogether (contents_of k es) numbers → StateTogether (contents_of k (e ∷ es)) numbers
 together-skip k e es numbers is_not together =
-    subst (λ (contents : List Content). StateTogether contents numbers) (sym (contents_of-other k e es is_not)) together
+    subst (λ (contents : List Content). StateTogether contents numbers) (sym (contents_of-other k e es (ne_eqb e.number k is_not))) together
 
 -- at the end of a message no numbers are left
 pub ends_whole : (bytes : List ℕ) (at k : ℕ) → at ≡ length bytes → NumbersEnd bytes at k [] None

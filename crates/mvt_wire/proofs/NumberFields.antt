@@ -15,7 +15,8 @@ use Rattle.mvt_wire.specs.declared.field.Body.TheVariants.{Fixed64, Fixed32}
 use Rattle.mvt_wire.specs.declared.schema.Shape.TheVariants.{Numbers}
 use Rattle.mvt_wire.proofs.Varints.{one_value, varint_or_defect}
 use Rattle.mvt_wire.proofs.Entries.{field_extent}
-use Rattle.mvt_wire.proofs.VarintLists.{list_forward, empty_list, one_number, front_of_one, VarintList-drop, SpellsVarint-drop, SpellsVarint-take}
+use Rattle.mvt_wire.proofs.PackedLists.{varints_forward}
+use Rattle.mvt_wire.proofs.VarintLists.{empty_list, alone_in_stretch, front_of_one, VarintList-drop, SpellsVarint-drop, SpellsVarint-take}
 use Rattle.mvt_wire.proofs.NumberEnds.{ends_in_field, ends-skip, ends-cons}
 
 -- between two fields a walk has left what stands from the second one on
@@ -24,7 +25,7 @@ left_at_field bytes at k numbers ending within (goes_on first rest list small en
     let none : first ≡ [] = empty_list (take at bytes) at first list in
     subst (λ (ns : List ℕ). NumbersEnd bytes at k ns ending) (sym (joined ∙ ap (λ (ns : List ℕ). ns ++ rest) none)) end
 left_at_field bytes at k numbers ending within (stops cause fault is) =
-    let forward = list_forward (take at bytes) at numbers fault.at fault.before in
+    let forward = varints_forward (take at bytes) at fault.at numbers fault.before in
     let left = fault.left in
     let size = length-take-le at bytes within in
     absurd (omega arith)
@@ -60,7 +61,7 @@ left_in_single bytes at to k value place e numbers ending here field is content 
     let spelled : SpellsVarint (take to bytes) place to value = SpellsVarint-take bytes to place to value (omega arith) within whole in
     elim left [
       | goes_on first rest list small end joined ↦
-          let one : first ≡ value ∷ [] = one_number (take to bytes) place to value first spelled list in
+          let one : first ≡ value ∷ [] = alone_in_stretch (take to bytes) place to value first spelled list in
           let states : States e.content first = subst (λ (c : Content). States c first) (sym content) one in
           subst (λ (ns : List ℕ). NumbersEnd bytes at k ns ending) (sym joined) (ends-cons bytes at to k e first rest ending here field is states small end)
       | stops cause fault ends ↦
@@ -71,7 +72,7 @@ left_in_single bytes at to k value place e numbers ending here field is content 
 -- the fault of a packed list, as its part of the bytes has it
 packed_fault : (bytes : List ℕ) (from k : ℕ) (numbers : List ℕ) (cause : WireCause) (fault : StopsVarints bytes from k numbers cause) → PackedFault from (drop from bytes) k cause
 packed_fault bytes from k numbers cause fault =
-    let forward : from ≤ fault.at = list_forward bytes from numbers fault.at fault.before in
+    let forward : from ≤ fault.at = varints_forward bytes from fault.at numbers fault.before in
     let left = fault.left in
     let size = length-drop from bytes in
     let zero : from - from ≡ 0 = omega arith in
@@ -92,7 +93,7 @@ place_of_fault bytes from k numbers cause fault = elim fault.fault [ inl bad ↦
 list_fault : (bytes : List ℕ) (from k : ℕ) (part : List ℕ) (e : Entry) (numbers : List ℕ) (cause : WireCause) → e.number ≡ k → e.content ≡ delimited from part → part ≡ drop from bytes
     → StopsVarints bytes from k numbers cause → NumberFault e numbers cause
 list_fault bytes from k part e numbers cause is content rest fault =
-    let forward : from ≤ fault.at = list_forward bytes from numbers fault.at fault.before in
+    let forward : from ≤ fault.at = varints_forward bytes from fault.at numbers fault.before in
     let zero : from - from ≡ 0 = omega arith in
     let here = place_of_fault bytes from k numbers cause fault in
     let list : VarintList (drop from bytes) 0 numbers (fault.at - from) = subst (λ (p : ℕ). VarintList (drop from bytes) p numbers (fault.at - from)) zero (VarintList-drop bytes from from numbers fault.at (omega arith) fault.before) in

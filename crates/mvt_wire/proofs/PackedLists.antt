@@ -71,7 +71,7 @@ one_varint_list bytes from to (m ∷ ms) (n ∷ ns) h k =
     cc
 
 -- the number of small ones behind others
-small_behind : (numbers shorter rest : List ℕ) (n : ℕ) → numbers ≡ shorter ++ n ∷ rest → AreSmall numbers → n < 2 ^ 32
+pub small_behind : (numbers shorter rest : List ℕ) (n : ℕ) → numbers ≡ shorter ++ n ∷ rest → AreSmall numbers → n < 2 ^ 32
 small_behind numbers shorter rest n is small =
     let longer : length numbers ≡ length shorter + suc (length rest) = ap length is ∙ length-append shorter (n ∷ rest) in
     let here : get_or numbers (length shorter) 0 ≡ n = ap (λ (list : List ℕ). get_or list (length shorter) 0) is ∙ get_or_at shorter n rest 0 (length shorter) refl in
@@ -105,25 +105,26 @@ abbrev pub NoSmallNumber : List ℕ → ℕ → Type 0
 NoSmallNumber part at =
     ((code : WireCode) × (at < length part) × VarintDefect code (drop at part)) ⊎ ((next n : ℕ) × SpellsVarint part at next n × (2 ^ 32 ≤ n))
 
--- from a place on stand small numbers up to the end, or numbers up to a place where no small one stands
+-- from a place on stand small numbers up to the end, or up to a place where no small one stands
 abbrev pub NumbersOrStop : List ℕ → ℕ → Type 0
 NumbersOrStop part at =
     ((numbers : List ℕ) × VarintList part at numbers (length part) × AreSmall numbers)
-    ⊎ ((numbers : List ℕ) × (stop : ℕ) × VarintList part at numbers stop × NoSmallNumber part stop)
+    ⊎ ((numbers : List ℕ) × (stop : ℕ) × VarintList part at numbers stop × NoSmallNumber part stop × AreSmall numbers)
 
-numbers_or_stop : (fuel : ℕ) (part : List ℕ) (at : ℕ) → at ≤ length part → length part ≤ at + fuel → NumbersOrStop part at
+-- each place has one or the other
+pub numbers_or_stop : (fuel : ℕ) (part : List ℕ) (at : ℕ) → at ≤ length part → length part ≤ at + fuel → NumbersOrStop part at
 numbers_or_stop zero part at within left = inl ([], omega arith, All-nil _)
 numbers_or_stop (suc fuel) part at within left = elim (cases_lt at (length part)) [
   | inr none ↦ inl ([], omega arith, All-nil _)
   | inl more ↦ elim (varint_begins part at within) [
-    | inr bad ↦ inr ([], at, refl, inl (bad.0, more, bad.1))
+    | inr bad ↦ inr ([], at, refl, inl (bad.0, more, bad.1), All-nil _)
     | inl found ↦ elim (cases_lt found.1 (2 ^ 32)) [
-      | inr large ↦ inr ([], at, refl, inr (found.0, found.1, found.2, large))
+      | inr large ↦ inr ([], at, refl, inr (found.0, found.1, found.2, large), All-nil _)
       | inl small ↦
           let forward = found.2.forward in
           elim (numbers_or_stop fuel part found.0 found.2.within (omega arith)) [
             | inl rest ↦ inl (found.1 ∷ rest.0, (found.0, found.2, rest.1), All-cons (λ (n : ℕ). n < 2 ^ 32) found.1 rest.0 small rest.2)
-            | inr rest ↦ inr (found.1 ∷ rest.0, rest.1, (found.0, found.2, rest.2), rest.3)
+            | inr rest ↦ inr (found.1 ∷ rest.0, rest.1, (found.0, found.2, rest.2), rest.3, All-cons (λ (n : ℕ). n < 2 ^ 32) found.1 rest.0 small rest.4)
           ]
     ]
   ]

@@ -1,11 +1,11 @@
--- Varints one behind another: what stands in the rest of a byte list, told from its own first byte, and that a stretch
--- has one list.
+-- Varints one behind another, in a front and in the rest of a byte list.
 use Rattle.std.proofs.Common.{◌≡◌, ℕ, ◌+◌, ◌-◌, ◌<◌, ◌≤◌, List, [], ◌∷◌, ◌++◌, All, length, take, drop, slice_range, refl, sym, ◌∙◌, ap, subst, arith, length-drop}
 use Rattle.std.proofs.lemmas.List.{drop-drop, length-take-le, take-append-drop}
 use Rattle.std.proofs.lemmas.List.Elements.{All-head, All-tail, All-cons, All-nil}
 use Rattle.mvt_wire.specs.Varint.{IsVarint, SpellsVarint}
 use Rattle.mvt_wire.specs.Number.{VarintList}
-use Rattle.mvt_wire.proofs.Varints.{one_end, one_value}
+use Rattle.mvt_wire.proofs.Varints.{one_end}
+use Rattle.mvt_wire.proofs.PackedLists.{varints_forward, one_varint_list}
 use Rattle.mvt_wire.proofs.Entries.{slice_range-append}
 
 -- both parts of a list whose elements all have a property
@@ -17,40 +17,13 @@ pub All-back : (P : ℕ → Type 0) (xs ys : List ℕ) → All P (xs ++ ys) → 
 All-back P [] ys h = h
 All-back P (x ∷ xs) ys h = All-back P xs ys (All-tail P x (xs ++ ys) h)
 
--- a list of varints goes forward
-pub list_forward : (bytes : List ℕ) (from : ℕ) (numbers : List ℕ) (to : ℕ) → VarintList bytes from numbers to → from ≤ to
-list_forward bytes from [] to list = omega arith
-list_forward bytes from (n ∷ numbers) to list =
-    let forward = list.1.forward in
-    let rest = list_forward bytes list.0 numbers to list.2 in
-    omega arith
-
 -- an empty stretch has no numbers
 pub empty_list : (bytes : List ℕ) (at : ℕ) (numbers : List ℕ) → VarintList bytes at numbers at → numbers ≡ []
-empty_list bytes at [] list = refl
-empty_list bytes at (n ∷ numbers) list =
-    let forward = list.1.forward in
-    let rest = list_forward bytes list.0 numbers at list.2 in
-    absurd (omega arith)
+empty_list bytes at numbers list = one_varint_list bytes at at numbers [] list refl
 
 -- a stretch that is one varint has its number alone
-pub one_number : (bytes : List ℕ) (from to n : ℕ) (numbers : List ℕ) → SpellsVarint bytes from to n → VarintList bytes from numbers to → numbers ≡ n ∷ []
-one_number bytes from to n [] spelled list = let forward = spelled.forward in absurd (omega arith)
-one_number bytes from to n (m ∷ numbers) spelled list =
-    let ends : list.0 ≡ to = one_end bytes from list.0 to m n list.1 spelled in
-    let value : m ≡ n = one_value bytes from list.0 to m n list.1 spelled in
-    let rest : numbers ≡ [] = empty_list bytes to numbers (subst (λ (next : ℕ). VarintList bytes next numbers to) ends list.2) in
-    cc
-
--- a stretch has one list of numbers
-pub one_varint_list : (bytes : List ℕ) (from to : ℕ) (first second : List ℕ) → VarintList bytes from first to → VarintList bytes from second to → first ≡ second
-one_varint_list bytes from to [] second list other = sym (empty_list bytes to second (subst (λ (place : ℕ). VarintList bytes place second to) list other))
-one_varint_list bytes from to (n ∷ first) [] list other = empty_list bytes to (n ∷ first) (subst (λ (place : ℕ). VarintList bytes place (n ∷ first) to) other list)
-one_varint_list bytes from to (n ∷ first) (m ∷ second) list other =
-    let ends : list.0 ≡ other.0 = one_end bytes from list.0 other.0 n m list.1 other.1 in
-    let value : n ≡ m = one_value bytes from list.0 other.0 n m list.1 other.1 in
-    let rest : first ≡ second = one_varint_list bytes list.0 to first second list.2 (subst (λ (next : ℕ). VarintList bytes next second to) (sym ends) other.2) in
-    cc
+pub alone_in_stretch : (bytes : List ℕ) (from to n : ℕ) (numbers : List ℕ) → SpellsVarint bytes from to n → VarintList bytes from numbers to → numbers ≡ n ∷ []
+alone_in_stretch bytes from to n numbers spelled list = one_varint_list bytes from to numbers (n ∷ []) list (to, spelled, refl)
 
 -- a varint behind the first bytes, told from their end
 pub SpellsVarint-drop : (bytes : List ℕ) (start from to n : ℕ) → start ≤ from → SpellsVarint bytes from to n → SpellsVarint (drop start bytes) (from - start) (to - start) n
@@ -64,37 +37,22 @@ SpellsVarint-drop bytes start from to n behind spelled =
     ap (λ (k : ℕ). take k (drop (from - start) (drop start bytes))) span ∙ ap (take (to - from)) (drop-drop (from - start) start bytes) ∙ ap (λ (k : ℕ). take (to - from) (drop k bytes)) place in
     record { forward = omega arith; within = omega arith; spelling = subst (λ (part : List ℕ). IsVarint part n) (sym same) spelled.spelling }
 
-pub SpellsVarint-undrop : (bytes : List ℕ) (start from to n : ℕ) → start ≤ length bytes → SpellsVarint (drop start bytes) from to n → SpellsVarint bytes (start + from) (start + to) n
-SpellsVarint-undrop bytes start from to n inside spelled =
-    let forward = spelled.forward in
-    let within = spelled.within in
-    let size = length-drop start bytes in
-    let span : start + to - (start + from) ≡ to - from = omega arith in
-    let same : slice_range bytes (start + from) (start + to) ≡ slice_range (drop start bytes) from to =
-    ap (λ (k : ℕ). take k (drop (start + from) bytes)) span ∙ ap (take (to - from)) (sym (drop-drop from start bytes)) in
-    record { forward = omega arith; within = omega arith; spelling = subst (λ (part : List ℕ). IsVarint part n) (sym same) spelled.spelling }
-
--- varints behind the first bytes, told from their end
+-- and a list of them
 pub VarintList-drop : (bytes : List ℕ) (start from : ℕ) (numbers : List ℕ) (to : ℕ) → start ≤ from → VarintList bytes from numbers to → VarintList (drop start bytes) (from - start) numbers (to - start)
 VarintList-drop bytes start from [] to behind list = ap (λ (k : ℕ). k - start) list
 VarintList-drop bytes start from (n ∷ numbers) to behind list =
     let forward = list.1.forward in
     (list.0 - start, SpellsVarint-drop bytes start from list.0 n behind list.1, VarintList-drop bytes start list.0 numbers to (omega arith) list.2)
 
-pub VarintList-undrop : (bytes : List ℕ) (start from : ℕ) (numbers : List ℕ) (to : ℕ) → start ≤ length bytes → VarintList (drop start bytes) from numbers to → VarintList bytes (start + from) numbers (start + to)
-VarintList-undrop bytes start from [] to inside list = ap (λ (k : ℕ). start + k) list
-VarintList-undrop bytes start from (n ∷ numbers) to inside list =
-    (start + list.0, SpellsVarint-undrop bytes start from list.0 n inside list.1, VarintList-undrop bytes start list.0 numbers to inside list.2)
-
--- what a varint's first bytes hold: no number
+-- before a varint's end stands no other number of a list
 pub front_of_one : (bytes : List ℕ) (from to n : ℕ) (numbers : List ℕ) (at : ℕ) → SpellsVarint bytes from to n → VarintList bytes from numbers at → at < to → (numbers ≡ []) × (at ≡ from)
 front_of_one bytes from to n [] at spelled list before = (refl, sym list)
 front_of_one bytes from to n (m ∷ numbers) at spelled list before =
     let ends = one_end bytes from list.0 to m n list.1 spelled in
-    let rest = list_forward bytes list.0 numbers at list.2 in
+    let rest = varints_forward bytes list.0 at numbers list.2 in
     absurd (omega arith)
 
--- a varint, and varints, of a message that is cut behind them
+-- a varint of bytes that are cut behind it
 pub SpellsVarint-take : (bytes : List ℕ) (cut from to n : ℕ) → to ≤ cut → cut ≤ length bytes → SpellsVarint bytes from to n → SpellsVarint (take cut bytes) from to n
 SpellsVarint-take bytes cut from to n behind inside spelled =
     let forward = spelled.forward in

@@ -3,7 +3,7 @@
 -- 4.2 and 4.3).
 use Rattle.std.specs.Prelude.{◌≡◌, ℕ, ◌+◌, ◌-◌, ◌^◌, ◌<◌, ◌≤◌, false, ◌⊎◌, List, [], ◌∷◌, ◌++◌, length, take, drop, Option, Some, None}
 use Rattle.mvt_wire.specs.Varint.{SpellsVarint, VarintDefect}
-use Rattle.mvt_wire.specs.Field.{varint, delimited, Entry, wire_type_of, IsField, FieldDefect, cause_at}
+use Rattle.mvt_wire.specs.Field.{Content, varint, eight_bytes, delimited, four_bytes, Entry, wire_type_of, IsField, FieldDefect, cause_at}
 use Rattle.mvt_wire.specs.Message.{FieldList, IsMessage}
 use Rattle.mvt_wire.specs.Number.{VarintList, StateTogether, AreSmall, PackedFault}
 use Rattle.mvt_wire.specs.Schema.{is_own}
@@ -66,6 +66,38 @@ NumbersEnd bytes from field_number numbers None =
     (entries : List Entry) × IsMessage bytes from entries × StateTogether (contents_of field_number entries) numbers × AreSmall numbers
 NumbersEnd bytes from field_number numbers (Some cause) = StopsNumbers bytes from field_number numbers cause
 
+-- the varint whose first byte stands at a place is a number of the payload: its one, or one of its packed list
+abbrev pub StatesAt : Content → ℕ → ℕ → Type 0
+StatesAt (varint value at) place n = (place ≡ at) × (n ≡ value)
+StatesAt (eight_bytes part) place n = ⊥
+StatesAt (delimited from part) place n =
+    (numbers : List ℕ) × (at next : ℕ) × VarintList part 0 numbers at × SpellsVarint part at next n × (place ≡ from + at)
+StatesAt (four_bytes part) place n = ⊥
+
+-- the varint whose first byte stands at a place is a number of a field of the number, behind any whole fields
+pub record IsNumberAt (bytes : List ℕ) (from field_number place n : ℕ) : Type 0 where
+  pub entries : List Entry
+  pub at : ℕ
+  pub before : FieldList bytes from entries at
+  pub to : ℕ
+  pub entry : Entry
+  pub here : entry.at ≡ at
+  pub field : IsField bytes to entry
+  pub of_number : entry.number ≡ field_number
+  pub states : StatesAt entry.content place n
+
+-- of all numbers that stand at some place, these are the ones from a place on up to another, in order
+abbrev pub StandBetween : (ℕ → ℕ → Type 0) → ℕ → List ℕ → ℕ → Type 0
+StandBetween stands_at from [] to = (place n : ℕ) → from ≤ place → place < to → ¬ stands_at place n
+StandBetween stands_at from (n ∷ numbers) to =
+    (at : ℕ) × (from ≤ at) × (at < to) × stands_at at n × ((place m : ℕ) → from ≤ place → place < at → ¬ stands_at place m)
+    × StandBetween stands_at (at + 1) numbers to
+
+-- where the numbers end: at the fault, or at the message's end
+abbrev pub place_of_end : List ℕ → Option WireCause → ℕ
+place_of_end bytes None = length bytes
+place_of_end bytes (Some cause) = cause.at
+
 -- A walk over the numbers, as `Numbers` goes it: the bytes up to the message's end, the place of the next varint in the
 -- list that is being read, and the place where that list ends and the next field is due.
 pub record NumberWalk : Type 0 where
@@ -74,6 +106,7 @@ pub record NumberWalk : Type 0 where
   pub varint_at : ℕ
   pub field_at : ℕ
 
+-- the walk of these parts
 abbrev pub walk_at : List ℕ → ℕ → ℕ → ℕ → NumberWalk
 walk_at bytes field_number varint_at field_at = record { bytes = bytes; field_number = field_number; varint_at = varint_at; field_at = field_at }
 

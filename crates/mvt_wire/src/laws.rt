@@ -1,13 +1,14 @@
 //! The laws of the wire encoding and of the messages of a tile, as contracts of functions that do
 //! nothing. They speak of the definitions alone, so a reader of messages can stand on them.
 
-ghost use Rattle.std.specs.Prelude.{◌≡◌, ℕ, ◌≤◌, ◌⊎◌, List, [], ◌∷◌, ◌++◌, length, drop};
+ghost use Rattle.std.specs.Prelude.{◌≡◌, ℕ, ◌≤◌, ◌⊎◌, List, [], ◌∷◌, ◌++◌, length, drop, Option, Some, None};
 ghost use Rattle.std.specs.List.{concat};
 ghost use Rattle.mvt_wire.specs.Varint.{IsVarint, SpellsVarint, EndsEarly, IsTooLong};
 ghost use Rattle.mvt_wire.specs.Field.{Entry, IsField, IsFieldSpelling};
 ghost use Rattle.mvt_wire.specs.Message.{FieldList, IsMessage, AreSpellings, HasDefect};
 ghost use Rattle.mvt_wire.specs.WireFault.{WireFault};
 ghost use Rattle.mvt_wire.specs.Tile.{TileRecord, IsTile};
+ghost use Rattle.mvt_wire.specs.Numbers.{IsNumbersFault, NumbersEnd, IsNumberAt, StandBetween, place_of_end};
 ghost use Rattle.mvt_wire.specs.declared.cause.WireCause.{WireCause};
 ghost use Rattle.mvt_wire.specs.declared.scope.Scope.{Scope};
 
@@ -70,6 +71,31 @@ pub fn longest_field_list()
 pub fn field_list_goes_on()
     ensures { (bytes : List ℕ) (from : ℕ) (entries : List Entry) (at next : ℕ) (entry : Entry) →
         FieldList bytes from entries at → entry.at ≡ at → IsField bytes next entry → FieldList bytes from (entries ++ entry ∷ []) next }
+{}
+
+/// The numbers of a message's fields of one number end in one way: with a whole message, or at a
+/// fault (Protocol Buffers encoding, "Packed Repeated Fields").
+pub fn one_numbers_end()
+    ensures some { (bytes : List ℕ) (from field_number : ℕ) → from ≤ length bytes →
+        (numbers : List ℕ) × (ending : Option WireCause) × NumbersEnd bytes from field_number numbers ending }
+    ensures only { (bytes : List ℕ) (from field_number : ℕ) (first second : List ℕ) (ending other : Option WireCause) →
+        NumbersEnd bytes from field_number first ending → NumbersEnd bytes from field_number second other → (first ≡ second) × (ending ≡ other) }
+{}
+
+/// Of all faults in the way of the numbers, they end at one of least place.
+pub fn numbers_end_at_least_fault()
+    ensures fault { (bytes : List ℕ) (from field_number : ℕ) (numbers : List ℕ) (cause : WireCause) →
+        NumbersEnd bytes from field_number numbers (Some cause) → IsNumbersFault bytes from field_number cause }
+    ensures least { (bytes : List ℕ) (from field_number : ℕ) (numbers : List ℕ) (cause other : WireCause) →
+        NumbersEnd bytes from field_number numbers (Some cause) → IsNumbersFault bytes from field_number other → cause.at ≤ other.at }
+    ensures none { (bytes : List ℕ) (from field_number : ℕ) (numbers : List ℕ) (cause : WireCause) →
+        NumbersEnd bytes from field_number numbers None → ¬ IsNumbersFault bytes from field_number cause }
+{}
+
+/// The numbers are those whose varints stand before the message's end or the fault, in order.
+pub fn numbers_stand_before_end()
+    ensures { (bytes : List ℕ) (from field_number : ℕ) (numbers : List ℕ) (ending : Option WireCause) →
+        NumbersEnd bytes from field_number numbers ending → StandBetween (IsNumberAt bytes from field_number) from numbers (place_of_end bytes ending) }
 {}
 
 /// Bytes are a tile, or have a wire fault, and not both (Mapbox Vector Tile Specification 2.1,

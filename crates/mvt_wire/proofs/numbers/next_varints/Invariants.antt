@@ -8,7 +8,7 @@ abbrev pub invariant-loop-at : goal.invariant-loop-at
 invariant-loop-at l = record {
   further : l.from ≤ l.at;
   within : l.at ≤ length l.bytes;
-  same : (numbers : List ℕ) (ending : Option WireCause) → NumbersEnd l.bytes l.at l.number numbers ending → NumbersEnd l.bytes l.from l.number numbers ending;
+  same : (numbers : List ℕ) (ending : Option WireCause) → NumbersEnd l.bytes l.at l.field_number numbers ending → NumbersEnd l.bytes l.from l.field_number numbers ending;
 }
 
 abbrev pub decreases-loop-at : goal.decreases-loop-at
