@@ -1,3 +1,5 @@
+ghost use Rattle.std.specs.Prelude.{◌≡◌};
+
 /// A field of a message (Protocol Buffers encoding, "Message Structure").
 #[derive(Clone, Copy, Debug)]
 pub struct Field<'a> {
@@ -20,4 +22,20 @@ pub enum Body<'a> {
     Bytes { from: usize, slice: &'a [u8] },
     /// Wire type 5: four bytes.
     Fixed32(&'a [u8]),
+}
+
+impl Body<'_> {
+    ghost use Rattle.mvt_wire.specs.Field.{content_of, wire_type_of};
+
+    /// The wire type: 0, 1, 2 or 5 (Protocol Buffers encoding, "Message Structure").
+    pub fn wire_type(self) -> u8
+        ensures { result ≡ wire_type_of (content_of self.entry) }
+    {
+        match self {
+            Body::Varint { .. } => 0,
+            Body::Fixed64(_) => 1,
+            Body::Bytes { .. } => 2,
+            Body::Fixed32(_) => 5,
+        }
+    }
 }

@@ -1,7 +1,7 @@
 //! The messages of a tile and the fields that they know, as one table (Mapbox Vector Tile
 //! Specification 2.1, section 4 and its `vector_tile.proto`). Code and definitions read it.
 ghost use Rattle.std.specs.Prelude.{◌≡◌};
-ghost use Rattle.mvt_wire.specs.Schema.{rules_of, rule_of, find_rule};
+ghost use Rattle.mvt_wire.specs.Schema.{rules_of, rule_of, find_rule, is_own, is_out_of_range, is_singular, is_required};
 
 /// A message of a tile.
 #[derive(Clone, Copy, Debug, PartialEq, Eq)]
@@ -104,6 +104,53 @@ pub const FEATURE_FIELDS: [FieldRule; 4] = rules![
     3 GeometryType Once, // type
     4 Numbers AtLeastOnce, // geometry
 ];
+
+impl Shape {
+    /// Whether a wire type, from 0 to 7, is the shape's own.
+    pub fn is_own(self, wire_type: u8) -> bool
+        ensures { result ≡ is_own self wire_type }
+    {
+        match self {
+            Shape::Embedded | Shape::Text => wire_type == 2,
+            Shape::FourBytes => wire_type == 5,
+            Shape::EightBytes => wire_type == 1,
+            Shape::Uint64 | Shape::Uint32 | Shape::GeometryType => wire_type == 0,
+            Shape::Numbers => wire_type == 0 || wire_type == 2,
+        }
+    }
+
+    /// Whether a number that a field of the shape states is out of the field's range: above
+    /// 4294967295, or above 3 for a geometry type.
+    pub fn is_out_of_range(self, number: u64) -> bool
+        ensures { result ≡ is_out_of_range self number }
+    {
+        match self {
+            Shape::Uint32 | Shape::Numbers => number >= 1 << 32,
+            Shape::GeometryType => number >= 4,
+            Shape::Embedded
+            | Shape::Text
+            | Shape::FourBytes
+            | Shape::EightBytes
+            | Shape::Uint64 => false,
+        }
+    }
+}
+
+impl Occurrence {
+    /// Whether the field stands at most once.
+    pub fn is_singular(self) -> bool
+        ensures { result ≡ is_singular self }
+    {
+        matches!(self, Occurrence::AtMostOnce | Occurrence::Once)
+    }
+
+    /// Whether the field stands at least once.
+    pub fn is_required(self) -> bool
+        ensures { result ≡ is_required self }
+    {
+        matches!(self, Occurrence::AtLeastOnce | Occurrence::Once)
+    }
+}
 
 impl Message {
     /// The fields that the message knows.

@@ -1,0 +1,29 @@
+-- What a walk over the fields of a message keeps of the messages that fields of one number hold.
+use Rattle.std.specs.Prelude.{◌≡◌, ℕ, List, take, length, None, MatchOption}
+use Rattle.mvt_wire.specs.Field.{Entry}
+use Rattle.mvt_wire.specs.Scope.{Span, spans_of}
+use Rattle.mvt_wire.specs.WireFault.{MessageFault}
+use Rattle.mvt_wire.specs.declared.cause.WireCause.{WireCause}
+use Rattle.mvt_wire.specs.declared.schema.Message.{Message}
+use Rattle.mvt_tile.specs.First.{AreClean, IsFirst}
+use Rattle.mvt_tile.specs.Least.{IsLeastCause}
+use Rattle.mvt_tile.specs.declared.embedded.EmbeddedScan.{EmbeddedScan}
+
+-- the message in a stretch of the bytes has a fault
+abbrev pub HasFault : Message → List ℕ → Span → WireCause → Type 0
+HasFault message bytes span cause = MessageFault message (take span.to bytes) span.from cause
+
+-- it has none
+abbrev pub HasNone : Message → List ℕ → ℕ → Span → Type 0
+HasNone message bytes ordinal span = (cause : WireCause) → ¬ HasFault message bytes span cause
+
+-- with this ordinal, it has this one as its first
+abbrev pub HasFirst : Message → List ℕ → ℕ × WireCause → ℕ → Span → Type 0
+HasFirst message bytes found ordinal span = (ordinal ≡ found.0) × IsLeastCause (HasFault message bytes span) found.1
+
+-- the scan has passed these fields
+pub record ScansEmbedded (bytes : List ℕ) (scan : EmbeddedScan) (entries : List Entry) : Type 0 where
+  pub counted : scan.first ≡ None → scan.count ≡ length (spans_of scan.number entries)
+  pub first : MatchOption scan.first
+      (AreClean (HasNone scan.message bytes) (spans_of scan.number entries))
+      (λ found. IsFirst (HasNone scan.message bytes) (HasFirst scan.message bytes found) (spans_of scan.number entries))

@@ -1,0 +1,29 @@
+-- The numbers of a packed list, as a walk over its bytes finds them.
+use Rattle.std.specs.Prelude.{◌≡◌, ℕ, ◌^◌, ◌<◌, ◌≤◌, ◌⊎◌, List, length, drop}
+use Rattle.mvt_wire.specs.Varint.{SpellsVarint, VarintDefect}
+use Rattle.mvt_wire.specs.Number.{VarintList, AreSmall}
+use Rattle.mvt_wire.specs.declared.cause.WireCode.{WireCode}
+use Rattle.mvt_wire.specs.declared.cause.WireCode.TheVariants.{OutOfRange}
+
+-- a number below 2^32 stands at a place
+pub record IsSmallNumber (part : List ℕ) (at : ℕ) : Type 0 where
+  pub next : ℕ
+  pub number : ℕ
+  pub spelled : SpellsVarint part at next number
+  pub small : number < 2 ^ 32
+
+-- what is wrong with the number at a place
+abbrev pub NumberFault : List ℕ → ℕ → WireCode → Type 0
+NumberFault part at code =
+    VarintDefect code (drop at part)
+    ⊎ ((code ≡ OutOfRange) × ((next number : ℕ) × SpellsVarint part at next number × (2 ^ 32 ≤ number)))
+
+-- the bytes before a place are numbers below 2^32
+abbrev pub AreSmallBefore : List ℕ → ℕ → Type 0
+AreSmallBefore part at = (numbers : List ℕ) × VarintList part 0 numbers at × AreSmall numbers
+
+-- the first number with a fault stands at a place
+pub record IsFirstBad (part : List ℕ) (at : ℕ) (code : WireCode) : Type 0 where
+  pub before : AreSmallBefore part at
+  pub left : at < length part
+  pub fault : NumberFault part at code

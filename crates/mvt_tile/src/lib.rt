@@ -1,0 +1,13 @@
+//! The messages of a vector tile, over borrowed bytes: their first wire fault.
+#![tactic(auto)]
+
+mod embedded;
+mod fault;
+mod field;
+mod layer;
+mod message;
+mod packed;
+mod scan;
+mod text;
+
+pub use fault::wire_fault;
