@@ -1,5 +1,5 @@
 //! Packed lists of numbers (Protocol Buffers encoding, "Packed Repeated Fields").
-ghost use Rattle.std.specs.Prelude.{◌+◌, ◌<◌, ◌^◌, length, IfNone, IfSome, MatchOption};
+ghost use Rattle.std.specs.Prelude.{◌≡◌, ◌+◌, ◌<◌, ◌≤◌, ◌^◌, length, IfNone, IfSome, MatchOption};
 ghost use Rattle.mvt_wire.specs.Number.{PackedFault};
 ghost use Rattle.mvt_tile.specs.Least.{FindsLeastCause};
 ghost use Rattle.mvt_tile.specs.Packed.{NumberFault, IsSmallNumber, AreSmallBefore, IsFirstBad};
@@ -29,9 +29,7 @@ fn first_bad(part: &[u8]) -> Option<(usize, WireCode)>
 {
     let mut start = 0;
     for (i, &byte) in part.iter().enumerate() {
-        if i - start == 4
-            && let Some(code) = number_fault(part, start)
-        {
+        if let Some(code) = long_fault(part, start, i) {
             return Some((start, code));
         }
         if byte < 128 {
@@ -42,6 +40,21 @@ fn first_bad(part: &[u8]) -> Option<(usize, WireCode)>
         return None;
     }
     Some((start, WireCode::Ends))
+}
+
+/// What is wrong with the number that begins at an offset, asked once, at its fifth byte.
+#[inline(always)]
+fn long_fault(part: &[u8], start: usize, i: usize) -> Option<WireCode>
+    requires forward { start ≤ i }
+    requires within { i < length part.now }
+    ensures small { IfNone result (i ≡ start + 4 → IsSmallNumber part.now start) }
+    ensures fault { IfSome result (NumberFault part.now start) }
+{
+    if i - start == 4 {
+        number_fault(part, start)
+    } else {
+        None
+    }
 }
 
 /// What is wrong with the number at an offset.

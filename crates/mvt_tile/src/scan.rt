@@ -1,7 +1,8 @@
 //! The faults of a message's own fields, as one walk over them finds them.
-ghost use Rattle.std.specs.Prelude.{◌≡◌, ℕ, ◌<◌, ◌≤◌, ◌^◌, ◌⊎◌, List, [], ◌∷◌, ◌++◌, IfNone, IfSome};
+ghost use Rattle.std.specs.Prelude.{◌≡◌, ℕ, ◌<◌, ◌≤◌, ◌^◌, ◌⊎◌, List, [], ◌∷◌, ◌++◌, IfNone, IfSome, ◌&&◌, not};
 ghost use Rattle.mvt_wire.specs.Field.{Entry, entry_of};
-ghost use Rattle.mvt_wire.specs.WireFault.{FieldFault, EndFault};
+ghost use Rattle.mvt_wire.specs.Schema.{is_required};
+ghost use Rattle.mvt_wire.specs.WireFault.{EntryFault, FieldFault, EndFault};
 ghost use Rattle.mvt_wire.specs.declared.cause.WireCause.{WireCause};
 ghost use Rattle.mvt_tile.specs.Least.{FindsLeastCause};
 ghost use Rattle.mvt_tile.specs.Placed.{IsPlaced};
@@ -22,7 +23,7 @@ pub(crate) struct FieldScan {
 }
 
 impl FieldScan {
-    ghost use Rattle.mvt_tile.specs.Scan.{Scans, IsMissing};
+    ghost use Rattle.mvt_tile.specs.Scan.{Scans, IsMissing, was_seen};
 
     pub(crate) fn new(message: Message) -> Self
         ensures message { result.message ≡ message }
@@ -46,12 +47,23 @@ impl FieldScan {
         let Some(rule) = self.message.rule(field.number) else {
             return;
         };
-        let number = field.number as usize;
-        if self.first.is_none() {
-            self.first = field_fault(rule, self.stood[number], field);
-        }
-        self.stood[number] = true;
+        self.first = self.first_with(rule, field);
+        self.stood[field.number as usize] = true;
         self.known = self.known.saturating_add(1);
+    }
+
+    /// The first fault of the fields that were passed, or else of this one.
+    fn first_with(&self, rule: FieldRule, field: &Field<'_>) -> Option<WireCause>
+        requires number { field.now.number < 16 }
+        requires placed { (next : ℕ) × IsPlaced (entry_of field.now) next × (next < 2 ^ 64) }
+        ensures kept { IfSome self.now.first (λ cause. result ≡ Some cause) }
+        ensures found { IfNone self.now.first
+            (FindsLeastCause (EntryFault rule (was_seen self.now field.now.number) (entry_of field.now)) result) }
+    {
+        match self.first {
+            Some(cause) => Some(cause),
+            None => field_fault(rule, self.stood[field.number as usize], field),
+        }
     }
 
     /// The first fault of a whole message, all fields of which were passed, and which ends at an
@@ -95,10 +107,18 @@ impl FieldScan {
         ensures least { IfSome result (λ least. (number : ℕ) → IsMissing self.now number → least ≤ number) }
     {
         for &rule in self.message.rules() {
-            if rule.occurrence.is_required() && !self.stood[rule.number as usize] {
+            if self.lacks(rule) {
                 return Some(rule.number);
             }
         }
         None
+    }
+
+    /// Whether a rule asks for a number that didn't stand.
+    fn lacks(&self, rule: FieldRule) -> bool
+        requires { rule.number < 16 }
+        ensures { result ≡ (is_required rule.occurrence && not (was_seen self.now rule.number)) }
+    {
+        rule.occurrence.is_required() && !self.stood[rule.number as usize]
     }
 }

@@ -53,7 +53,7 @@ IsVarint-take rest i n within few earlier last value fits =
     }
 
 -- the last byte of a varint, and those before it, as bytes of the list that it stands in
-last_byte : (bytes : List ℕ) (from to n : ℕ) → SpellsVarint bytes from to n → get_or bytes (to - 1) 0 < 128
+pub last_byte : (bytes : List ℕ) (from to n : ℕ) → SpellsVarint bytes from to n → get_or bytes (to - 1) 0 < 128
 last_byte bytes from to n spelled =
     let forward : from < to = spelled.forward in
     let size : length (slice_range bytes from to) ≡ to - from = length-between bytes from to spelled.within in
@@ -62,7 +62,7 @@ last_byte bytes from to n spelled =
     let ended = rw (get_or-between bytes from to (length (slice_range bytes from to) - 1) 0 before) at spelled.spelling.ended in
     rw place at ended
 
-earlier_byte : (bytes : List ℕ) (from to n : ℕ) → SpellsVarint bytes from to n → (k : ℕ) → from ≤ k → k + 1 < to → 128 ≤ get_or bytes k 0
+pub earlier_byte : (bytes : List ℕ) (from to n : ℕ) → SpellsVarint bytes from to n → (k : ℕ) → from ≤ k → k + 1 < to → 128 ≤ get_or bytes k 0
 earlier_byte bytes from to n spelled k low high =
     let size : length (slice_range bytes from to) ≡ to - from = length-between bytes from to spelled.within in
     let place : from + (k - from) ≡ k = omega arith in

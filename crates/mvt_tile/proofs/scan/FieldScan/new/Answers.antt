@@ -1,0 +1,10 @@
+use Rattle.std.proofs.Common.{refl, rules}
+use Rattle.mvt_tile.proofs.Scans.{FieldFault-nothing}
+use Rattle.mvt_tile.proofs.scan.FieldScan.new.Goals as goal
+
+pub returns-clause-nothing : goal.returns-clause-nothing
+returns-clause-nothing c = λ from. record {
+  stood = λ field_number rule known. search rules;
+  known = refl;
+  first = FieldFault-nothing c.args.message;
+}
