@@ -5,3 +5,5 @@ pub mod Rules
 pub mod Passing
 pub mod Scans
 pub mod EndFaults
+pub mod Walking
+pub mod Spans

@@ -1,11 +1,11 @@
 -- What a walk over the fields of a message keeps of the messages that fields of one number hold.
-use Rattle.std.specs.Prelude.{◌≡◌, ℕ, List, take, length, None, MatchOption}
+use Rattle.std.specs.Prelude.{◌≡◌, ℕ, List, take}
 use Rattle.mvt_wire.specs.Field.{Entry}
 use Rattle.mvt_wire.specs.Scope.{Span, spans_of}
 use Rattle.mvt_wire.specs.WireFault.{MessageFault}
 use Rattle.mvt_wire.specs.declared.cause.WireCause.{WireCause}
 use Rattle.mvt_wire.specs.declared.schema.Message.{Message}
-use Rattle.mvt_tile.specs.First.{AreClean, IsFirst}
+use Rattle.mvt_tile.specs.First.{FindsFirst}
 use Rattle.mvt_tile.specs.Least.{IsLeastCause}
 use Rattle.mvt_tile.specs.declared.embedded.EmbeddedScan.{EmbeddedScan}
 
@@ -22,8 +22,6 @@ abbrev pub HasFirst : Message → List ℕ → ℕ × WireCause → ℕ → Span
 HasFirst message bytes found ordinal span = (ordinal ≡ found.0) × IsLeastCause (HasFault message bytes span) found.1
 
 -- the scan has passed these fields
-pub record ScansEmbedded (bytes : List ℕ) (scan : EmbeddedScan) (entries : List Entry) : Type 0 where
-  pub counted : scan.first ≡ None → scan.count ≡ length (spans_of scan.number entries)
-  pub first : MatchOption scan.first
-      (AreClean (HasNone scan.message bytes) (spans_of scan.number entries))
-      (λ found. IsFirst (HasNone scan.message bytes) (HasFirst scan.message bytes found) (spans_of scan.number entries))
+abbrev pub ScansEmbedded : List ℕ → EmbeddedScan → List Entry → Type 0
+ScansEmbedded bytes scan entries =
+    FindsFirst (HasNone scan.message bytes) (HasFirst scan.message bytes) (spans_of scan.number entries) scan.count scan.first

@@ -1,10 +1,10 @@
 -- What a walk over the fields of a tile keeps of its layers.
-use Rattle.std.specs.Prelude.{◌≡◌, ℕ, List, length, None, MatchOption}
+use Rattle.std.specs.Prelude.{ℕ, List}
 use Rattle.mvt_wire.specs.Field.{Entry}
 use Rattle.mvt_wire.specs.Scope.{Span, spans_of}
 use Rattle.mvt_fault.specs.Place.{IsLeast}
 use Rattle.mvt_fault.specs.declared.fault.Fault.{Fault}
-use Rattle.mvt_tile.specs.First.{AreClean, IsFirst}
+use Rattle.mvt_tile.specs.First.{FindsFirst}
 use Rattle.mvt_tile.specs.LayerFault.{IsLayerFault}
 use Rattle.mvt_tile.specs.declared.fault.LayerScan.{LayerScan}
 
@@ -17,8 +17,5 @@ abbrev pub IsFirstOf : List ℕ → Fault → ℕ → Span → Type 0
 IsFirstOf bytes fault ordinal span = IsLeast (IsLayerFault bytes span ordinal) fault
 
 -- the scan has passed these fields
-pub record ScansLayers (bytes : List ℕ) (scan : LayerScan) (entries : List Entry) : Type 0 where
-  pub counted : scan.first ≡ None → scan.count ≡ length (spans_of 3 entries)
-  pub first : MatchOption scan.first
-      (AreClean (IsFaultless bytes) (spans_of 3 entries))
-      (λ fault. IsFirst (IsFaultless bytes) (IsFirstOf bytes fault) (spans_of 3 entries))
+abbrev pub ScansLayers : List ℕ → LayerScan → List Entry → Type 0
+ScansLayers bytes scan entries = FindsFirst (IsFaultless bytes) (IsFirstOf bytes) (spans_of 3 entries) scan.count scan.first

@@ -45,14 +45,18 @@ impl EmbeddedScan {
         ensures noted { (entries : List Entry) → ScansEmbedded bytes.now self.old entries
             → ScansEmbedded bytes.now self.new (entries ++ entry_of field.now ∷ []) }
     {
-        if self.first.is_some() || field.number != self.number {
+        if self.first.is_some() {
             return;
         }
-        if let Body::Bytes { from, slice } = field.body {
-            match message_fault(self.message, bytes, from, from + slice.len()) {
-                Some(cause) => self.first = Some((self.count, cause)),
-                None => self.count += 1,
-            }
+        if field.number != self.number {
+            return;
+        }
+        let Body::Bytes { from, slice } = field.body else {
+            return;
+        };
+        match message_fault(self.message, bytes, from, from + slice.len()) {
+            Some(cause) => self.first = Some((self.count, cause)),
+            None => self.count += 1,
         }
     }
 

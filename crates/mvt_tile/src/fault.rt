@@ -73,14 +73,18 @@ impl LayerScan {
         ensures noted { (entries : List Entry) → ScansLayers bytes.now self.old entries
             → ScansLayers bytes.now self.new (entries ++ entry_of field.now ∷ []) }
     {
-        if self.first.is_some() || field.number != 3 {
+        if self.first.is_some() {
             return;
         }
-        if let Body::Bytes { from, slice } = field.body {
-            match layer_fault(bytes, self.count, from, from + slice.len()) {
-                Some(fault) => self.first = Some(fault),
-                None => self.count += 1,
-            }
+        if field.number != 3 {
+            return;
+        }
+        let Body::Bytes { from, slice } = field.body else {
+            return;
+        };
+        match layer_fault(bytes, self.count, from, from + slice.len()) {
+            Some(fault) => self.first = Some(fault),
+            None => self.count += 1,
         }
     }
 }

@@ -1,0 +1,152 @@
+-- Where embedded messages lie, one field behind others, and the first in which something is found.
+use Rattle.std.proofs.Common.{◌≡◌, ℕ, suc, zero, ◌+◌, ◌<◌, ◌==◌, Bool, true, false, List, [], ◌∷◌, ◌++◌, length, map, filter, filter_map, is_some, Option, Some, None, slice_get, inl, inr, refl, sym, ◌∙◌, ap, subst, arith, append-nil, length-append}
+use Rattle.std.proofs.lemmas.Bool.{cases_lt, ne_eqb, eq-eqb, cond-true, cond-false}
+use Rattle.std.proofs.lemmas.List.{map-append}
+use Rattle.std.proofs.lemmas.List.Elements.{filter-append, filter_map-append}
+use Rattle.std.proofs.lemmas.Option.{slice_get_within}
+use Rattle.mvt_wire.specs.Field.{Content, delimited, Entry, content_of, entry_of}
+use Rattle.mvt_wire.specs.Scope.{fields_of, contents_of, Span, span_of, spans_of}
+use Rattle.std.specs.Borrow.{Bor}
+use Rattle.mvt_wire.specs.declared.field.Field.{Field}
+use Rattle.mvt_wire.specs.declared.field.Body.{Body}
+use Rattle.mvt_wire.specs.declared.field.Body.TheVariants.{Varint, Fixed64, Bytes, Fixed32}
+use Rattle.mvt_tile.specs.First.{AreClean, IsFirst, FindsFirst}
+use Rattle.mvt_tile.specs.LayerFault.{stretch}
+
+-- the messages in two parts of a field list
+spans_of-append : (field_number : ℕ) (xs ys : List Entry) → spans_of field_number (xs ++ ys) ≡ spans_of field_number xs ++ spans_of field_number ys
+spans_of-append field_number xs ys =
+    ap (λ (entries : List Entry). filter_map span_of (map (λ (entry : Entry). entry.content) entries)) (filter-append (λ (entry : Entry). entry.number == field_number) xs ys)
+    ∙ ap (filter_map span_of) (map-append (λ (entry : Entry). entry.content) (fields_of field_number xs) (fields_of field_number ys))
+    ∙ filter_map-append span_of (contents_of field_number xs) (contents_of field_number ys)
+
+-- a field of another number holds none
+spans_of-other : (field_number : ℕ) (entries : List Entry) (entry : Entry) → ¬ (entry.number ≡ field_number) → spans_of field_number (entries ++ entry ∷ []) ≡ spans_of field_number entries
+spans_of-other field_number entries entry other =
+    let none : spans_of field_number (entry ∷ []) ≡ [] =
+        ap (λ (fields : List Entry). filter_map span_of (map (λ (e : Entry). e.content) fields)) (cond-false (entry.number == field_number) (entry ∷ []) [] (ne_eqb entry.number field_number other)) in
+    spans_of-append field_number entries (entry ∷ []) ∙ ap (λ (rest : List Span). spans_of field_number entries ++ rest) none ∙ append-nil (spans_of field_number entries)
+
+-- a field of the number holds the message in its payload, if it has one
+spans_of-own : (field_number : ℕ) (entry : Entry) → entry.number ≡ field_number → spans_of field_number (entry ∷ []) ≡ filter_map span_of (entry.content ∷ [])
+spans_of-own field_number entry own =
+    ap (λ (fields : List Entry). filter_map span_of (map (λ (e : Entry). e.content) fields)) (cond-true (entry.number == field_number) (entry ∷ []) [] (eq-eqb entry.number field_number own))
+
+spans_of-part : (field_number : ℕ) (entries : List Entry) (entry : Entry) (from : ℕ) (part : List ℕ) → entry.number ≡ field_number → entry.content ≡ delimited from part
+    → spans_of field_number (entries ++ entry ∷ []) ≡ spans_of field_number entries ++ stretch from (from + length part) ∷ []
+spans_of-part field_number entries entry from part own content =
+    spans_of-append field_number entries (entry ∷ [])
+    ∙ ap (λ (rest : List Span). spans_of field_number entries ++ rest) (spans_of-own field_number entry own ∙ ap (λ (c : Content). filter_map span_of (c ∷ [])) content)
+
+-- a payload of another wire type holds none
+abbrev pub IsNoPart : Body → Type 0
+IsNoPart body = (from : ℕ) (slice : Bor (List ℕ)) → body ≡ Bytes from slice → ⊥
+
+no_span : (body : Body) → IsNoPart body → filter_map span_of (content_of body ∷ []) ≡ []
+no_span (Varint value at) not = refl
+no_span (Fixed64 part) not = refl
+no_span (Bytes from slice) not = absurd (not from slice refl)
+no_span (Fixed32 part) not = refl
+
+spans_of-no_part : (field_number : ℕ) (entries : List Entry) (field : Field) → field.number ≡ field_number → IsNoPart field.body → spans_of field_number (entries ++ entry_of field ∷ []) ≡ spans_of field_number entries
+spans_of-no_part field_number entries field own not =
+    spans_of-append field_number entries (entry_of field ∷ [])
+    ∙ ap (λ (rest : List Span). spans_of field_number entries ++ rest) (spans_of-own field_number (entry_of field) own ∙ no_span field.body not)
+    ∙ append-nil (spans_of field_number entries)
+
+-- what stands in a list stands in a longer one
+slice_get-append : {X : Type 0} (xs ys : List X) (i : ℕ) → i < length xs → slice_get (xs ++ ys) i ≡ slice_get xs i
+slice_get-append [] ys i within = absurd (omega arith)
+slice_get-append (x ∷ xs) ys zero within = refl
+slice_get-append (x ∷ xs) ys (suc i) within = slice_get-append xs ys i (omega arith)
+
+slice_get-last : {X : Type 0} (xs : List X) (y : X) → slice_get (xs ++ y ∷ []) (length xs) ≡ Some y
+slice_get-last [] y = refl
+slice_get-last (x ∷ xs) y = slice_get-last xs y
+
+slice_get-some : {X : Type 0} (xs ys : List X) (i : ℕ) (x : X) → slice_get xs i ≡ Some x → slice_get (xs ++ ys) i ≡ Some x
+slice_get-some xs ys i x here = slice_get-append xs ys i (slice_get_within xs i x here) ∙ here
+
+-- one more clean stretch
+AreClean-push : (Clean : ℕ → Span → Type 0) (spans : List Span) (span : Span) → AreClean Clean spans → Clean (length spans) span → AreClean Clean (spans ++ span ∷ [])
+AreClean-push Clean spans span clean last ordinal other here = elim (cases_lt ordinal (length spans)) [
+  | inl within ↦ clean ordinal other (sym (slice_get-append spans (span ∷ []) ordinal within) ∙ here)
+  | inr behind ↦
+      let inside : ordinal < length (spans ++ span ∷ []) = slice_get_within (spans ++ span ∷ []) ordinal other here in
+      let size : length (spans ++ span ∷ []) ≡ length spans + 1 = length-append spans (span ∷ []) in
+      let place : ordinal ≡ length spans = omega arith in
+      let both : Some span ≡ Some other = sym (slice_get-last spans span) ∙ ap (slice_get (spans ++ span ∷ [])) (sym place) ∙ here in
+      let same : span ≡ other = cc in
+      subst (λ (k : ℕ). Clean k other) (sym place) (subst (Clean (length spans)) same last)
+]
+
+-- the first stays the first
+IsFirst-more : (Clean Found : ℕ → Span → Type 0) (spans rest : List Span) → IsFirst Clean Found spans → IsFirst Clean Found (spans ++ rest)
+IsFirst-more Clean Found spans rest first =
+    let within : first.ordinal < length spans = slice_get_within spans first.ordinal first.span first.here in
+    record {
+      ordinal = first.ordinal;
+      span = first.span;
+      here = slice_get-some spans rest first.ordinal first.span first.here;
+      found = first.found;
+      before = λ earlier other less here. first.before earlier other less (sym (slice_get-append spans rest earlier (omega arith)) ∙ here);
+    }
+
+module _ {R : Type 0} (Clean : ℕ → Span → Type 0) (Found : R → ℕ → Span → Type 0) where
+  -- what was found stays the first
+  FindsFirst-kept : (spans rest : List Span) (count : ℕ) (first : Option R) → is_some first ≡ true → FindsFirst Clean Found spans count first → FindsFirst Clean Found (spans ++ rest) count first
+  FindsFirst-kept spans rest count None some finds = absurd (cc)
+  FindsFirst-kept spans rest count (Some found) some finds = IsFirst-more Clean (Found found) spans rest finds
+
+  -- one more clean one
+  FindsFirst-clean : (spans : List Span) (span : Span) (count : ℕ) (first : Option R) → is_some first ≡ false → Clean count span → FindsFirst Clean Found spans count first
+      → FindsFirst Clean Found (spans ++ span ∷ []) (count + 1) first
+  FindsFirst-clean spans span count (Some found) none clean finds = absurd (cc)
+  FindsFirst-clean spans span count None none clean finds =
+      let size : length (spans ++ span ∷ []) ≡ length spans + 1 = length-append spans (span ∷ []) in
+      (omega (arith, finds.0), AreClean-push Clean spans span finds.1 (subst (λ (k : ℕ). Clean k span) finds.0 clean))
+
+  -- the first in which something is found
+  FindsFirst-found : (spans : List Span) (span : Span) (count : ℕ) (first : Option R) (found : R) → is_some first ≡ false → Found found count span → FindsFirst Clean Found spans count first
+      → FindsFirst Clean Found (spans ++ span ∷ []) count (Some found)
+  FindsFirst-found spans span count (Some other) found none here finds = absurd (cc)
+  FindsFirst-found spans span count None found none here finds = record {
+    ordinal = count;
+    span = span;
+    here = ap (slice_get (spans ++ span ∷ [])) finds.0 ∙ slice_get-last spans span;
+    found = here;
+    before = λ earlier other less at.
+        let within : earlier < length spans = omega (arith, finds.0) in
+        finds.1 earlier other (sym (slice_get-append spans (span ∷ []) earlier within) ∙ at);
+  }
+
+  -- The same for a field behind others, by what it is.
+  pub passes_found : (entries : List Entry) (field : Field) (field_number count : ℕ) (first : Option R) → is_some first ≡ true
+      → FindsFirst Clean Found (spans_of field_number entries) count first → FindsFirst Clean Found (spans_of field_number (entries ++ entry_of field ∷ [])) count first
+  passes_found entries field field_number count first some finds =
+      subst (λ (spans : List Span). FindsFirst Clean Found spans count first) (sym (spans_of-append field_number entries (entry_of field ∷ [])))
+      (FindsFirst-kept (spans_of field_number entries) (spans_of field_number (entry_of field ∷ [])) count first some finds)
+
+  pub passes_other : (entries : List Entry) (field : Field) (field_number count : ℕ) (first : Option R) → ¬ (field.number ≡ field_number)
+      → FindsFirst Clean Found (spans_of field_number entries) count first → FindsFirst Clean Found (spans_of field_number (entries ++ entry_of field ∷ [])) count first
+  passes_other entries field field_number count first other finds =
+      subst (λ (spans : List Span). FindsFirst Clean Found spans count first) (sym (spans_of-other field_number entries (entry_of field) other)) finds
+
+  pub passes_no_part : (entries : List Entry) (field : Field) (field_number count : ℕ) (first : Option R) → field.number ≡ field_number → IsNoPart field.body
+      → FindsFirst Clean Found (spans_of field_number entries) count first → FindsFirst Clean Found (spans_of field_number (entries ++ entry_of field ∷ [])) count first
+  passes_no_part entries field field_number count first own not finds =
+      subst (λ (spans : List Span). FindsFirst Clean Found spans count first) (sym (spans_of-no_part field_number entries field own not)) finds
+
+  pub passes_clean : (entries : List Entry) (field : Field) (field_number count : ℕ) (first : Option R) (from : ℕ) (slice : Bor (List ℕ)) → field.number ≡ field_number → field.body ≡ Bytes from slice → is_some first ≡ false
+      → Clean count (stretch from (from + length slice.now))
+      → FindsFirst Clean Found (spans_of field_number entries) count first → FindsFirst Clean Found (spans_of field_number (entries ++ entry_of field ∷ [])) (count + 1) first
+  passes_clean entries field field_number count first from slice own body none clean finds =
+      subst (λ (spans : List Span). FindsFirst Clean Found spans (count + 1) first) (sym (spans_of-part field_number entries (entry_of field) from slice.now own (ap content_of body)))
+      (FindsFirst-clean (spans_of field_number entries) (stretch from (from + length slice.now)) count first none clean finds)
+
+  pub passes_first : (entries : List Entry) (field : Field) (field_number count : ℕ) (first : Option R) (found : R) (from : ℕ) (slice : Bor (List ℕ)) → field.number ≡ field_number → field.body ≡ Bytes from slice → is_some first ≡ false
+      → Found found count (stretch from (from + length slice.now))
+      → FindsFirst Clean Found (spans_of field_number entries) count first → FindsFirst Clean Found (spans_of field_number (entries ++ entry_of field ∷ [])) count (Some found)
+  passes_first entries field field_number count first found from slice own body none here finds =
+      subst (λ (spans : List Span). FindsFirst Clean Found spans count (Some found)) (sym (spans_of-part field_number entries (entry_of field) from slice.now own (ap content_of body)))
+      (FindsFirst-found (spans_of field_number entries) (stretch from (from + length slice.now)) count first found none here finds)
