@@ -7,3 +7,5 @@ pub mod Scans
 pub mod EndFaults
 pub mod Walking
 pub mod Spans
+pub mod Layers
+pub mod LayerWalk

@@ -1,0 +1,117 @@
+-- What is known while the fields of a layer are walked, and what it says of the layer's faults.
+use Rattle.std.proofs.Common.{◌≡◌, ℕ, ◌+◌, ◌<◌, ◌≤◌, ◌⊎◌, List, [], ◌∷◌, ◌++◌, length, take, Option, Some, None, refl, sym, ◌∙◌, ap, subst, arith}
+use Rattle.mvt_wire.specs.Field.{Entry}
+use Rattle.mvt_wire.specs.Scope.{spans_of}
+use Rattle.mvt_wire.specs.Walk.{Walk, IsOver, GivesField, FindsDefect}
+use Rattle.mvt_wire.specs.WireFault.{FieldFault, EndFault, MessageFault}
+use Rattle.mvt_wire.specs.declared.cause.WireCause.{WireCause}
+use Rattle.mvt_wire.specs.declared.schema.Message.{Message}
+use Rattle.mvt_wire.specs.declared.schema.Message.TheVariants as messages
+use Rattle.mvt_wire.specs.declared.scope.Scope.TheVariants as scopes
+use Rattle.mvt_fault.specs.Place.{IsLeast}
+use Rattle.mvt_fault.specs.declared.fault.Fault.{Fault}
+use Rattle.mvt_tile.specs.Embedded.{HasNone, HasFirst, ScansEmbedded}
+use Rattle.mvt_tile.specs.First.{FindsFirst}
+use Rattle.mvt_tile.specs.LayerFault.{IsLayerFault, stretch}
+use Rattle.mvt_tile.specs.Least.{FindsLeastCause}
+use Rattle.mvt_tile.specs.Placed.{IsPlaced}
+use Rattle.mvt_tile.specs.Scan.{Scans}
+use Rattle.mvt_tile.specs.declared.embedded.EmbeddedScan.{EmbeddedScan}
+use Rattle.mvt_tile.specs.declared.scan.FieldScan.{FieldScan}
+use Rattle.mvt_tile.proofs.Layers.{fault_in, IsLeast-own, IsLeast-value, IsLeast-feature, IsLayerFault-none}
+use Rattle.mvt_tile.proofs.Walking.{IsScanning, IsPlaced-within, IsScanning-more, IsScanning-whole, IsWalking-defect, IsWalking-whole, defect_alone}
+
+-- the fields that were passed, and what the three scans keep of them
+pub record LayerWalk (bytes : List ℕ) (from to : ℕ) (walk : Walk) (own : FieldScan) (value_scan feature_scan : EmbeddedScan) : Type 0 where
+  pub entries : List Entry
+  pub scanning : IsScanning messages.Layer (take to bytes) from walk own entries
+  pub values : ScansEmbedded bytes value_scan entries
+  pub features : ScansEmbedded bytes feature_scan entries
+  pub value_message : value_scan.message ≡ messages.Value
+  pub value_number : value_scan.number ≡ 4
+  pub feature_message : feature_scan.message ≡ messages.Feature
+  pub feature_number : feature_scan.number ≡ 2
+  pub few_values : value_scan.count ≤ walk.at
+  pub few_features : feature_scan.count ≤ walk.at
+
+-- what a scan of embedded messages has found, by its message and number
+scan_finds : (bytes : List ℕ) (scan : EmbeddedScan) (entries : List Entry) (message : Message) (field_number : ℕ) (found : Option (ℕ × WireCause)) → scan.message ≡ message → scan.number ≡ field_number → scan.first ≡ found
+    → ScansEmbedded bytes scan entries → FindsFirst (HasNone message bytes) (HasFirst message bytes) (spans_of field_number entries) scan.count found
+scan_finds bytes scan entries message field_number found kind number first scans =
+    subst (λ (m : Message). FindsFirst (HasNone m bytes) (HasFirst m bytes) (spans_of field_number entries) scan.count found) kind
+    (subst (λ (n : ℕ). FindsFirst (HasNone scan.message bytes) (HasFirst scan.message bytes) (spans_of n entries) scan.count found) number
+    (subst (λ (f : Option (ℕ × WireCause)). FindsFirst (HasNone scan.message bytes) (HasFirst scan.message bytes) (spans_of scan.number entries) scan.count f) first scans))
+
+-- what a scan of embedded messages tells of the field that it passes
+pub record Notes (bytes : List ℕ) (before after : EmbeddedScan) (entry : Entry) : Type 0 where
+  pub message : after.message ≡ before.message
+  pub number : after.number ≡ before.number
+  pub count : after.count ≤ before.count + 1
+  pub noted : (entries : List Entry) → ScansEmbedded bytes before entries → ScansEmbedded bytes after (entries ++ entry ∷ [])
+
+module _ (bytes : List ℕ) (from to : ℕ) (old new : Walk) (own : FieldScan) (value_scan feature_scan : EmbeddedScan) (within : to ≤ length bytes) (so_far : LayerWalk bytes from to old own value_scan feature_scan) where
+  module _ (entry : Entry) (given : GivesField old new entry) where
+    -- the next field lies in the layer
+    pub LayerWalk-placed : (next : ℕ) × IsPlaced entry next × (next ≤ to)
+    LayerWalk-placed = IsPlaced-within bytes from to old new so_far.entries entry within so_far.scanning.walked given
+
+    -- and is passed
+    pub LayerWalk-more : (next_own : FieldScan) (next_values next_features : EmbeddedScan)
+        → (next_own.message ≡ own.message) × ((passed : List Entry) (next : ℕ) → IsPlaced entry next → Scans own passed entry.at → Scans next_own (passed ++ entry ∷ []) next)
+        → Notes bytes value_scan next_values entry → Notes bytes feature_scan next_features entry
+        → LayerWalk bytes from to new next_own next_values next_features
+    LayerWalk-more next_own next_values next_features own_noted values features =
+        let further = given.further in
+        let few_values = so_far.few_values in
+        let few_features = so_far.few_features in
+        record {
+          entries = so_far.entries ++ entry ∷ [];
+          scanning = IsScanning-more messages.Layer (take to bytes) from old new own next_own so_far.entries entry so_far.scanning given own_noted.0 own_noted.1;
+          values = values.noted so_far.entries so_far.values;
+          features = features.noted so_far.entries so_far.features;
+          value_message = values.message ∙ so_far.value_message;
+          value_number = values.number ∙ so_far.value_number;
+          feature_message = features.message ∙ so_far.feature_message;
+          feature_number = features.number ∙ so_far.feature_number;
+          few_values = omega (arith, values.count);
+          few_features = omega (arith, features.count);
+        }
+
+  -- a defect of a field is the first fault of the layer
+  pub LayerWalk-defect : (layer : ℕ) (cause : WireCause) → FindsDefect old new cause → IsLeast (IsLayerFault bytes (stretch from to) layer) (fault_in (scopes.Layer layer) cause)
+  LayerWalk-defect layer cause found =
+      IsLeast-own bytes (stretch from to) layer cause
+      (defect_alone messages.Layer (take to bytes) from cause (IsWalking-defect (take to bytes) from old new so_far.entries cause so_far.scanning.walked found))
+
+  module _ (over : IsOver old new) where
+    -- what the scan of the layer's own fields finds
+    own_finds : (found : Option WireCause) → ((passed : List Entry) → Scans own passed to → FindsLeastCause (λ cause. FieldFault own.message passed cause ⊎ EndFault own.message passed to cause) found)
+        → FindsLeastCause (MessageFault messages.Layer (take to bytes) from) found
+    own_finds found finds = IsScanning-whole messages.Layer bytes from to old new own so_far.entries found within so_far.scanning over finds
+
+    pub LayerWalk-own : (layer : ℕ) (cause : WireCause)
+        → ((passed : List Entry) → Scans own passed to → FindsLeastCause (λ cause. FieldFault own.message passed cause ⊎ EndFault own.message passed to cause) (Some cause))
+        → IsLeast (IsLayerFault bytes (stretch from to) layer) (fault_in (scopes.Layer layer) cause)
+    LayerWalk-own layer cause finds = IsLeast-own bytes (stretch from to) layer cause (own_finds (Some cause) finds)
+
+    module _ (none : (passed : List Entry) → Scans own passed to → FindsLeastCause (λ cause. FieldFault own.message passed cause ⊎ EndFault own.message passed to cause) None) where
+      -- that of a value, where the layer has none of its own
+      pub LayerWalk-value : (layer ordinal : ℕ) (cause : WireCause) → value_scan.first ≡ Some (ordinal, cause) → IsLeast (IsLayerFault bytes (stretch from to) layer) (fault_in (scopes.Value layer ordinal) cause)
+      LayerWalk-value layer ordinal cause first =
+          IsLeast-value bytes (stretch from to) layer so_far.entries ordinal cause (IsWalking-whole (take to bytes) from old new so_far.entries so_far.scanning.walked over) (own_finds None none)
+          (scan_finds bytes value_scan so_far.entries messages.Value 4 (Some (ordinal, cause)) so_far.value_message so_far.value_number first so_far.values)
+
+      -- that of a feature, where no value has one
+      pub LayerWalk-feature : (layer ordinal : ℕ) (cause : WireCause) → value_scan.first ≡ None → feature_scan.first ≡ Some (ordinal, cause)
+          → IsLeast (IsLayerFault bytes (stretch from to) layer) (fault_in (scopes.Feature layer ordinal) cause)
+      LayerWalk-feature layer ordinal cause values first =
+          IsLeast-feature bytes (stretch from to) layer so_far.entries ordinal cause (IsWalking-whole (take to bytes) from old new so_far.entries so_far.scanning.walked over) (own_finds None none)
+          (scan_finds bytes value_scan so_far.entries messages.Value 4 None so_far.value_message so_far.value_number values so_far.values).1
+          (scan_finds bytes feature_scan so_far.entries messages.Feature 2 (Some (ordinal, cause)) so_far.feature_message so_far.feature_number first so_far.features)
+
+      -- none
+      pub LayerWalk-none : (layer : ℕ) → value_scan.first ≡ None → feature_scan.first ≡ None → (fault : Fault) → ¬ IsLayerFault bytes (stretch from to) layer fault
+      LayerWalk-none layer values features =
+          IsLayerFault-none bytes (stretch from to) layer so_far.entries (IsWalking-whole (take to bytes) from old new so_far.entries so_far.scanning.walked over) (own_finds None none)
+          (scan_finds bytes value_scan so_far.entries messages.Value 4 None so_far.value_message so_far.value_number values so_far.values).1
+          (scan_finds bytes feature_scan so_far.entries messages.Feature 2 None so_far.feature_message so_far.feature_number features so_far.features).1
