@@ -1,5 +1,5 @@
 -- The order of causes within a message: by offset, then by code, then by field number.
-use Rattle.std.proofs.Common.{◌≡◌, ℕ, ◌<◌, inl, inr, refl, subst}
+use Rattle.std.proofs.Common.{◌≡◌, ◌<◌, inl, inr, refl, subst}
 use Rattle.mvt_wire.specs.Code.{code_of}
 use Rattle.mvt_wire.specs.declared.cause.WireCause.{WireCause}
 use Rattle.mvt_fault.specs.Place.{ComesFirst}

@@ -1,9 +1,8 @@
 -- The faults of a message at its end, and the first of all faults of its fields.
-use Rattle.std.proofs.Common.{◌≡◌, ◌≢◌, ℕ, ◌-◌, ◌^◌, ◌<◌, ◌≤◌, min, false, ◌⊎◌, inl, inr, List, Option, Some, None, refl, sym, ◌∙◌, ap, subst, arith}
+use Rattle.std.proofs.Common.{◌≡◌, ◌≢◌, ℕ, ◌≤◌, ◌⊎◌, inl, inr, List, Option, Some, None, refl, sym, ◌∙◌, ap, subst, arith}
 use Rattle.std.proofs.lemmas.Bool.{cases_lt}
-use Rattle.mvt_wire.specs.Code.{code_of}
 use Rattle.mvt_wire.specs.Field.{Entry, cause_at}
-use Rattle.mvt_wire.specs.WireFault.{count_known, FieldFault, EndFault, missing, not_one}
+use Rattle.mvt_wire.specs.WireFault.{FieldFault, EndFault, missing, not_one}
 use Rattle.mvt_wire.specs.declared.cause.WireCause.{WireCause}
 use Rattle.mvt_wire.specs.declared.cause.WireCode.TheVariants.{Missing, OneField}
 use Rattle.mvt_wire.specs.declared.schema.Message.{Message}

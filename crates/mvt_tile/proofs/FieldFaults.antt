@@ -1,19 +1,18 @@
 -- The faults of one field: where they lie, and which of them comes first.
-use Rattle.std.proofs.Common.{◌≡◌, ℕ, ◌+◌, ◌<◌, ◌≤◌, ◌^◌, Bool, true, false, List, length, Option, Some, None, refl, sym, ◌∙◌, ap, subst, arith, IsUtf8}
+use Rattle.std.proofs.Common.{◌≡◌, ℕ, ◌+◌, ◌<◌, ◌≤◌, Bool, true, List, length, Option, Some, None, refl, sym, ◌∙◌, ap, subst, arith, IsUtf8}
 use Rattle.std.proofs.lemmas.Bool.{both_ways}
-use Rattle.mvt_wire.specs.Code.{code_of}
 use Rattle.mvt_wire.specs.Field.{Content, varint, delimited, Entry, wire_type_of, cause_at}
 use Rattle.mvt_wire.specs.Number.{PackedFault}
 use Rattle.mvt_wire.specs.Schema.{is_own, is_out_of_range, is_singular}
 use Rattle.mvt_wire.specs.WireFault.{EntryFault, other_type, again, no_text, out_of_range, packed}
 use Rattle.mvt_wire.specs.declared.cause.WireCause.{WireCause}
-use Rattle.mvt_wire.specs.declared.cause.WireCode.TheVariants.{OtherType, Again, NotUtf8, OutOfRange}
+use Rattle.mvt_wire.specs.declared.cause.WireCode.TheVariants.{NotUtf8, OutOfRange}
 use Rattle.mvt_wire.specs.declared.schema.FieldRule.{FieldRule}
 use Rattle.mvt_wire.specs.declared.schema.Shape.TheVariants.{Text, Numbers}
 use Rattle.mvt_fault.specs.Place.{ComesFirst}
 use Rattle.mvt_tile.specs.Least.{cause_place, IsLeastCause, FindsLeastCause}
 use Rattle.mvt_tile.specs.Placed.{LiesWithin, IsPlaced}
-use Rattle.mvt_tile.proofs.Causes.{by_offset, by_code, same_cause}
+use Rattle.mvt_tile.proofs.Causes.{same_cause}
 use Rattle.mvt_tile.proofs.SmallNumbers.{fault_in_part}
 
 -- where a number or the bytes of a field lie

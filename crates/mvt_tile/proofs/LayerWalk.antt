@@ -1,5 +1,5 @@
 -- What is known while the fields of a layer are walked, and what it says of the layer's faults.
-use Rattle.std.proofs.Common.{◌≡◌, ℕ, ◌+◌, ◌<◌, ◌≤◌, ◌⊎◌, List, [], ◌∷◌, ◌++◌, length, take, Option, Some, None, refl, sym, ◌∙◌, ap, subst, arith}
+use Rattle.std.proofs.Common.{◌≡◌, ℕ, ◌+◌, ◌≤◌, ◌⊎◌, List, [], ◌∷◌, ◌++◌, length, take, Option, Some, None, ◌∙◌, subst, arith}
 use Rattle.mvt_wire.specs.Field.{Entry}
 use Rattle.mvt_wire.specs.Scope.{spans_of}
 use Rattle.mvt_wire.specs.Walk.{Walk, IsOver, GivesField, FindsDefect}

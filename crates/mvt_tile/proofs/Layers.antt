@@ -1,5 +1,5 @@
 -- The faults of a layer and of the messages in it: which comes first.
-use Rattle.std.proofs.Common.{◌≡◌, ℕ, ◌+◌, ◌<◌, ◌≤◌, ◌⊎◌, inl, inr, List, [], ◌∷◌, ◌++◌, length, take, Option, Some, None, slice_get, refl, sym, ◌∙◌, ap, subst, arith}
+use Rattle.std.proofs.Common.{◌≡◌, ℕ, inl, inr, List, ◌∷◌, take, Some, slice_get, refl, sym, ◌∙◌, ap, subst, arith}
 use Rattle.std.proofs.lemmas.Bool.{cases_lt}
 use Rattle.mvt_wire.specs.Field.{Entry, cause_at}
 use Rattle.mvt_wire.specs.Scope.{Span, spans_of, IsMessageAt, IsPart}
@@ -22,24 +22,24 @@ abbrev pub fault_in : Scope → WireCause → Fault
 fault_in scope cause = Wire cause.code scope cause.at cause.field
 
 -- a message in a whole one is among those that its field list tells
-part_among : (bytes : List ℕ) (outer : Span) (entries : List Entry) (field_number ordinal : ℕ) (inner : Span) → IsMessageAt bytes outer entries → IsPart bytes outer field_number ordinal inner
+pub part_among : (bytes : List ℕ) (outer : Span) (entries : List Entry) (field_number ordinal : ℕ) (inner : Span) → IsMessageAt bytes outer entries → IsPart bytes outer field_number ordinal inner
     → slice_get (spans_of field_number entries) ordinal ≡ Some inner
 part_among bytes outer entries field_number ordinal inner whole part =
     ap (λ (list : List Entry). slice_get (spans_of field_number list) ordinal) (one_list (take outer.to bytes) outer.from entries part.entries whole part.whole) ∙ part.here
 
 -- where all are clean, none of them has a fault
-pub part_clean : (message : Message) (bytes : List ℕ) (outer : Span) (entries : List Entry) (field_number ordinal : ℕ) (inner : Span) (cause : WireCause) → IsMessageAt bytes outer entries
+part_clean : (message : Message) (bytes : List ℕ) (outer : Span) (entries : List Entry) (field_number ordinal : ℕ) (inner : Span) (cause : WireCause) → IsMessageAt bytes outer entries
     → AreClean (HasNone message bytes) (spans_of field_number entries) → IsPart bytes outer field_number ordinal inner → HasFault message bytes inner cause → ⊥
 part_clean message bytes outer entries field_number ordinal inner cause whole clean part fault = clean ordinal inner (part_among bytes outer entries field_number ordinal inner whole part) cause fault
 
 -- the first that has a fault is one of them
-pub part_here : (message : Message) (bytes : List ℕ) (outer : Span) (entries : List Entry) (field_number ordinal : ℕ) (cause : WireCause) → IsMessageAt bytes outer entries
+part_here : (message : Message) (bytes : List ℕ) (outer : Span) (entries : List Entry) (field_number ordinal : ℕ) (cause : WireCause) → IsMessageAt bytes outer entries
     → IsFirst (HasNone message bytes) (HasFirst message bytes (ordinal, cause)) (spans_of field_number entries) → (inner : Span) × IsPart bytes outer field_number ordinal inner × HasFault message bytes inner cause
 part_here message bytes outer entries field_number ordinal cause whole first =
     (first.span, record { entries = entries; whole = whole; here = ap (slice_get (spans_of field_number entries)) (sym first.found.0) ∙ first.here }, first.found.1.holds)
 
 -- and its first fault comes before those of the others
-pub part_first : (message : Message) (bytes : List ℕ) (outer : Span) (entries : List Entry) (field_number ordinal : ℕ) (cause : WireCause) (other : ℕ) (inner : Span) (fault : WireCause) → IsMessageAt bytes outer entries
+part_first : (message : Message) (bytes : List ℕ) (outer : Span) (entries : List Entry) (field_number ordinal : ℕ) (cause : WireCause) (other : ℕ) (inner : Span) (fault : WireCause) → IsMessageAt bytes outer entries
     → IsFirst (HasNone message bytes) (HasFirst message bytes (ordinal, cause)) (spans_of field_number entries)
     → IsPart bytes outer field_number other inner → HasFault message bytes inner fault → ComesFirst (ordinal ∷ cause_place cause) (other ∷ cause_place fault)
 part_first message bytes outer entries field_number ordinal cause other inner fault whole first part holds =

@@ -9,3 +9,5 @@ pub mod Walking
 pub mod Spans
 pub mod Layers
 pub mod LayerWalk
+pub mod Tiles
+pub mod TileWalk

@@ -1,16 +1,15 @@
 -- One more field behind others: what stands, how many are known, and the faults of fields.
-use Rattle.std.proofs.Common.{◌≡◌, ℕ, suc, ◌+◌, ◌<◌, ◌==◌, nat_lt, Bool, true, false, ◌⊎◌, inl, inr, List, [], ◌∷◌, ◌++◌, length, filter, is_some, Option, Some, None, MatchOption, refl, sym, ◌∙◌, ap, subst, arith, length-append, append_assoc}
+use Rattle.std.proofs.Common.{◌≡◌, ℕ, ◌+◌, ◌<◌, ◌==◌, nat_lt, Bool, true, ◌⊎◌, inl, inr, List, [], ◌∷◌, ◌++◌, length, filter, is_some, Option, Some, None, MatchOption, refl, sym, ◌∙◌, ap, subst, arith, length-append, append_assoc}
 use Rattle.std.proofs.lemmas.Bool.{ne_eqb, lt-ltb, cond-true, cond-false}
 use Rattle.std.proofs.lemmas.List.Elements.{filter-append}
 use Rattle.mvt_wire.specs.Field.{Entry}
 use Rattle.mvt_wire.specs.Schema.{rule_of}
-use Rattle.mvt_wire.specs.Scope.{fields_of}
 use Rattle.mvt_wire.specs.WireFault.{count_of, stands_in, count_known, EntryFault, FieldFault}
 use Rattle.mvt_wire.specs.declared.cause.WireCause.{WireCause}
 use Rattle.mvt_wire.specs.declared.schema.FieldRule.{FieldRule}
 use Rattle.mvt_wire.specs.declared.schema.Message.{Message}
 use Rattle.mvt_wire.proofs.Schemas.{count_of-append, count_of-own}
-use Rattle.mvt_tile.specs.Least.{cause_place, IsLeastCause, FindsLeastCause}
+use Rattle.mvt_tile.specs.Least.{IsLeastCause, FindsLeastCause}
 use Rattle.mvt_tile.specs.Placed.{IsPlaced}
 use Rattle.mvt_tile.proofs.Causes.{by_offset}
 use Rattle.mvt_tile.proofs.FieldFaults.{fault_within}

@@ -1,6 +1,6 @@
 -- The rules of a message: each number has one, in ascending order, and all are below 16.
-use Rattle.std.proofs.Common.{◌≡◌, ℕ, suc, zero, ◌+◌, ◌<◌, ◌≤◌, ◌==◌, Bool, true, false, ◌&&◌, not, if◌then◌else◌, inl, inr, List, [], ◌∷◌, length, get_or, drop, Option, Some, None, MatchOption, refl, sym, ◌∙◌, ap, subst, arith, drop-cons}
-use Rattle.std.proofs.lemmas.Bool.{cases_Bool, both_ways, eqb-true, eqb-false, eq-eqb, ne_eqb, cond-true, cond-false, and_parts, and_from, not-true, not-false}
+use Rattle.std.proofs.Common.{◌≡◌, ℕ, suc, zero, ◌+◌, ◌<◌, ◌≤◌, ◌==◌, Bool, true, false, ◌&&◌, not, if◌then◌else◌, inl, inr, List, [], ◌∷◌, length, get_or, Option, Some, None, MatchOption, refl, sym, ◌∙◌, ap, subst, arith}
+use Rattle.std.proofs.lemmas.Bool.{cases_Bool, both_ways, eqb-true, eq-eqb, ne_eqb, cond-true, cond-false, and_parts, and_from, not-true}
 use Rattle.mvt_wire.specs.Schema.{rules_of, rule_of, find_rule, is_required}
 use Rattle.mvt_wire.specs.declared.schema.FieldRule.{FieldRule}
 use Rattle.mvt_wire.specs.declared.schema.Message.{Message}

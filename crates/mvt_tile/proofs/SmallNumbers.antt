@@ -1,10 +1,10 @@
 -- Packed lists of small numbers: how a walk over the bytes tells them, and that the first fault that it meets is the least.
-use Rattle.std.proofs.Common.{◌≡◌, ℕ, ◌+◌, ◌-◌, ◌^◌, ◌<◌, ◌≤◌, ◌≢◌, ◌⊎◌, inl, inr, List, [], ◌∷◌, ◌++◌, length, get_or, take, drop, slice_range, refl, sym, ◌∙◌, ap, subst, arith, All, length-drop, lit<, suc, length-append}
+use Rattle.std.proofs.Common.{◌≡◌, ℕ, ◌+◌, ◌-◌, ◌^◌, ◌<◌, ◌≤◌, ◌≢◌, inl, inr, List, [], ◌∷◌, ◌++◌, length, get_or, take, drop, slice_range, refl, sym, ◌∙◌, ap, subst, arith, length-drop, lit<, suc, length-append}
 use Rattle.std.proofs.Math.Nat.{pow-le-pow_right}
 use Rattle.std.proofs.lemmas.Bool.{cases_lt}
 use Rattle.std.proofs.lemmas.List.{get_or-drop, get_or_at}
 use Rattle.std.proofs.lemmas.List.Elements.{All-push}
-use Rattle.mvt_wire.specs.Varint.{sum_of_groups, IsVarint, SpellsVarint, VarintDefect}
+use Rattle.mvt_wire.specs.Varint.{sum_of_groups, IsVarint, SpellsVarint}
 use Rattle.mvt_wire.specs.Field.{cause_at}
 use Rattle.mvt_wire.specs.Number.{VarintList, AreSmall, PackedFault, no_varint, too_large}
 use Rattle.mvt_wire.specs.declared.cause.WireCause.{WireCause}

@@ -1,6 +1,6 @@
 use Rattle.std.proofs.Common.{◌≡◌, rules}
 use Rattle.mvt_wire.specs.declared.schema.Message.TheVariants.{Value}
-use Rattle.mvt_tile.proofs.EndFaults.{Missing-first, OneField-first, EndFault-none}
+use Rattle.mvt_tile.proofs.EndFaults.{Missing-first, EndFault-none}
 use Rattle.mvt_tile.proofs.scan.FieldScan.end_fault.Goals as goal
 use Rattle.mvt_tile.proofs.scan.FieldScan.end_fault.Goals.{else-eq-via-then-eq+else-self-ne1, else-eq-via-else-eq}
 

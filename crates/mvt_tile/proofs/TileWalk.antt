@@ -1,0 +1,78 @@
+-- What is known while the fields of a tile are walked, and what it says of the tile's faults.
+use Rattle.std.proofs.Common.{◌≡◌, ℕ, ◌+◌, ◌≤◌, ◌⊎◌, List, [], ◌∷◌, ◌++◌, length, take, Option, Some, None, IfSome, IfNone, arith}
+use Rattle.mvt_wire.specs.Field.{Entry}
+use Rattle.mvt_wire.specs.Walk.{Walk, IsOver, GivesField, FindsDefect}
+use Rattle.mvt_wire.specs.WireFault.{WireFault, FieldFault, EndFault, MessageFault}
+use Rattle.mvt_wire.specs.Scope.{spans_of}
+use Rattle.mvt_wire.specs.declared.cause.WireCause.{WireCause}
+use Rattle.mvt_wire.specs.declared.scope.Scope.{Scope}
+use Rattle.mvt_wire.specs.declared.scope.Scope.TheVariants as scopes
+use Rattle.mvt_wire.specs.declared.schema.Message.TheVariants.{Tile}
+use Rattle.mvt_fault.specs.Place.{IsLeast, IsWireFault}
+use Rattle.mvt_fault.specs.declared.fault.Fault.{Fault}
+use Rattle.mvt_tile.specs.First.{FindsFirst}
+use Rattle.mvt_tile.specs.LayerScan.{IsFaultless, IsFirstOf, ScansLayers}
+use Rattle.mvt_tile.specs.Least.{FindsLeastCause}
+use Rattle.mvt_tile.specs.Placed.{IsPlaced}
+use Rattle.mvt_tile.specs.Scan.{Scans}
+use Rattle.mvt_tile.specs.declared.fault.LayerScan.{LayerScan}
+use Rattle.mvt_tile.specs.declared.scan.FieldScan.{FieldScan}
+use Rattle.mvt_tile.proofs.Layers.{fault_in}
+use Rattle.mvt_tile.proofs.Tiles.{IsLeast-tile, IsLeast-layer, WireFault-none}
+use Rattle.mvt_tile.proofs.Walking.{IsScanning, IsPlaced-within, IsScanning-more, IsScanning-whole, IsWalking-defect, IsWalking-whole, defect_alone}
+
+-- the fields that were passed, and what the two scans keep of them
+pub record TileWalk (bytes : List ℕ) (walk : Walk) (own : FieldScan) (layer_scan : LayerScan) : Type 0 where
+  pub entries : List Entry
+  pub scanning : IsScanning Tile (take (length bytes) bytes) 0 walk own entries
+  pub layers : ScansLayers bytes layer_scan entries
+  pub few : layer_scan.count ≤ walk.at
+
+module _ (bytes : List ℕ) (old new : Walk) (own : FieldScan) (layer_scan : LayerScan) (so_far : TileWalk bytes old own layer_scan) where
+  module _ (entry : Entry) (given : GivesField old new entry) where
+    -- the next field lies in the tile
+    pub TileWalk-placed : (next : ℕ) × IsPlaced entry next × (next ≤ length bytes)
+    TileWalk-placed = IsPlaced-within bytes 0 (length bytes) old new so_far.entries entry (omega arith) so_far.scanning.walked given
+
+    -- and is passed
+    pub TileWalk-more : (next_own : FieldScan) (next_layers : LayerScan)
+        → (next_own.message ≡ own.message) × ((passed : List Entry) (next : ℕ) → IsPlaced entry next → Scans own passed entry.at → Scans next_own (passed ++ entry ∷ []) next)
+        → next_layers.count ≤ layer_scan.count + 1 → ((entries : List Entry) → ScansLayers bytes layer_scan entries → ScansLayers bytes next_layers (entries ++ entry ∷ []))
+        → TileWalk bytes new next_own next_layers
+    TileWalk-more next_own next_layers own_noted count noted =
+        let further = given.further in
+        let few = so_far.few in
+        record {
+          entries = so_far.entries ++ entry ∷ [];
+          scanning = IsScanning-more Tile (take (length bytes) bytes) 0 old new own next_own so_far.entries entry so_far.scanning given own_noted.0 own_noted.1;
+          layers = noted so_far.entries so_far.layers;
+          few = omega arith;
+        }
+
+  -- a defect of a field is the first fault of the tile
+  pub TileWalk-defect : (cause : WireCause) → FindsDefect old new cause → IsLeast (IsWireFault bytes) (fault_in scopes.Tile cause)
+  TileWalk-defect cause found =
+      IsLeast-tile bytes cause (defect_alone Tile (take (length bytes) bytes) 0 cause (IsWalking-defect (take (length bytes) bytes) 0 old new so_far.entries cause so_far.scanning.walked found))
+
+  module _ (over : IsOver old new) where
+    -- what the scan of the tile's own fields finds
+    own_finds : (found : Option WireCause) → ((passed : List Entry) → Scans own passed (length bytes) → FindsLeastCause (λ cause. FieldFault own.message passed cause ⊎ EndFault own.message passed (length bytes) cause) found)
+        → FindsLeastCause (MessageFault Tile (take (length bytes) bytes) 0) found
+    own_finds found finds = IsScanning-whole Tile bytes 0 (length bytes) old new own so_far.entries found (omega arith) so_far.scanning over finds
+
+    pub TileWalk-own : (cause : WireCause)
+        → ((passed : List Entry) → Scans own passed (length bytes) → FindsLeastCause (λ cause. FieldFault own.message passed cause ⊎ EndFault own.message passed (length bytes) cause) (Some cause))
+        → IsLeast (IsWireFault bytes) (fault_in scopes.Tile cause)
+    TileWalk-own cause finds = IsLeast-tile bytes cause (own_finds (Some cause) finds)
+
+    module _ (none : (passed : List Entry) → Scans own passed (length bytes) → FindsLeastCause (λ cause. FieldFault own.message passed cause ⊎ EndFault own.message passed (length bytes) cause) None) where
+      -- else that of the first layer that has one, or none
+      first_of_layers : (found : Option Fault) → FindsFirst (IsFaultless bytes) (IsFirstOf bytes) (spans_of 3 so_far.entries) layer_scan.count found
+          → IfNone found ((scope : Scope) (cause : WireCause) → ¬ WireFault bytes scope cause) × IfSome found (IsLeast (IsWireFault bytes))
+      first_of_layers None finds =
+          (WireFault-none bytes so_far.entries (IsWalking-whole (take (length bytes) bytes) 0 old new so_far.entries so_far.scanning.walked over) (own_finds None none) layer_scan.count finds, tt)
+      first_of_layers (Some fault) finds =
+          (tt, IsLeast-layer bytes so_far.entries (IsWalking-whole (take (length bytes) bytes) 0 old new so_far.entries so_far.scanning.walked over) (own_finds None none) fault finds)
+
+      pub TileWalk-layers : IfNone layer_scan.first ((scope : Scope) (cause : WireCause) → ¬ WireFault bytes scope cause) × IfSome layer_scan.first (IsLeast (IsWireFault bytes))
+      TileWalk-layers = first_of_layers layer_scan.first so_far.layers
