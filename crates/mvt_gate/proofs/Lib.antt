@@ -1,3 +1,4 @@
 pub mod EngineLemmas
+pub mod FieldsAnswers
 pub mod Listing
-pub mod OneAnswer
+pub mod Verdicts

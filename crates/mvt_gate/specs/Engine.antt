@@ -1,6 +1,7 @@
 -- What an engine reads and writes, as the counts of its tallies show it.
-use Rattle.std.specs.Prelude.{◌≡◌, ℕ, ◌+◌, ◌<◌, ◌≤◌, ◌⊎◌, List, length, Option}
+use Rattle.std.specs.Prelude.{◌≡◌, ℕ, ◌+◌, ◌<◌, ◌≤◌, ◌⊎◌, List, length, take, Option}
 use Rattle.std.specs.Io.KnownBytes.{Appends, Consumes, IsAtEnd}
+use Rattle.mvt_gate.specs.declared.engine.Outcome.{Outcome}
 use Rattle.mvt_gate.specs.declared.tally.Tally.{Tally}
 use Rattle.mvt_gate.specs.Tally.{counts_of, tally_bytes}
 
@@ -33,3 +34,27 @@ HasFailed t others = (0 < (counts_of t).failed) ⊎ (interruption_limit < (count
 pub record IsClean {T : Type 0} (t : Tally T) (others : ℕ) : Type 0 where
   pub failed : (counts_of t).failed ≡ 0
   pub patient : (counts_of t).interrupted + others ≤ interruption_limit
+
+-- An engine is told by its answers: which outcome and which line answer an input.
+
+-- the engine read its whole input, and the line of an answer to it went out, once and whole
+pub record Answers {R W : Type 0} (IsAnswer : List ℕ → Outcome → List ℕ → Type 0)
+    (remaining : R → Option (List ℕ)) (contents : W → Option (List ℕ))
+    (reader reader' : Tally R) (writer writer' : Tally W) (outcome : Outcome) : Type 0 where
+  pub input : List ℕ
+  pub line : List ℕ
+  pub read : ReadsWhole remaining reader reader' input
+  pub answer : IsAnswer input outcome line
+  pub written : Writes contents writer writer' line
+
+-- the engine read its whole input, and a first part of the line of an answer to it went out
+pub record BreaksOff {R W : Type 0} (IsAnswer : List ℕ → Outcome → List ℕ → Type 0)
+    (remaining : R → Option (List ℕ)) (contents : W → Option (List ℕ))
+    (reader reader' : Tally R) (writer writer' : Tally W) : Type 0 where
+  pub input : List ℕ
+  pub outcome : Outcome
+  pub line : List ℕ
+  pub count : ℕ
+  pub read : ReadsWhole remaining reader reader' input
+  pub answer : IsAnswer input outcome line
+  pub written : Writes contents writer writer' (take count line)

@@ -1,7 +1,12 @@
+pub use Rattle.mvt_fault.specs.Place
 pub use Rattle.mvt_fault.specs.Text
 pub use Rattle.mvt_wire.specs.Field
 pub use Rattle.mvt_wire.specs.Message
+pub use Rattle.mvt_wire.specs.Tile
+pub mod Check
 pub mod Engine
+pub mod FaultLine
 pub mod Fields
 pub mod FieldsLine
 pub mod Tally
+pub mod Verdict

@@ -1,5 +1,5 @@
 -- What a tally has counted, and the device that it passes its calls on to.
-use Rattle.std.specs.Prelude.{ℕ, ◌+◌, ◌-◌, ◌^◌, min, List, Option}
+use Rattle.std.specs.Prelude.{◌≡◌, ℕ, ◌+◌, ◌-◌, ◌^◌, min, List, Option}
 use Rattle.mvt_gate.specs.declared.tally.Tally.{Tally}
 
 -- bytes moved, calls that failed and calls that were interrupted
@@ -39,3 +39,8 @@ after_failure counts = record counts { failed = raised counts.failed 1 }
 -- the counts after a call that was interrupted
 abbrev pub after_interruption : Counts → Counts
 after_interruption counts = record counts { interrupted = raised counts.interrupted 1 }
+
+-- the device is as it was, and nothing was counted
+pub record IsUntouched {T : Type 0} (old new : Tally T) : Type 0 where
+  pub device : device_of new ≡ device_of old
+  pub counts : counts_of new ≡ no_counts

@@ -1,12 +1,15 @@
 //! What every engine does: read its whole input, and write one line.
-ghost use Rattle.std.specs.Prelude.{◌≡◌, ◌≢◌, ℕ, ◌+◌, ◌<◌, ◌≤◌, ◌⊎◌, length, take, IsTrue, IsFalse, IfOk, IfErr, OnOk, OnErr};
+ghost use Rattle.std.specs.Prelude.{◌≡◌, ◌≢◌, ℕ, ◌+◌, ◌<◌, ◌≤◌, ◌⊎◌, List, length, take, IsTrue, IsFalse, IfOk, IfErr, OnOk, OnErr, string_bytes};
 ghost use Rattle.std.specs.Io.KnownBytes.{Keeps};
 ghost use Rattle.std.specs.IoError.{error_kind};
-ghost use Rattle.mvt_gate.specs.Engine.{HasFailed, IsClean, ReadsWhole, Writes, input_limit, interruption_limit};
-ghost use Rattle.mvt_gate.specs.Tally.{counts_of, no_counts, tally_bytes};
+ghost use Rattle.mvt_gate.specs.Engine.{Answers, BreaksOff, HasFailed, IsClean, ReadsWhole, Writes, input_limit, interruption_limit};
+ghost use Rattle.mvt_gate.specs.FaultLine.{fault_line};
+ghost use Rattle.mvt_gate.specs.declared.engine.Outcome.{Outcome};
+ghost use Rattle.mvt_gate.specs.Tally.{IsUntouched, counts_of, no_counts, tally_bytes};
 
 use crate::tally::Tally;
-use std::alloc::Global;
+use mvt_fault::{Fault, fault_text};
+use std::alloc::{AllocError, Global};
 use std::io;
 use std::io::{ErrorKind, Read, Write};
 use thiserror::Error;
@@ -20,28 +23,84 @@ pub const INTERRUPTION_LIMIT: u64 = 1_000;
 /// How many bytes one read asks for.
 const CHUNK_LENGTH: usize = 65_536;
 
-/// What the line says: that the answer is yes, or a fault.
+/// What the line of an engine says.
 #[derive(Clone, Copy, Debug, PartialEq, Eq)]
 pub enum Outcome {
+    /// What was asked for: the fields, or that the tile is right.
     Yes,
+    /// A fault.
     No,
 }
 
 /// Why an engine gave no answer. The text is the line that the program tells it by.
 #[derive(Clone, Copy, Debug, PartialEq, Eq, Error)]
 pub enum EngineFault {
+    /// A read failed, or the devices were interrupted more than 1,000 times together.
     #[error("mvtgate: cannot read the input")]
     Read,
+    /// The input has more than 67,108,864 bytes.
     #[error("mvtgate: the input is larger than 67108864 bytes")]
     TooLarge,
+    /// A write or a flush failed, or the devices were interrupted more than 1,000 times together.
     #[error("mvtgate: cannot write the output")]
     Write,
+    /// Memory was refused.
     #[error("mvtgate: out of memory")]
     Memory,
 }
 
+/// What an engine does with its input.
+pub trait Task {
+    // this outcome and this line answer the input
+    ghost IsAnswer: { Self → List ℕ → Outcome → List ℕ → Type 0 };
+
+    /// An answer to the input, and its line with the LF.
+    fn answer(&self, alloc: Global, input: &[u8]) -> Result<(Outcome, String), AllocError>
+        ensures { IfOk result (λ r. IsAnswer self.now input.now r.0 (string_bytes r.1)) };
+}
+
+/// Reads the whole input and writes the line that answers it. An error other than `Memory` comes only
+/// where a device is to blame, as its counts show.
+pub fn run<T: Task, R: Read, W: Write>(
+    alloc: Global,
+    task: &T,
+    reader: &mut Tally<R>,
+    writer: &mut Tally<W>,
+) -> Result<Outcome, EngineFault>
+    ensures answers { IfOk result (Answers (T.IsAnswer task.now)
+        R.remaining W.contents reader.old reader.new writer.old writer.new) }
+    ensures clean { OnOk result (IsClean writer.new (counts_of reader.new).interrupted) }
+
+    ensures read { result ≡ Err EngineFault.Read → HasFailed reader.new (counts_of writer.new).interrupted }
+    ensures too_large { result ≡ Err EngineFault.TooLarge → input_limit < (counts_of reader.new).bytes }
+    ensures write { result ≡ Err EngineFault.Write → HasFailed writer.new (counts_of reader.new).interrupted }
+
+    // Before the line is whole, nothing goes out; after a failed write, a first part of the line.
+    ensures untouched { IfErr result (λ fault. fault ≢ EngineFault.Write → IsUntouched writer.old writer.new) }
+    ensures prefix { result ≡ Err EngineFault.Write → BreaksOff (T.IsAnswer task.now)
+        R.remaining W.contents reader.old reader.new writer.old writer.new }
+{
+    reader.reset();
+    writer.reset();
+    let input = read_whole(alloc, reader, 0)?;
+    let Ok((outcome, line)) = task.answer(alloc, &input) else {
+        return Err(EngineFault::Memory);
+    };
+    write_whole(writer, line.as_bytes(), reader.interrupted())?;
+    Ok(outcome)
+}
+
+/// The line that tells a fault, with its LF.
+pub fn fault_line(alloc: Global, fault: &Fault) -> Result<String, AllocError>
+    ensures { IfOk result (λ line. string_bytes line ≡ fault_line fault.now) }
+{
+    let mut line = fault_text(alloc, fault)?;
+    line.push_str("\n")?;
+    Ok(line)
+}
+
 /// Reads all that the reader gives. `others` is how often the engine's other devices were interrupted.
-pub fn read_whole<R: Read>(
+fn read_whole<R: Read>(
     alloc: Global,
     reader: &mut Tally<R>,
     others: u64,
@@ -80,11 +139,7 @@ pub fn read_whole<R: Read>(
 
 /// Writes the whole line and flushes. `others` is how often the engine's other devices were
 /// interrupted. The only error is `Write`.
-pub fn write_whole<W: Write>(
-    writer: &mut Tally<W>,
-    line: &[u8],
-    others: u64,
-) -> Result<(), EngineFault>
+fn write_whole<W: Write>(writer: &mut Tally<W>, line: &[u8], others: u64) -> Result<(), EngineFault>
     requires fresh { counts_of writer.old ≡ no_counts }
     requires patient { others ≤ interruption_limit }
 

@@ -1,11 +1,25 @@
-//! The law of the answer: each input has one, with one line.
+//! Laws of the answers: an input has one answer, with one line.
 ghost use Rattle.std.specs.Prelude.{◌≡◌, ℕ, List};
+ghost use Rattle.mvt_gate.specs.Check.{IsCheckAnswer};
 ghost use Rattle.mvt_gate.specs.Fields.{IsFieldsAnswer};
+ghost use Rattle.mvt_gate.specs.Verdict.{IsVerdict};
 ghost use Rattle.mvt_gate.specs.declared.engine.Outcome.{Outcome};
+ghost use Rattle.mvt_gate.specs.declared.verdict.Verdict.{Verdict};
 
-/// Whatever the input is, there is an answer, and no other answer and no other line.
-pub fn one_answer()
+/// Whatever the input is, there is an answer of `fields`, and no other answer and no other line.
+pub fn one_fields_answer()
     ensures some { (input : List ℕ) → (outcome : Outcome) × (line : List ℕ) × IsFieldsAnswer input outcome line }
     ensures alone { (input : List ℕ) (first second : Outcome) (line other : List ℕ) →
         IsFieldsAnswer input first line → IsFieldsAnswer input second other → (first ≡ second) × (line ≡ other) }
+{}
+
+/// No bytes have two verdicts.
+pub fn one_verdict()
+    ensures { (bytes : List ℕ) (first second : Verdict) → IsVerdict bytes first → IsVerdict bytes second → first ≡ second }
+{}
+
+/// No input has two answers of `check`, or two lines.
+pub fn one_check_answer()
+    ensures { (input : List ℕ) (first second : Outcome) (line other : List ℕ) →
+        IsCheckAnswer input first line → IsCheckAnswer input second other → (first ≡ second) × (line ≡ other) }
 {}

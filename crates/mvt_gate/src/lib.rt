@@ -1,13 +1,17 @@
-//! The gate's engines: each reads a whole tile from a device, and writes one line of answer to another.
+//! The gate: it judges a tile, and its engines read a tile from a device and write one line of answer.
 #![tactic(auto)]
 
+mod check;
 #[cfg(test)]
 mod device;
 mod engine;
 mod fields;
 pub mod laws;
 mod tally;
+mod verdict;
 
+pub use check::check_stream;
 pub use engine::{EngineFault, Outcome};
 pub use fields::fields_stream;
 pub use tally::Tally;
+pub use verdict::{Verdict, judge};

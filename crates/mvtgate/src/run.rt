@@ -1,12 +1,14 @@
 //! The whole run of the program: its words, its devices and its exit status.
-ghost use Rattle.std.specs.Prelude.{◌≡◌, ◌≢◌, ◌≤◌, ◌⊎◌, IfErr};
+ghost use Rattle.std.specs.Prelude.{◌≡◌, ◌≢◌, ◌≤◌, ◌⊎◌, IfOk, IfErr};
 ghost use Rattle.clap.specs.Words.{kind_of};
+ghost use Rattle.mvt_gate.specs.Engine.{Answers};
 ghost use Rattle.mvtgate.specs.Status.{status_of};
 
 use clap::error::ErrorKind;
 use clap::{Arg, ArgMatches, Command};
-use mvt_gate::{EngineFault, Outcome, Tally, fields_stream};
+use mvt_gate::{EngineFault, Outcome, Tally, check_stream, fields_stream};
 use std::alloc::{AllocError, Global};
+use std::io::{Read, Write};
 use std::rt::{Env, Files};
 use std::{env, fs, io};
 
@@ -19,6 +21,32 @@ const BAD_DEVICE: u8 = 3;
 /// The exit status of a run that memory does not suffice for.
 const NO_MEMORY: u8 = 4;
 
+/// What the program does with a tile.
+#[derive(Clone, Copy)]
+enum Engine {
+    Fields,
+    Check,
+}
+
+impl Engine {
+    ghost use Rattle.mvtgate.specs.Answer.{IsAnswer};
+
+    fn stream<R: Read, W: Write>(
+        self,
+        alloc: Global,
+        reader: &mut Tally<R>,
+        writer: &mut Tally<W>,
+    ) -> Result<Outcome, EngineFault>
+        ensures { IfOk result (Answers (IsAnswer self)
+            R.remaining W.contents reader.old reader.new writer.old writer.new) }
+    {
+        match self {
+            Engine::Fields => fields_stream(alloc, reader, writer),
+            Engine::Check => check_stream(alloc, reader, writer),
+        }
+    }
+}
+
 /// Runs the program on the words of a command line, of which the first is the program's name, and
 /// returns its exit status.
 pub fn run<R: Files + Input + Print + Eprint + AllocGlobal>(rt: &R, words: &[String]) -> u8
@@ -28,7 +56,11 @@ pub fn run<R: Files + Input + Print + Eprint + AllocGlobal>(rt: &R, words: &[Str
         return end(rt, Err(EngineFault::Memory));
     };
     match command.try_get_matches_from(words) {
-        Ok(matches) => run_fields(rt, file_of(&matches)),
+        Ok(matches) => match call_of(&matches) {
+            Some((engine, file)) => run_engine(rt, engine, file),
+            // a command line with no command, which `clap` refuses itself
+            None => BAD_WORDS,
+        },
         Err(error) => explain(rt, &error),
     }
 }
@@ -59,19 +91,38 @@ pub fn command_words<R: Env + Eprint + AllocGlobal>(rt: &R) -> Result<Vec<String
 }
 
 fn command_line<'a>(alloc: Global) -> Result<Command<'a>, AllocError> {
-    let file = Arg::new(alloc, "FILE").help("The tile; without it standard input");
-    let fields = Command::new(alloc, "fields")
-        .about("Lists the outermost fields of a tile")
-        .arg(file)?;
+    let fields = tile_command(alloc, "fields", "Lists the outermost fields of a tile")?;
+    let check = tile_command(
+        alloc,
+        "check",
+        "Says yes to a tile, or tells its first fault",
+    )?;
     Command::new(alloc, "mvtgate")
         .about("A gate before the publishing of Mapbox vector tiles")
         .subcommand_required(true)
-        .subcommand(fields)
+        .subcommand(fields)?
+        .subcommand(check)
 }
 
-fn file_of<'a>(matches: &ArgMatches<'a>) -> Option<&'a str> {
-    let (_name, found) = matches.subcommand()?;
-    found.get_str("FILE")
+/// A command that reads one tile.
+fn tile_command<'a>(
+    alloc: Global,
+    name: &'a str,
+    about: &'a str,
+) -> Result<Command<'a>, AllocError> {
+    let file = Arg::new(alloc, "FILE").help("The tile; without it standard input");
+    Command::new(alloc, name).about(about).arg(file)
+}
+
+/// Which engine the words call, and the file that they name.
+fn call_of<'a>(matches: &ArgMatches<'a>) -> Option<(Engine, Option<&'a str>)> {
+    let (name, found) = matches.subcommand()?;
+    let engine = match name {
+        "fields" => Engine::Fields,
+        "check" => Engine::Check,
+        _ => return None,
+    };
+    Some((engine, found.get_str("FILE")))
 }
 
 /// Prints what `clap` has to say: help on standard output, and anything else as an error.
@@ -92,20 +143,24 @@ fn explain<R: Print + Eprint>(rt: &R, error: &clap::Error) -> u8
     if error.use_stderr() { BAD_WORDS } else { 0 }
 }
 
-fn run_fields<R: Files + Input + Print + Eprint + AllocGlobal>(rt: &R, file: Option<&str>) -> u8
+fn run_engine<R: Files + Input + Print + Eprint + AllocGlobal>(
+    rt: &R,
+    engine: Engine,
+    file: Option<&str>,
+) -> u8
     ensures { result ≤ 4 }
 {
     let mut writer = Tally::new(io::writer(rt));
     let Some(path) = file else {
         let mut reader = Tally::new(rt.reader());
-        return end(rt, fields_stream(rt.alloc(), &mut reader, &mut writer));
+        return end(rt, engine.stream(rt.alloc(), &mut reader, &mut writer));
     };
     let Ok(opened) = fs::open(rt, path) else {
         let _ = eprintln!(rt; "mvtgate: cannot open the tile file");
         return BAD_DEVICE;
     };
     let mut reader = Tally::new(opened);
-    end(rt, fields_stream(rt.alloc(), &mut reader, &mut writer))
+    end(rt, engine.stream(rt.alloc(), &mut reader, &mut writer))
 }
 
 /// The status of an engine's answer. A fault of the run is told in one line on standard error, and

@@ -20,7 +20,9 @@ fn exits_by_the_words(rt: HostRuntime) -> Result<(), Fail> {
         (["mvtgate"].as_slice(), 2),
         (["mvtgate", "nothing"].as_slice(), 2),
         (["mvtgate", "fields", "a", "b"].as_slice(), 2),
+        (["mvtgate", "check", "a", "b"].as_slice(), 2),
         (["mvtgate", "fields", "--help"].as_slice(), 0),
+        (["mvtgate", "check", "--help"].as_slice(), 0),
     ] {
         assert_eq!(rt; status(&rt, texts)?, want, "{texts:?}");
     }
@@ -41,11 +43,16 @@ fn exits_by_the_file(rt: HostRuntime) -> Result<(), Fail> {
     let missing = folder.join(rt.alloc(), "missing.mvt")?;
     // (a folder opens, and cannot be read)
     let mut statuses = Vec::new(rt.alloc());
-    for file in [&point, &cut, &large, &missing, &folder] {
-        statuses.push(status(&rt, &["mvtgate", "fields", file.as_str()])?)?;
+    for word in ["fields", "check"] {
+        for file in [&point, &cut, &large, &missing, &folder] {
+            statuses.push(status(&rt, &["mvtgate", word, file.as_str()])?)?;
+        }
     }
     // the folder goes before a wrong status ends the test
     fs::remove_dir_all(&rt, &folder)?;
-    assert_eq!(rt; statuses.as_slice(), [0, 1, 3, 3, 3].as_slice());
+    assert_eq!(rt;
+        statuses.as_slice(),
+        [0, 1, 3, 3, 3, 0, 1, 3, 3, 3].as_slice()
+    );
     Ok(())
 }

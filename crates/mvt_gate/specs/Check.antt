@@ -1,0 +1,18 @@
+-- The answer of the program's `check`.
+use Rattle.std.specs.Prelude.{◌≡◌, ℕ, List, codes}
+use Rattle.mvt_fault.specs.declared.fault.Fault.{Fault}
+use Rattle.mvt_gate.specs.FaultLine.{fault_line}
+use Rattle.mvt_gate.specs.Verdict.{IsVerdict}
+use Rattle.mvt_gate.specs.declared.engine.Outcome.{Outcome}
+use Rattle.mvt_gate.specs.declared.engine.Outcome.TheVariants.{Yes, No}
+use Rattle.mvt_gate.specs.declared.verdict.Verdict.TheVariants as verdicts
+
+-- the line of a tile in which nothing is wrong, with its LF
+abbrev pub ok_line : List ℕ
+ok_line = codes "{\"ok\":true}\n"
+
+-- The verdict on the input is yes, and the line says so; or it is no, and the line is that of its fault. No input has
+-- two answers (the law `one_check_answer`).
+abbrev pub IsCheckAnswer : List ℕ → Outcome → List ℕ → Type 0
+IsCheckAnswer input Yes line = IsVerdict input verdicts.Yes × (line ≡ ok_line)
+IsCheckAnswer input No line = (fault : Fault) × IsVerdict input (verdicts.No fault) × (line ≡ fault_line fault)

@@ -1,0 +1,55 @@
+//! The engine of `check`: whether an input is a tile, as one line of JSON.
+ghost use Rattle.std.specs.Prelude.{◌≡◌, ◌≢◌, ◌<◌, IfOk, IfErr, OnOk};
+ghost use Rattle.mvt_gate.specs.Check.{IsCheckAnswer};
+ghost use Rattle.mvt_gate.specs.Engine.{Answers, BreaksOff, HasFailed, IsClean, input_limit};
+ghost use Rattle.mvt_gate.specs.Tally.{IsUntouched, counts_of};
+
+use crate::engine;
+use crate::engine::{EngineFault, Outcome, Task, fault_line};
+use crate::tally::Tally;
+use crate::verdict::{Verdict, judge};
+use std::alloc::{AllocError, Global};
+use std::io::{Read, Write};
+
+/// Reads a whole tile, of at most 67,108,864 bytes, and writes the line of its verdict, with one LF:
+/// `{"ok":true}` for a tile by the Mapbox Vector Tile Specification 2.1, section 4, or else the JSON
+/// text of its first fault. An error other than `Memory` comes only where a device is to blame, as its
+/// counts show.
+pub fn check_stream<R: Read, W: Write>(
+    alloc: Global,
+    reader: &mut Tally<R>,
+    writer: &mut Tally<W>,
+) -> Result<Outcome, EngineFault>
+    // The line is that of all that the reader gave, and it went out once and whole.
+    ensures answers { IfOk result (Answers IsCheckAnswer
+        R.remaining W.contents reader.old reader.new writer.old writer.new) }
+    ensures clean { OnOk result (IsClean writer.new (counts_of reader.new).interrupted) }
+
+    ensures read { result ≡ Err EngineFault.Read → HasFailed reader.new (counts_of writer.new).interrupted }
+    ensures too_large { result ≡ Err EngineFault.TooLarge → input_limit < (counts_of reader.new).bytes }
+    ensures write { result ≡ Err EngineFault.Write → HasFailed writer.new (counts_of reader.new).interrupted }
+
+    // Before the line is whole, nothing goes out; after a failed write, a first part of the line.
+    ensures untouched { IfErr result (λ fault. fault ≢ EngineFault.Write → IsUntouched writer.old writer.new) }
+    ensures prefix { result ≡ Err EngineFault.Write → BreaksOff IsCheckAnswer
+        R.remaining W.contents reader.old reader.new writer.old writer.new }
+{
+    engine::run(alloc, &CheckTile, reader, writer)
+}
+
+/// To judge a tile.
+struct CheckTile;
+
+impl Task for CheckTile {
+    ghost IsAnswer = { λ _. IsCheckAnswer };
+
+    fn answer(&self, alloc: Global, input: &[u8]) -> Result<(Outcome, String), AllocError> {
+        match judge(alloc, input)? {
+            Verdict::Yes => Ok((Outcome::Yes, String::from_str(alloc, "{\"ok\":true}\n")?)),
+            Verdict::No(fault) => Ok((Outcome::No, fault_line(alloc, &fault)?)),
+        }
+    }
+}
+
+#[cfg(test)]
+mod tests;

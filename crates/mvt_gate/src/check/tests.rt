@@ -1,0 +1,255 @@
+use super::check_stream;
+use crate::device::{Device, Manner};
+use crate::engine::{EngineFault, Outcome};
+use crate::tally::Tally;
+use crate::verdict::{Verdict, judge};
+use mvt_fault::fault_text;
+use std::test::Fail;
+
+const OK: &str = r#"{"ok":true}"#;
+
+/// Tiles in hexadecimal that keep every rule.
+const TILES: [&str; 29] = [
+    // no layer, and layers with no feature
+    "",
+    "1a 05 78 02 0a 01 61",
+    "1a 0b 78 02 0a 01 61 1a 01 6b 1a 01 6b",
+    // a point, with packed numbers, with single ones, and with both
+    "1a 0e 78 02 0a 01 61 12 07 18 01 22 03 09 32 22",
+    "1a 0f 78 02 0a 01 61 12 08 18 01 20 09 20 32 20 22",
+    "1a 0f 78 02 0a 01 61 12 08 18 01 22 02 09 32 20 22",
+    // its version in two bytes
+    "1a 0f 78 82 00 0a 01 61 12 07 18 01 22 03 09 32 22",
+    // fields that no message knows
+    "08 05",
+    "09 00 00 00 00 00 00 00 00 15 01 02 03 04",
+    "1a 08 78 02 0a 01 61 80 01 05",
+    // a feature of unknown type, with any numbers
+    "1a 0c 78 02 0a 01 61 12 05 18 00 22 01 63",
+    "1a 0b 78 02 0a 01 61 12 04 18 00 22 00",
+    "1a 16 78 02 0a 01 61 12 0f 18 00 22 0b 09 00 10 1a 14 0f 00 14 13 13 0f",
+    // the fields of a layer in the order of usual writers, and in another
+    "1a 1f 0a 01 61 12 0d 08 07 12 02 00 00 18 01 22 03 09 32 22 1a 01 6b 22 03 0a 01 76 28 80 20 78 02",
+    "1a 1d 78 02 0a 01 61 12 0b 12 02 00 00 18 01 22 03 09 32 22 1a 01 6b 22 02 38 01 22 02 28 05",
+    // two features of one id
+    "1a 1b 78 02 0a 01 61 12 09 08 07 18 01 22 03 09 32 22 12 09 08 07 18 01 22 03 09 32 22",
+    // points, the least and the greatest coordinates among them
+    "1a 10 78 02 0a 01 61 12 09 18 01 22 05 11 0a 0e 03 09",
+    "1a 12 78 02 0a 01 61 12 0b 18 01 22 07 09 80 80 80 80 08 00",
+    "1a 12 78 02 0a 01 61 12 0b 18 01 22 07 09 ff ff ff ff 07 00",
+    // lines
+    "1a 13 78 02 0a 01 61 12 0c 18 02 22 08 09 04 04 12 00 10 10 00",
+    "1a 19 78 02 0a 01 61 12 12 18 02 22 0e 09 04 04 12 00 10 10 00 09 11 11 0a 04 08",
+    // polygons
+    "1a 14 78 02 0a 01 61 12 0d 18 03 22 09 09 06 0c 12 0a 0c 18 2c 0f",
+    "1a 2c 78 02 0a 01 61 12 25 18 03 22 21 09 00 00 1a 14 00 00 14 13 00 0f 09 16 02 1a 12 00 00 12 11 00 0f 09 04 0d 1a 00 08 08 00 00 07 0f",
+    "1a 21 78 02 0a 01 61 12 1a 18 03 22 16 09 00 00 1a 14 00 00 14 13 00 0f 09 0a 09 1a 14 00 00 14 13 00 0f",
+    "1a 21 78 02 0a 01 61 12 1a 18 03 22 16 09 00 14 1a 3c 00 00 14 3b 00 0f 09 14 27 1a 14 00 00 3c 13 00 0f",
+    "1a 25 78 02 0a 01 61 12 1e 18 03 22 1a 09 00 00 1a c8 01 00 00 c8 01 c7 01 00 0f 09 28 9f 01 1a 14 00 00 14 13 00 0f",
+    "1a 34 78 02 0a 01 61 12 2d 18 03 22 29 09 00 00 1a c8 01 00 00 c8 01 c7 01 00 0f 09 14 b3 01 1a 00 a0 01 a0 01 00 00 9f 01 0f 09 8b 01 14 1a 14 00 00 14 13 00 0f",
+    "1a 21 78 02 0a 01 61 12 1a 18 03 22 16 09 00 00 1a 14 00 00 14 13 00 0f 09 14 13 1a 14 00 00 14 13 00 0f",
+    "1a 42 78 02 0a 01 61 12 3b 18 03 22 37 09 ff ff ff ff 07 ff ff ff ff 07 3a 80 80 80 80 08 00 80 80 80 80 08 00 00 80 80 80 80 08 00 80 80 80 80 08 ff ff ff ff 07 00 ff ff ff ff 07 00 00 ff ff ff ff 07 0f",
+];
+
+/// Messages that are whole and keep the schema. They break rules on layers, tags or geometry that
+/// are not built yet, and so are tiles so far.
+const TILES_SO_FAR: [&str; 31] = [
+    // layers and tags
+    "1a 05 78 01 0a 01 61",
+    "1a 0e 78 02 0a 01 61 12 07 18 01 22 03 09 32 22 1a 0e 78 02 0a 01 61 12 07 18 01 22 03 09 32 22",
+    "1a 1f 78 02 0a 01 61 12 0d 12 04 00 00 00 01 18 01 22 03 09 32 22 1a 01 6b 22 02 38 01 22 02 28 05",
+    "1a 1c 78 02 0a 01 61 12 0a 12 01 00 18 01 22 03 09 32 22 1a 01 6b 22 02 38 01 22 02 28 05",
+    "1a 1d 78 02 0a 01 61 12 0b 12 02 01 00 18 01 22 03 09 32 22 1a 01 6b 22 02 38 01 22 02 28 05",
+    "1a 1d 78 02 0a 01 61 12 0b 12 02 00 02 18 01 22 03 09 32 22 1a 01 6b 22 02 38 01 22 02 28 05",
+    // commands and their parameters
+    "1a 0b 78 02 0a 01 61 12 04 18 01 22 00",
+    "1a 10 78 02 0a 01 61 12 09 18 01 22 05 f9 ff ff ff 0f",
+    "1a 12 78 02 0a 01 61 12 0b 18 01 22 07 09 ff ff ff ff 0f 00",
+    "1a 12 78 02 0a 01 61 12 0b 18 01 22 07 09 82 80 80 80 08 00",
+    "1a 12 78 02 0a 01 61 12 0b 18 01 22 07 09 81 80 80 80 08 00",
+    "1a 18 78 02 0a 01 61 12 11 18 01 22 0d 11 80 80 80 80 08 00 ff ff ff ff 0f 00",
+    "1a 0e 78 02 0a 01 61 12 07 18 01 22 03 0a 32 22",
+    "1a 0c 78 02 0a 01 61 12 05 18 01 22 01 01",
+    "1a 0d 78 02 0a 01 61 12 06 18 01 22 02 09 32",
+    "1a 11 78 02 0a 01 61 12 0a 18 01 22 06 09 32 22 09 32 22",
+    "1a 14 78 02 0a 01 61 12 0d 18 03 22 09 09 00 00 12 00 00 0a 0a 0f",
+    // rings and polygons
+    "1a 16 78 02 0a 01 61 12 0f 18 03 22 0b 09 00 10 1a 14 0f 00 14 13 13 0f",
+    "1a 16 78 02 0a 01 61 12 0f 18 03 22 0b 09 00 00 1a 14 00 00 14 00 09 0f",
+    "1a 1f 78 02 0a 01 61 12 18 18 03 22 14 09 00 00 1a 14 00 00 14 13 00 0f 09 00 09 12 06 04 00 07 0f",
+    "1a 21 78 02 0a 01 61 12 1a 18 03 22 16 09 00 00 1a 14 00 00 14 13 00 0f 09 28 13 1a 00 14 14 00 00 13 0f",
+    "1a 16 78 02 0a 01 61 12 0f 18 03 22 0b 09 28 00 1a 00 14 14 00 00 13 0f",
+    "1a 34 78 02 0a 01 61 12 2d 18 03 22 29 09 00 00 1a c8 01 00 00 c8 01 c7 01 00 0f 09 14 b3 01 1a 00 a0 01 a0 01 00 00 9f 01 0f 09 8b 01 14 1a 00 14 14 00 00 13 0f",
+    "1a 14 78 02 0a 01 61 12 0d 18 03 22 09 09 00 00 12 0a 0a 0a 0a 0f",
+    "1a 16 78 02 0a 01 61 12 0f 18 03 22 0b 09 00 00 1a 14 00 00 14 13 13 0f",
+    "1a 32 78 02 0a 01 61 12 2b 18 03 22 27 09 ff ff ff ff 07 fc ff ff ff 07 1a fe ff ff ff 0f fb ff ff ff 0f 00 fe ff ff ff 0f fd ff ff ff 0f fd ff ff ff 0f 0f",
+    "1a 25 78 02 0a 01 61 12 1e 18 03 22 1a 09 00 a0 01 1a c8 01 9f 01 00 c8 01 9f 01 b3 01 0f 09 13 64 12 28 13 00 09 0f",
+    "1a 27 78 02 0a 01 61 12 20 18 03 22 1c 09 00 00 3a 3c 00 00 3c 13 00 00 27 13 00 00 28 13 00 0f 09 0a 13 12 28 00 13 1d 0f",
+    "1a 1a 78 02 0a 01 61 12 13 18 03 22 0f 09 00 00 2a 14 00 09 0a 0a 0a 13 00 0a 09 0f",
+    "1a 14 78 02 0a 01 61 12 0d 18 03 22 09 09 00 00 12 14 00 09 00 0f",
+    "1a 1f 78 02 0a 01 61 12 18 18 03 22 14 09 00 00 1a 14 00 00 14 13 00 0f 09 0a 09 12 00 04 1e 01 0f",
+];
+
+/// Bytes in hexadecimal that are no tile, and the line of their first fault.
+const FAULTS: [(&str, &str); 20] = [
+    // the tile's own fields
+    ("80", r#"{"at":0,"code":101,"field":0,"scope":"tile"}"#),
+    ("08", r#"{"at":1,"code":101,"field":1,"scope":"tile"}"#),
+    (
+        "08 05 10",
+        r#"{"at":3,"code":101,"field":2,"scope":"tile"}"#,
+    ),
+    (
+        "80 80 80 80 80 80 80 80 80 02",
+        r#"{"at":0,"code":102,"field":0,"scope":"tile"}"#,
+    ),
+    ("00", r#"{"at":0,"code":103,"field":0,"scope":"tile"}"#),
+    (
+        "80 80 80 80 10",
+        r#"{"at":0,"code":103,"field":0,"scope":"tile"}"#,
+    ),
+    ("1b", r#"{"at":0,"code":104,"field":3,"scope":"tile"}"#),
+    (
+        "1a ff ff ff ff ff ff ff ff ff 01",
+        r#"{"at":0,"code":105,"field":3,"scope":"tile"}"#,
+    ),
+    (
+        "1a 0e 78 02 0a 01 61 12 07 18 01 22 03 09 32",
+        r#"{"at":0,"code":105,"field":3,"scope":"tile"}"#,
+    ),
+    // a layer
+    (
+        "1a 17 78 82 80 80 80 80 80 80 80 80 02 0a 01 61 12 07 18 01 22 03 09 32 22",
+        r#"{"at":3,"code":102,"field":15,"layer":0,"scope":"layer"}"#,
+    ),
+    (
+        "1a 06 7a 01 02 0a 01 61",
+        r#"{"at":2,"code":106,"field":15,"layer":0,"scope":"layer"}"#,
+    ),
+    (
+        "1a 07 78 02 78 02 0a 01 61",
+        r#"{"at":4,"code":107,"field":15,"layer":0,"scope":"layer"}"#,
+    ),
+    (
+        "1a 02 78 02",
+        r#"{"at":4,"code":108,"field":1,"layer":0,"scope":"layer"}"#,
+    ),
+    (
+        "1a 00",
+        r#"{"at":2,"code":108,"field":1,"layer":0,"scope":"layer"}"#,
+    ),
+    (
+        "1a 05 78 02 0a 01 ff",
+        r#"{"at":4,"code":110,"field":1,"layer":0,"scope":"layer"}"#,
+    ),
+    (
+        "1a 09 78 80 80 80 80 10 0a 01 61",
+        r#"{"at":3,"code":111,"field":15,"layer":0,"scope":"layer"}"#,
+    ),
+    // a value
+    (
+        "1a 07 78 02 0a 01 61 22 00",
+        r#"{"at":9,"code":109,"field":0,"layer":0,"scope":"value","value":0}"#,
+    ),
+    // a feature
+    (
+        "1a 0e 78 02 0a 01 61 12 07 18 01 22 03 09 32 a2",
+        r#"{"at":15,"code":101,"feature":0,"field":4,"layer":0,"scope":"feature"}"#,
+    ),
+    (
+        "1a 0c 78 02 0a 01 61 12 05 22 03 09 32 22",
+        r#"{"at":14,"code":108,"feature":0,"field":3,"layer":0,"scope":"feature"}"#,
+    ),
+    (
+        "1a 0e 78 02 0a 01 61 12 07 18 04 22 03 09 32 22",
+        r#"{"at":10,"code":111,"feature":0,"field":3,"layer":0,"scope":"feature"}"#,
+    ),
+];
+
+/// The bytes that a text spells in hexadecimal.
+fn bytes_of(rt: &HostRuntime, text: &str) -> Result<Vec<u8>, Fail> {
+    let mut bytes = Vec::new(rt.alloc());
+    for digits in text.split_whitespace() {
+        bytes.push(u8::from_str_radix(digits, 16)?)?;
+    }
+    Ok(bytes)
+}
+
+/// What `judge` says, as the line tells it.
+fn told(rt: &HostRuntime, verdict: Verdict) -> Result<String, Fail> {
+    Ok(match verdict {
+        Verdict::Yes => String::from_str(rt.alloc(), OK)?,
+        Verdict::No(fault) => fault_text(rt.alloc(), &fault)?,
+    })
+}
+
+/// Whether the line is what `judge` says of the bytes, and what the engine writes and answers.
+fn is_answer(rt: &HostRuntime, text: &str, line: &str) -> Result<bool, Fail> {
+    let bytes = bytes_of(rt, text)?;
+    let verdict = judge(rt.alloc(), &bytes)?;
+
+    let mut reader = Tally::new(bytes.as_slice());
+    let mut sink = Device::new(rt.alloc(), &[], Manner::CALM);
+    let mut writer = Tally::new(&mut sink);
+    let outcome = check_stream(rt.alloc(), &mut reader, &mut writer)?;
+
+    let whole = format!(in rt.alloc(); "{line}\n")?;
+    Ok(
+        told(rt, verdict)?.as_str() == line
+            && (outcome == Outcome::Yes) == (line == OK)
+            && sink.taken.as_slice() == whole.as_bytes(),
+    )
+}
+
+#[test]
+fn says_yes_to_a_tile(rt: HostRuntime) -> Result<(), Fail> {
+    for text in TILES {
+        assert!(rt; is_answer(&rt, text, OK)?, "for {text}");
+    }
+    for text in TILES_SO_FAR {
+        assert!(rt; is_answer(&rt, text, OK)?, "for {text}");
+    }
+    Ok(())
+}
+
+#[test]
+fn tells_the_first_fault(rt: HostRuntime) -> Result<(), Fail> {
+    for (text, line) in FAULTS {
+        assert!(rt; is_answer(&rt, text, line)?, "for {text}");
+    }
+    Ok(())
+}
+
+/// What comes of devices that fail, and how many bytes of the line go out.
+#[test]
+fn bears_devices_that_fail(rt: HostRuntime) -> Result<(), Fail> {
+    let calm = Manner::CALM;
+    let fails = Manner {
+        step: 3,
+        fails_at: 2,
+        ..calm
+    };
+    let first = Manner {
+        fails_at: 1,
+        ..calm
+    };
+    for (reads, writes, want, went_out) in [
+        (
+            calm,
+            calm,
+            Ok(Outcome::No),
+            b"{\"at\":1,\"code\":101,\"field\":1,\"scope\":\"tile\"}\n".as_slice(),
+        ),
+        (first, calm, Err(EngineFault::Read), b""),
+        (calm, fails, Err(EngineFault::Write), b"{\"a"),
+    ] {
+        let mut source = Device::new(rt.alloc(), b"\x08", reads);
+        let mut sink = Device::new(rt.alloc(), &[], writes);
+        let mut reader = Tally::new(&mut source);
+        let mut writer = Tally::new(&mut sink);
+        let got = check_stream(rt.alloc(), &mut reader, &mut writer);
+        assert_eq!(rt; got, want);
+        assert!(rt; sink.taken.as_slice() == went_out);
+    }
+    Ok(())
+}

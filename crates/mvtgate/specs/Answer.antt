@@ -1,0 +1,12 @@
+-- What the program's words have answered.
+use Rattle.std.specs.Prelude.{ℕ, List}
+use Rattle.mvt_gate.specs.Check.{IsCheckAnswer}
+use Rattle.mvt_gate.specs.Fields.{IsFieldsAnswer}
+use Rattle.mvt_gate.specs.declared.engine.Outcome.{Outcome}
+use Rattle.mvtgate.specs.declared.run.Engine.{Engine}
+use Rattle.mvtgate.specs.declared.run.Engine.TheVariants.{Fields, Check}
+
+-- the outcome and the line that an engine answers an input with
+abbrev pub IsAnswer : Engine → List ℕ → Outcome → List ℕ → Type 0
+IsAnswer Fields = IsFieldsAnswer
+IsAnswer Check = IsCheckAnswer
