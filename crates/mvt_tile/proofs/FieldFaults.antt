@@ -49,6 +49,7 @@ out_of_range-first rule stood entry value at own may content over = record { hol
   where
     cause : WireCause
     cause = cause_at OutOfRange at entry.number
+
     behind : (fault : WireCause) → EntryFault rule stood entry fault → ComesFirst (cause_place cause) (cause_place fault)
     behind fault (other_type o is) = absurd (both_ways _ o own)
     behind fault (again s st is) = absurd (may s st)
@@ -67,6 +68,7 @@ no_text-first rule stood entry from part own may shape content not = record { ho
   where
     cause : WireCause
     cause = cause_at NotUtf8 entry.at entry.number
+
     behind : (fault : WireCause) → EntryFault rule stood entry fault → ComesFirst (cause_place cause) (cause_place fault)
     behind fault (other_type o is) = absurd (both_ways _ o own)
     behind fault (again s st is) = absurd (may s st)

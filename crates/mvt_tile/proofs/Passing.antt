@@ -73,16 +73,23 @@ LastFault message entries last cause = (rule : FieldRule) × (rule_of message la
 pub FieldFault-last : (message : Message) (entries : List Entry) (last : Entry) (cause : WireCause) → FieldFault message (entries ++ last ∷ []) cause → FieldFault message entries cause ⊎ LastFault message entries last cause
 FieldFault-last message entries last cause fault = elim (part_last entries fault.before last fault.entry fault.after fault.split) [
   | inr inner ↦ inl (record { before = fault.before; entry = fault.entry; after = inner.0; split = inner.1; rule = fault.rule; known = fault.known; fault = fault.fault })
-  | inl both ↦ inr (fault.rule, subst (λ (e : Entry). rule_of message e.number ≡ Some fault.rule) both.1 fault.known,
-      subst (λ (e : Entry). EntryFault fault.rule (stands_in e.number entries) e cause) both.1
-      (subst (λ (before : List Entry). EntryFault fault.rule (stands_in fault.entry.number before) fault.entry cause) both.0 fault.fault))
+  | inl both ↦ inr (
+    fault.rule,
+    subst (λ (e : Entry). rule_of message e.number ≡ Some fault.rule) both.1 fault.known,
+    subst (λ (e : Entry). EntryFault fault.rule (stands_in e.number entries) e cause) both.1
+        (subst (λ (before : List Entry). EntryFault fault.rule (stands_in fault.entry.number before) fault.entry cause) both.0 fault.fault),
+  )
 ]
 
 pub FieldFault-earlier : (message : Message) (entries : List Entry) (last : Entry) (cause : WireCause) → FieldFault message entries cause → FieldFault message (entries ++ last ∷ []) cause
 FieldFault-earlier message entries last cause fault = record {
-  before = fault.before; entry = fault.entry; after = fault.after ++ last ∷ [];
+  before = fault.before;
+  entry = fault.entry;
+  after = fault.after ++ last ∷ [];
   split = ap (λ (list : List Entry). list ++ last ∷ []) fault.split ∙ append_assoc fault.before (fault.entry ∷ fault.after) (last ∷ []);
-  rule = fault.rule; known = fault.known; fault = fault.fault;
+  rule = fault.rule;
+  known = fault.known;
+  fault = fault.fault;
 }
 
 pub FieldFault-new : (message : Message) (entries : List Entry) (last : Entry) (rule : FieldRule) (cause : WireCause) → rule_of message last.number ≡ Some rule → EntryFault rule (stands_in last.number entries) last cause
@@ -103,24 +110,30 @@ FirstSoFar-unknown message entries last next None placed unknown none = λ cause
   | inl earlier ↦ none cause earlier
   | inr own ↦ none_unknown message entries last cause unknown own
 ]
-FirstSoFar-unknown message entries last next (Some first) placed unknown least = let forward = placed.forward in (omega (arith, least.0), record {
-  holds = FieldFault-earlier message entries last first least.1.holds;
-  least = λ cause fault. elim (FieldFault-last message entries last cause fault) [
-    | inl earlier ↦ least.1.least cause earlier
-    | inr own ↦ absurd (none_unknown message entries last cause unknown own)
-  ];
-})
+FirstSoFar-unknown message entries last next (Some first) placed unknown least = let forward = placed.forward in (
+  omega (arith, least.0),
+  record {
+    holds = FieldFault-earlier message entries last first least.1.holds;
+    least = λ cause fault. elim (FieldFault-last message entries last cause fault) [
+      | inl earlier ↦ least.1.least cause earlier
+      | inr own ↦ absurd (none_unknown message entries last cause unknown own)
+    ];
+  },
+)
 
 -- a first fault stays the first
 pub FirstSoFar-kept : (message : Message) (entries : List Entry) (last : Entry) (next : ℕ) (first : WireCause) → IsPlaced last next
     → FirstSoFar message entries last.at (Some first) → FirstSoFar message (entries ++ last ∷ []) next (Some first)
-FirstSoFar-kept message entries last next first placed least = let forward = placed.forward in (omega (arith, least.0), record {
-  holds = FieldFault-earlier message entries last first least.1.holds;
-  least = λ cause fault. elim (FieldFault-last message entries last cause fault) [
-    | inl earlier ↦ least.1.least cause earlier
-    | inr own ↦ let within = fault_within own.0 (stands_in last.number entries) last next cause placed own.2 in by_offset first cause (omega (arith, least.0, within.0))
-  ];
-})
+FirstSoFar-kept message entries last next first placed least = let forward = placed.forward in (
+  omega (arith, least.0),
+  record {
+    holds = FieldFault-earlier message entries last first least.1.holds;
+    least = λ cause fault. elim (FieldFault-last message entries last cause fault) [
+      | inl earlier ↦ least.1.least cause earlier
+      | inr own ↦ let within = fault_within own.0 (stands_in last.number entries) last next cause placed own.2 in by_offset first cause (omega (arith, least.0, within.0))
+    ];
+  },
+)
 
 -- a rule is found once
 one_rule : (message : Message) (field_number : ℕ) (rule other : FieldRule) → rule_of message field_number ≡ Some rule → rule_of message field_number ≡ Some other → other ≡ rule
@@ -133,10 +146,13 @@ FirstSoFar-new message entries last next rule None placed known none finds = λ 
   | inl earlier ↦ none cause earlier
   | inr own ↦ finds cause (subst (λ (r : FieldRule). EntryFault r (stands_in last.number entries) last cause) (one_rule message last.number rule own.0 known own.1) own.2)
 ]
-FirstSoFar-new message entries last next rule (Some first) placed known none finds = let within = fault_within rule (stands_in last.number entries) last next first placed finds.holds in (within.1, record {
-  holds = FieldFault-new message entries last rule first known finds.holds;
-  least = λ cause fault. elim (FieldFault-last message entries last cause fault) [
-    | inl earlier ↦ absurd (none cause earlier)
-    | inr own ↦ finds.least cause (subst (λ (r : FieldRule). EntryFault r (stands_in last.number entries) last cause) (one_rule message last.number rule own.0 known own.1) own.2)
-  ];
-})
+FirstSoFar-new message entries last next rule (Some first) placed known none finds = let within = fault_within rule (stands_in last.number entries) last next first placed finds.holds in (
+  within.1,
+  record {
+    holds = FieldFault-new message entries last rule first known finds.holds;
+    least = λ cause fault. elim (FieldFault-last message entries last cause fault) [
+      | inl earlier ↦ absurd (none cause earlier)
+      | inr own ↦ finds.least cause (subst (λ (r : FieldRule). EntryFault r (stands_in last.number entries) last cause) (one_rule message last.number rule own.0 known own.1) own.2)
+    ];
+  },
+)

@@ -66,4 +66,3 @@ Scans-known scan entries entry next rule known first placed is within counted ke
   first = first_more scan.message entries entry next rule scan.first first placed is kept
       (subst (λ (stood : Bool). IfNone scan.first (FindsLeastCause (EntryFault rule stood entry) first)) (so_far.stood entry.number rule is) found) so_far.first;
 }
-

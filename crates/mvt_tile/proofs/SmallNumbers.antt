@@ -45,10 +45,10 @@ short_number part start i forward few within continued last =
     let four : i - start + 1 ≤ 4 = omega arith in
     let raised : 128 ^ (i - start + 1) ≤ 128 ^ 4 = pow-le-pow_right positive four in
     let spelling : IsVarint (take (i - start + 1) (drop start part)) (sum_of_groups (take (i - start + 1) (drop start part))) =
-        IsVarint-take (drop start part) (i - start) _ inside (omega arith) earlier ended refl (omega arith) in
+    IsVarint-take (drop start part) (i - start) _ inside (omega arith) earlier ended refl (omega arith) in
     let span : i - start + 1 ≡ i + 1 - start = omega arith in
     let spelled : IsVarint (slice_range part start (i + 1)) (sum_of_groups (take (i - start + 1) (drop start part))) =
-        subst (λ (k : ℕ). IsVarint (take k (drop start part)) (sum_of_groups (take (i - start + 1) (drop start part)))) span spelling in
+    subst (λ (k : ℕ). IsVarint (take k (drop start part)) (sum_of_groups (take (i - start + 1) (drop start part)))) span spelling in
     (sum_of_groups (take (i - start + 1) (drop start part)), record { forward = omega arith; within = omega arith; spelling = spelled }, omega arith)
 
 -- a number that was read ends with the first byte below 128
@@ -136,10 +136,13 @@ IsFirstBad-at_end part start walked more =
     record {
       before = walked.before;
       left = left;
-      fault = inl (inl (refl, record {
-        few = omega arith;
-        continued = λ k h. rw (get_or-drop start part k 0) (walked.continued (start + k) (omega arith) (omega arith));
-      }));
+      fault = inl (inl (
+        refl,
+        record {
+          few = omega arith;
+          continued = λ k h. rw (get_or-drop start part k 0) (walked.continued (start + k) (omega arith) (omega arith));
+        },
+      ));
     }
 
 -- a small number has no fault

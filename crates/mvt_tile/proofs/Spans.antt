@@ -24,7 +24,7 @@ spans_of-append field_number xs ys =
 spans_of-other : (field_number : ℕ) (entries : List Entry) (entry : Entry) → ¬ (entry.number ≡ field_number) → spans_of field_number (entries ++ entry ∷ []) ≡ spans_of field_number entries
 spans_of-other field_number entries entry other =
     let none : spans_of field_number (entry ∷ []) ≡ [] =
-        ap (λ (fields : List Entry). filter_map span_of (map (λ (e : Entry). e.content) fields)) (cond-false (entry.number == field_number) (entry ∷ []) [] (ne_eqb entry.number field_number other)) in
+    ap (λ (fields : List Entry). filter_map span_of (map (λ (e : Entry). e.content) fields)) (cond-false (entry.number == field_number) (entry ∷ []) [] (ne_eqb entry.number field_number other)) in
     spans_of-append field_number entries (entry ∷ []) ∙ ap (λ (rest : List Span). spans_of field_number entries ++ rest) none ∙ append-nil (spans_of field_number entries)
 
 -- a field of the number holds the message in its payload, if it has one

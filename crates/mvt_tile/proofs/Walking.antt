@@ -122,9 +122,9 @@ IsScanning-whole message bytes from to old new scan entries found within so_far 
     let end : old.at ≡ length (take to bytes) = over.at_end ∙ ap length so_far.walked.same_bytes in
     let size : length (take to bytes) ≡ to = front_length bytes to within in
     let here : FindsLeastCause (λ cause. FieldFault scan.message entries cause ⊎ EndFault scan.message entries to cause) found =
-        finds entries (subst (λ (place : ℕ). Scans scan entries place) (end ∙ size) so_far.scanned) in
+    finds entries (subst (λ (place : ℕ). Scans scan entries place) (end ∙ size) so_far.scanned) in
     let there : FindsLeastCause (λ cause. FieldFault scan.message entries cause ⊎ EndFault scan.message entries (length (take to bytes)) cause) found =
-        subst (λ (place : ℕ). FindsLeastCause (λ cause. FieldFault scan.message entries cause ⊎ EndFault scan.message entries place cause) found) (sym size) here in
+    subst (λ (place : ℕ). FindsLeastCause (λ cause. FieldFault scan.message entries cause ⊎ EndFault scan.message entries place cause) found) (sym size) here in
     subst (λ (m : Message). FindsLeastCause (MessageFault m (take to bytes) from) found) so_far.same
     (whole_finds scan.message (take to bytes) from entries found (IsWalking-whole (take to bytes) from old new entries so_far.walked over) there)
 

@@ -7,6 +7,9 @@ ghost use Rattle.mvt_wire.specs.declared.scope.Scope.{Scope};
 ghost use Rattle.mvt_fault.specs.Place.{IsLeast, IsWireFault};
 ghost use Rattle.mvt_tile.specs.Placed.{IsPlaced};
 
+#[cfg(test)]
+mod tests;
+
 use crate::layer::{in_scope, layer_fault};
 use crate::scan::FieldScan;
 use mvt_fault::Fault;

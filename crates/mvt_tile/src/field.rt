@@ -7,8 +7,7 @@ ghost use Rattle.mvt_tile.specs.Least.{FindsLeastCause};
 ghost use Rattle.mvt_tile.specs.Placed.{IsPlaced};
 
 use crate::packed::packed_fault;
-use crate::text::text;
-use mvt_wire::{Body, Field, FieldRule, Shape, WireCause, WireCode};
+use mvt_wire::{Body, Field, FieldRule, Shape, WireCause, WireCode, text};
 
 /// The first fault of a field by the rule for its number. `stood` says whether a field of that
 /// number stands before it.

@@ -8,6 +8,5 @@ mod layer;
 mod message;
 mod packed;
 mod scan;
-mod text;
 
 pub use fault::wire_fault;

@@ -18,7 +18,7 @@ walk-init c = record {
 pub note-requires : goal.note-requires
 note-requires c =
     let placed = TileWalk-placed c.args.bytes.now c.walk.fields c.next_field.new.self c.walk.own c.walk.layers c.walk.invariant
-        (entry_of c.in-Ok.field) (IfOk-at_ok _ c.in-Ok.is c.in-Some.ensures.field) in
+    (entry_of c.in-Ok.field) (IfOk-at_ok _ c.in-Ok.is c.in-Some.ensures.field) in
     (placed.0, placed.1, omega (arith, placed.2))
 
 pub note-requires-in-Ok-clause-placed : goal.note-requires-in-Ok-clause-placed
@@ -36,13 +36,13 @@ pub returns-in-Err-clause-least : goal.returns-in-Err-clause-least
 returns-in-Err-clause-least c =
     subst (IsLeast (IsWireFault c.args.bytes.now)) (sym c.in_scope.ensures)
     (TileWalk-defect c.args.bytes.now c.walk.fields c.next_field.new.self c.walk.own c.walk.layers c.walk.invariant
-        c.in-Err.cause (IfErr-at_err _ c.in-Err.is c.in-Some.ensures.defect))
+    c.in-Err.cause (IfErr-at_err _ c.in-Err.is c.in-Some.ensures.defect))
 
 pub returns-in-Some-fault-clause-least : goal.returns-in-Some-fault-clause-least
 returns-in-Some-fault-clause-least c =
     subst (IsLeast (IsWireFault c.args.bytes.now)) (sym c.in_scope-in-Some-fault.ensures)
     (TileWalk-own c.args.bytes.now c.walk.fields c.next_field.new.self c.walk.own c.walk.layers c.walk.invariant
-        c.in_default.ensures.over c.in-Some-fault.cause c.in-Some-fault.ensures)
+    c.in_default.ensures.over c.in-Some-fault.cause c.in-Some-fault.ensures)
 
 pub returns-clause-none : goal.returns-clause-none
 returns-clause-none c =

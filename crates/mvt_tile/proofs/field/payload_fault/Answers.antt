@@ -14,7 +14,7 @@ pub returns-in-Bytes : goal.returns-in-Bytes
 returns-in-Bytes c = λ stood may.
     subst (λ cause. IsLeastCause (EntryFault c.args.rule stood (entry_of c.args.field.now)) cause) (sym c.at_key.ensures)
     (no_text-first c.args.rule stood (entry_of c.args.field.now) c.in-Bytes.from c.in-Bytes.slice.now c.requires.own may
-        (search rules) (ap content_of c.in-Bytes.is) (search rules))
+    (search rules) (ap content_of c.in-Bytes.is) (search rules))
 
 pub returns-in-Bytes-2 : goal.returns-in-Bytes-2
 returns-in-Bytes-2 c = λ stood may.

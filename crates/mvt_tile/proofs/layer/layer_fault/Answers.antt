@@ -25,19 +25,19 @@ walk-init c = record {
 pub note-requires : goal.note-requires
 note-requires c =
     let placed = LayerWalk-placed c.args.bytes.now c.args.from c.args.to c.walk.fields c.next_field.new.self c.walk.own c.walk.values c.walk.features c.requires.within c.walk.invariant
-        (entry_of c.in-Ok.field) (IfOk-at_ok _ c.in-Ok.is c.in-Some.ensures.field) in
+    (entry_of c.in-Ok.field) (IfOk-at_ok _ c.in-Ok.is c.in-Some.ensures.field) in
     (placed.0, placed.1, omega (arith, placed.2))
 
 pub note-requires-in-Ok-clause-placed : goal.note-requires-in-Ok-clause-placed
 note-requires-in-Ok-clause-placed c =
     let placed = LayerWalk-placed c.args.bytes.now c.args.from c.args.to c.walk.fields c.next_field.new.self c.walk.own c.walk.values c.walk.features c.requires.within c.walk.invariant
-        (entry_of c.in-Ok.field) (IfOk-at_ok _ c.in-Ok.is c.in-Some.ensures.field) in
+    (entry_of c.in-Ok.field) (IfOk-at_ok _ c.in-Ok.is c.in-Some.ensures.field) in
     (placed.0, placed.1, omega (arith, placed.2))
 
 pub note-requires-in-Ok-2-clause-placed : goal.note-requires-in-Ok-2-clause-placed
 note-requires-in-Ok-2-clause-placed c =
     let placed = LayerWalk-placed c.args.bytes.now c.args.from c.args.to c.walk.fields c.next_field.new.self c.walk.own c.walk.values c.walk.features c.requires.within c.walk.invariant
-        (entry_of c.in-Ok.field) (IfOk-at_ok _ c.in-Ok.is c.in-Some.ensures.field) in
+    (entry_of c.in-Ok.field) (IfOk-at_ok _ c.in-Ok.is c.in-Some.ensures.field) in
     (placed.0, placed.1, omega (arith, placed.2))
 
 pub walk-preserved : goal.walk-preserved
@@ -52,25 +52,25 @@ pub returns-in-Err : goal.returns-in-Err
 returns-in-Err c =
     subst (IsLeast (IsLayerFault c.args.bytes.now (stretch c.args.from c.args.to) c.args.layer)) (sym c.in_scope.ensures)
     (LayerWalk-defect c.args.bytes.now c.args.from c.args.to c.walk.fields c.next_field.new.self c.walk.own c.walk.values c.walk.features c.requires.within c.walk.invariant
-        c.args.layer c.in-Err.cause (IfErr-at_err _ c.in-Err.is c.in-Some.ensures.defect))
+    c.args.layer c.in-Err.cause (IfErr-at_err _ c.in-Err.is c.in-Some.ensures.defect))
 
 pub returns-in-Some-fault : goal.returns-in-Some-fault
 returns-in-Some-fault c =
     subst (IsLeast (IsLayerFault c.args.bytes.now (stretch c.args.from c.args.to) c.args.layer)) (sym c.in_scope-in-Some-fault.ensures)
     (LayerWalk-own c.args.bytes.now c.args.from c.args.to c.walk.fields c.next_field.new.self c.walk.own c.walk.values c.walk.features c.requires.within c.walk.invariant
-        c.in_default.ensures.over c.args.layer c.in-Some-fault.cause c.in-Some-fault.ensures)
+    c.in_default.ensures.over c.args.layer c.in-Some-fault.cause c.in-Some-fault.ensures)
 
 pub returns-in-Some-first : goal.returns-in-Some-first
 returns-in-Some-first c =
     subst (IsLeast (IsLayerFault c.args.bytes.now (stretch c.args.from c.args.to) c.args.layer)) (sym c.in_scope-in-Some-first.ensures)
     (LayerWalk-value c.args.bytes.now c.args.from c.args.to c.walk.fields c.next_field.new.self c.walk.own c.walk.values c.walk.features c.requires.within c.walk.invariant
-        c.in_default.ensures.over c.in_default-fault.ensures c.args.layer c.in-Some-first.value c.in-Some-first.cause (sym c.in-Some-first.ensures))
+    c.in_default.ensures.over c.in_default-fault.ensures c.args.layer c.in-Some-first.value c.in-Some-first.cause (sym c.in-Some-first.ensures))
 
 pub returns-in-Some-first-2 : goal.returns-in-Some-first-2
 returns-in-Some-first-2 c =
     subst (IsLeast (IsLayerFault c.args.bytes.now (stretch c.args.from c.args.to) c.args.layer)) (sym c.in_scope-in-Some-first-2.ensures)
     (LayerWalk-feature c.args.bytes.now c.args.from c.args.to c.walk.fields c.next_field.new.self c.walk.own c.walk.values c.walk.features c.requires.within c.walk.invariant
-        c.in_default.ensures.over c.in_default-fault.ensures c.args.layer c.in-Some-first-2.feature c.in-Some-first-2.cause (sym c.in_default-first.ensures) (sym c.in-Some-first-2.ensures))
+    c.in_default.ensures.over c.in_default-fault.ensures c.args.layer c.in-Some-first-2.feature c.in-Some-first-2.cause (sym c.in_default-first.ensures) (sym c.in-Some-first-2.ensures))
 
 pub returns : goal.returns
 returns c =
