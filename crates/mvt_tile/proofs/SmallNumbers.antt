@@ -65,13 +65,13 @@ ends_at part start i next n forward continued last spelled = elim (cases_lt i ne
   ]
 ]
 
--- What is known of a packed list at the byte i, where the number that goes on there begins at `start`: from its fifth
--- byte on that it is a small one.
+-- What is known of a packed list at the byte i, where the number that goes on there begins at `start`: behind its
+-- fourth byte that it is a small one.
 pub record IsWalked (part : List ℕ) (start i : ℕ) : Type 0 where
   pub forward : start ≤ i
   pub before : AreSmallBefore part start
   pub continued : AreContinued part start i
-  pub checked : start + 4 < i → IsSmallNumber part start
+  pub checked : start + 3 < i → IsSmallNumber part start
 
 pub IsWalked-nothing : (part : List ℕ) → IsWalked part 0 0
 IsWalked-nothing part = record {
@@ -82,7 +82,7 @@ IsWalked-nothing part = record {
 }
 
 -- the number goes on
-pub IsWalked-on : (part : List ℕ) (start i : ℕ) → IsWalked part start i → (i ≡ start + 4 → IsSmallNumber part start) → 128 ≤ get_or part i 0 → IsWalked part start (i + 1)
+pub IsWalked-on : (part : List ℕ) (start i : ℕ) → IsWalked part start i → (i ≡ start + 3 → IsSmallNumber part start) → 128 ≤ get_or part i 0 → IsWalked part start (i + 1)
 IsWalked-on part start i walked checked high = record {
   forward = let forward = walked.forward in omega arith;
   before = walked.before;
@@ -90,25 +90,22 @@ IsWalked-on part start i walked checked high = record {
     | inl earlier ↦ walked.continued k low earlier
     | inr last ↦ let here : i ≡ k = omega arith in subst (λ (place : ℕ). 128 ≤ get_or part place 0) here high
   ];
-  checked = λ far. elim (cases_lt (start + 4) i) [
+  checked = λ far. elim (cases_lt (start + 3) i) [
     | inl farther ↦ walked.checked farther
     | inr near ↦ checked (omega arith)
   ];
 }
 
 -- the number ends
-pub IsWalked-next : (part : List ℕ) (start i : ℕ) → IsWalked part start i → (i ≡ start + 4 → IsSmallNumber part start) → i < length part → get_or part i 0 < 128 → IsWalked part (i + 1) (i + 1)
-IsWalked-next part start i walked checked within low = record {
+pub IsWalked-next : (part : List ℕ) (start i : ℕ) → IsWalked part start i → i < length part → get_or part i 0 < 128 → IsWalked part (i + 1) (i + 1)
+IsWalked-next part start i walked within low = record {
   forward = omega arith;
   before = elim (cases_lt i (start + 4)) [
     | inl few ↦
         let short = short_number part start i walked.forward few within walked.continued low in
         AreSmallBefore-more part start (i + 1) short.0 walked.before short.1 short.2
     | inr many ↦
-        let long : IsSmallNumber part start = elim (cases_lt (start + 4) i) [
-          | inl farther ↦ walked.checked farther
-          | inr near ↦ checked (omega arith)
-        ] in
+        let long : IsSmallNumber part start = walked.checked (omega arith) in
         let end : long.next ≡ i + 1 = ends_at part start i long.next long.number walked.forward walked.continued low long.spelled in
         subst (λ (place : ℕ). AreSmallBefore part place) end (AreSmallBefore-more part start long.next long.number walked.before long.spelled long.small)
   ];
@@ -122,7 +119,7 @@ IsFirstBad-at_end part start walked more =
     let forward = walked.forward in
     let left : start < length part = omega arith in
     let size : length (drop start part) ≡ length part - start = length-drop start part in
-    let few : length part ≤ start + 4 = elim (cases_lt (start + 4) (length part)) [
+    let few : length part ≤ start + 3 = elim (cases_lt (start + 3) (length part)) [
       | inr near ↦ near
       | inl far ↦
           let long = walked.checked far in

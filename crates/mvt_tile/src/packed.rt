@@ -29,11 +29,10 @@ fn first_bad(part: &[u8]) -> Option<(usize, WireCode)>
 {
     let mut start = 0;
     for (i, &byte) in part.iter().enumerate() {
-        if let Some(code) = long_fault(part, start, i) {
-            return Some((start, code));
-        }
         if byte < 128 {
             start = i + 1;
+        } else if let Some(code) = long_fault(part, start, i) {
+            return Some((start, code));
         }
     }
     if start == part.len() {
@@ -42,15 +41,15 @@ fn first_bad(part: &[u8]) -> Option<(usize, WireCode)>
     Some((start, WireCode::Ends))
 }
 
-/// What is wrong with the number that begins at an offset, asked once, at its fifth byte.
+/// What is wrong with a number that goes on behind an offset, asked once, at its fourth byte.
 #[inline(always)]
 fn long_fault(part: &[u8], start: usize, i: usize) -> Option<WireCode>
     requires forward { start ≤ i }
     requires within { i < length part.now }
-    ensures small { IfNone result (i ≡ start + 4 → IsSmallNumber part.now start) }
+    ensures small { IfNone result (i ≡ start + 3 → IsSmallNumber part.now start) }
     ensures fault { IfSome result (NumberFault part.now start) }
 {
-    if i - start == 4 {
+    if i - start == 3 {
         number_fault(part, start)
     } else {
         None
