@@ -11,3 +11,11 @@ pub mod Layers
 pub mod LayerWalk
 pub mod Tiles
 pub mod TileWalk
+pub mod PackedReading
+pub mod ReadingWalk
+pub mod Filters
+pub mod FeatureReading
+pub mod ReadingRules
+pub mod ValueReading
+pub mod Stretches
+pub mod LayerReading

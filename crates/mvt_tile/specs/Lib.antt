@@ -6,3 +6,6 @@ pub mod First
 pub mod Embedded
 pub mod LayerFault
 pub mod LayerScan
+pub mod View
+pub mod Reading
+pub mod ReadFault

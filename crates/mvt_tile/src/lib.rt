@@ -1,4 +1,4 @@
-//! The messages of a vector tile, over borrowed bytes: their first wire fault.
+//! The messages of a vector tile, over borrowed bytes: their first wire fault, or their records.
 #![tactic(auto)]
 
 mod embedded;
@@ -7,6 +7,10 @@ mod field;
 mod layer;
 mod message;
 mod packed;
+mod read;
+mod record;
 mod scan;
 
 pub use fault::wire_fault;
+pub use read::{ReadFault, read_tile};
+pub use record::{Feature, Kind, Layer, Tile, Value};

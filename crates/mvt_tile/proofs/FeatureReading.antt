@@ -1,0 +1,95 @@
+-- One more field of a feature is read.
+use Rattle.std.proofs.Common.{◌≡◌, ◌≢◌, ℕ, List, [], ◌∷◌, ◌++◌, length, map, slice_get, ◌≤◌, Some, None, refl, sym, ◌∙◌, ap, subst, arith}
+use Rattle.std.proofs.lemmas.List.{map_push}
+use Rattle.mvt_wire.specs.Field.{Content, Entry}
+use Rattle.mvt_wire.specs.Number.{States, StateTogether}
+use Rattle.mvt_wire.specs.Scope.{contents_of, Span}
+use Rattle.mvt_wire.specs.Tile.{number_in, numbers_of, FeatureRecord, IsFeature}
+use Rattle.mvt_tile.specs.Reading.{TellsFeature, last_of}
+use Rattle.mvt_tile.proofs.Filters.{contents_of-push, contents_of-other, picked-push, picked-other, few_picked, last_of-push, StateTogether-push}
+
+module _ (entries : List Entry) (entry : Entry) (feature : FeatureRecord) (tells : TellsFeature entries feature) where
+  -- what a field of another number leaves
+  same_id : entry.number ≢ 1 → feature.id ≡ last_of None (map Some (numbers_of 1 (entries ++ entry ∷ [])))
+  same_id other = tells.id ∙ ap (λ (numbers : List ℕ). last_of None (map Some numbers)) (sym (picked-other number_in 1 entries entry other))
+
+  same_kind : entry.number ≢ 3 → feature.kind ≡ last_of 0 (numbers_of 3 (entries ++ entry ∷ []))
+  same_kind other = tells.kind ∙ ap (last_of 0) (sym (picked-other number_in 3 entries entry other))
+
+  same_tags : entry.number ≢ 2 → StateTogether (contents_of 2 (entries ++ entry ∷ [])) feature.tags
+  same_tags other = subst (λ (contents : List Content). StateTogether contents feature.tags) (sym (contents_of-other 2 entries entry other)) tells.tags
+
+  same_geometry : entry.number ≢ 4 → StateTogether (contents_of 4 (entries ++ entry ∷ [])) feature.geometry
+  same_geometry other = subst (λ (contents : List Content). StateTogether contents feature.geometry) (sym (contents_of-other 4 entries entry other)) tells.geometry
+
+  -- what a field tells, by its number
+  pub tells_id : (id : ℕ) → entry.number ≡ 1 → number_in entry.content ≡ Some id
+      → TellsFeature (entries ++ entry ∷ []) (record feature { id = Some id })
+  tells_id id is told = record {
+    id =
+        sym (last_of-push None (Some id) (map Some (numbers_of 1 entries)))
+        ∙ ap (last_of None) (sym (map_push Some (numbers_of 1 entries) id))
+        ∙ ap (λ (numbers : List ℕ). last_of None (map Some numbers)) (sym (picked-push number_in 1 entries entry id is told));
+    tags = same_tags (omega arith);
+    kind = same_kind (omega arith);
+    geometry = same_geometry (omega arith);
+  }
+
+  pub tells_kind : (number kind : ℕ) → entry.number ≡ 3 → number_in entry.content ≡ Some number → kind ≡ number
+      → TellsFeature (entries ++ entry ∷ []) (record feature { kind = kind })
+  tells_kind number kind is told same = record {
+    id = same_id (omega arith);
+    tags = same_tags (omega arith);
+    kind =
+        same ∙ sym (last_of-push 0 number (numbers_of 3 entries))
+        ∙ ap (last_of 0) (sym (picked-push number_in 3 entries entry number is told));
+    geometry = same_geometry (omega arith);
+  }
+
+  pub tells_tags : (tags given : List ℕ) → entry.number ≡ 2 → States entry.content given → tags ≡ feature.tags ++ given
+      → TellsFeature (entries ++ entry ∷ []) (record feature { tags = tags })
+  tells_tags tags given is states pushed = record {
+    id = same_id (omega arith);
+    tags =
+        subst (λ (contents : List Content). StateTogether contents tags) (sym (contents_of-push 2 entries entry is))
+        (subst (λ (numbers : List ℕ). StateTogether (contents_of 2 entries ++ entry.content ∷ []) numbers) (sym pushed)
+        (StateTogether-push (contents_of 2 entries) entry.content feature.tags given tells.tags states));
+    kind = same_kind (omega arith);
+    geometry = same_geometry (omega arith);
+  }
+
+  pub tells_geometry : (geometry given : List ℕ) → entry.number ≡ 4 → States entry.content given → geometry ≡ feature.geometry ++ given
+      → TellsFeature (entries ++ entry ∷ []) (record feature { geometry = geometry })
+  tells_geometry geometry given is states pushed = record {
+    id = same_id (omega arith);
+    tags = same_tags (omega arith);
+    kind = same_kind (omega arith);
+    geometry =
+        subst (λ (contents : List Content). StateTogether contents geometry) (sym (contents_of-push 4 entries entry is))
+        (subst (λ (numbers : List ℕ). StateTogether (contents_of 4 entries ++ entry.content ∷ []) numbers) (sym pushed)
+        (StateTogether-push (contents_of 4 entries) entry.content feature.geometry given tells.geometry states));
+  }
+
+  pub tells_nothing : entry.number ≢ 1 → entry.number ≢ 2 → entry.number ≢ 3 → entry.number ≢ 4
+      → TellsFeature (entries ++ entry ∷ []) feature
+  tells_nothing not_1 not_2 not_3 not_4 =
+      record { id = same_id not_1; tags = same_tags not_2; kind = same_kind not_3; geometry = same_geometry not_4 }
+
+-- a list of at most one number
+only : (numbers : List ℕ) → length numbers ≤ 1 → last_of None (map Some numbers) ≡ slice_get numbers 0
+only [] few = refl
+only (n ∷ []) few = refl
+only (n ∷ m ∷ numbers) few = absurd (omega arith)
+
+-- a record that has what all fields tell is the one that stands there
+pub IsFeature-from_told : (bytes : List ℕ) (span : Span) (feature told : FeatureRecord) (is : IsFeature bytes span feature)
+    → TellsFeature is.entries told → IsFeature bytes span told
+IsFeature-from_told bytes span feature told is tells = record {
+  entries = is.entries;
+  whole = is.whole;
+  keeps = is.keeps;
+  id = tells.id ∙ only (numbers_of 1 is.entries) (few_picked number_in 1 is.entries (is.keeps.at_most 1 _ refl refl));
+  tags = tells.tags;
+  kind = is.kind ∙ ap (λ (kind : ℕ). kind ∷ []) (sym (tells.kind ∙ ap (last_of 0) is.kind));
+  geometry = tells.geometry;
+}

@@ -1,0 +1,73 @@
+-- Where the messages lie that a message embeds, and the records that stand for them.
+use Rattle.std.proofs.Common.{◌≡◌, ◌≢◌, ℕ, ◌+◌, ◌-◌, ◌≤◌, List, [], ◌∷◌, ◌++◌, length, take, filter_map, Some, sym, ◌∙◌, ap, subst, arith, length-take}
+use Rattle.std.proofs.lemmas.List.Elements.{filter_map-append}
+use Rattle.std.proofs.lemmas.List.Edits.{length-between}
+use Rattle.mvt_wire.specs.Field.{Content, varint, eight_bytes, delimited, four_bytes, Entry, IsField, IsPayload}
+use Rattle.mvt_wire.specs.Message.{IsMessage}
+use Rattle.mvt_wire.specs.Scope.{contents_of, Span, span_of, spans_of}
+use Rattle.mvt_wire.specs.Tile.{Each}
+use Rattle.mvt_wire.specs.Walk.{Walk, GivesField}
+use Rattle.mvt_tile.specs.Reading.{Embeds, LiesIn}
+use Rattle.mvt_tile.proofs.Filters.{contents_of-append, picked-push, picked-other}
+use Rattle.mvt_tile.proofs.ReadingWalk.{IsWalking-front}
+use Rattle.mvt_tile.proofs.Walking.{IsWalking, IsWalking-more}
+
+-- one more stretch, and the record that stands for it
+Each-push : {A B : Type 0} (R : A → B → Type 0) (xs : List A) (ys : List B) (x : A) (y : B) → Each R xs ys → R x y → Each R (xs ++ x ∷ []) (ys ++ y ∷ [])
+Each-push R [] [] x y each related = (related, tt)
+Each-push R (first ∷ xs) (other ∷ ys) x y each related = (each.0, Each-push R xs ys x y each.1 related)
+Each-push R [] (other ∷ ys) x y each related = absurd each
+Each-push R (first ∷ xs) [] x y each related = absurd each
+
+-- what stands for a stretch among others
+Each-at : {A B : Type 0} (R : A → B → Type 0) (xs rest : List A) (ys : List B) (x : A) → Each R ((xs ++ x ∷ []) ++ rest) ys → (y : B) × R x y
+Each-at R [] rest [] x each = absurd each
+Each-at R [] rest (y ∷ ys) x each = (y, each.0)
+Each-at R (first ∷ xs) rest [] x each = absurd each
+Each-at R (first ∷ xs) rest (y ∷ ys) x each = Each-at R xs rest ys x each.1
+
+module _ {B : Type 0} (Stands : Span → B → Type 0) (field_number : ℕ) (entries : List Entry) (entry : Entry) where
+  pub Each-picked : (records longer : List B) (span : Span) (read : B) → entry.number ≡ field_number → span_of entry.content ≡ Some span → Stands span read
+      → longer ≡ records ++ read ∷ [] → Each Stands (spans_of field_number entries) records → Each Stands (spans_of field_number (entries ++ entry ∷ [])) longer
+  Each-picked records longer span read is there stands pushed each =
+      subst (λ (spans : List Span). Each Stands spans longer) (sym (picked-push span_of field_number entries entry span is there))
+      (subst (λ (list : List B). Each Stands (spans_of field_number entries ++ span ∷ []) list) (sym pushed)
+      (Each-push Stands (spans_of field_number entries) records span read each stands))
+
+  pub Each-other : (records : List B) → entry.number ≢ field_number → Each Stands (spans_of field_number entries) records
+      → Each Stands (spans_of field_number (entries ++ entry ∷ [])) records
+  Each-other records other each =
+      subst (λ (spans : List Span). Each Stands spans records) (sym (picked-other span_of field_number entries entry other)) each
+
+-- a record stands for the stretch of a field that was given
+pub Embeds-given : {B : Type 0} (Stands : Span → B → Type 0) (field_number : ℕ) (message : List ℕ) (from : ℕ) (old new : Walk) (entries whole : List Entry) (entry : Entry) (records : List B)
+    → IsWalking message from old entries → GivesField old new entry → IsMessage message from whole → Each Stands (spans_of field_number whole) records
+    → Embeds field_number (λ span. (read : B) × Stands span read) entry
+Embeds-given Stands field_number message from old new entries whole entry records so_far given is_whole each = λ span is there.
+    let front = IsWalking-front message from new (entries ++ entry ∷ []) whole (IsWalking-more message from old new entries entry so_far given) is_whole in
+    let spans : spans_of field_number whole ≡ (spans_of field_number entries ++ span ∷ []) ++ spans_of field_number front.0 =
+    ap (spans_of field_number) front.1
+    ∙ ap (filter_map span_of) (contents_of-append field_number (entries ++ entry ∷ []) front.0)
+    ∙ filter_map-append span_of (contents_of field_number (entries ++ entry ∷ [])) (contents_of field_number front.0)
+    ∙ ap (λ (list : List Span). list ++ spans_of field_number front.0) (picked-push span_of field_number entries entry span is there) in
+    Each-at Stands (spans_of field_number entries) (spans_of field_number front.0) records span (subst (λ (list : List Span). Each Stands list records) spans each)
+
+-- a payload of wire type 2 lies within its message
+payload_inside : (message : List ℕ) (from to : ℕ) (content : Content) (span : Span) → IsPayload message from to content → span_of content ≡ Some span
+    → (span.from ≤ span.to) × (span.to ≤ length message)
+payload_inside message from to (varint value at) span payload there = absurd (cc)
+payload_inside message from to (eight_bytes part) span payload there = absurd (cc)
+payload_inside message from to (delimited start part) span payload there =
+    let size : length part ≡ to - start = ap length payload.4 ∙ length-between message start to payload.3 in
+    let starts : start ≡ span.from = cc in
+    let ends : start + length part ≡ span.to = cc in
+    (omega arith, omega arith)
+payload_inside message from to (four_bytes part) span payload there = absurd (cc)
+
+pub LiesIn-given : (bytes : List ℕ) (end from : ℕ) (old new : Walk) (entries : List Entry) (entry : Entry)
+    → IsWalking (take end bytes) from old entries → GivesField old new entry → LiesIn bytes entry
+LiesIn-given bytes end from old new entries entry so_far given = λ span there.
+    let spelled : IsField (take end bytes) new.at entry = subst (λ (message : List ℕ). IsField message new.at entry) so_far.same_bytes given.spelled in
+    let inside = payload_inside (take end bytes) spelled.key_end new.at entry.content span spelled.payload there in
+    let shorter = length-take end bytes in
+    (inside.0, omega arith)

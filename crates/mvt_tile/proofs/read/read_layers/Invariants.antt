@@ -1,0 +1,13 @@
+use Rattle.std.proofs.Common.{◌-◌, List, length, map, take}
+use Rattle.mvt_wire.specs.Field.{Entry}
+use Rattle.mvt_tile.specs.Reading.{TellsTile}
+use Rattle.mvt_tile.specs.View.{layer_of}
+use Rattle.mvt_tile.proofs.Walking.{IsWalking}
+use Rattle.mvt_tile.proofs.read.read_layers.Given as goal
+
+-- the record has what the fields tell that were passed
+abbrev pub invariant-walk : goal.invariant-walk
+invariant-walk l = (entries : List Entry) × IsWalking (take (length l.bytes) l.bytes) 0 l.fields entries × TellsTile l.bytes entries (record { layers = map layer_of l.layers.items })
+
+abbrev pub decreases-walk : goal.decreases-walk
+decreases-walk l = length l.fields.bytes - l.fields.at

@@ -1,0 +1,12 @@
+use Rattle.std.proofs.Common.{◌≡◌, ◌-◌, List, [], filter, length, take}
+use Rattle.mvt_wire.specs.Field.{Entry}
+use Rattle.mvt_tile.proofs.ValueReading.{is_known}
+use Rattle.mvt_tile.proofs.Walking.{IsWalking}
+use Rattle.mvt_tile.proofs.read.value.read_value.Given as goal
+
+-- no known field was passed
+abbrev pub invariant-walk : goal.invariant-walk
+invariant-walk l = (entries : List Entry) × IsWalking (take l.to l.bytes) l.from l.fields entries × (filter is_known entries ≡ [])
+
+abbrev pub decreases-walk : goal.decreases-walk
+decreases-walk l = length l.fields.bytes - l.fields.at

@@ -1,0 +1,46 @@
+-- What is known of the fields of a message while they are read one by one.
+use Rattle.std.specs.Prelude.{◌≡◌, ℕ, ◌≤◌, List, [], ◌∷◌, length, map, Some, None}
+use Rattle.mvt_wire.specs.Field.{Entry}
+use Rattle.mvt_wire.specs.Number.{StateTogether}
+use Rattle.mvt_wire.specs.Schema.{rule_of}
+use Rattle.mvt_wire.specs.Scope.{contents_of, Span, span_of, spans_of}
+use Rattle.mvt_wire.specs.Tile.{Fits, numbers_of, texts_of, FeatureRecord, IsFeature, IsValue, LayerRecord, IsLayer, TileRecord, Each}
+use Rattle.mvt_wire.specs.declared.schema.FieldRule.{FieldRule}
+use Rattle.mvt_wire.specs.declared.schema.Message.{Message}
+
+-- the field fits the message's rule for its number, if there is one
+abbrev pub FitsRule : Message → Entry → Type 0
+FitsRule message entry = (rule : FieldRule) → rule_of message entry.number ≡ Some rule → Fits rule entry.content
+
+-- the last of a list, or another value where there is none
+abbrev pub last_of : {A : Type 0} → A → List A → A
+last_of otherwise [] = otherwise
+last_of otherwise (x ∷ xs) = last_of x xs
+
+-- the feature has what these fields of it tell, and 0 for the type before that was told
+pub record TellsFeature (entries : List Entry) (feature : FeatureRecord) : Type 0 where
+  pub id : feature.id ≡ last_of None (map Some (numbers_of 1 entries))
+  pub tags : StateTogether (contents_of 2 entries) feature.tags
+  pub kind : feature.kind ≡ last_of 0 (numbers_of 3 entries)
+  pub geometry : StateTogether (contents_of 4 entries) feature.geometry
+
+-- where the field has the number and a payload of wire type 2, that stretch is as it should be
+abbrev pub Embeds : ℕ → (Span → Type 0) → Entry → Type 0
+Embeds field_number Stands entry = (span : Span) → entry.number ≡ field_number → span_of entry.content ≡ Some span → Stands span
+
+-- a payload of wire type 2 lies within the bytes
+abbrev pub LiesIn : List ℕ → Entry → Type 0
+LiesIn bytes entry = (span : Span) → span_of entry.content ≡ Some span → (span.from ≤ span.to) × (span.to ≤ length bytes)
+
+-- the layer has what these fields of it tell, and the extent 4096 before one was told
+pub record TellsLayer (bytes : List ℕ) (entries : List Entry) (layer : LayerRecord) : Type 0 where
+  pub version : layer.version ≡ last_of 0 (numbers_of 15 entries)
+  pub name : layer.name ≡ last_of [] (texts_of 1 entries)
+  pub features : Each (IsFeature bytes) (spans_of 2 entries) layer.features
+  pub keys : texts_of 3 entries ≡ layer.keys
+  pub values : Each (IsValue bytes) (spans_of 4 entries) layer.values
+  pub extent : layer.extent ≡ last_of 4096 (numbers_of 5 entries)
+
+-- the tile has what these fields of it tell
+abbrev pub TellsTile : List ℕ → List Entry → TileRecord → Type 0
+TellsTile bytes entries tile = Each (IsLayer bytes) (spans_of 3 entries) tile.layers

@@ -1,0 +1,85 @@
+//! A tile's records, read from its bytes.
+ghost use Rattle.std.specs.Prelude.{◌≡◌, ◌≤◌, ℕ, List, ◌∷◌, [], ◌++◌, length, map, IfOk, IfErr, OnOk};
+ghost use Rattle.mvt_wire.specs.Field.{Entry, entry_of};
+ghost use Rattle.mvt_wire.specs.Tile.{TileRecord, IsTile, LayerRecord, IsLayer};
+ghost use Rattle.mvt_wire.specs.declared.schema.Message.TheVariants as messages;
+
+mod feature;
+mod layer;
+mod payload;
+#[cfg(test)]
+mod tests;
+mod value;
+mod walk;
+
+use crate::fault::wire_fault;
+use crate::record::{Layer, Tile};
+use layer::read_layer;
+use mvt_fault::Fault;
+use mvt_wire::{Field, Fields};
+use payload::stretch_of;
+use std::alloc::{AllocError, Global};
+use walk::next_whole;
+
+/// Why a tile wasn't read.
+#[derive(Clone, Copy, Debug, PartialEq, Eq)]
+pub enum ReadFault {
+    /// The bytes are no tile. Of all their wire faults this has the least place.
+    Wire(Fault),
+    /// Memory was refused. Nothing is taken for bytes that are no tile.
+    Memory,
+}
+
+ghost use Rattle.mvt_tile.specs.ReadFault.{IsReadFault};
+ghost use Rattle.mvt_tile.specs.Reading.{Embeds, FitsRule, LiesIn, TellsTile};
+ghost use Rattle.mvt_tile.specs.View.{layer_of, tile_of};
+
+/// The tile that the bytes are (Mapbox Vector Tile Specification 2.1, section 4), or the first of
+/// their wire faults. Texts and the bytes of floats are borrowed. Each message is walked once for
+/// its faults, and once for its record.
+pub fn read_tile(alloc: Global, bytes: &[u8]) -> Result<Tile<'_>, ReadFault>
+    ensures tile { IfOk result (λ tile. IsTile bytes.now (tile_of tile)) }
+    ensures fault { IfErr result (IsReadFault bytes.now) }
+{
+    if let Some(fault) = wire_fault(bytes) {
+        return Err(ReadFault::Wire(fault));
+    }
+    match read_layers(alloc, bytes) {
+        Ok(layers) => Ok(Tile { layers }),
+        Err(_refused) => Err(ReadFault::Memory),
+    }
+}
+
+/// The layers of a tile.
+fn read_layers(alloc: Global, bytes: &[u8]) -> Result<Vec<Layer<'_>>, AllocError>
+    requires { (tile : TileRecord) × IsTile bytes.now tile }
+    ensures { IfOk result (λ layers. IsTile bytes.now (record { layers = map layer_of layers.items })) }
+{
+    let mut layers = Vec::new(alloc);
+    let mut fields = Fields::new(bytes, 0, bytes.len());
+    'walk: while let Some(field) = next_whole(&mut fields) {
+        add_field(alloc, bytes, &mut layers, field)?;
+    }
+    Ok(layers)
+}
+
+/// Adds the layer that one more field holds.
+fn add_field<'a>(
+    alloc: Global,
+    bytes: &'a [u8],
+    layers: &mut Vec<Layer<'a>>,
+    field: Field<'a>,
+) -> Result<(), AllocError>
+    requires fits { FitsRule messages.Tile (entry_of field) }
+    requires inside { LiesIn bytes.now (entry_of field) }
+    requires layer { Embeds 3 (λ span. (layer : LayerRecord) × IsLayer bytes.now span layer) (entry_of field) }
+    ensures { OnOk result ((entries : List Entry)
+        → TellsTile bytes.entry.now entries (record { layers = map layer_of layers.old.items })
+        → TellsTile bytes.entry.now (entries ++ entry_of field.entry ∷ []) (record { layers = map layer_of layers.new.items })) }
+{
+    if field.number == 3 {
+        let (from, to) = stretch_of(field.body);
+        layers.push(read_layer(alloc, bytes, from, to)?)?;
+    }
+    Ok(())
+}

@@ -1,0 +1,68 @@
+ghost use Rattle.std.specs.Prelude.{◌≡◌, ◌<◌, ◌≤◌, List, ◌∷◌, [], ◌++◌, length, IfOk, OnOk};
+ghost use Rattle.mvt_wire.specs.Field.{Entry, entry_of};
+ghost use Rattle.mvt_wire.specs.Tile.{FeatureRecord, IsFeature};
+ghost use Rattle.mvt_wire.specs.declared.schema.Message.TheVariants as messages;
+ghost use Rattle.mvt_tile.specs.Reading.{FitsRule, TellsFeature};
+ghost use Rattle.mvt_tile.specs.View.{feature_of, kind_number};
+
+use super::payload::{number_in, push_numbers};
+use super::walk::next_whole;
+use crate::record::{Feature, Kind};
+use mvt_wire::{Field, Fields};
+use std::alloc::{AllocError, Global};
+
+/// The feature that stands in the bytes from one offset up to another (Mapbox Vector Tile
+/// Specification 2.1, section 4.2).
+pub(crate) fn read_feature(
+    alloc: Global,
+    bytes: &[u8],
+    from: usize,
+    to: usize,
+) -> Result<Feature, AllocError>
+    requires forward { from ≤ to }
+    requires within { to ≤ length bytes.now }
+    requires stands { (feature : FeatureRecord) × IsFeature bytes.now (record { from = from; to = to }) feature }
+    ensures { IfOk result (λ feature. IsFeature bytes.now (record { from = from; to = to }) (feature_of feature)) }
+{
+    let mut feature = Feature {
+        id: None,
+        tags: Vec::new(alloc),
+        kind: Kind::Unknown,
+        geometry: Vec::new(alloc),
+    };
+    let mut fields = Fields::new(bytes, from, to);
+    'walk: while let Some(field) = next_whole(&mut fields) {
+        add_field(&mut feature, field)?;
+    }
+    Ok(feature)
+}
+
+/// Adds what one more field tells.
+fn add_field(feature: &mut Feature, field: Field) -> Result<(), AllocError>
+    requires { FitsRule messages.Feature (entry_of field) }
+    ensures { OnOk result ((entries : List Entry) → TellsFeature entries (feature_of feature.old)
+        → TellsFeature (entries ++ entry_of field.entry ∷ []) (feature_of feature.new)) }
+{
+    match field.number {
+        1 => feature.id = Some(number_in(field.body)),
+        2 => push_numbers(&mut feature.tags, field.body)?,
+        3 => feature.kind = kind_of(number_in(field.body)),
+        4 => push_numbers(&mut feature.geometry, field.body)?,
+        _ => {}
+    }
+    Ok(())
+}
+
+/// The geometry type with a number (section 4.3.4).
+fn kind_of(number: u64) -> Kind
+    requires { number < 4 }
+    ensures { kind_number result ≡ number }
+{
+    match number {
+        0 => Kind::Unknown,
+        1 => Kind::Point,
+        2 => Kind::LineString,
+        3 => Kind::Polygon,
+        _ => unreachable!(),
+    }
+}

@@ -1,0 +1,76 @@
+ghost use Rattle.std.specs.Prelude.{◌≡◌, ◌≤◌, List, ◌∷◌, [], ◌++◌, length, IfOk, OnOk};
+ghost use Rattle.mvt_wire.specs.Field.{Entry, entry_of};
+ghost use Rattle.mvt_wire.specs.Tile.{FeatureRecord, IsFeature, ValueRecord, IsValue, LayerRecord, IsLayer};
+ghost use Rattle.mvt_wire.specs.declared.schema.Message.TheVariants as messages;
+ghost use Rattle.mvt_tile.specs.Reading.{Embeds, FitsRule, LiesIn, TellsLayer};
+ghost use Rattle.mvt_tile.specs.View.{layer_of};
+
+use super::feature::read_feature;
+use super::payload::{number_in, stretch_of, text_in};
+use super::value::read_value;
+use super::walk::next_whole;
+use crate::record::Layer;
+use mvt_wire::{Field, Fields};
+use std::alloc::{AllocError, Global};
+
+/// The extent of a layer that tells none (Mapbox Vector Tile Specification 2.1, `vector_tile.proto`).
+const DEFAULT_EXTENT: u32 = 4096;
+
+/// The layer that stands in the bytes from one offset up to another (section 4.1).
+pub(crate) fn read_layer(
+    alloc: Global,
+    bytes: &[u8],
+    from: usize,
+    to: usize,
+) -> Result<Layer<'_>, AllocError>
+    requires forward { from ≤ to }
+    requires within { to ≤ length bytes.now }
+    requires stands { (layer : LayerRecord) × IsLayer bytes.now (record { from = from; to = to }) layer }
+    ensures { IfOk result (λ layer. IsLayer bytes.now (record { from = from; to = to }) (layer_of layer)) }
+{
+    let mut layer = Layer {
+        version: 0,
+        name: "",
+        features: Vec::new(alloc),
+        keys: Vec::new(alloc),
+        values: Vec::new(alloc),
+        extent: DEFAULT_EXTENT,
+    };
+    let mut fields = Fields::new(bytes, from, to);
+    'walk: while let Some(field) = next_whole(&mut fields) {
+        add_field(alloc, bytes, &mut layer, field)?;
+    }
+    Ok(layer)
+}
+
+/// Adds what one more field tells.
+fn add_field<'a>(
+    alloc: Global,
+    bytes: &'a [u8],
+    layer: &mut Layer<'a>,
+    field: Field<'a>,
+) -> Result<(), AllocError>
+    requires fits { FitsRule messages.Layer (entry_of field) }
+    requires inside { LiesIn bytes.now (entry_of field) }
+    requires feature { Embeds 2 (λ span. (feature : FeatureRecord) × IsFeature bytes.now span feature) (entry_of field) }
+    requires value { Embeds 4 (λ span. (value : ValueRecord) × IsValue bytes.now span value) (entry_of field) }
+    ensures { OnOk result ((entries : List Entry) → TellsLayer bytes.entry.now entries (layer_of layer.old)
+        → TellsLayer bytes.entry.now (entries ++ entry_of field.entry ∷ []) (layer_of layer.new)) }
+{
+    match field.number {
+        1 => layer.name = text_in(field.body),
+        2 => {
+            let (from, to) = stretch_of(field.body);
+            layer.features.push(read_feature(alloc, bytes, from, to)?)?;
+        }
+        3 => layer.keys.push(text_in(field.body))?,
+        4 => {
+            let (from, to) = stretch_of(field.body);
+            layer.values.push(read_value(bytes, from, to))?;
+        }
+        5 => layer.extent = number_in(field.body) as u32,
+        15 => layer.version = number_in(field.body) as u32,
+        _ => {}
+    }
+    Ok(())
+}

@@ -1,0 +1,142 @@
+ghost use Rattle.std.specs.Prelude.{◌≡◌, ℕ, ◌<◌, ◌≤◌, ◌^◌, List, ◌++◌, ◌==◌, not, OnOk, IsUtf8, length};
+ghost use Rattle.std.specs.Int.{cast_signed, w64};
+ghost use Rattle.mvt_wire.specs.Field.{content_of, delimited, eight_bytes, four_bytes, wire_type_of};
+ghost use Rattle.mvt_wire.specs.Varint.{SpellsVarint};
+ghost use Rattle.mvt_wire.specs.Number.{VarintList, States, AreSmall, zigzag};
+ghost use Rattle.mvt_wire.specs.Scope.{Span, span_of};
+ghost use Rattle.mvt_wire.specs.Tile.{bytes_in, number_in};
+
+use mvt_wire::{Body, read_varint, text, unzigzag64};
+use std::alloc::AllocError;
+
+/// The number of a varint.
+pub(crate) fn number_in(body: Body) -> u64
+    requires { wire_type_of (content_of body) ≡ 0 }
+    ensures { number_in (content_of body.entry) ≡ Some result }
+{
+    match body {
+        Body::Varint { value, .. } => value,
+        _ => unreachable!(),
+    }
+}
+
+/// The number of a varint in two's complement (Protocol Buffers encoding, "Signed Integers").
+pub(crate) fn int_in(body: Body) -> i64
+    requires { wire_type_of (content_of body) ≡ 0 }
+    ensures { (n : ℕ) × (number_in (content_of body.entry) ≡ Some n) × (result ≡ cast_signed w64 n) }
+{
+    number_in(body).cast_signed()
+}
+
+/// The number that a varint is the zigzag number of (Protocol Buffers encoding, "Signed Integers").
+pub(crate) fn sint_in(body: Body) -> i64
+    requires { wire_type_of (content_of body) ≡ 0 }
+    ensures { number_in (content_of body.entry) ≡ Some (zigzag result) }
+{
+    unzigzag64(number_in(body))
+}
+
+/// The truth value of a varint: true where it isn't 0.
+pub(crate) fn truth_in(body: Body) -> bool
+    requires { wire_type_of (content_of body) ≡ 0 }
+    ensures { (n : ℕ) × (number_in (content_of body.entry) ≡ Some n) × (result ≡ not (n == 0)) }
+{
+    number_in(body) != 0
+}
+
+/// The text behind a length.
+pub(crate) fn text_in(body: Body<'_>) -> &str
+    requires own { wire_type_of (content_of body) ≡ 2 }
+    requires utf8 { (from : ℕ) (part : List ℕ) → content_of body ≡ delimited from part → IsUtf8 part }
+    ensures { bytes_in (content_of body.entry) ≡ Some result.now }
+{
+    match body {
+        Body::Bytes { slice, .. } => text_of(slice),
+        _ => unreachable!(),
+    }
+}
+
+/// Bytes that are UTF-8, as a text.
+fn text_of(bytes: &[u8]) -> &str
+    requires { IsUtf8 bytes.now }
+    ensures { result.now ≡ bytes.now }
+{
+    match text(bytes) {
+        Some(text) => text,
+        None => unreachable!(),
+    }
+}
+
+/// The eight bytes of a payload.
+pub(crate) fn eight_bytes_in(body: Body<'_>) -> &[u8]
+    requires { wire_type_of (content_of body) ≡ 1 }
+    ensures { content_of body.entry ≡ eight_bytes result.now }
+{
+    match body {
+        Body::Fixed64(slice) => slice,
+        _ => unreachable!(),
+    }
+}
+
+/// The four bytes of a payload.
+pub(crate) fn four_bytes_in(body: Body<'_>) -> &[u8]
+    requires { wire_type_of (content_of body) ≡ 5 }
+    ensures { content_of body.entry ≡ four_bytes result.now }
+{
+    match body {
+        Body::Fixed32(slice) => slice,
+        _ => unreachable!(),
+    }
+}
+
+/// Where the bytes behind a length lie: the offset of the first, and that behind the last.
+pub(crate) fn stretch_of(body: Body) -> (usize, usize)
+    requires own { wire_type_of (content_of body) ≡ 2 }
+    requires below { (span : Span) → span_of (content_of body) ≡ Some span → span.to < 2 ^ 64 }
+    ensures { span_of (content_of body.entry) ≡ Some (record { from = result.0; to = result.1 }) }
+{
+    match body {
+        Body::Bytes { from, slice } => (from, from + slice.len()),
+        _ => unreachable!(),
+    }
+}
+
+/// Pushes the numbers that a field states, one or a packed list of them (Protocol Buffers encoding,
+/// "Packed Repeated Fields").
+pub(crate) fn push_numbers(numbers: &mut Vec<u32>, body: Body) -> Result<(), AllocError>
+    requires { (given : List ℕ) × States (content_of body) given × AreSmall given }
+    ensures { OnOk result ((given : List ℕ) × States (content_of body.entry) given × (numbers.new.items ≡ numbers.old.items ++ given)) }
+{
+    match body {
+        Body::Varint { value, .. } => numbers.push(value as u32)?,
+        Body::Bytes { slice, .. } => push_packed(numbers, slice)?,
+        Body::Fixed64(_) | Body::Fixed32(_) => unreachable!(),
+    }
+    Ok(())
+}
+
+/// Pushes the numbers of a packed list.
+fn push_packed(numbers: &mut Vec<u32>, part: &[u8]) -> Result<(), AllocError>
+    requires { (given : List ℕ) × VarintList part.now 0 given (length part.now) × AreSmall given }
+    ensures { OnOk result ((given : List ℕ) × VarintList part.now 0 given (length part.now) × (numbers.new.items ≡ numbers.old.items ++ given)) }
+{
+    let mut at = 0;
+    'walk: while at < part.len() {
+        let (number, next) = packed_number(part, at);
+        numbers.push(number)?;
+        at = next;
+    }
+    Ok(())
+}
+
+/// The number that stands at an offset of a packed list, and the offset behind it.
+fn packed_number(part: &[u8], at: usize) -> (u32, usize)
+    requires within { at ≤ length part.now }
+    requires stands { (n next : ℕ) × SpellsVarint part.now at next n × (n < 2 ^ 32) }
+    ensures { SpellsVarint part.now at result.1 result.0 }
+{
+    match read_varint(part, at) {
+        Ok((value, next)) => (value as u32, next),
+        Err(_code) => unreachable!(),
+    }
+}

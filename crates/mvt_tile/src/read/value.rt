@@ -1,0 +1,50 @@
+ghost use Rattle.std.specs.Prelude.{◌≡◌, ◌≤◌, true, false, length, is_some, IfSome, IfNone};
+ghost use Rattle.mvt_wire.specs.Field.{content_of, entry_of};
+ghost use Rattle.mvt_wire.specs.Schema.{rule_of};
+ghost use Rattle.mvt_wire.specs.Tile.{ValueRecord, IsValue, Says};
+ghost use Rattle.mvt_wire.specs.declared.schema.Message.TheVariants as messages;
+ghost use Rattle.mvt_tile.specs.Reading.{FitsRule};
+ghost use Rattle.mvt_tile.specs.View.{value_of};
+
+use super::payload::{
+    eight_bytes_in, four_bytes_in, int_in, number_in, sint_in, text_in, truth_in,
+};
+use super::walk::next_whole;
+use crate::record::Value;
+use mvt_wire::{Field, Fields};
+
+/// The value that stands in the bytes from one offset up to another: what its one known field says
+/// (Mapbox Vector Tile Specification 2.1, section 4.4).
+pub(crate) fn read_value(bytes: &[u8], from: usize, to: usize) -> Value<'_>
+    requires forward { from ≤ to }
+    requires within { to ≤ length bytes.now }
+    requires stands { (value : ValueRecord) × IsValue bytes.now (record { from = from; to = to }) value }
+    ensures { IsValue bytes.now (record { from = from; to = to }) (value_of result) }
+{
+    let mut fields = Fields::new(bytes, from, to);
+    'walk: while let Some(field) = next_whole(&mut fields) {
+        if let Some(value) = value_in(field) {
+            return value;
+        }
+    }
+    unreachable!()
+}
+
+/// What a field of a value says, or None where a value doesn't know its number.
+fn value_in(field: Field<'_>) -> Option<Value<'_>>
+    requires { FitsRule messages.Value (entry_of field) }
+    ensures known { IfSome result (λ _. is_some (rule_of messages.Value field.entry.number) ≡ true) }
+    ensures says { IfSome result (λ value. Says field.entry.number (content_of field.entry.body) (value_of value)) }
+    ensures unknown { IfNone result (is_some (rule_of messages.Value field.entry.number) ≡ false) }
+{
+    match field.number {
+        1 => Some(Value::Text(text_in(field.body))),
+        2 => Some(Value::Float(four_bytes_in(field.body))),
+        3 => Some(Value::Double(eight_bytes_in(field.body))),
+        4 => Some(Value::Int(int_in(field.body))),
+        5 => Some(Value::Uint(number_in(field.body))),
+        6 => Some(Value::Sint(sint_in(field.body))),
+        7 => Some(Value::Bool(truth_in(field.body))),
+        _ => None,
+    }
+}

@@ -1,0 +1,54 @@
+/// A tile: its layers, in the order of the bytes (Mapbox Vector Tile Specification 2.1, section 4).
+#[derive(Debug, PartialEq, Eq, Drop)]
+pub struct Tile<'a> {
+    pub layers: Vec<Layer<'a>>,
+}
+
+/// A layer (section 4.1). Lists are in the order of the bytes.
+#[derive(Debug, PartialEq, Eq, Drop)]
+pub struct Layer<'a> {
+    /// The version of the specification that the layer keeps, by its own word.
+    pub version: u32,
+    pub name: &'a str,
+    pub features: Vec<Feature>,
+    /// What the even places of a feature's tags index, from 0.
+    pub keys: Vec<&'a str>,
+    /// What the odd places of a feature's tags index, from 0.
+    pub values: Vec<Value<'a>>,
+    /// The width and height of the tile in units of its coordinates; 4096 where the layer tells none.
+    pub extent: u32,
+}
+
+/// A feature (section 4.2).
+#[derive(Debug, PartialEq, Eq, Drop)]
+pub struct Feature {
+    pub id: Option<u64>,
+    /// Indices of keys and values in turn (section 4.4), of all the feature's fields of tags, joined.
+    pub tags: Vec<u32>,
+    pub kind: Kind,
+    /// Command and parameter integers (section 4.3), of all the feature's geometry fields, joined.
+    pub geometry: Vec<u32>,
+}
+
+/// What a feature's geometry is (section 4.3.4), with the numbers 0 to 3.
+#[derive(Clone, Copy, Debug, PartialEq, Eq)]
+pub enum Kind {
+    Unknown,
+    Point,
+    LineString,
+    Polygon,
+}
+
+/// The value of a tag (section 4.1, "Value"), by which of its seven fields stands.
+#[derive(Clone, Copy, Debug, PartialEq, Eq)]
+pub enum Value<'a> {
+    Text(&'a str),
+    /// Four bytes, as they stand in the tile.
+    Float(&'a [u8]),
+    /// Eight bytes, as they stand in the tile.
+    Double(&'a [u8]),
+    Int(i64),
+    Uint(u64),
+    Sint(i64),
+    Bool(bool),
+}
