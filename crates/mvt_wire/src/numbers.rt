@@ -9,6 +9,9 @@ use crate::fields::read_field;
 use crate::varint::read_varint;
 use std::marker::Model;
 
+#[cfg(test)]
+mod tests;
+
 /// Varints one behind another: the offset of the first, and the one behind the last.
 #[derive(Clone, Copy)]
 struct Varints {

@@ -1,4 +1,4 @@
-use crate::{Body, Fields, WireCause, WireCode, read_varint};
+use crate::{Body, Fields, WireCause, WireCode, read_varint, text, unzigzag32, unzigzag64};
 
 // 150 is the example of the Protocol Buffers documentation; the greatest number takes ten bytes.
 #[test]
@@ -75,4 +75,44 @@ fn fixed_widths(rt: HostRuntime) {
     assert!(rt; matches!(fields.next_field(), Some(Err(cause)) if cause == cut));
     assert!(rt; fields.next_field().is_none());
     assert!(rt; fields.next_field().is_none());
+}
+
+#[test]
+fn numbers_from_zigzag(rt: HostRuntime) {
+    let cases = [
+        (0, 0),
+        (1, -1),
+        (2, 1),
+        (3, -2),
+        (u32::MAX - 1, i32::MAX),
+        (u32::MAX, i32::MIN),
+    ];
+    for (zigzag, want) in cases {
+        assert_eq!(rt; unzigzag32(zigzag), want, "at {zigzag}");
+    }
+    let cases = [
+        (0, 0),
+        (1, -1),
+        (2, 1),
+        (3, -2),
+        (u64::MAX - 1, i64::MAX),
+        (u64::MAX, i64::MIN),
+    ];
+    for (zigzag, want) in cases {
+        assert_eq!(rt; unzigzag64(zigzag), want, "at {zigzag}");
+    }
+}
+
+// The text of the Protocol Buffers documentation, one with two bytes for a character, and a longer
+// one. None in UTF-8: a byte that is in no text, half a character, a surrogate.
+#[test]
+fn texts(rt: HostRuntime) {
+    let long = "The quick brown fox jumps over the lazy dog, and then it jumps back: \u{e9}.";
+    assert_eq!(rt; text(b"testing"), Some("testing"));
+    assert_eq!(rt; text(&[0xc3, 0xa9]), Some("\u{e9}"));
+    assert_eq!(rt; text(long.as_bytes()), Some(long));
+    assert_eq!(rt; text(&[]), Some(""));
+    assert!(rt; text(&[0xff]).is_none());
+    assert!(rt; text(&[0x61, 0xc3]).is_none());
+    assert!(rt; text(&[0xed, 0xa0, 0x80]).is_none());
 }
