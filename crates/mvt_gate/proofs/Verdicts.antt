@@ -10,7 +10,7 @@ use Rattle.mvt_wire.specs.Tile.{IsTile, TileRecord}
 use Rattle.mvt_wire.specs.WireFault.{WireFault}
 use Rattle.mvt_wire.specs.declared.cause.WireCause.{WireCause}
 use Rattle.mvt_wire.specs.declared.scope.Scope.{Scope}
-use Rattle.mvt_gate.specs.Check.{IsCheckAnswer, ok_line}
+use Rattle.mvt_gate.specs.Check.{IsCheckAnswer}
 use Rattle.mvt_gate.specs.FaultLine.{fault_line}
 use Rattle.mvt_gate.specs.Verdict.{IsVerdict}
 use Rattle.mvt_gate.specs.declared.engine.Outcome.{Outcome}

@@ -14,6 +14,15 @@ fn status(rt: &HostRuntime, texts: &[&str]) -> Result<u8, Fail> {
     Ok(run(rt, &words))
 }
 
+/// The statuses of a command on some files.
+fn statuses(rt: &HostRuntime, word: &str, files: &[&str]) -> Result<Vec<u8>, Fail> {
+    let mut statuses = Vec::new(rt.alloc());
+    for file in files {
+        statuses.push(status(rt, &["mvtgate", word, *file])?)?;
+    }
+    Ok(statuses)
+}
+
 #[test]
 fn exits_by_the_words(rt: HostRuntime) -> Result<(), Fail> {
     for (texts, want) in [
@@ -42,17 +51,19 @@ fn exits_by_the_file(rt: HostRuntime) -> Result<(), Fail> {
     fs::create(&rt, &large)?.set_len(67_108_865)?;
     let missing = folder.join(rt.alloc(), "missing.mvt")?;
     // (a folder opens, and cannot be read)
-    let mut statuses = Vec::new(rt.alloc());
-    for word in ["fields", "check"] {
-        for file in [&point, &cut, &large, &missing, &folder] {
-            statuses.push(status(&rt, &["mvtgate", word, file.as_str()])?)?;
-        }
-    }
+    let files = [
+        point.as_str(),
+        cut.as_str(),
+        large.as_str(),
+        missing.as_str(),
+        folder.as_str(),
+    ];
+    let listed = statuses(&rt, "fields", &files)?;
+    let checked = statuses(&rt, "check", &files)?;
     // the folder goes before a wrong status ends the test
     fs::remove_dir_all(&rt, &folder)?;
-    assert_eq!(rt;
-        statuses.as_slice(),
-        [0, 1, 3, 3, 3, 0, 1, 3, 3, 3].as_slice()
-    );
+    for got in [listed, checked] {
+        assert_eq!(rt; got.as_slice(), [0, 1, 3, 3, 3].as_slice());
+    }
     Ok(())
 }
