@@ -1,9 +1,9 @@
 -- What is known while the fields of a layer are walked, and what it says of the layer's faults.
-use Rattle.std.proofs.Common.{◌≡◌, ℕ, ◌+◌, ◌≤◌, ◌⊎◌, List, [], ◌∷◌, ◌++◌, length, take, Option, Some, None, ◌∙◌, subst, arith}
+use Rattle.std.proofs.Common.{◌≡◌, ℕ, ◌+◌, ◌≤◌, List, [], ◌∷◌, ◌++◌, length, take, Option, Some, None, ◌∙◌, subst, arith}
 use Rattle.mvt_wire.specs.Field.{Entry}
 use Rattle.mvt_wire.specs.Scope.{spans_of}
 use Rattle.mvt_wire.specs.Walk.{Walk, IsOver, GivesField, FindsDefect}
-use Rattle.mvt_wire.specs.WireFault.{FieldFault, EndFault, MessageFault}
+use Rattle.mvt_wire.specs.WireFault.{EndFault, MessageFault}
 use Rattle.mvt_wire.specs.declared.cause.WireCause.{WireCause}
 use Rattle.mvt_wire.specs.declared.schema.Message.{Message}
 use Rattle.mvt_wire.specs.declared.schema.Message.TheVariants as messages
@@ -15,11 +15,12 @@ use Rattle.mvt_tile.specs.First.{FindsFirst}
 use Rattle.mvt_tile.specs.LayerFault.{IsLayerFault, stretch}
 use Rattle.mvt_tile.specs.Least.{FindsLeastCause}
 use Rattle.mvt_tile.specs.Placed.{IsPlaced}
-use Rattle.mvt_tile.specs.Scan.{Scans}
+use Rattle.mvt_tile.specs.Rest.{IsDefectOr}
+use Rattle.mvt_tile.specs.Scan.{Passes, IsFirstFault}
 use Rattle.mvt_tile.specs.declared.embedded.EmbeddedScan.{EmbeddedScan}
 use Rattle.mvt_tile.specs.declared.scan.FieldScan.{FieldScan}
 use Rattle.mvt_tile.proofs.Layers.{fault_in, IsLeast-own, IsLeast-value, IsLeast-feature, IsLayerFault-none}
-use Rattle.mvt_tile.proofs.Walking.{IsScanning, IsPlaced-within, IsScanning-more, IsScanning-whole, IsWalking-defect, IsWalking-whole, defect_alone}
+use Rattle.mvt_tile.proofs.Walking.{IsScanning, IsPlaced-within, IsScanning-more, IsScanning-fault, IsScanning-whole, IsWalking-defect, IsWalking-whole, defect_alone}
 
 -- the fields that were passed, and what the three scans keep of them
 pub record LayerWalk (bytes : List ℕ) (from to : ℕ) (walk : Walk) (own : FieldScan) (value_scan feature_scan : EmbeddedScan) : Type 0 where
@@ -57,7 +58,7 @@ module _ (bytes : List ℕ) (from to : ℕ) (old new : Walk) (own : FieldScan) (
 
     -- and is passed
     pub LayerWalk-more : (next_own : FieldScan) (next_values next_features : EmbeddedScan)
-        → (next_own.message ≡ own.message) × ((passed : List Entry) (next : ℕ) → IsPlaced entry next → Scans own passed entry.at → Scans next_own (passed ++ entry ∷ []) next)
+        → (next_own.message ≡ own.message) × ((passed : List Entry) → Passes own passed → Passes next_own (passed ++ entry ∷ []))
         → Notes bytes value_scan next_values entry → Notes bytes feature_scan next_features entry
         → LayerWalk bytes from to new next_own next_values next_features
     LayerWalk-more next_own next_values next_features own_noted values features =
@@ -77,6 +78,13 @@ module _ (bytes : List ℕ) (from to : ℕ) (old new : Walk) (own : FieldScan) (
           few_features = omega (arith, features.count);
         }
 
+    -- or has a fault, which is the first of the layer unless a field behind it has a defect
+    pub LayerWalk-fault : (layer : ℕ) (first cause : WireCause)
+        → ((passed : List Entry) (next : ℕ) → IsPlaced entry next → Passes own passed → IsFirstFault own.message (passed ++ entry ∷ []) next first)
+        → IsDefectOr new first cause → IsLeast (IsLayerFault bytes (stretch from to) layer) (fault_in (scopes.Layer layer) cause)
+    LayerWalk-fault layer first cause fault rest =
+        IsLeast-own bytes (stretch from to) layer cause (IsScanning-fault messages.Layer (take to bytes) from old new own so_far.entries entry first cause so_far.scanning given fault rest)
+
   -- a defect of a field is the first fault of the layer
   pub LayerWalk-defect : (layer : ℕ) (cause : WireCause) → FindsDefect old new cause → IsLeast (IsLayerFault bytes (stretch from to) layer) (fault_in (scopes.Layer layer) cause)
   LayerWalk-defect layer cause found =
@@ -85,16 +93,16 @@ module _ (bytes : List ℕ) (from to : ℕ) (old new : Walk) (own : FieldScan) (
 
   module _ (over : IsOver old new) where
     -- what the scan of the layer's own fields finds
-    own_finds : (found : Option WireCause) → ((passed : List Entry) → Scans own passed to → FindsLeastCause (λ cause. FieldFault own.message passed cause ⊎ EndFault own.message passed to cause) found)
+    own_finds : (found : Option WireCause) → ((passed : List Entry) → Passes own passed → FindsLeastCause (EndFault own.message passed to) found)
         → FindsLeastCause (MessageFault messages.Layer (take to bytes) from) found
     own_finds found finds = IsScanning-whole messages.Layer bytes from to old new own so_far.entries found within so_far.scanning over finds
 
     pub LayerWalk-own : (layer : ℕ) (cause : WireCause)
-        → ((passed : List Entry) → Scans own passed to → FindsLeastCause (λ cause. FieldFault own.message passed cause ⊎ EndFault own.message passed to cause) (Some cause))
+        → ((passed : List Entry) → Passes own passed → FindsLeastCause (EndFault own.message passed to) (Some cause))
         → IsLeast (IsLayerFault bytes (stretch from to) layer) (fault_in (scopes.Layer layer) cause)
     LayerWalk-own layer cause finds = IsLeast-own bytes (stretch from to) layer cause (own_finds (Some cause) finds)
 
-    module _ (none : (passed : List Entry) → Scans own passed to → FindsLeastCause (λ cause. FieldFault own.message passed cause ⊎ EndFault own.message passed to cause) None) where
+    module _ (none : (passed : List Entry) → Passes own passed → FindsLeastCause (EndFault own.message passed to) None) where
       -- that of a value, where the layer has none of its own
       pub LayerWalk-value : (layer ordinal : ℕ) (cause : WireCause) → value_scan.first ≡ Some (ordinal, cause) → IsLeast (IsLayerFault bytes (stretch from to) layer) (fault_in (scopes.Value layer ordinal) cause)
       LayerWalk-value layer ordinal cause first =

@@ -1,5 +1,5 @@
 -- One more field behind others: what stands, how many are known, and the faults of fields.
-use Rattle.std.proofs.Common.{◌≡◌, ℕ, ◌+◌, ◌<◌, ◌==◌, nat_lt, Bool, true, ◌⊎◌, inl, inr, List, [], ◌∷◌, ◌++◌, length, filter, is_some, Option, Some, None, MatchOption, refl, sym, ◌∙◌, ap, subst, arith, length-append, append_assoc}
+use Rattle.std.proofs.Common.{◌≡◌, ℕ, ◌+◌, ◌==◌, nat_lt, Bool, true, ◌⊎◌, inl, inr, List, [], ◌∷◌, ◌++◌, length, filter, is_some, Some, None, refl, sym, ◌∙◌, ap, subst, arith, length-append, append_assoc}
 use Rattle.std.proofs.lemmas.Bool.{ne_eqb, lt-ltb, cond-true, cond-false}
 use Rattle.std.proofs.lemmas.List.Elements.{filter-append}
 use Rattle.mvt_wire.specs.Field.{Entry}
@@ -9,8 +9,9 @@ use Rattle.mvt_wire.specs.declared.cause.WireCause.{WireCause}
 use Rattle.mvt_wire.specs.declared.schema.FieldRule.{FieldRule}
 use Rattle.mvt_wire.specs.declared.schema.Message.{Message}
 use Rattle.mvt_wire.proofs.Schemas.{count_of-append, count_of-own}
-use Rattle.mvt_tile.specs.Least.{IsLeastCause, FindsLeastCause}
+use Rattle.mvt_tile.specs.Least.{IsLeastCause}
 use Rattle.mvt_tile.specs.Placed.{IsPlaced}
+use Rattle.mvt_tile.specs.Scan.{IsFirstFault}
 use Rattle.mvt_tile.proofs.Causes.{by_offset}
 use Rattle.mvt_tile.proofs.FieldFaults.{fault_within}
 
@@ -96,63 +97,62 @@ pub FieldFault-new : (message : Message) (entries : List Entry) (last : Entry) (
     → FieldFault message (entries ++ last ∷ []) cause
 FieldFault-new message entries last rule cause known fault = record { before = entries; entry = last; after = []; split = refl; rule = rule; known = known; fault = fault }
 
--- what is known of the faults of the fields before a place: none, or the first
-abbrev pub FirstSoFar : Message → List Entry → ℕ → Option WireCause → Type 0
-FirstSoFar message entries to found = MatchOption found ((cause : WireCause) → ¬ FieldFault message entries cause) (λ cause. (cause.at < to) × IsLeastCause (FieldFault message entries) cause)
-
--- a field of an unknown number changes nothing
+-- a field of an unknown number has none
 none_unknown : (message : Message) (entries : List Entry) (last : Entry) (cause : WireCause) → rule_of message last.number ≡ None → LastFault message entries last cause → ⊥
 none_unknown message entries last cause unknown fault = let both : None ≡ Some fault.0 = sym unknown ∙ fault.1 in cc
 
-pub FirstSoFar-unknown : (message : Message) (entries : List Entry) (last : Entry) (next : ℕ) (found : Option WireCause) → IsPlaced last next → rule_of message last.number ≡ None
-    → FirstSoFar message entries last.at found → FirstSoFar message (entries ++ last ∷ []) next found
-FirstSoFar-unknown message entries last next None placed unknown none = λ cause fault. elim (FieldFault-last message entries last cause fault) [
+pub faultless-unknown : (message : Message) (entries : List Entry) (last : Entry) → rule_of message last.number ≡ None
+    → ((cause : WireCause) → ¬ FieldFault message entries cause) → (cause : WireCause) → ¬ FieldFault message (entries ++ last ∷ []) cause
+faultless-unknown message entries last unknown none cause fault = elim (FieldFault-last message entries last cause fault) [
   | inl earlier ↦ none cause earlier
   | inr own ↦ none_unknown message entries last cause unknown own
 ]
-FirstSoFar-unknown message entries last next (Some first) placed unknown least = let forward = placed.forward in (
-  omega (arith, least.0),
-  record {
-    holds = FieldFault-earlier message entries last first least.1.holds;
-    least = λ cause fault. elim (FieldFault-last message entries last cause fault) [
-      | inl earlier ↦ least.1.least cause earlier
-      | inr own ↦ absurd (none_unknown message entries last cause unknown own)
-    ];
-  },
-)
-
--- a first fault stays the first
-pub FirstSoFar-kept : (message : Message) (entries : List Entry) (last : Entry) (next : ℕ) (first : WireCause) → IsPlaced last next
-    → FirstSoFar message entries last.at (Some first) → FirstSoFar message (entries ++ last ∷ []) next (Some first)
-FirstSoFar-kept message entries last next first placed least = let forward = placed.forward in (
-  omega (arith, least.0),
-  record {
-    holds = FieldFault-earlier message entries last first least.1.holds;
-    least = λ cause fault. elim (FieldFault-last message entries last cause fault) [
-      | inl earlier ↦ least.1.least cause earlier
-      | inr own ↦ let within = fault_within own.0 (stands_in last.number entries) last next cause placed own.2 in by_offset first cause (omega (arith, least.0, within.0))
-    ];
-  },
-)
 
 -- a rule is found once
-one_rule : (message : Message) (field_number : ℕ) (rule other : FieldRule) → rule_of message field_number ≡ Some rule → rule_of message field_number ≡ Some other → other ≡ rule
-one_rule message field_number rule other a b = let both : Some rule ≡ Some other = sym a ∙ b in cc
+own_fault : (message : Message) (entries : List Entry) (last : Entry) (rule : FieldRule) (cause : WireCause) → rule_of message last.number ≡ Some rule → LastFault message entries last cause
+    → EntryFault rule (stands_in last.number entries) last cause
+own_fault message entries last rule cause known fault =
+    let both : Some rule ≡ Some fault.0 = sym known ∙ fault.1 in
+    let same : fault.0 ≡ rule = cc in
+    subst (λ (r : FieldRule). EntryFault r (stands_in last.number entries) last cause) same fault.2
 
--- where there was none, the first fault of the last field is the first
-pub FirstSoFar-new : (message : Message) (entries : List Entry) (last : Entry) (next : ℕ) (rule : FieldRule) (found : Option WireCause) → IsPlaced last next → rule_of message last.number ≡ Some rule
-    → FirstSoFar message entries last.at None → FindsLeastCause (EntryFault rule (stands_in last.number entries) last) found → FirstSoFar message (entries ++ last ∷ []) next found
-FirstSoFar-new message entries last next rule None placed known none finds = λ cause fault. elim (FieldFault-last message entries last cause fault) [
+-- a field that has no fault leaves the fields faultless
+pub faultless-known : (message : Message) (entries : List Entry) (last : Entry) (rule : FieldRule) → rule_of message last.number ≡ Some rule
+    → ((cause : WireCause) → ¬ FieldFault message entries cause) → ((cause : WireCause) → ¬ EntryFault rule (stands_in last.number entries) last cause)
+    → (cause : WireCause) → ¬ FieldFault message (entries ++ last ∷ []) cause
+faultless-known message entries last rule known none clean cause fault = elim (FieldFault-last message entries last cause fault) [
   | inl earlier ↦ none cause earlier
-  | inr own ↦ finds cause (subst (λ (r : FieldRule). EntryFault r (stands_in last.number entries) last cause) (one_rule message last.number rule own.0 known own.1) own.2)
+  | inr own ↦ clean cause (own_fault message entries last rule cause known own)
 ]
-FirstSoFar-new message entries last next rule (Some first) placed known none finds = let within = fault_within rule (stands_in last.number entries) last next first placed finds.holds in (
-  within.1,
-  record {
-    holds = FieldFault-new message entries last rule first known finds.holds;
+
+-- the first fault of a field behind faultless ones is the first of all
+pub IsFirstFault-new : (message : Message) (entries : List Entry) (last : Entry) (next : ℕ) (rule : FieldRule) (first : WireCause) → IsPlaced last next → rule_of message last.number ≡ Some rule
+    → ((cause : WireCause) → ¬ FieldFault message entries cause) → IsLeastCause (EntryFault rule (stands_in last.number entries) last) first
+    → IsFirstFault message (entries ++ last ∷ []) next first
+IsFirstFault-new message entries last next rule first placed known none least = record {
+  before = (fault_within rule (stands_in last.number entries) last next first placed least.holds).1;
+  least = record {
+    holds = FieldFault-new message entries last rule first known least.holds;
     least = λ cause fault. elim (FieldFault-last message entries last cause fault) [
       | inl earlier ↦ absurd (none cause earlier)
-      | inr own ↦ finds.least cause (subst (λ (r : FieldRule). EntryFault r (stands_in last.number entries) last cause) (one_rule message last.number rule own.0 known own.1) own.2)
+      | inr own ↦ least.least cause (own_fault message entries last rule cause known own)
     ];
-  },
-)
+  };
+}
+
+-- and stays it, whatever stands behind
+pub IsFirstFault-kept : (message : Message) (entries : List Entry) (last : Entry) (next : ℕ) (first : WireCause) → IsPlaced last next
+    → IsFirstFault message entries last.at first → IsFirstFault message (entries ++ last ∷ []) next first
+IsFirstFault-kept message entries last next first placed so_far = record {
+  before = let forward = placed.forward in let before = so_far.before in omega arith;
+  least = record {
+    holds = FieldFault-earlier message entries last first so_far.least.holds;
+    least = λ cause fault. elim (FieldFault-last message entries last cause fault) [
+      | inl earlier ↦ so_far.least.least cause earlier
+      | inr own ↦
+          let within = fault_within own.0 (stands_in last.number entries) last next cause placed own.2 in
+          let before = so_far.before in
+          by_offset first cause (omega (arith, within.0))
+    ];
+  };
+}

@@ -1,17 +1,17 @@
 -- What a scan keeps of the fields of a message.
-use Rattle.std.proofs.Common.{◌≡◌, ℕ, ◌+◌, ◌-◌, ◌^◌, ◌<◌, min, Bool, true, false, List, [], ◌∷◌, ◌++◌, length, get_or, slice_set, Option, Some, None, IfSome, IfNone, inl, inr, sym, ◌∙◌, ap, subst, arith, get_or-set_same, get_or-set_other}
-use Rattle.std.proofs.lemmas.Bool.{cases_eq}
+use Rattle.std.proofs.Common.{◌≡◌, ℕ, ◌+◌, ◌<◌, nat_lt, Bool, true, false, List, [], ◌∷◌, ◌++◌, length, get_or, slice_set, Some, None, inl, inr, sym, ◌∙◌, ap, subst, arith, get_or-set_same, get_or-set_other}
+use Rattle.std.proofs.lemmas.Bool.{cases_eq, cases_lt, lt-ltb, le-ltb}
 use Rattle.mvt_wire.specs.Field.{Entry}
 use Rattle.mvt_wire.specs.Schema.{rule_of}
-use Rattle.mvt_wire.specs.WireFault.{stands_in, EntryFault, FieldFault}
+use Rattle.mvt_wire.specs.WireFault.{stands_in, count_known, EntryFault, FieldFault}
 use Rattle.mvt_wire.specs.declared.cause.WireCause.{WireCause}
 use Rattle.mvt_wire.specs.declared.schema.FieldRule.{FieldRule}
 use Rattle.mvt_wire.specs.declared.schema.Message.{Message}
-use Rattle.mvt_tile.specs.Least.{FindsLeastCause}
+use Rattle.mvt_tile.specs.Least.{IsLeastCause}
 use Rattle.mvt_tile.specs.Placed.{IsPlaced}
-use Rattle.mvt_tile.specs.Scan.{was_seen, Scans}
+use Rattle.mvt_tile.specs.Scan.{was_seen, Passes, IsFirstFault}
 use Rattle.mvt_tile.specs.declared.scan.FieldScan.{FieldScan}
-use Rattle.mvt_tile.proofs.Passing.{stands_in-own, stands_in-other, count_known-more, count_known-same, FirstSoFar, FirstSoFar-unknown, FirstSoFar-kept, FirstSoFar-new}
+use Rattle.mvt_tile.proofs.Passing.{stands_in-own, stands_in-other, count_known-more, count_known-same, faultless-unknown, faultless-known, IsFirstFault-new}
 
 -- no field was passed
 none_split : (before : List Entry) (entry : Entry) (after : List Entry) → [] ≡ before ++ entry ∷ after → ⊥
@@ -22,22 +22,17 @@ pub FieldFault-nothing : (message : Message) (cause : WireCause) → FieldFault 
 FieldFault-nothing message cause fault = none_split fault.before fault.entry fault.after fault.split
 
 -- a field of an unknown number is passed
-pub Scans-unknown : (scan : FieldScan) (entries : List Entry) (entry : Entry) (next : ℕ) → IsPlaced entry next → rule_of scan.message entry.number ≡ None → Scans scan entries entry.at → Scans scan (entries ++ entry ∷ []) next
-Scans-unknown scan entries entry next placed unknown so_far = record {
-  stood = λ field_number rule known.
-      let other : ¬ (entry.number ≡ field_number) = λ same. let both : None ≡ Some rule = sym unknown ∙ ap (rule_of scan.message) same ∙ known in absurd (cc) in
-      so_far.stood field_number rule known ∙ sym (stands_in-other field_number entries entry other);
-  known = so_far.known ∙ ap (λ (k : ℕ). min k (2 ^ 64 - 1)) (sym (count_known-same scan.message entries entry unknown));
-  first = FirstSoFar-unknown scan.message entries entry next scan.first placed unknown so_far.first;
-}
-
--- of two fields, the first that has a fault
-first_more : (message : Message) (entries : List Entry) (entry : Entry) (next : ℕ) (rule : FieldRule) (before after : Option WireCause) → IsPlaced entry next → rule_of message entry.number ≡ Some rule
-    → IfSome before (λ cause. after ≡ Some cause) → IfNone before (FindsLeastCause (EntryFault rule (stands_in entry.number entries) entry) after)
-    → FirstSoFar message entries entry.at before → FirstSoFar message (entries ++ entry ∷ []) next after
-first_more message entries entry next rule None after placed known kept found so_far = FirstSoFar-new message entries entry next rule after placed known so_far found
-first_more message entries entry next rule (Some first) after placed known kept found so_far =
-    subst (FirstSoFar message (entries ++ entry ∷ []) next) (sym kept) (FirstSoFar-kept message entries entry next first placed so_far)
+pub Passes-unknown : (scan : FieldScan) (entries : List Entry) (entry : Entry) → rule_of scan.message entry.number ≡ None → Passes scan entries → Passes scan (entries ++ entry ∷ [])
+Passes-unknown scan entries entry unknown so_far =
+    let same : count_known scan.message entries ≡ count_known scan.message (entries ++ entry ∷ []) = sym (count_known-same scan.message entries entry unknown) in
+    record {
+      stood = λ field_number rule known.
+          let other : ¬ (entry.number ≡ field_number) = λ same. let both : None ≡ Some rule = sym unknown ∙ ap (rule_of scan.message) same ∙ known in absurd (cc) in
+          so_far.stood field_number rule known ∙ sym (stands_in-other field_number entries entry other);
+      known = so_far.known ∙ ap (nat_lt 0) same;
+      several = so_far.several ∙ ap (nat_lt 1) same;
+      faultless = faultless-unknown scan.message entries entry unknown so_far.faultless;
+    }
 
 -- that a number stood is kept
 stood_more : (stood : List Bool) (entries : List Entry) (entry : Entry) (field_number : ℕ) → entry.number < length stood
@@ -51,18 +46,30 @@ stood_more stood entries entry field_number within so_far = elim (cases_eq field
       get_or-set_other stood entry.number field_number true false other ∙ so_far ∙ sym (stands_in-other field_number entries entry (λ same. other (sym same)))
 ]
 
--- a field of a known number is passed
-pub Scans-known : (scan : FieldScan) (entries : List Entry) (entry : Entry) (next : ℕ) (rule : FieldRule) (known : ℕ) (first : Option WireCause) → IsPlaced entry next
-    → rule_of scan.message entry.number ≡ Some rule → entry.number < length scan.stood → known ≡ min (scan.known + 1) (2 ^ 64 - 1)
-    → IfSome scan.first (λ cause. first ≡ Some cause) → IfNone scan.first (FindsLeastCause (EntryFault rule (was_seen scan entry.number) entry) first)
-    → Scans scan entries entry.at
-    → Scans (record { message = scan.message; stood = slice_set scan.stood entry.number true; known = known; first = first }) (entries ++ entry ∷ []) next
-Scans-known scan entries entry next rule known first placed is within counted kept found so_far = record {
-  stood = λ field_number other asked. stood_more scan.stood entries entry field_number within (so_far.stood field_number other asked);
-  known =
-      let count = count_known-more scan.message entries entry rule is in
-      let before = so_far.known in
-      omega arith;
-  first = first_more scan.message entries entry next rule scan.first first placed is kept
-      (subst (λ (stood : Bool). IfNone scan.first (FindsLeastCause (EntryFault rule stood entry) first)) (so_far.stood entry.number rule is) found) so_far.first;
-}
+-- more than one of one more are some
+lt_more : (count : ℕ) → nat_lt 1 (count + 1) ≡ nat_lt 0 count
+lt_more count = elim (cases_lt 0 count) [
+  | inl some ↦ lt-ltb 1 (count + 1) (omega arith) ∙ sym (lt-ltb 0 count some)
+  | inr none ↦ le-ltb 1 (count + 1) (omega arith) ∙ sym (le-ltb 0 count none)
+]
+
+-- a field of a known number is passed, which has no fault
+pub Passes-known : (scan : FieldScan) (entries : List Entry) (entry : Entry) (rule : FieldRule) → rule_of scan.message entry.number ≡ Some rule → entry.number < length scan.stood
+    → ((cause : WireCause) → ¬ EntryFault rule (was_seen scan entry.number) entry cause) → Passes scan entries
+    → Passes (record { message = scan.message; stood = slice_set scan.stood entry.number true; known = true; several = scan.known }) (entries ++ entry ∷ [])
+Passes-known scan entries entry rule is within clean so_far =
+    let more = count_known-more scan.message entries entry rule is in
+    record {
+      stood = λ field_number other asked. stood_more scan.stood entries entry field_number within (so_far.stood field_number other asked);
+      known = sym (lt-ltb 0 (count_known scan.message (entries ++ entry ∷ [])) (omega arith));
+      several = so_far.known ∙ sym (lt_more (count_known scan.message entries)) ∙ ap (nat_lt 1) (sym more);
+      faultless = faultless-known scan.message entries entry rule is so_far.faultless
+          (λ cause. subst (λ (stood : Bool). ¬ EntryFault rule stood entry cause) (so_far.stood entry.number rule is) (clean cause));
+    }
+
+-- its first fault is the first of all
+pub Passes-fault : (scan : FieldScan) (entries : List Entry) (entry : Entry) (next : ℕ) (rule : FieldRule) (cause : WireCause) → IsPlaced entry next → rule_of scan.message entry.number ≡ Some rule
+    → IsLeastCause (EntryFault rule (was_seen scan entry.number) entry) cause → Passes scan entries → IsFirstFault scan.message (entries ++ entry ∷ []) next cause
+Passes-fault scan entries entry next rule cause placed is least so_far =
+    IsFirstFault-new scan.message entries entry next rule cause placed is so_far.faultless
+    (subst (λ (stood : Bool). IsLeastCause (EntryFault rule stood entry) cause) (so_far.stood entry.number rule is) least)

@@ -1,8 +1,8 @@
 -- What is known while the fields of a tile are walked, and what it says of the tile's faults.
-use Rattle.std.proofs.Common.{◌≡◌, ℕ, ◌+◌, ◌≤◌, ◌⊎◌, List, [], ◌∷◌, ◌++◌, length, take, Option, Some, None, IfSome, IfNone, arith}
+use Rattle.std.proofs.Common.{◌≡◌, ℕ, ◌+◌, ◌≤◌, List, [], ◌∷◌, ◌++◌, length, take, Option, Some, None, IfSome, IfNone, arith}
 use Rattle.mvt_wire.specs.Field.{Entry}
 use Rattle.mvt_wire.specs.Walk.{Walk, IsOver, GivesField, FindsDefect}
-use Rattle.mvt_wire.specs.WireFault.{WireFault, FieldFault, EndFault, MessageFault}
+use Rattle.mvt_wire.specs.WireFault.{WireFault, EndFault, MessageFault}
 use Rattle.mvt_wire.specs.Scope.{spans_of}
 use Rattle.mvt_wire.specs.declared.cause.WireCause.{WireCause}
 use Rattle.mvt_wire.specs.declared.scope.Scope.{Scope}
@@ -14,12 +14,13 @@ use Rattle.mvt_tile.specs.First.{FindsFirst}
 use Rattle.mvt_tile.specs.LayerScan.{IsFaultless, IsFirstOf, ScansLayers}
 use Rattle.mvt_tile.specs.Least.{FindsLeastCause}
 use Rattle.mvt_tile.specs.Placed.{IsPlaced}
-use Rattle.mvt_tile.specs.Scan.{Scans}
+use Rattle.mvt_tile.specs.Rest.{IsDefectOr}
+use Rattle.mvt_tile.specs.Scan.{Passes, IsFirstFault}
 use Rattle.mvt_tile.specs.declared.fault.LayerScan.{LayerScan}
 use Rattle.mvt_tile.specs.declared.scan.FieldScan.{FieldScan}
 use Rattle.mvt_tile.proofs.Layers.{fault_in}
 use Rattle.mvt_tile.proofs.Tiles.{IsLeast-tile, IsLeast-layer, WireFault-none}
-use Rattle.mvt_tile.proofs.Walking.{IsScanning, IsPlaced-within, IsScanning-more, IsScanning-whole, IsWalking-defect, IsWalking-whole, defect_alone}
+use Rattle.mvt_tile.proofs.Walking.{IsScanning, IsPlaced-within, IsScanning-more, IsScanning-fault, IsScanning-whole, IsWalking-defect, IsWalking-whole, defect_alone}
 
 -- the fields that were passed, and what the two scans keep of them
 pub record TileWalk (bytes : List ℕ) (walk : Walk) (own : FieldScan) (layer_scan : LayerScan) : Type 0 where
@@ -36,7 +37,7 @@ module _ (bytes : List ℕ) (old new : Walk) (own : FieldScan) (layer_scan : Lay
 
     -- and is passed
     pub TileWalk-more : (next_own : FieldScan) (next_layers : LayerScan)
-        → (next_own.message ≡ own.message) × ((passed : List Entry) (next : ℕ) → IsPlaced entry next → Scans own passed entry.at → Scans next_own (passed ++ entry ∷ []) next)
+        → (next_own.message ≡ own.message) × ((passed : List Entry) → Passes own passed → Passes next_own (passed ++ entry ∷ []))
         → next_layers.count ≤ layer_scan.count + 1 → ((entries : List Entry) → ScansLayers bytes layer_scan entries → ScansLayers bytes next_layers (entries ++ entry ∷ []))
         → TileWalk bytes new next_own next_layers
     TileWalk-more next_own next_layers own_noted count noted =
@@ -49,6 +50,13 @@ module _ (bytes : List ℕ) (old new : Walk) (own : FieldScan) (layer_scan : Lay
           few = omega arith;
         }
 
+    -- or has a fault, which is the first of the tile unless a field behind it has a defect
+    pub TileWalk-fault : (first cause : WireCause)
+        → ((passed : List Entry) (next : ℕ) → IsPlaced entry next → Passes own passed → IsFirstFault own.message (passed ++ entry ∷ []) next first)
+        → IsDefectOr new first cause → IsLeast (IsWireFault bytes) (fault_in scopes.Tile cause)
+    TileWalk-fault first cause fault rest =
+        IsLeast-tile bytes cause (IsScanning-fault Tile (take (length bytes) bytes) 0 old new own so_far.entries entry first cause so_far.scanning given fault rest)
+
   -- a defect of a field is the first fault of the tile
   pub TileWalk-defect : (cause : WireCause) → FindsDefect old new cause → IsLeast (IsWireFault bytes) (fault_in scopes.Tile cause)
   TileWalk-defect cause found =
@@ -56,16 +64,16 @@ module _ (bytes : List ℕ) (old new : Walk) (own : FieldScan) (layer_scan : Lay
 
   module _ (over : IsOver old new) where
     -- what the scan of the tile's own fields finds
-    own_finds : (found : Option WireCause) → ((passed : List Entry) → Scans own passed (length bytes) → FindsLeastCause (λ cause. FieldFault own.message passed cause ⊎ EndFault own.message passed (length bytes) cause) found)
+    own_finds : (found : Option WireCause) → ((passed : List Entry) → Passes own passed → FindsLeastCause (EndFault own.message passed (length bytes)) found)
         → FindsLeastCause (MessageFault Tile (take (length bytes) bytes) 0) found
     own_finds found finds = IsScanning-whole Tile bytes 0 (length bytes) old new own so_far.entries found (omega arith) so_far.scanning over finds
 
     pub TileWalk-own : (cause : WireCause)
-        → ((passed : List Entry) → Scans own passed (length bytes) → FindsLeastCause (λ cause. FieldFault own.message passed cause ⊎ EndFault own.message passed (length bytes) cause) (Some cause))
+        → ((passed : List Entry) → Passes own passed → FindsLeastCause (EndFault own.message passed (length bytes)) (Some cause))
         → IsLeast (IsWireFault bytes) (fault_in scopes.Tile cause)
     TileWalk-own cause finds = IsLeast-tile bytes cause (own_finds (Some cause) finds)
 
-    module _ (none : (passed : List Entry) → Scans own passed (length bytes) → FindsLeastCause (λ cause. FieldFault own.message passed cause ⊎ EndFault own.message passed (length bytes) cause) None) where
+    module _ (none : (passed : List Entry) → Passes own passed → FindsLeastCause (EndFault own.message passed (length bytes)) None) where
       -- else that of the first layer that has one, or none
       first_of_layers : (found : Option Fault) → FindsFirst (IsFaultless bytes) (IsFirstOf bytes) (spans_of 3 so_far.entries) layer_scan.count found
           → IfNone found ((scope : Scope) (cause : WireCause) → ¬ WireFault bytes scope cause) × IfSome found (IsLeast (IsWireFault bytes))

@@ -1,5 +1,5 @@
 -- A walk over the fields of a message, and what the faults of its fields say of the message.
-use Rattle.std.proofs.Common.{◌≡◌, ℕ, ◌-◌, ◌<◌, ◌≤◌, ◌⊎◌, inl, inr, List, [], ◌∷◌, ◌++◌, length, take, Option, Some, None, sym, ◌∙◌, ap, subst, arith}
+use Rattle.std.proofs.Common.{◌≡◌, ℕ, ◌-◌, ◌<◌, ◌≤◌, ◌⊎◌, inl, inr, List, [], ◌∷◌, ◌++◌, length, take, Option, Some, None, sym, ◌∙◌, ap, subst, arith, append-nil, append_assoc, refl}
 use Rattle.std.proofs.lemmas.List.{length-take-le}
 use Rattle.std.proofs.lemmas.List.Edits.{length-between}
 use Rattle.mvt_wire.specs.Field.{Content, varint, eight_bytes, delimited, four_bytes, Entry, IsPayload, IsField, FieldDefect}
@@ -12,9 +12,12 @@ use Rattle.mvt_wire.proofs.Entries.{field_extent}
 use Rattle.mvt_wire.proofs.Messages.{FieldList-push, one_list, whole_or_defect, one_defect}
 use Rattle.mvt_tile.specs.Least.{IsLeastCause, FindsLeastCause}
 use Rattle.mvt_tile.specs.Placed.{LiesWithin, IsPlaced}
-use Rattle.mvt_tile.specs.Scan.{Scans}
+use Rattle.mvt_tile.specs.Rest.{IsDefectOr}
+use Rattle.mvt_tile.specs.Scan.{Passes, IsFirstFault}
 use Rattle.mvt_tile.specs.declared.scan.FieldScan.{FieldScan}
-use Rattle.mvt_tile.proofs.Causes.{same_cause}
+use Rattle.mvt_tile.proofs.Causes.{by_offset, same_cause}
+use Rattle.mvt_tile.proofs.EndFaults.{end_place}
+use Rattle.mvt_tile.proofs.Passing.{IsFirstFault-kept}
 
 -- the walk over a message has passed these fields
 pub record IsWalking (bytes : List ℕ) (from : ℕ) (walk : Walk) (entries : List Entry) : Type 0 where
@@ -55,24 +58,20 @@ payload_place bytes at key_end to (delimited start part) forward p =
     (omega arith, omega (arith, p.2))
 payload_place bytes at key_end to (four_bytes part) forward p = tt
 
--- a field that was given lies before the next
-pub IsPlaced-given : (old new : Walk) (entry : Entry) → GivesField old new entry → IsPlaced entry new.at
-IsPlaced-given old new entry given = record {
-  forward = (field_extent old.bytes new.at entry given.spelled).0;
-  payload = payload_place old.bytes entry.at given.spelled.key_end new.at entry.content given.spelled.key.spelled.forward given.spelled.payload;
+-- a field lies before the next
+IsPlaced-field : (bytes : List ℕ) (next : ℕ) (entry : Entry) → IsField bytes next entry → IsPlaced entry next
+IsPlaced-field bytes next entry field = record {
+  forward = (field_extent bytes next entry field).0;
+  payload = payload_place bytes entry.at field.key_end next entry.content field.key.spelled.forward field.payload;
 }
-
--- the front of the bytes up to a place ends there
-front_length : (bytes : List ℕ) (to : ℕ) → to ≤ length bytes → length (take to bytes) ≡ to
-front_length bytes to within = length-take-le to bytes within
 
 -- a field of a front of the bytes lies within it
 pub IsPlaced-within : (bytes : List ℕ) (from to : ℕ) (old new : Walk) (entries : List Entry) (entry : Entry) → to ≤ length bytes → IsWalking (take to bytes) from old entries → GivesField old new entry
     → (next : ℕ) × IsPlaced entry next × (next ≤ to)
 IsPlaced-within bytes from to old new entries entry within so_far given =
-    let size = front_length bytes to within in
+    let size = length-take-le to bytes within in
     let inside : new.at ≤ length (take to bytes) = subst (λ (list : List ℕ). new.at ≤ length list) so_far.same_bytes given.within in
-    (new.at, IsPlaced-given old new entry given, omega arith)
+    (new.at, IsPlaced-field old.bytes new.at entry given.spelled, omega arith)
 
 -- a defect is the only fault of its message
 pub defect_alone : (message : Message) (bytes : List ℕ) (from : ℕ) (cause : WireCause) → HasDefect bytes from cause → IsLeastCause (MessageFault message bytes from) cause
@@ -99,42 +98,101 @@ whole_finds message bytes from entries (Some first) whole finds = record {
   least = λ cause fault. finds.least cause (whole_fault message bytes from entries cause whole fault);
 }
 
+-- where no field has a fault, those at the end are all
+end_finds : (message : Message) (entries : List Entry) (end : ℕ) (found : Option WireCause) → ((cause : WireCause) → ¬ FieldFault message entries cause) → FindsLeastCause (EndFault message entries end) found
+    → FindsLeastCause (λ cause. FieldFault message entries cause ⊎ EndFault message entries end cause) found
+end_finds message entries end None none finds = λ cause fault. elim fault [ inl field ↦ none cause field | inr at_end ↦ finds cause at_end ]
+end_finds message entries end (Some first) none finds = record {
+  holds = inr finds.holds;
+  least = λ cause fault. elim fault [ inl field ↦ absurd (none cause field) | inr at_end ↦ finds.least cause at_end ];
+}
+
+-- a first fault of the fields before a place is the first of all, whatever stands behind
+first_of_rest : (message : Message) (bytes : List ℕ) (entries rest : List Entry) (from to : ℕ) (first : WireCause) → FieldList bytes from rest to → IsFirstFault message entries from first
+    → IsFirstFault message (entries ++ rest) to first
+first_of_rest message bytes entries [] from to first list so_far =
+    subst (λ (list : List Entry). IsFirstFault message list to first) (sym (append-nil entries)) (subst (λ (place : ℕ). IsFirstFault message entries place first) list so_far)
+first_of_rest message bytes entries (entry ∷ rest) from to first list so_far =
+    let here : IsFirstFault message entries entry.at first = subst (λ (place : ℕ). IsFirstFault message entries place first) (sym list.0) so_far in
+    let one : IsFirstFault message (entries ++ entry ∷ []) list.1.0 first =
+        IsFirstFault-kept message entries entry list.1.0 first (IsPlaced-field bytes list.1.0 entry list.1.1) here in
+    subst (λ (list : List Entry). IsFirstFault message list to first) (append_assoc entries (entry ∷ []) rest) (first_of_rest message bytes (entries ++ entry ∷ []) rest list.1.0 to first list.1.2 one)
+
+-- two field lists, one behind the other
+FieldList-append : (bytes : List ℕ) (from at to : ℕ) (entries rest : List Entry) → FieldList bytes from entries at → FieldList bytes at rest to → FieldList bytes from (entries ++ rest) to
+FieldList-append bytes from at to [] rest list behind = subst (λ (place : ℕ). FieldList bytes place rest to) (sym list) behind
+FieldList-append bytes from at to (entry ∷ entries) rest list behind = (list.0, (list.1.0, list.1.1, FieldList-append bytes list.1.0 at to entries rest list.1.2 behind))
+
+HasDefect-behind : (bytes : List ℕ) (from at : ℕ) (entries : List Entry) (cause : WireCause) → FieldList bytes from entries at → HasDefect bytes at cause → HasDefect bytes from cause
+HasDefect-behind bytes from at entries cause list defect =
+    record { entries = entries ++ defect.entries; at = defect.at; before = FieldList-append bytes from at defect.at entries defect.entries list defect.before; left = defect.left; defect = defect.defect }
+
+-- behind a first fault, the defect of the message is its only fault, and where there is none the first fault is its first
+pub first_or_defect : (message : Message) (bytes : List ℕ) (from : ℕ) (walk : Walk) (entries : List Entry) (first cause : WireCause) → IsWalking bytes from walk entries
+    → IsFirstFault message entries walk.at first → IsDefectOr walk first cause → IsLeastCause (MessageFault message bytes from) cause
+first_or_defect message bytes from walk entries first cause walked fault (inl defect) =
+    defect_alone message bytes from cause
+    (HasDefect-behind bytes from walk.at entries cause walked.passed (subst (λ (list : List ℕ). HasDefect list walk.at cause) walked.same_bytes defect))
+first_or_defect message bytes from walk entries first cause walked fault (inr whole) =
+    let rest : IsMessage bytes walk.at whole.0.0 = subst (λ (list : List ℕ). IsMessage list walk.at whole.0.0) walked.same_bytes whole.0.1 in
+    let all : IsFirstFault message (entries ++ whole.0.0) (length bytes) first = first_of_rest message bytes entries whole.0.0 walk.at (length bytes) first rest fault in
+    subst (IsLeastCause (MessageFault message bytes from)) (sym whole.1)
+    (whole_finds message bytes from (entries ++ whole.0.0) (Some first) (FieldList-append bytes from walk.at (length bytes) entries whole.0.0 walked.passed rest) (record {
+      holds = inl all.least.holds;
+      least = λ other fault. elim fault [
+        | inl field ↦ all.least.least other field
+        | inr at_end ↦ let place = end_place message (entries ++ whole.0.0) (length bytes) other at_end in by_offset first other (omega (arith, all.before))
+      ];
+    }))
+
+-- a walk that has passed what is left has found no defect
+pub DefectOr-whole : (walk now : Walk) (passed : List Entry) (cause : WireCause) → IsWalking walk.bytes walk.at now passed → now.at ≡ length now.bytes → IsDefectOr walk cause cause
+DefectOr-whole walk now passed cause walking over = inr ((passed, subst (λ (to : ℕ). FieldList walk.bytes walk.at passed to) (over ∙ ap length walking.same_bytes) walking.passed), refl)
+
 -- What is known while the fields of a message are walked: those that were passed, and what the scan keeps of them.
 pub record IsScanning (message : Message) (bytes : List ℕ) (from : ℕ) (walk : Walk) (scan : FieldScan) (entries : List Entry) : Type 0 where
   pub walked : IsWalking bytes from walk entries
-  pub scanned : Scans scan entries walk.at
+  pub passes : Passes scan entries
   pub same : scan.message ≡ message
 
-pub IsScanning-nothing : (message : Message) (bytes : List ℕ) (from : ℕ) (walk : Walk) (scan : FieldScan) → walk ≡ record { bytes = bytes; at = from } → scan.message ≡ message → ((place : ℕ) → Scans scan [] place)
+pub IsScanning-nothing : (message : Message) (bytes : List ℕ) (from : ℕ) (walk : Walk) (scan : FieldScan) → walk ≡ record { bytes = bytes; at = from } → scan.message ≡ message → Passes scan []
     → IsScanning message bytes from walk scan []
 IsScanning-nothing message bytes from walk scan begins same nothing = record {
   walked = record { same_bytes = ap (λ (w : Walk). w.bytes) begins; passed = sym (ap (λ (w : Walk). w.at) begins) };
-  scanned = nothing walk.at;
+  passes = nothing;
   same = same;
 }
 
--- the faults that the scan finds in a whole message are those of the message
+-- the faults at the end of a whole message that was scanned are all that it has
 pub IsScanning-whole : (message : Message) (bytes : List ℕ) (from to : ℕ) (old new : Walk) (scan : FieldScan) (entries : List Entry) (found : Option WireCause) → to ≤ length bytes
     → IsScanning message (take to bytes) from old scan entries → IsOver old new
-    → ((passed : List Entry) → Scans scan passed to → FindsLeastCause (λ cause. FieldFault scan.message passed cause ⊎ EndFault scan.message passed to cause) found)
+    → ((passed : List Entry) → Passes scan passed → FindsLeastCause (EndFault scan.message passed to) found)
     → FindsLeastCause (MessageFault message (take to bytes) from) found
 IsScanning-whole message bytes from to old new scan entries found within so_far over finds =
-    let end : old.at ≡ length (take to bytes) = over.at_end ∙ ap length so_far.walked.same_bytes in
-    let size : length (take to bytes) ≡ to = front_length bytes to within in
-    let here : FindsLeastCause (λ cause. FieldFault scan.message entries cause ⊎ EndFault scan.message entries to cause) found =
-    finds entries (subst (λ (place : ℕ). Scans scan entries place) (end ∙ size) so_far.scanned) in
-    let there : FindsLeastCause (λ cause. FieldFault scan.message entries cause ⊎ EndFault scan.message entries (length (take to bytes)) cause) found =
-    subst (λ (place : ℕ). FindsLeastCause (λ cause. FieldFault scan.message entries cause ⊎ EndFault scan.message entries place cause) found) (sym size) here in
+    let size : length (take to bytes) ≡ to = length-take-le to bytes within in
+    let here : FindsLeastCause (EndFault scan.message entries (length (take to bytes))) found =
+        subst (λ (place : ℕ). FindsLeastCause (EndFault scan.message entries place) found) (sym size) (finds entries so_far.passes) in
     subst (λ (m : Message). FindsLeastCause (MessageFault m (take to bytes) from) found) so_far.same
-    (whole_finds scan.message (take to bytes) from entries found (IsWalking-whole (take to bytes) from old new entries so_far.walked over) there)
+    (whole_finds scan.message (take to bytes) from entries found (IsWalking-whole (take to bytes) from old new entries so_far.walked over)
+        (end_finds scan.message entries (length (take to bytes)) found so_far.passes.faultless here))
 
 -- one more field was passed
 pub IsScanning-more : (message : Message) (bytes : List ℕ) (from : ℕ) (old new : Walk) (before after : FieldScan) (entries : List Entry) (entry : Entry) → IsScanning message bytes from old before entries
-    → GivesField old new entry → after.message ≡ before.message
-    → ((passed : List Entry) (next : ℕ) → IsPlaced entry next → Scans before passed entry.at → Scans after (passed ++ entry ∷ []) next)
+    → GivesField old new entry → after.message ≡ before.message → ((passed : List Entry) → Passes before passed → Passes after (passed ++ entry ∷ []))
     → IsScanning message bytes from new after (entries ++ entry ∷ [])
-IsScanning-more message bytes from old new before after entries entry so_far given same noted = record {
+IsScanning-more message bytes from old new before after entries entry so_far given same passed = record {
   walked = IsWalking-more bytes from old new entries entry so_far.walked given;
-  scanned = noted entries new.at (IsPlaced-given old new entry given) (subst (λ (place : ℕ). Scans before entries place) (sym given.here) so_far.scanned);
+  passes = passed entries so_far.passes;
   same = same ∙ so_far.same;
 }
+
+-- a field was given that has a fault
+pub IsScanning-fault : (message : Message) (bytes : List ℕ) (from : ℕ) (old new : Walk) (scan : FieldScan) (entries : List Entry) (entry : Entry) (first cause : WireCause) → IsScanning message bytes from old scan entries
+    → GivesField old new entry
+    → ((passed : List Entry) (next : ℕ) → IsPlaced entry next → Passes scan passed → IsFirstFault scan.message (passed ++ entry ∷ []) next first)
+    → IsDefectOr new first cause → IsLeastCause (MessageFault message bytes from) cause
+IsScanning-fault message bytes from old new scan entries entry first cause so_far given fault rest =
+    let here : IsFirstFault message (entries ++ entry ∷ []) new.at first =
+        subst (λ (m : Message). IsFirstFault m (entries ++ entry ∷ []) new.at first) so_far.same
+        (fault entries new.at (IsPlaced-field old.bytes new.at entry given.spelled) so_far.passes) in
+    first_or_defect message bytes from new (entries ++ entry ∷ []) first cause (IsWalking-more bytes from old new entries entry so_far.walked given) here rest

@@ -2,6 +2,7 @@ pub mod Least
 pub mod Packed
 pub mod Placed
 pub mod Scan
+pub mod Rest
 pub mod First
 pub mod Embedded
 pub mod LayerFault

@@ -11,6 +11,7 @@ ghost use Rattle.mvt_tile.specs.Placed.{IsPlaced};
 mod tests;
 
 use crate::layer::{in_scope, layer_fault};
+use crate::message::defect_or;
 use crate::scan::FieldScan;
 use mvt_fault::Fault;
 use mvt_wire::{Body, Field, Fields, Message, Scope, WireCause};
@@ -33,13 +34,15 @@ pub fn wire_fault(bytes: &[u8]) -> Option<Fault>
     'walk: while let Some(item) = fields.next_field() {
         match item {
             Ok(field) => {
-                own.note(&field);
+                if let Some(cause) = own.pass(&field) {
+                    return Some(in_scope(Scope::Tile, defect_or(fields, cause)));
+                }
                 layers.note(bytes, &field);
             }
             Err(cause) => return Some(in_scope(Scope::Tile, cause)),
         }
     }
-    if let Some(cause) = own.fault(bytes.len()) {
+    if let Some(cause) = own.end_fault(bytes.len()) {
         return Some(in_scope(Scope::Tile, cause));
     }
     layers.first

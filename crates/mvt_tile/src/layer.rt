@@ -6,6 +6,7 @@ ghost use Rattle.mvt_tile.specs.Least.{FindsLeastFault};
 ghost use Rattle.mvt_tile.specs.Placed.{IsPlaced};
 
 use crate::embedded::EmbeddedScan;
+use crate::message::defect_or;
 use crate::scan::FieldScan;
 use mvt_fault::Fault;
 use mvt_wire::{Body, Field, Fields, Message, Scope, WireCause};
@@ -25,14 +26,16 @@ pub(crate) fn layer_fault(bytes: &[u8], layer: usize, from: usize, to: usize) ->
     'walk: while let Some(item) = fields.next_field() {
         match item {
             Ok(field) => {
-                own.note(&field);
+                if let Some(cause) = own.pass(&field) {
+                    return Some(in_scope(Scope::Layer(layer), defect_or(fields, cause)));
+                }
                 values.note(bytes, &field);
                 features.note(bytes, &field);
             }
             Err(cause) => return Some(in_scope(Scope::Layer(layer), cause)),
         }
     }
-    if let Some(cause) = own.fault(to) {
+    if let Some(cause) = own.end_fault(to) {
         return Some(in_scope(Scope::Layer(layer), cause));
     }
     if let Some((value, cause)) = values.first() {

@@ -1,12 +1,15 @@
+//! The first fault of one message.
 ghost use Rattle.std.specs.Prelude.{◌≤◌, length, take};
 ghost use Rattle.mvt_wire.specs.WireFault.{MessageFault};
 ghost use Rattle.mvt_tile.specs.Least.{FindsLeastCause};
+ghost use Rattle.mvt_tile.specs.Rest.{IsDefectOr};
 
 use crate::scan::FieldScan;
 use mvt_wire::{Fields, Message, WireCause};
 
 /// The first fault of the message that stands in the bytes from one offset up to another, without
 /// those of the messages in it. The message is walked once.
+#[inline(always)]
 pub(crate) fn message_fault(
     message: Message,
     bytes: &[u8],
@@ -21,9 +24,28 @@ pub(crate) fn message_fault(
     let mut scan = FieldScan::new(message);
     'walk: while let Some(item) = fields.next_field() {
         match item {
-            Ok(field) => scan.note(&field),
+            Ok(field) => {
+                if let Some(cause) = scan.pass(&field) {
+                    return Some(defect_or(fields, cause));
+                }
+            }
             Err(cause) => return Some(cause),
         }
     }
-    scan.fault(to)
+    scan.end_fault(to)
+}
+
+/// The defect of a field that is left, or else the cause: a message that isn't whole has no other
+/// fault than its defect.
+#[cold]
+#[inline(never)]
+pub(crate) fn defect_or(mut fields: Fields<'_>, cause: WireCause) -> WireCause
+    ensures { IsDefectOr fields.entry cause result }
+{
+    'walk: while let Some(item) = fields.next_field() {
+        if let Err(defect) = item {
+            return defect;
+        }
+    }
+    cause
 }

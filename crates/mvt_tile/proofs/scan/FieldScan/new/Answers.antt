@@ -3,8 +3,9 @@ use Rattle.mvt_tile.proofs.Scans.{FieldFault-nothing}
 use Rattle.mvt_tile.proofs.scan.FieldScan.new.Goals as goal
 
 pub returns-clause-nothing : goal.returns-clause-nothing
-returns-clause-nothing c = λ from. record {
+returns-clause-nothing c = record {
   stood = λ field_number rule known. search rules;
   known = refl;
-  first = FieldFault-nothing c.args.message;
+  several = refl;
+  faultless = FieldFault-nothing c.args.message;
 }
