@@ -36,6 +36,7 @@ impl EmbeddedScan {
     }
 
     /// Passes the next field, whose payload lies in the bytes.
+    #[inline(always)]
     pub(crate) fn note(&mut self, bytes: &[u8], field: &Field<'_>)
         requires placed { (next : ℕ) × IsPlaced (entry_of field.now) next × (next ≤ length bytes.now) }
         requires room { self.old.count < length bytes.now }

@@ -1,5 +1,5 @@
 //! The faults of a field that its message knows.
-ghost use Rattle.std.specs.Prelude.{◌≡◌, ℕ, ◌<◌, ◌^◌, Bool, true};
+ghost use Rattle.std.specs.Prelude.{◌≡◌, ℕ, ◌<◌, ◌^◌, Bool, true, ◌↔◌, IsTrue, IsUtf8};
 ghost use Rattle.mvt_wire.specs.Field.{entry_of, content_of, wire_type_of, cause_at};
 ghost use Rattle.mvt_wire.specs.Schema.{is_own, is_singular};
 ghost use Rattle.mvt_wire.specs.WireFault.{EntryFault};
@@ -11,6 +11,7 @@ use mvt_wire::{Body, Field, FieldRule, Shape, WireCause, WireCode, text};
 
 /// The first fault of a field by the rule for its number. `stood` says whether a field of that
 /// number stands before it.
+#[inline(always)]
 pub(crate) fn field_fault(rule: FieldRule, stood: bool, field: &Field<'_>) -> Option<WireCause>
     requires { (next : ℕ) × IsPlaced (entry_of field.now) next × (next < 2 ^ 64) }
     ensures { FindsLeastCause (EntryFault rule stood (entry_of field.now)) result }
@@ -25,6 +26,7 @@ pub(crate) fn field_fault(rule: FieldRule, stood: bool, field: &Field<'_>) -> Op
 }
 
 /// The first fault in the payload of a field of its own wire type that may stand here.
+#[inline(always)]
 fn payload_fault(rule: FieldRule, field: &Field<'_>) -> Option<WireCause>
     requires placed { (next : ℕ) × IsPlaced (entry_of field.now) next × (next < 2 ^ 64) }
     requires own { is_own rule.shape (wire_type_of (content_of field.now.body)) ≡ true }
@@ -37,7 +39,7 @@ fn payload_fault(rule: FieldRule, field: &Field<'_>) -> Option<WireCause>
             at,
             field: field.number,
         }),
-        Body::Bytes { slice, .. } if rule.shape == Shape::Text && text(slice).is_none() => {
+        Body::Bytes { slice, .. } if rule.shape == Shape::Text && !is_text(slice) => {
             Some(at_key(field, WireCode::NotUtf8))
         }
         Body::Bytes { from, slice } if rule.shape == Shape::Numbers => {
@@ -45,6 +47,14 @@ fn payload_fault(rule: FieldRule, field: &Field<'_>) -> Option<WireCause>
         }
         _ => None,
     }
+}
+
+/// Whether the bytes are UTF-8.
+#[inline(never)]
+fn is_text(part: &[u8]) -> bool
+    ensures { IsTrue result ↔ IsUtf8 part.now }
+{
+    text(part).is_some()
 }
 
 /// The cause with a code at the key of a field.

@@ -23,6 +23,7 @@ pub(crate) fn packed_fault(part: &[u8], from: usize, number: u32) -> Option<Wire
 /// Where the first number stands that isn't below 2^32 or isn't whole, and what is wrong with it.
 ///
 /// Numbers of up to four bytes are small, so the bytes are only counted as long as none is longer.
+#[inline(never)]
 fn first_bad(part: &[u8]) -> Option<(usize, WireCode)>
     ensures none { IfNone result (AreSmallBefore part.now (length part.now)) }
     ensures first { IfSome result (λ bad. IsFirstBad part.now bad.0 bad.1) }

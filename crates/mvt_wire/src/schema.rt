@@ -107,32 +107,35 @@ pub const FEATURE_FIELDS: [FieldRule; 4] = rules![
 
 impl Shape {
     /// Whether a wire type, from 0 to 7, is the shape's own.
+    #[inline(always)]
     pub fn is_own(self, wire_type: u8) -> bool
         ensures { result ≡ is_own self wire_type }
     {
-        match self {
-            Shape::Embedded | Shape::Text => wire_type == 2,
-            Shape::FourBytes => wire_type == 5,
-            Shape::EightBytes => wire_type == 1,
-            Shape::Uint64 | Shape::Uint32 | Shape::GeometryType => wire_type == 0,
-            Shape::Numbers => wire_type == 0 || wire_type == 2,
-        }
+        let usual = match self {
+            Shape::Embedded | Shape::Text | Shape::Numbers => 2,
+            Shape::FourBytes => 5,
+            Shape::EightBytes => 1,
+            Shape::Uint64 | Shape::Uint32 | Shape::GeometryType => 0,
+        };
+        wire_type == usual || wire_type == 0 && matches!(self, Shape::Numbers)
     }
 
     /// Whether a number that a field of the shape states is out of the field's range: above
     /// 4294967295, or above 3 for a geometry type.
+    #[inline(always)]
     pub fn is_out_of_range(self, number: u64) -> bool
         ensures { result ≡ is_out_of_range self number }
     {
-        match self {
-            Shape::Uint32 | Shape::Numbers => number >= 1 << 32,
-            Shape::GeometryType => number >= 4,
+        let greatest = match self {
+            Shape::Uint32 | Shape::Numbers => u64::from(u32::MAX),
+            Shape::GeometryType => 3,
             Shape::Embedded
             | Shape::Text
             | Shape::FourBytes
             | Shape::EightBytes
-            | Shape::Uint64 => false,
-        }
+            | Shape::Uint64 => u64::MAX,
+        };
+        number > greatest
     }
 }
 
@@ -154,6 +157,7 @@ impl Occurrence {
 
 impl Message {
     /// The fields that the message knows.
+    #[inline(always)]
     pub fn rules(self) -> &'static [FieldRule]
         ensures { result.now ≡ rules_of self }
     {
@@ -166,6 +170,7 @@ impl Message {
     }
 
     /// What the message asks of the fields of a number, or None where it doesn't know the number.
+    #[inline(always)]
     pub fn rule(self, number: u32) -> Option<FieldRule>
         ensures { result ≡ rule_of self number }
     {
@@ -174,6 +179,7 @@ impl Message {
 }
 
 /// The first of the rules that is about a number.
+#[inline(always)]
 fn find_rule(rules: &[FieldRule], number: u32) -> Option<FieldRule>
     ensures { result ≡ find_rule rules.now number }
 {
