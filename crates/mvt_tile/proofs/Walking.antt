@@ -115,7 +115,7 @@ first_of_rest message bytes entries [] from to first list so_far =
 first_of_rest message bytes entries (entry ∷ rest) from to first list so_far =
     let here : IsFirstFault message entries entry.at first = subst (λ (place : ℕ). IsFirstFault message entries place first) (sym list.0) so_far in
     let one : IsFirstFault message (entries ++ entry ∷ []) list.1.0 first =
-        IsFirstFault-kept message entries entry list.1.0 first (IsPlaced-field bytes list.1.0 entry list.1.1) here in
+    IsFirstFault-kept message entries entry list.1.0 first (IsPlaced-field bytes list.1.0 entry list.1.1) here in
     subst (λ (list : List Entry). IsFirstFault message list to first) (append_assoc entries (entry ∷ []) rest) (first_of_rest message bytes (entries ++ entry ∷ []) rest list.1.0 to first list.1.2 one)
 
 -- two field lists, one behind the other
@@ -171,10 +171,10 @@ pub IsScanning-whole : (message : Message) (bytes : List ℕ) (from to : ℕ) (o
 IsScanning-whole message bytes from to old new scan entries found within so_far over finds =
     let size : length (take to bytes) ≡ to = length-take-le to bytes within in
     let here : FindsLeastCause (EndFault scan.message entries (length (take to bytes))) found =
-        subst (λ (place : ℕ). FindsLeastCause (EndFault scan.message entries place) found) (sym size) (finds entries so_far.passes) in
+    subst (λ (place : ℕ). FindsLeastCause (EndFault scan.message entries place) found) (sym size) (finds entries so_far.passes) in
     subst (λ (m : Message). FindsLeastCause (MessageFault m (take to bytes) from) found) so_far.same
     (whole_finds scan.message (take to bytes) from entries found (IsWalking-whole (take to bytes) from old new entries so_far.walked over)
-        (end_finds scan.message entries (length (take to bytes)) found so_far.passes.faultless here))
+    (end_finds scan.message entries (length (take to bytes)) found so_far.passes.faultless here))
 
 -- one more field was passed
 pub IsScanning-more : (message : Message) (bytes : List ℕ) (from : ℕ) (old new : Walk) (before after : FieldScan) (entries : List Entry) (entry : Entry) → IsScanning message bytes from old before entries
@@ -193,6 +193,6 @@ pub IsScanning-fault : (message : Message) (bytes : List ℕ) (from : ℕ) (old 
     → IsDefectOr new first cause → IsLeastCause (MessageFault message bytes from) cause
 IsScanning-fault message bytes from old new scan entries entry first cause so_far given fault rest =
     let here : IsFirstFault message (entries ++ entry ∷ []) new.at first =
-        subst (λ (m : Message). IsFirstFault m (entries ++ entry ∷ []) new.at first) so_far.same
-        (fault entries new.at (IsPlaced-field old.bytes new.at entry given.spelled) so_far.passes) in
+    subst (λ (m : Message). IsFirstFault m (entries ++ entry ∷ []) new.at first) so_far.same
+    (fault entries new.at (IsPlaced-field old.bytes new.at entry given.spelled) so_far.passes) in
     first_or_defect message bytes from new (entries ++ entry ∷ []) first cause (IsWalking-more bytes from old new entries entry so_far.walked given) here rest

@@ -36,7 +36,7 @@ pub returns-in-Some-pass-clause-least : goal.returns-in-Some-pass-clause-least
 returns-in-Some-pass-clause-least c =
     subst (IsLeast (IsWireFault c.args.bytes.now)) (sym c.in_scope.ensures)
     (TileWalk-fault c.args.bytes.now c.walk.fields c.next_field.new.self c.walk.own c.walk.layers c.walk.invariant
-        (entry_of c.in-Ok.field) (IfOk-at_ok _ c.in-Ok.is c.in-Some.ensures.field) c.in-Some-pass.cause c.defect_or.result c.in-Some-pass.ensures.fault c.defect_or.ensures)
+    (entry_of c.in-Ok.field) (IfOk-at_ok _ c.in-Ok.is c.in-Some.ensures.field) c.in-Some-pass.cause c.defect_or.result c.in-Some-pass.ensures.fault c.defect_or.ensures)
 
 pub returns-in-Err-clause-least : goal.returns-in-Err-clause-least
 returns-in-Err-clause-least c =

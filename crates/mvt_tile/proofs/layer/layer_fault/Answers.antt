@@ -52,7 +52,7 @@ pub returns-in-Some-pass : goal.returns-in-Some-pass
 returns-in-Some-pass c =
     subst (IsLeast (IsLayerFault c.args.bytes.now (stretch c.args.from c.args.to) c.args.layer)) (sym c.in_scope.ensures)
     (LayerWalk-fault c.args.bytes.now c.args.from c.args.to c.walk.fields c.next_field.new.self c.walk.own c.walk.values c.walk.features c.requires.within c.walk.invariant
-        (entry_of c.in-Ok.field) (IfOk-at_ok _ c.in-Ok.is c.in-Some.ensures.field) c.args.layer c.in-Some-pass.cause c.defect_or.result c.in-Some-pass.ensures.fault c.defect_or.ensures)
+    (entry_of c.in-Ok.field) (IfOk-at_ok _ c.in-Ok.is c.in-Some.ensures.field) c.args.layer c.in-Some-pass.cause c.defect_or.result c.in-Some-pass.ensures.fault c.defect_or.ensures)
 
 pub returns-in-Err : goal.returns-in-Err
 returns-in-Err c =

@@ -5,21 +5,26 @@ use Rattle.mvt_tile.proofs.Walking.{IsPlaced-within, IsWalking-defect, defect_al
 use Rattle.mvt_tile.proofs.message.message_fault.Goals as goal
 
 pub walk-init : goal.walk-init
-walk-init c = ([], IsScanning-nothing c.args.message (take c.args.to c.args.bytes.now) c.args.from c.new-fields.result c.new-scan.result
-    c.new-fields.ensures c.new-scan.ensures.message c.new-scan.ensures.nothing)
+walk-init c = (
+  [],
+  IsScanning-nothing c.args.message (take c.args.to c.args.bytes.now) c.args.from c.new-fields.result c.new-scan.result
+      c.new-fields.ensures c.new-scan.ensures.message c.new-scan.ensures.nothing,
+)
 
 pub pass-requires : goal.pass-requires
 pass-requires c =
     let so_far = c.walk.invariant in
     let placed = IsPlaced-within c.args.bytes.now c.args.from c.args.to c.walk.fields c.next_field.new.self so_far.0 (entry_of c.in-Ok.field) c.requires.within so_far.1.walked
-        (IfOk-at_ok _ c.in-Ok.is c.in-Some.ensures.field) in
+    (IfOk-at_ok _ c.in-Ok.is c.in-Some.ensures.field) in
     (placed.0, placed.1, omega (arith, placed.2))
 
 pub walk-preserved : goal.walk-preserved
 walk-preserved c =
-    let so_far = c.walk.invariant in
-    (so_far.0 ++ entry_of c.in-Ok.field ∷ [], IsScanning-more c.args.message (take c.args.to c.args.bytes.now) c.args.from c.walk.fields c.next_field.new.self c.walk.scan c.pass.new.self
-        so_far.0 (entry_of c.in-Ok.field) so_far.1 (IfOk-at_ok _ c.in-Ok.is c.in-Some.ensures.field) c.in_default-pass.ensures.message c.in_default-pass.ensures.passed)
+    let so_far = c.walk.invariant in (
+      so_far.0 ++ entry_of c.in-Ok.field ∷ [],
+      IsScanning-more c.args.message (take c.args.to c.args.bytes.now) c.args.from c.walk.fields c.next_field.new.self c.walk.scan c.pass.new.self
+          so_far.0 (entry_of c.in-Ok.field) so_far.1 (IfOk-at_ok _ c.in-Ok.is c.in-Some.ensures.field) c.in_default-pass.ensures.message c.in_default-pass.ensures.passed,
+    )
 
 pub returns-in-Some-pass : goal.returns-in-Some-pass
 returns-in-Some-pass c =
