@@ -3,6 +3,9 @@ ghost use Rattle.std.specs.Prelude.{◌≡◌, ◌≤◌, ℕ, List, ◌∷◌, 
 ghost use Rattle.mvt_wire.specs.Field.{Entry, entry_of};
 ghost use Rattle.mvt_wire.specs.Tile.{TileRecord, IsTile, LayerRecord, IsLayer};
 ghost use Rattle.mvt_wire.specs.declared.schema.Message.TheVariants as messages;
+ghost use Rattle.mvt_tile.specs.ReadFault.{IsReadFault};
+ghost use Rattle.mvt_tile.specs.Reading.{Embeds, FitsRule, LiesIn, TellsTile};
+ghost use Rattle.mvt_tile.specs.View.{layer_of, tile_of};
 
 mod feature;
 mod layer;
@@ -30,13 +33,12 @@ pub enum ReadFault {
     Memory,
 }
 
-ghost use Rattle.mvt_tile.specs.ReadFault.{IsReadFault};
-ghost use Rattle.mvt_tile.specs.Reading.{Embeds, FitsRule, LiesIn, TellsTile};
-ghost use Rattle.mvt_tile.specs.View.{layer_of, tile_of};
-
-/// The tile that the bytes are (Mapbox Vector Tile Specification 2.1, section 4), or the first of
-/// their wire faults. Texts and the bytes of floats are borrowed. Each message is walked once for
-/// its faults, and once for its record.
+/// The tile that the bytes are (Mapbox Vector Tile Specification 2.1, section 4). Texts and the bytes
+/// of floats are borrowed. Each message is walked once for its faults, and once for its record;
+/// nothing is reserved by a length or a count that was read.
+///
+/// Errors: `Wire` with the first wire fault, where the bytes are no tile; `Memory` where a tile's
+/// record found no memory.
 pub fn read_tile(alloc: Global, bytes: &[u8]) -> Result<Tile<'_>, ReadFault>
     ensures tile { IfOk result (λ tile. IsTile bytes.now (tile_of tile)) }
     ensures fault { IfErr result (IsReadFault bytes.now) }

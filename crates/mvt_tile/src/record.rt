@@ -39,7 +39,7 @@ pub enum Kind {
     Polygon,
 }
 
-/// The value of a tag (section 4.1, "Value"), by which of its seven fields stands.
+/// The value of a tag (section 4.4), by which of its seven fields stands.
 #[derive(Clone, Copy, Debug, PartialEq, Eq)]
 pub enum Value<'a> {
     Text(&'a str),
@@ -47,8 +47,10 @@ pub enum Value<'a> {
     Float(&'a [u8]),
     /// Eight bytes, as they stand in the tile.
     Double(&'a [u8]),
+    /// `int_value`, spelled in two's complement.
     Int(i64),
     Uint(u64),
+    /// `sint_value`, spelled as a zigzag number.
     Sint(i64),
     Bool(bool),
 }
