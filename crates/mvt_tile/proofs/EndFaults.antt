@@ -1,6 +1,6 @@
 -- The faults of a message at its end.
 use Rattle.std.proofs.Common.{◌≡◌, ℕ, ◌<◌, ◌≤◌, nat_lt, Bool, true, false, ◌&&◌, not, ◌⊎◌, inl, inr, List, refl, sym, ◌∙◌, ap, subst, arith}
-use Rattle.std.proofs.lemmas.Bool.{cases_lt, cases_Bool, both_ways, and_parts, and_from, not-true, ltb-true, ltb-false}
+use Rattle.std.proofs.lemmas.Bool.{cases_lt, cases_Bool, both_ways, and_parts, not-true, ltb-true, ltb-false}
 use Rattle.mvt_wire.specs.Field.{Entry, cause_at}
 use Rattle.mvt_wire.specs.WireFault.{count_known, EndFault, missing, not_one}
 use Rattle.mvt_wire.specs.declared.cause.WireCause.{WireCause}
@@ -25,9 +25,6 @@ one_known count known several some more one =
     let low : 0 < count = ltb-true 0 count (sym some ∙ parts.0) in
     let high : count ≤ 1 = ltb-false 1 count (sym more ∙ not-true several parts.1) in
     omega arith
-
-known_one : (count : ℕ) (known several : Bool) → known ≡ nat_lt 0 count → several ≡ nat_lt 1 count → count ≡ 1 → (known && not several) ≡ true
-known_one count known several some more one = and_from known (not several) (some ∙ ap (nat_lt 0) one) (ap not (more ∙ ap (nat_lt 1) one))
 
 -- a fault at the end, as the scan tells it
 abbrev pub UnseenOrNotOne : FieldScan → ℕ → WireCause → Type 0
@@ -62,18 +59,7 @@ Missing-first scan entries end field_number here least passes = record {
   ];
 }
 
--- where no number is missing, that a value has none or several of its fields is the only one
-pub OneField-first : (scan : FieldScan) (entries : List Entry) (end : ℕ) → ((field_number : ℕ) → ¬ IsMissing scan field_number) → scan.message ≡ Value → (scan.known && not scan.several) ≡ false → Passes scan entries
-    → IsLeastCause (EndFault scan.message entries end) (cause_at OneField end 0)
-OneField-first scan entries end none value not passes = record {
-  holds = not_one value (λ one. both_ways _ not (known_one (count_known scan.message entries) scan.known scan.several passes.known passes.several one)) refl;
-  least = λ other fault. elim (unseen_or_not_one scan entries end other passes fault) [
-    | inl unseen ↦ absurd (none unseen.0 unseen.1)
-    | inr one ↦ same_cause (cause_at OneField end 0) other (sym one.2)
-  ];
-}
-
--- and else there is none
+-- where no number is missing, and a value has just one of its fields, there is none
 pub EndFault-none : (scan : FieldScan) (entries : List Entry) (end : ℕ) → ((field_number : ℕ) → ¬ IsMissing scan field_number) → (scan.message ≡ Value → (scan.known && not scan.several) ≡ true) → Passes scan entries
     → (cause : WireCause) → ¬ EndFault scan.message entries end cause
 EndFault-none scan entries end none one passes cause fault = elim (unseen_or_not_one scan entries end cause passes fault) [

@@ -1,5 +1,5 @@
 -- One more field behind others: what stands, how many are known, and the faults of fields.
-use Rattle.std.proofs.Common.{◌≡◌, ℕ, ◌+◌, ◌==◌, nat_lt, Bool, true, ◌⊎◌, inl, inr, List, [], ◌∷◌, ◌++◌, length, filter, is_some, Some, None, refl, sym, ◌∙◌, ap, subst, arith, length-append, append_assoc}
+use Rattle.std.proofs.Common.{◌≡◌, ℕ, ◌+◌, ◌==◌, nat_lt, true, ◌⊎◌, inl, inr, List, [], ◌∷◌, ◌++◌, length, filter, is_some, Some, None, refl, sym, ◌∙◌, ap, subst, arith, length-append, append_assoc}
 use Rattle.std.proofs.lemmas.Bool.{ne_eqb, lt-ltb, cond-true, cond-false}
 use Rattle.std.proofs.lemmas.List.Elements.{filter-append}
 use Rattle.mvt_wire.specs.Field.{Entry}
@@ -29,10 +29,6 @@ stands_in-other field_number entries entry other =
     let none : count_of field_number (entry ∷ []) ≡ 0 = ap length (cond-false (entry.number == field_number) (entry ∷ []) [] (ne_eqb entry.number field_number other)) in
     let same : count_of field_number (entries ++ entry ∷ []) ≡ count_of field_number entries = omega arith in
     ap (nat_lt 0) same
-
--- a field counts where the message knows its number
-known_in : Message → Entry → Bool
-known_in message entry = is_some (rule_of message entry.number)
 
 count_known-append : (message : Message) (entries : List Entry) (entry : Entry) → count_known message (entries ++ entry ∷ []) ≡ count_known message entries + length (filter (λ (e : Entry). is_some (rule_of message e.number)) (entry ∷ []))
 count_known-append message entries entry =

@@ -1,5 +1,5 @@
 -- Packed lists of small numbers: how a walk over the bytes tells them, and that the first fault that it meets is the least.
-use Rattle.std.proofs.Common.{◌≡◌, ℕ, ◌+◌, ◌-◌, ◌^◌, ◌<◌, ◌≤◌, ◌≢◌, inl, inr, List, [], ◌∷◌, ◌++◌, length, get_or, take, drop, slice_range, refl, sym, ◌∙◌, ap, subst, arith, length-drop, lit<, suc, length-append}
+use Rattle.std.proofs.Common.{◌≡◌, ℕ, ◌+◌, ◌-◌, ◌^◌, ◌<◌, ◌≤◌, inl, inr, List, [], ◌∷◌, ◌++◌, length, get_or, take, drop, slice_range, refl, sym, ◌∙◌, ap, subst, arith, length-drop, lit<, suc, length-append}
 use Rattle.std.proofs.Math.Nat.{pow-le-pow_right}
 use Rattle.std.proofs.lemmas.Bool.{cases_lt}
 use Rattle.std.proofs.lemmas.List.{get_or-drop, get_or_at}
@@ -9,7 +9,7 @@ use Rattle.mvt_wire.specs.Field.{cause_at}
 use Rattle.mvt_wire.specs.Number.{VarintList, AreSmall, PackedFault, no_varint, too_large}
 use Rattle.mvt_wire.specs.declared.cause.WireCause.{WireCause}
 use Rattle.mvt_wire.specs.declared.cause.WireCode.{WireCode}
-use Rattle.mvt_wire.specs.declared.cause.WireCode.TheVariants.{Ends, OutOfRange}
+use Rattle.mvt_wire.specs.declared.cause.WireCode.TheVariants.{OutOfRange}
 use Rattle.mvt_wire.proofs.PackedLists.{one_goes_on, packed_or_fault}
 use Rattle.mvt_wire.proofs.Varints.{sum_of_groups-take-below, IsVarint-take, last_byte, earlier_byte, one_value, varint_or_defect, one_defect_of_varint}
 use Rattle.mvt_fault.specs.Place.{ComesFirst}
@@ -73,14 +73,6 @@ pub record IsWalked (part : List ℕ) (start i : ℕ) : Type 0 where
   pub continued : AreContinued part start i
   pub checked : start + 3 < i → IsSmallNumber part start
 
-pub IsWalked-nothing : (part : List ℕ) → IsWalked part 0 0
-IsWalked-nothing part = record {
-  forward = omega arith;
-  before = ([], refl, λ k d h. absurd (omega arith));
-  continued = λ k low high. absurd (omega arith);
-  checked = λ h. absurd (omega arith);
-}
-
 -- the number goes on
 pub IsWalked-on : (part : List ℕ) (start i : ℕ) → IsWalked part start i → (i ≡ start + 3 → IsSmallNumber part start) → 128 ≤ get_or part i 0 → IsWalked part start (i + 1)
 IsWalked-on part start i walked checked high = record {
@@ -112,35 +104,6 @@ IsWalked-next part start i walked within low = record {
   continued = λ k h below. absurd (omega arith);
   checked = λ far. absurd (omega arith);
 }
-
--- the bytes end within a number
-pub IsFirstBad-at_end : (part : List ℕ) (start : ℕ) → IsWalked part start (length part) → start ≢ length part → IsFirstBad part start Ends
-IsFirstBad-at_end part start walked more =
-    let forward = walked.forward in
-    let left : start < length part = omega arith in
-    let size : length (drop start part) ≡ length part - start = length-drop start part in
-    let few : length part ≤ start + 3 = elim (cases_lt (start + 3) (length part)) [
-      | inr near ↦ near
-      | inl far ↦
-          let long = walked.checked far in
-          let spelled = long.spelled in
-          let ahead = spelled.forward in
-          let within = spelled.within in
-          let low = last_byte part start long.next long.number spelled in
-          let high = walked.continued (long.next - 1) (omega arith) (omega arith) in
-          absurd (omega arith)
-    ] in
-    record {
-      before = walked.before;
-      left = left;
-      fault = inl (inl (
-        refl,
-        record {
-          few = omega arith;
-          continued = λ k h. rw (get_or-drop start part k 0) (walked.continued (start + k) (omega arith) (omega arith));
-        },
-      ));
-    }
 
 -- a small number has no fault
 small_or_bad : (part : List ℕ) (at next n : ℕ) (code : WireCode) → SpellsVarint part at next n → n < 2 ^ 32 → NumberFault part at code → ⊥

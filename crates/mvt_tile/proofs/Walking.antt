@@ -1,5 +1,5 @@
 -- A walk over the fields of a message, and what the faults of its fields say of the message.
-use Rattle.std.proofs.Common.{◌≡◌, ℕ, ◌-◌, ◌<◌, ◌≤◌, ◌⊎◌, inl, inr, List, [], ◌∷◌, ◌++◌, length, take, Option, Some, None, sym, ◌∙◌, ap, subst, arith, append-nil, append_assoc, refl}
+use Rattle.std.proofs.Common.{◌≡◌, ℕ, ◌-◌, ◌<◌, ◌≤◌, ◌⊎◌, inl, inr, List, [], ◌∷◌, ◌++◌, length, take, Option, Some, None, sym, ◌∙◌, ap, subst, arith, append-nil, append_assoc}
 use Rattle.std.proofs.lemmas.List.{length-take-le}
 use Rattle.std.proofs.lemmas.List.Edits.{length-between}
 use Rattle.mvt_wire.specs.Field.{Content, varint, eight_bytes, delimited, four_bytes, Entry, IsPayload, IsField, FieldDefect}
@@ -144,10 +144,6 @@ first_or_defect message bytes from walk entries first cause walked fault (inr wh
         | inr at_end ↦ let place = end_place message (entries ++ whole.0.0) (length bytes) other at_end in by_offset first other (omega (arith, all.before))
       ];
     }))
-
--- a walk that has passed what is left has found no defect
-pub DefectOr-whole : (walk now : Walk) (passed : List Entry) (cause : WireCause) → IsWalking walk.bytes walk.at now passed → now.at ≡ length now.bytes → IsDefectOr walk cause cause
-DefectOr-whole walk now passed cause walking over = inr ((passed, subst (λ (to : ℕ). FieldList walk.bytes walk.at passed to) (over ∙ ap length walking.same_bytes) walking.passed), refl)
 
 -- What is known while the fields of a message are walked: those that were passed, and what the scan keeps of them.
 pub record IsScanning (message : Message) (bytes : List ℕ) (from : ℕ) (walk : Walk) (scan : FieldScan) (entries : List Entry) : Type 0 where
