@@ -1,6 +1,7 @@
 -- The one known field of a value is read.
 use Rattle.std.proofs.Common.{◌≡◌, ℕ, Bool, true, false, cond, not, ◌==◌, List, [], ◌∷◌, ◌++◌, filter, is_some, Some, ℤ, refl, sym, ◌∙◌, ap, subst}
 use Rattle.std.proofs.lemmas.List.Elements.{filter-append}
+use Rattle.std.specs.Option.{option_map}
 use Rattle.std.specs.Int.{cast_signed, w64}
 use Rattle.mvt_wire.specs.Field.{Content, varint, eight_bytes, delimited, four_bytes, Entry}
 use Rattle.mvt_wire.specs.Number.{zigzag}
@@ -25,10 +26,11 @@ delimited_from (four_bytes bytes) part told = absurd (cc)
 pub says_by_text : (n : ℕ) (content : Content) (part : List ℕ) → n ≡ 1 → bytes_in content ≡ Some part → Says n content (text part)
 says_by_text n content part is told = let place = delimited_from content part told in says_text place.0 part is place.1 refl
 
-pub says_by_int : (n : ℕ) (content : Content) (z : ℤ) → n ≡ 4 → ((number : ℕ) × (number_in content ≡ Some number) × (z ≡ cast_signed w64 number)) → Says n content (int z)
-says_by_int n content z is told =
-    let place = varint_from content told.0 told.1 in
-    says_int told.0 place.0 is place.1 (ap int told.2)
+pub says_by_int : (n : ℕ) (content : Content) (z : ℤ) → n ≡ 4 → option_map (cast_signed w64) (number_in content) ≡ Some z → Says n content (int z)
+says_by_int n (varint value at) z is told = says_int value at is refl (ap int cc)
+says_by_int n (eight_bytes part) z is told = absurd (cc)
+says_by_int n (delimited from part) z is told = absurd (cc)
+says_by_int n (four_bytes part) z is told = absurd (cc)
 
 pub says_by_uint : (n : ℕ) (content : Content) (number : ℕ) → n ≡ 5 → number_in content ≡ Some number → Says n content (uint number)
 says_by_uint n content number is told = let place = varint_from content number told in says_uint number place.0 is place.1 refl
@@ -38,10 +40,11 @@ says_by_sint n content z is told =
     let place = varint_from content (zigzag z) told in
     says_sint z place.0 is place.1 refl
 
-pub says_by_truth : (n : ℕ) (content : Content) (b : Bool) → n ≡ 7 → ((number : ℕ) × (number_in content ≡ Some number) × (b ≡ not (number == 0))) → Says n content (truth b)
-says_by_truth n content b is told =
-    let place = varint_from content told.0 told.1 in
-    says_truth told.0 place.0 is place.1 (ap truth told.2)
+pub says_by_truth : (n : ℕ) (content : Content) (b : Bool) → n ≡ 7 → option_map (λ value. not (value == 0)) (number_in content) ≡ Some b → Says n content (truth b)
+says_by_truth n (varint value at) b is told = says_truth value at is refl (ap truth cc)
+says_by_truth n (eight_bytes part) b is told = absurd (cc)
+says_by_truth n (delimited from part) b is told = absurd (cc)
+says_by_truth n (four_bytes part) b is told = absurd (cc)
 
 -- a known field behind unknown ones is the first that is known
 first_known : (front rest : List Entry) (entry known : Entry) → filter is_known front ≡ [] → is_known entry ≡ true

@@ -1,4 +1,4 @@
-ghost use Rattle.std.specs.Prelude.{◌≡◌, ℕ, ◌<◌, ◌≤◌, ◌^◌, List, ◌++◌, ◌==◌, not, OnOk, IsUtf8, length};
+ghost use Rattle.std.specs.Prelude.{◌≡◌, ℕ, ◌<◌, ◌≤◌, ◌^◌, List, ◌++◌, ◌==◌, not, option_map, OnOk, IsUtf8, length};
 ghost use Rattle.std.specs.Int.{cast_signed, w64};
 ghost use Rattle.mvt_wire.specs.Field.{content_of, delimited, eight_bytes, four_bytes, wire_type_of};
 ghost use Rattle.mvt_wire.specs.Varint.{SpellsVarint};
@@ -23,7 +23,7 @@ pub(crate) fn number_in(body: Body) -> u64
 /// The number of a varint in two's complement (Protocol Buffers encoding, "Signed Integers").
 pub(crate) fn int_in(body: Body) -> i64
     requires { wire_type_of (content_of body) ≡ 0 }
-    ensures { (n : ℕ) × (number_in (content_of body.entry) ≡ Some n) × (result ≡ cast_signed w64 n) }
+    ensures { option_map (cast_signed w64) (number_in (content_of body.entry)) ≡ Some result }
 {
     number_in(body).cast_signed()
 }
@@ -39,7 +39,7 @@ pub(crate) fn sint_in(body: Body) -> i64
 /// The truth value of a varint: true where it isn't 0.
 pub(crate) fn truth_in(body: Body) -> bool
     requires { wire_type_of (content_of body) ≡ 0 }
-    ensures { (n : ℕ) × (number_in (content_of body.entry) ≡ Some n) × (result ≡ not (n == 0)) }
+    ensures { option_map (λ n. not (n == 0)) (number_in (content_of body.entry)) ≡ Some result }
 {
     number_in(body) != 0
 }
