@@ -70,11 +70,6 @@ module _ (entries : List Entry) (entry : Entry) (feature : FeatureRecord) (tells
         (StateTogether-push (contents_of 4 entries) entry.content feature.geometry given tells.geometry states));
   }
 
-  pub tells_nothing : entry.number ≢ 1 → entry.number ≢ 2 → entry.number ≢ 3 → entry.number ≢ 4
-      → TellsFeature (entries ++ entry ∷ []) feature
-  tells_nothing not_1 not_2 not_3 not_4 =
-      record { id = same_id not_1; tags = same_tags not_2; kind = same_kind not_3; geometry = same_geometry not_4 }
-
 -- a list of at most one number
 only : (numbers : List ℕ) → length numbers ≤ 1 → last_of None (map Some numbers) ≡ slice_get numbers 0
 only [] few = refl
