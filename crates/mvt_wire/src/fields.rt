@@ -43,13 +43,12 @@ impl<'a> Fields<'a> {
     /// Structure").
     ///
     /// Errors: the one defect of the field at this place, with code 101 to 105; from then on None.
-    #[inline(always)]
     pub fn next_field(&mut self) -> Option<Result<Field<'a>, WireCause>>
         ensures over { IfNone result (IsOver self.old self.new) }
         ensures field { IfSome result (λ item. IfOk item (λ field. GivesField self.old self.new (entry_of field))) }
         ensures defect { IfSome result (λ item. IfErr item (λ cause. FindsDefect self.old self.new cause)) }
     {
-        if self.at >= self.bytes.len() {
+        if self.at == self.bytes.len() {
             return None;
         }
         match read_field(self.bytes, self.at) {
@@ -66,7 +65,6 @@ impl<'a> Fields<'a> {
 }
 
 /// The field at an offset, and the offset behind it.
-#[inline(always)]
 pub(crate) fn read_field(bytes: &[u8], at: usize) -> Result<(Field<'_>, usize), WireCause>
     requires { at ≤ length bytes.now }
     ensures field { IfOk result (λ read. IsField bytes.now read.1 (entry_of read.0)) }
