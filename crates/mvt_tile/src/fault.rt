@@ -16,6 +16,9 @@ use crate::scan::FieldScan;
 use mvt_fault::Fault;
 use mvt_wire::{Body, Field, Fields, Message, Scope, WireCause};
 
+/// The number of a tile's layers (Mapbox Vector Tile Specification 2.1, section 4).
+const LAYERS: u32 = 3;
+
 /// The first wire fault of the bytes of a tile, or None where there is none: a fault of the wire
 /// encoding (Protocol Buffers encoding, "Message Structure"), or a field that the tile's schema
 /// refuses (Mapbox Vector Tile Specification 2.1, section 4).
@@ -82,7 +85,7 @@ impl LayerScan {
         if self.first.is_some() {
             return;
         }
-        if field.number != 3 {
+        if field.number != LAYERS {
             return;
         }
         let Body::Bytes { from, slice } = field.body else {

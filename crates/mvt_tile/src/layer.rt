@@ -1,15 +1,19 @@
 //! The faults of a layer and of the messages in it.
-ghost use Rattle.std.specs.Prelude.{◌≡◌, ℕ, ◌+◌, ◌<◌, ◌≤◌, List, [], ◌∷◌, ◌++◌, length};
-ghost use Rattle.mvt_wire.specs.Field.{Entry, entry_of};
+ghost use Rattle.std.specs.Prelude.{◌≡◌, ◌≤◌, length};
 ghost use Rattle.mvt_tile.specs.LayerFault.{IsLayerFault, stretch};
 ghost use Rattle.mvt_tile.specs.Least.{FindsLeastFault};
-ghost use Rattle.mvt_tile.specs.Placed.{IsPlaced};
 
 use crate::embedded::EmbeddedScan;
 use crate::message::defect_or;
 use crate::scan::FieldScan;
 use mvt_fault::Fault;
-use mvt_wire::{Body, Field, Fields, Message, Scope, WireCause};
+use mvt_wire::{Fields, Message, Scope, WireCause};
+
+/// The number of a layer's features (Mapbox Vector Tile Specification 2.1, section 4.1).
+const FEATURES: u32 = 2;
+
+/// The number of a layer's values.
+const VALUES: u32 = 4;
 
 /// The first fault of the layer with an ordinal, which stands in the bytes from one offset up to
 /// another: that of its own fields, or else of its values, or else of its features (Mapbox Vector
@@ -21,8 +25,8 @@ pub(crate) fn layer_fault(bytes: &[u8], layer: usize, from: usize, to: usize) ->
 {
     let mut fields = Fields::new(bytes, from, to);
     let mut own = FieldScan::new(Message::Layer);
-    let mut values = EmbeddedScan::new(Message::Value, 4);
-    let mut features = EmbeddedScan::new(Message::Feature, 2);
+    let mut values = EmbeddedScan::new(Message::Value, VALUES);
+    let mut features = EmbeddedScan::new(Message::Feature, FEATURES);
     'walk: while let Some(item) = fields.next_field() {
         match item {
             Ok(field) => {
