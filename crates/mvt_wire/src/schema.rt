@@ -129,11 +129,8 @@ impl Shape {
         let greatest = match self {
             Shape::Uint32 | Shape::Numbers => u64::from(u32::MAX),
             Shape::GeometryType => 3,
-            Shape::Embedded
-            | Shape::Text
-            | Shape::FourBytes
-            | Shape::EightBytes
-            | Shape::Uint64 => u64::MAX,
+            Shape::Embedded | Shape::Text | Shape::FourBytes | Shape::EightBytes | Shape::Uint64 =>
+                u64::MAX,
         };
         number > greatest
     }
