@@ -16,7 +16,7 @@ use crate::scan::FieldScan;
 use mvt_fault::Fault;
 use mvt_wire::{Body, Field, Fields, Message, Scope, WireCause};
 
-/// The number of a tile's layers (Mapbox Vector Tile Specification 2.1, section 4).
+/// The field number of a tile's layers (Mapbox Vector Tile Specification 2.1, section 4).
 const LAYERS: u32 = 3;
 
 /// The first wire fault of the bytes of a tile, or None where there is none: a fault of the wire

@@ -9,10 +9,10 @@ use crate::scan::FieldScan;
 use mvt_fault::Fault;
 use mvt_wire::{Fields, Message, Scope, WireCause};
 
-/// The number of a layer's features (Mapbox Vector Tile Specification 2.1, section 4.1).
+/// The field number of a layer's features (Mapbox Vector Tile Specification 2.1, section 4.1).
 const FEATURES: u32 = 2;
 
-/// The number of a layer's values.
+/// The field number of a layer's values.
 const VALUES: u32 = 4;
 
 /// The first fault of the layer with an ordinal, which stands in the bytes from one offset up to

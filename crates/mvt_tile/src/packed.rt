@@ -22,7 +22,8 @@ pub(crate) fn packed_fault(part: &[u8], from: usize, number: u32) -> Option<Wire
 
 /// Where the first number stands that isn't below 2^32 or isn't whole, and what is wrong with it.
 ///
-/// Numbers of up to four bytes are small, so the bytes are only counted as long as none is longer.
+/// Numbers of up to four bytes are small, so their bytes are only counted; a longer one is read in
+/// full, once.
 #[inline(never)]
 fn first_bad(part: &[u8]) -> Option<(usize, WireCode)>
     ensures none { IfNone result (AreSmallBefore part.now (length part.now)) }

@@ -41,7 +41,6 @@ impl FieldScan {
     #[inline(always)]
     pub(crate) fn pass(&mut self, field: &Field<'_>) -> Option<WireCause>
         requires { (next : ℕ) × IsPlaced (entry_of field.now) next × (next < 2 ^ 64) }
-
         ensures message { self.new.message ≡ self.old.message }
         ensures passed { IfNone result ((entries : List Entry)
             → Passes self.old entries → Passes self.new (entries ++ entry_of field.now ∷ [])) }

@@ -7,6 +7,7 @@ pub struct Field<'a> {
     pub number: u32,
     /// The offset of the field's key.
     pub at: usize,
+    /// The payload.
     pub body: Body<'a>,
 }
 

@@ -1,4 +1,5 @@
-//! The wire encoding of Protocol Buffers over borrowed bytes: varints, and the fields of a message.
+//! The wire encoding of Protocol Buffers over borrowed bytes: varints, the fields of a message and
+//! their numbers; and the schema of a tile's messages.
 #![tactic(auto)]
 
 mod cause;
