@@ -20,7 +20,7 @@ pub(crate) struct EmbeddedScan {
 impl EmbeddedScan {
     ghost use Rattle.mvt_tile.specs.Embedded.{ScansEmbedded};
 
-    /// None of the fields was passed yet.
+    /// A scan that has passed no field yet.
     pub(crate) fn new(message: Message, number: u32) -> Self
         ensures message { result.message ≡ message }
         ensures number { result.number ≡ number }

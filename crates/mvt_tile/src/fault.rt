@@ -63,7 +63,7 @@ struct LayerScan {
 impl LayerScan {
     ghost use Rattle.mvt_tile.specs.LayerScan.{ScansLayers};
 
-    /// None of the fields was passed yet.
+    /// A scan that has passed no field yet.
     fn new() -> Self
         ensures count { result.count ≡ 0 }
         ensures nothing { (bytes : List ℕ) → ScansLayers bytes result [] }

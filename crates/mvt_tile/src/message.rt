@@ -9,6 +9,7 @@ use mvt_wire::{Fields, Message, WireCause};
 
 /// The first fault of the message that stands in the bytes from one offset up to another, without
 /// those of the messages in it. The message is walked once.
+// Inlined, so that the rules of each message are constants of its own walk.
 #[inline(always)]
 pub(crate) fn message_fault(
     message: Message,
