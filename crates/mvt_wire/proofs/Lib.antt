@@ -1,6 +1,7 @@
 pub mod Contents
 pub mod Defects
 pub mod Entries
+pub mod Groups
 pub mod Judgements
 pub mod Messages
 pub mod PackedLists

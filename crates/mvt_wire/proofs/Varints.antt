@@ -30,14 +30,6 @@ sum_of_groups-take-below rest i h = rw (length-take-le i rest h) at (sum_of_grou
 pub weight-le : (i : ℕ) → i ≤ 9 → 128 ^ i ≤ 2 ^ 63
 weight-le i h = let positive : 0 < 128 = lit< tt in let raised : 128 ^ i ≤ 128 ^ 9 = pow-le-pow_right positive h in omega arith
 
--- a loop that has read i groups reads one more
-pub value_step : (rest : List ℕ) (i value weight group : ℕ) → i < length rest → weight ≡ 128 ^ i → value ≡ sum_of_groups (take i rest) → group ≡ get_or rest i 0 % 128 → value + group * weight ≡ sum_of_groups (take (i + 1) rest)
-value_step rest i value weight group within w v g = rw (v, g, w) (sym (sum_of_groups-take rest i within))
-
-pub value_step-below : (rest : List ℕ) (i value weight group : ℕ) → i < length rest → weight ≡ 128 ^ i → value ≡ sum_of_groups (take i rest) → group ≡ get_or rest i 0 % 128 → value + group * weight < 128 ^ (i + 1)
-value_step-below rest i value weight group within w v g =
-    rw (value_step rest i value weight group within w v g) (sum_of_groups-take-below rest (i + 1) (omega arith))
-
 -- the first byte below 128 ends the varint
 pub IsVarint-take : (rest : List ℕ) (i n : ℕ) → i < length rest → i ≤ 9 → ((k : ℕ) → k < i → 128 ≤ get_or rest k 0) → get_or rest i 0 < 128 → n ≡ sum_of_groups (take (i + 1) rest) → n < 2 ^ 64 → IsVarint (take (i + 1) rest) n
 IsVarint-take rest i n within few earlier last value fits =

@@ -43,12 +43,13 @@ impl<'a> Fields<'a> {
     /// Structure").
     ///
     /// Errors: the one defect of the field at this place, with code 101 to 105; from then on None.
+    #[inline(always)]
     pub fn next_field(&mut self) -> Option<Result<Field<'a>, WireCause>>
         ensures over { IfNone result (IsOver self.old self.new) }
         ensures field { IfSome result (λ item. IfOk item (λ field. GivesField self.old self.new (entry_of field))) }
         ensures defect { IfSome result (λ item. IfErr item (λ cause. FindsDefect self.old self.new cause)) }
     {
-        if self.at == self.bytes.len() {
+        if self.at >= self.bytes.len() {
             return None;
         }
         match read_field(self.bytes, self.at) {
@@ -65,6 +66,7 @@ impl<'a> Fields<'a> {
 }
 
 /// The field at an offset, and the offset behind it.
+#[inline(always)]
 pub(crate) fn read_field(bytes: &[u8], at: usize) -> Result<(Field<'_>, usize), WireCause>
     requires { at ≤ length bytes.now }
     ensures field { IfOk result (λ read. IsField bytes.now read.1 (entry_of read.0)) }
@@ -80,6 +82,7 @@ pub(crate) fn read_field(bytes: &[u8], at: usize) -> Result<(Field<'_>, usize), 
 }
 
 /// The payload behind a key, and the offset behind the payload.
+#[inline(always)]
 fn read_payload(bytes: &[u8], key: Key) -> Result<(Body<'_>, usize), WireCause>
     requires { IsKeyOf bytes.now key }
     ensures wire_type { IfOk result (λ read. wire_type_of (content_of read.0) ≡ number_of key.wire_type) }
@@ -111,6 +114,7 @@ fn read_payload(bytes: &[u8], key: Key) -> Result<(Body<'_>, usize), WireCause>
 }
 
 /// The varint that a payload begins with, its value or its length, and the offset behind it.
+#[inline(always)]
 fn read_leading(bytes: &[u8], key: Key) -> Result<(u64, usize), WireCause>
     requires key { IsKeyOf bytes.now key }
     requires leading { HasLeadingVarint (number_of key.wire_type) }
@@ -128,6 +132,7 @@ fn read_leading(bytes: &[u8], key: Key) -> Result<(u64, usize), WireCause>
 }
 
 /// The offset behind the bytes of a payload, of which there are `size` from an offset on.
+#[inline(always)]
 fn payload_end(bytes: &[u8], key: Key, from: usize, size: u64) -> Result<usize, WireCause>
     requires key { IsKeyOf bytes.now key }
     requires within { from ≤ length bytes.now }

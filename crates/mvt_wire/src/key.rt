@@ -25,6 +25,7 @@ pub(crate) struct Key {
 }
 
 /// The field key at an offset (Protocol Buffers encoding, "Message Structure").
+#[inline(always)]
 pub(crate) fn read_key(bytes: &[u8], at: usize) -> Result<Key, WireCause>
     requires { at ≤ length bytes.now }
     ensures key { IfOk result (IsKeyOf bytes.now) }
@@ -65,6 +66,7 @@ pub(crate) fn read_key(bytes: &[u8], at: usize) -> Result<Key, WireCause>
 }
 
 /// Whether a number is a field key: below 2^32, and with a field number of at least 1.
+#[inline(always)]
 fn is_key(number: u64) -> bool
     ensures { IsTrue result ↔ (8 ≤ number) × (number < 2 ^ 32) }
 {

@@ -1,5 +1,5 @@
-ghost use Rattle.std.specs.Prelude.{◌≡◌, ℕ, ◌≤◌, length, take, drop, IfOk, IfErr};
-ghost use Rattle.mvt_wire.specs.Varint.{IsVarint, SpellsVarint, VarintDefect};
+ghost use Rattle.std.specs.Prelude.{◌≡◌, ℕ, ◌^◌, ◌<◌, ◌≤◌, ◌⊎◌, length, take, drop, IfSome, IfNone, IfOk, IfErr};
+ghost use Rattle.mvt_wire.specs.Varint.{sum_of_groups, IsVarint, SpellsVarint, EndsEarly, IsTooLong, VarintDefect};
 ghost use Rattle.mvt_wire.specs.declared.cause.WireCode.{WireCode};
 
 use crate::cause::WireCode;
@@ -16,38 +16,76 @@ pub fn read_varint(bytes: &[u8], at: usize) -> Result<(u64, usize), WireCode>
     ensures refused { IfErr result (λ code. VarintDefect code (drop at bytes.now)) }
     ensures refused_only { (code : WireCode) → VarintDefect code (drop at bytes.now) → result ≡ Err code }
 {
-    // Nearly all varints of a tile have one byte.
-    if let Some(&byte) = bytes.get(at) {
-        if byte < 128 {
-            return Ok((u64::from(byte), at + 1));
-        }
+    if let Some(read) = short_varint(bytes, at) {
+        return Ok(read);
     }
-    let (value, size) = leading_varint(&bytes[at..])?;
-    Ok((value, at + size))
+    // Each part of the answer fits registers, so that a walk keeps nothing in memory for it.
+    let rest = &bytes[at..];
+    match varint_size(rest) {
+        Some(size) => Ok((varint_value(&rest[..size]), at + size)),
+        None => Err(varint_defect(rest)),
+    }
 }
 
-/// The varint that the bytes begin with: its value, and how many bytes it takes.
-fn leading_varint(rest: &[u8]) -> Result<(u64, usize), WireCode>
-    ensures within { IfOk result (λ read. read.1 ≤ length rest.now) }
-    ensures found { IfOk result (λ read. IsVarint (take read.1 rest.now) read.0) }
-    ensures refused { IfErr result (λ code. VarintDefect code rest.now) }
+/// The varint at an offset, and the offset behind it, where it has one byte or two, as nearly all
+/// have in a tile.
+#[inline(always)]
+fn short_varint(bytes: &[u8], at: usize) -> Option<(u64, usize)>
+    requires { at ≤ length bytes.now }
+    ensures { IfSome result (λ read. SpellsVarint bytes.now at read.1 read.0) }
 {
-    let mut value = 0;
-    let mut weight = 1;
+    let &first = bytes.get(at)?;
+    if first < 128 {
+        return Some((u64::from(first), at + 1));
+    }
+    let &second = bytes.get(at + 1)?;
+    if second < 128 {
+        return Some((u64::from(first % 128) + u64::from(second) * 128, at + 2));
+    }
+    None
+}
+
+/// How many bytes the varint has that the bytes begin with, or None where they begin with none.
+#[inline(never)]
+fn varint_size(rest: &[u8]) -> Option<usize>
+    ensures within { IfSome result (λ size. size ≤ length rest.now) }
+    ensures found { IfSome result (λ size. IsVarint (take size rest.now) (sum_of_groups (take size rest.now))) }
+    ensures refused { IfNone result (EndsEarly rest.now ⊎ IsTooLong rest.now) }
+{
     for (i, &byte) in rest.iter().enumerate() {
         if i == 9 {
             // One bit is left below 2^64.
-            return if byte > 1 {
-                Err(WireCode::TooLong)
-            } else {
-                Ok((value + u64::from(byte) * weight, 10))
-            };
+            return if byte > 1 { None } else { Some(10) };
         }
-        value += u64::from(byte % 128) * weight;
         if byte < 128 {
-            return Ok((value, i + 1));
+            return Some(i + 1);
         }
-        weight *= 128;
     }
-    Err(WireCode::Ends)
+    None
+}
+
+/// The number that a varint spells.
+#[inline(never)]
+fn varint_value(spelling: &[u8]) -> u64
+    requires { sum_of_groups spelling.now < 2 ^ 64 }
+    ensures { result ≡ sum_of_groups spelling.now }
+{
+    let mut value = 0;
+    for i in (0..spelling.len()).rev() {
+        value = value * 128 + u64::from(spelling[i] % 128);
+    }
+    value
+}
+
+/// What keeps bytes from beginning with a varint.
+#[inline(never)]
+fn varint_defect(rest: &[u8]) -> WireCode
+    requires { EndsEarly rest.now ⊎ IsTooLong rest.now }
+    ensures { VarintDefect result rest.now }
+{
+    if rest.len() < 10 {
+        WireCode::Ends
+    } else {
+        WireCode::TooLong
+    }
 }
