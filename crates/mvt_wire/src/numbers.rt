@@ -64,6 +64,7 @@ impl<'a> Numbers<'a> {
     /// key, where a field of the number is neither a varint nor a packed list; `Ends` or `TooLong`
     /// where no varint stands in a packed list, and `OutOfRange` where a number is 2^32 or more,
     /// both at the varint's first byte. From then on None.
+    #[inline(always)]
     pub fn next_number(&mut self) -> Option<Result<u32, WireCause>>
         ensures end { IfNone result (EndsNumbers self.old self.new None) }
         ensures number { IfSome result (λ item. IfOk item (GivesNumber self.old self.new)) }
@@ -97,6 +98,7 @@ impl<'a> Numbers<'a> {
 }
 
 /// No varints, in front of the field that is due at an offset.
+#[inline(always)]
 fn no_varints(at: usize) -> Varints
     ensures { result ≡ record { at = at; end = at } }
 {
@@ -105,6 +107,7 @@ fn no_varints(at: usize) -> Varints
 
 /// The varints that come next: those left of a list, or else those of the next field that has the
 /// field number and any.
+#[inline(always)]
 fn varints_left(
     bytes: &[u8],
     field_number: u32,
@@ -126,6 +129,7 @@ fn varints_left(
 }
 
 /// The varints of the next field that has the field number and any.
+#[inline(never)]
 fn next_varints(bytes: &[u8], field_number: u32, from: usize) -> Option<Result<Varints, WireCause>>
     requires { from ≤ length bytes.now }
     ensures varints { IfSome result (λ item. IfOk item (λ next.
@@ -179,6 +183,7 @@ fn field_varints(bytes: &[u8], field_number: u32, at: usize) -> Result<Varints, 
 }
 
 /// The number that the varints begin with, and the offset behind it.
+#[inline(always)]
 fn read_number(bytes: &[u8], field_number: u32, varints: Varints) -> Result<(u32, usize), WireCause>
     requires left { varints.at < varints.end }
     requires within { varints.end ≤ length bytes.now }
