@@ -1,4 +1,4 @@
-ghost use Rattle.std.specs.Prelude.{◌≡◌, ℕ, ◌^◌, ◌<◌, ◌≤◌, ◌⊎◌, length, take, drop, IfSome, IfNone, IfOk, IfErr};
+ghost use Rattle.std.specs.Prelude.{◌≡◌, ℕ, ◌+◌, ◌^◌, ◌<◌, ◌≤◌, ◌⊎◌, length, take, drop, IfSome, IfNone, IfOk, IfErr};
 ghost use Rattle.mvt_wire.specs.Varint.{sum_of_groups, IsVarint, SpellsVarint, EndsEarly, IsTooLong, VarintDefect};
 ghost use Rattle.mvt_wire.specs.declared.cause.WireCode.{WireCode};
 
@@ -32,7 +32,8 @@ pub fn read_varint(bytes: &[u8], at: usize) -> Result<(u64, usize), WireCode>
 #[inline(always)]
 fn short_varint(bytes: &[u8], at: usize) -> Option<(u64, usize)>
     requires { at ≤ length bytes.now }
-    ensures { IfSome result (λ read. SpellsVarint bytes.now at read.1 read.0) }
+    ensures found { IfSome result (λ read. SpellsVarint bytes.now at read.1 read.0) }
+    ensures long { IfNone result ((n to : ℕ) → SpellsVarint bytes.now at to n → at + 2 < to) }
 {
     let &first = bytes.get(at)?;
     if first < 128 {
