@@ -107,19 +107,26 @@ pub place_here : (from : ℕ) (part : List ℕ) (k at : ℕ) (cause : WireCause)
 place_here from part k at cause (inl bad) = ap (λ (c : WireCause). c.at) bad.3
 place_here from part k at cause (inr large) = ap (λ (c : WireCause). c.at) large.4
 
--- and no other one comes before it
-pub least_fault_of : (at k : ℕ) (content : Content) (ms ns : List ℕ) (c d : WireCause) → FaultOf at k content ms c → AreSmall ms → FaultOf at k content ns d → c.at ≤ d.at
-least_fault_of at k (varint value place) ms ns c d first small second =
-    let here : c.at ≡ d.at = ap (λ (x : WireCause). x.at) (first.2 ∙ sym second.2) in omega arith
-least_fault_of at k (eight_bytes part) ms ns c d first small second =
-    let here : c.at ≡ d.at = ap (λ (x : WireCause). x.at) (first.1 ∙ sym second.1) in omega arith
-least_fault_of at k (four_bytes part) ms ns c d first small second =
-    let here : c.at ≡ d.at = ap (λ (x : WireCause). x.at) (first.1 ∙ sym second.1) in omega arith
+-- the fault is the other, or stands before it
+abbrev pub StandsFirst : WireCause → WireCause → Type 0
+StandsFirst cause other = (cause.at < other.at) ⊎ (cause ≡ other)
+
+-- and every other one stands behind it
+pub least_fault_of : (at k : ℕ) (content : Content) (ms ns : List ℕ) (c d : WireCause) → FaultOf at k content ms c → AreSmall ms → FaultOf at k content ns d → StandsFirst c d
+least_fault_of at k (varint value place) ms ns c d first small second = inr (first.2 ∙ sym second.2)
+least_fault_of at k (eight_bytes part) ms ns c d first small second = inr (first.1 ∙ sym second.1)
+least_fault_of at k (four_bytes part) ms ns c d first small second = inr (first.1 ∙ sym second.1)
 least_fault_of at k (delimited from part) ms ns c d first small second =
     let low = first_fault from part k first.0 second.0 ms ns d first.1 second.1 small second.2 in
-    let here = place_here from part k first.0 c first.2 in
-    let there = place_here from part k second.0 d second.2 in
-    omega arith
+    elim (cases_lt first.0 second.0) [
+      | inl less ↦
+          let here = place_here from part k first.0 c first.2 in
+          let there = place_here from part k second.0 d second.2 in
+          inl (omega arith)
+      | inr not_less ↦
+          let same : first.0 ≡ second.0 = omega arith in
+          inr (one_fault_here from part k second.0 c d (subst (λ (place : ℕ). FaultHere from part k place c) same first.2) second.2)
+    ]
 
 -- a field that states small numbers has no fault
 packed_or_fault_here : (from : ℕ) (part : List ℕ) (k stop : ℕ) (ms ns : List ℕ) (cause : WireCause) → VarintList part 0 ms (length part) → AreSmall ms → VarintList part 0 ns stop → FaultHere from part k stop cause → ⊥

@@ -9,7 +9,7 @@ use Rattle.mvt_wire.specs.declared.cause.WireCause.{WireCause}
 use Rattle.mvt_wire.proofs.Entries.{one_field, no_field_at_end, field_extent}
 use Rattle.mvt_wire.proofs.Defects.{field_or_defect, one_field_defect}
 use Rattle.mvt_wire.proofs.VarintLists.{All-back}
-use Rattle.mvt_wire.proofs.NumberFaults.{FaultOf, fault_of, least_fault_of, fault_extent}
+use Rattle.mvt_wire.proofs.NumberFaults.{FaultOf, fault_of, StandsFirst, least_fault_of, fault_extent}
 use Rattle.mvt_wire.proofs.NumberLaws.{EndsAt, at_end, at_stop, walked, stated_behind, StatedBehind, field_or_stop, end_or_stop}
 
 -- a field list goes forward
@@ -56,9 +56,8 @@ stop_within bytes at to k e numbers cause here field (in_field end f there other
     omega arith
 
 -- of all that may stand in the way at a place, that behind small numbers comes first
-least_stop : (bytes : List ℕ) (at k : ℕ) (ms ns : List ℕ) (c d : WireCause) → StopsAt bytes at k ms c → AreSmall ms → StopsAt bytes at k ns d → c.at ≤ d.at
-least_stop bytes at k ms ns c d (at_defect left x none) small (at_defect also y neither) =
-    let same : c.at ≡ d.at = ap (λ (x : WireCause). x.at) (one_field_defect bytes at c d x y) in omega arith
+least_stop : (bytes : List ℕ) (at k : ℕ) (ms ns : List ℕ) (c d : WireCause) → StopsAt bytes at k ms c → AreSmall ms → StopsAt bytes at k ns d → StandsFirst c d
+least_stop bytes at k ms ns c d (at_defect left x none) small (at_defect also y neither) = inr (one_field_defect bytes at c d x y)
 least_stop bytes at k ms ns c d (at_defect left x none) small (in_field to e here field is fault) =
     absurd (field_or_defect bytes to e c field (subst (λ (place : ℕ). FieldDefect bytes place c) (sym here) x))
 least_stop bytes at k ms ns c d (in_field to e here field is fault) small (at_defect left y none) =
@@ -67,10 +66,10 @@ least_stop bytes at k ms ns c d (in_field to e here field is fault) small (in_fi
     let same : e ≡ f = (one_field bytes to end e f (here ∙ sym there) field other).1 in
     least_fault_of e.at e.number e.content ms ns c d (fault_of e ms c fault) small (subst (λ (x : Entry). FaultOf x.at x.number x.content ns d) (sym same) (fault_of f ns d second))
 
--- the numbers end no later than at a fault
+-- the numbers end at a fault, or before it
 abbrev pub EndsBefore : Option WireCause → WireCause → Type 0
 EndsBefore None other = ⊥
-EndsBefore (Some cause) other = cause.at ≤ other.at
+EndsBefore (Some cause) other = StandsFirst cause other
 
 end_before_stop : (bytes : List ℕ) (at k : ℕ) (ms ns : List ℕ) (ending : Option WireCause) (other : WireCause) → EndsAt bytes at k ms ending → AreSmall ms → StopsAt bytes at k ns other → EndsBefore ending other
 end_before_stop bytes at k ms ns ending other (at_end end none is) small stop = absurd (end_or_stop bytes at k ns other end stop)
@@ -80,7 +79,8 @@ end_before_field : (bytes : List ℕ) (at to k : ℕ) (e : Entry) (ms : List ℕ
 end_before_field bytes at to k e ms ending other here field (at_end end none is) behind = absurd (no_field_at_end bytes at to e end here field)
 end_before_field bytes at to k e ms ending other here field (at_stop cause first is) behind =
     let within = stop_within bytes at to k e ms cause here field first in
-    subst (λ (e : Option WireCause). EndsBefore e other) (sym is) (omega arith)
+    let less : cause.at < other.at = omega arith in
+    subst (λ (e : Option WireCause). EndsBefore e other) (sym is) (inl less)
 
 -- what stands behind a field's own numbers
 rest_of : (k : ℕ) (e : Entry) (es : List Entry) (numbers : List ℕ) → AreSmall numbers → StatedBehind k e es numbers → (rest : List ℕ) × StateTogether (contents_of k es) rest × AreSmall rest
@@ -112,3 +112,17 @@ ends_before bytes from k numbers ending other end fault =
 -- where they end with a fault, it stands in their way
 pub ends_at_fault : (bytes : List ℕ) (from k : ℕ) (numbers : List ℕ) (cause : WireCause) → NumbersEnd bytes from k numbers (Some cause) → IsNumbersFault bytes from k cause
 ends_at_fault bytes from k numbers cause end = record { entries = end.entries; at = end.at; before = end.before; numbers = end.last; stop = end.stop }
+
+-- of the faults in their way this is the one of least place
+pub ends_at_least : (bytes : List ℕ) (from k : ℕ) (numbers : List ℕ) (cause other : WireCause) → NumbersEnd bytes from k numbers (Some cause) → IsNumbersFault bytes from k other → cause.at ≤ other.at
+ends_at_least bytes from k numbers cause other end fault = elim (ends_before bytes from k numbers (Some cause) other end fault) [
+  | inl less ↦ omega arith
+  | inr same ↦ let places : cause.at ≡ other.at = ap (λ (c : WireCause). c.at) same in omega arith
+]
+
+-- and the only one there
+pub ends_at_only : (bytes : List ℕ) (from k : ℕ) (numbers : List ℕ) (cause other : WireCause) → NumbersEnd bytes from k numbers (Some cause) → IsNumbersFault bytes from k other → cause.at ≡ other.at → cause ≡ other
+ends_at_only bytes from k numbers cause other end fault here = elim (ends_before bytes from k numbers (Some cause) other end fault) [
+  | inl less ↦ absurd (omega arith)
+  | inr same ↦ same
+]

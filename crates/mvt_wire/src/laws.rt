@@ -1,15 +1,17 @@
 //! The laws of the wire encoding and of the messages of a tile, as contracts of functions that do
 //! nothing. They speak of the definitions alone, so a reader of messages can stand on them.
 
-ghost use Rattle.std.specs.Prelude.{◌≡◌, ℕ, ◌≤◌, ◌⊎◌, List, [], ◌∷◌, ◌++◌, length, drop, Option, Some, None};
+ghost use Rattle.std.specs.Prelude.{◌≡◌, ℕ, ◌+◌, ◌-◌, ◌^◌, ◌<◌, ◌≤◌, ◌⊎◌, List, [], ◌∷◌, ◌++◌, length, take, drop, slice_index, Option, Some, None};
 ghost use Rattle.std.specs.List.{concat};
-ghost use Rattle.mvt_wire.specs.Varint.{IsVarint, SpellsVarint, EndsEarly, IsTooLong};
+ghost use Rattle.mvt_wire.specs.Varint.{sum_of_groups, IsVarint, SpellsVarint, VarintDefect};
 ghost use Rattle.mvt_wire.specs.Field.{Entry, IsField, IsFieldSpelling};
 ghost use Rattle.mvt_wire.specs.Message.{FieldList, IsMessage, AreSpellings, HasDefect};
 ghost use Rattle.mvt_wire.specs.WireFault.{WireFault};
 ghost use Rattle.mvt_wire.specs.Tile.{TileRecord, IsTile};
+ghost use Rattle.mvt_wire.specs.Number.{VarintList, AreSmall, PackedFault};
 ghost use Rattle.mvt_wire.specs.Numbers.{IsNumbersFault, NumbersEnd, IsNumberAt, StandBetween, place_of_end};
 ghost use Rattle.mvt_wire.specs.declared.cause.WireCause.{WireCause};
+ghost use Rattle.mvt_wire.specs.declared.cause.WireCode.{WireCode};
 ghost use Rattle.mvt_wire.specs.declared.scope.Scope.{Scope};
 
 /// No spelling of a varint is a proper front of another one (Protocol Buffers encoding, "Base 128
@@ -18,22 +20,40 @@ pub fn no_varint_begins_another()
     ensures { (spelling more : List ℕ) (m n : ℕ) → IsVarint spelling m → IsVarint (spelling ++ more) n → more ≡ [] }
 {}
 
-/// At each place stands exactly one of a varint, a varint that ends too early and one that is too
-/// long.
+/// At each place stands exactly one of a varint and its two defects: that it ends too early, or is
+/// too long.
 pub fn varint_or_defect()
     ensures some { (bytes : List ℕ) (at : ℕ) → at ≤ length bytes →
-        ((to n : ℕ) × SpellsVarint bytes at to n) ⊎ EndsEarly (drop at bytes) ⊎ IsTooLong (drop at bytes) }
-    ensures one_varint { (bytes : List ℕ) (at to end m n : ℕ) →
-        SpellsVarint bytes at to m → SpellsVarint bytes at end n → (to ≡ end) × (m ≡ n) }
-    ensures not_early { (bytes : List ℕ) (at to n : ℕ) → SpellsVarint bytes at to n → ¬ EndsEarly (drop at bytes) }
-    ensures not_long { (bytes : List ℕ) (at to n : ℕ) → SpellsVarint bytes at to n → ¬ IsTooLong (drop at bytes) }
-    ensures one_defect { (rest : List ℕ) → EndsEarly rest → ¬ IsTooLong rest }
+        ((to n : ℕ) × SpellsVarint bytes at to n) ⊎ ((code : WireCode) × VarintDefect code (drop at bytes)) }
+    ensures one_end { (bytes : List ℕ) (at to end m n : ℕ) → SpellsVarint bytes at to m → SpellsVarint bytes at end n → to ≡ end }
+    ensures one_value { (bytes : List ℕ) (at to end m n : ℕ) → SpellsVarint bytes at to m → SpellsVarint bytes at end n → m ≡ n }
+    ensures not_both { (bytes : List ℕ) (at to n : ℕ) (code : WireCode) → SpellsVarint bytes at to n → ¬ VarintDefect code (drop at bytes) }
+    ensures one_defect { (rest : List ℕ) (code other : WireCode) → VarintDefect code rest → VarintDefect other rest → code ≡ other }
+{}
+
+/// Of a varint's bytes the last alone is below 128: the first such byte ends it, if the number has
+/// 64 bits. The groups of seven bits of so many bytes stand for less than 128 to that power
+/// (Protocol Buffers encoding, "Base 128 Varints").
+pub fn varint_ends_below_128()
+    ensures last { (bytes : List ℕ) (from to n : ℕ) → SpellsVarint bytes from to n → slice_index bytes (to - 1) < 128 }
+    ensures earlier { (bytes : List ℕ) (from to n : ℕ) → SpellsVarint bytes from to n →
+        (i : ℕ) → from ≤ i → i + 1 < to → 128 ≤ slice_index bytes i }
+    ensures ended { (rest : List ℕ) (last n : ℕ) → last < length rest → last ≤ 9 →
+        ((i : ℕ) → i < last → 128 ≤ slice_index rest i) → slice_index rest last < 128 →
+        n ≡ sum_of_groups (take (last + 1) rest) → n < 2 ^ 64 → IsVarint (take (last + 1) rest) n }
+    ensures weight { (rest : List ℕ) (size : ℕ) → size ≤ length rest → sum_of_groups (take size rest) < 128 ^ size }
 {}
 
 /// No spelling of a field is a proper front of another one (Protocol Buffers encoding, "Message
 /// Structure").
 pub fn no_field_begins_another()
     ensures { (spelling more : List ℕ) (e f : Entry) → IsFieldSpelling spelling e → IsFieldSpelling (spelling ++ more) f → more ≡ [] }
+{}
+
+/// A field takes bytes, all of them within its message (Protocol Buffers encoding, "Message
+/// Structure").
+pub fn field_takes_bytes()
+    ensures { (bytes : List ℕ) (to : ℕ) (entry : Entry) → IsField bytes to entry → (entry.at < to) × (to ≤ length bytes) }
 {}
 
 /// A message is whole exactly where its bytes are spellings of fields, joined one behind another.
@@ -73,6 +93,24 @@ pub fn field_list_goes_on()
         FieldList bytes from entries at → entry.at ≡ at → IsField bytes next entry → FieldList bytes from (entries ++ entry ∷ []) next }
 {}
 
+/// Of two lists of varints that begin at one place, one goes on where the other ends (Protocol
+/// Buffers encoding, "Packed Repeated Fields").
+pub fn varint_list_goes_on()
+    ensures { (bytes : List ℕ) (from to end : ℕ) (first second : List ℕ) → VarintList bytes from first to → VarintList bytes from second end →
+        ((rest : List ℕ) × (first ≡ second ++ rest) × VarintList bytes end rest to)
+        ⊎ ((rest : List ℕ) × (second ≡ first ++ rest) × VarintList bytes to rest end) }
+{}
+
+/// A packed list is one of numbers of 32 bits, or has a fault, and not both (Protocol Buffers
+/// encoding, "Packed Repeated Fields").
+pub fn packed_list_or_fault()
+    ensures some { (from : ℕ) (part : List ℕ) (field_number : ℕ) →
+        ((numbers : List ℕ) × VarintList part 0 numbers (length part) × AreSmall numbers)
+        ⊎ ((cause : WireCause) × PackedFault from part field_number cause) }
+    ensures not_both { (from : ℕ) (part : List ℕ) (field_number : ℕ) (cause : WireCause) (numbers : List ℕ) →
+        VarintList part 0 numbers (length part) → AreSmall numbers → ¬ PackedFault from part field_number cause }
+{}
+
 /// The numbers of a message's fields of one number end in one way: with a whole message, or at a
 /// fault (Protocol Buffers encoding, "Packed Repeated Fields").
 pub fn one_numbers_end()
@@ -82,12 +120,15 @@ pub fn one_numbers_end()
         NumbersEnd bytes from field_number first ending → NumbersEnd bytes from field_number second other → (first ≡ second) × (ending ≡ other) }
 {}
 
-/// Of all faults in the way of the numbers, they end at one of least place.
+/// Of all faults in the way of the numbers, they end at the one of least place: all others stand
+/// behind it.
 pub fn numbers_end_at_least_fault()
     ensures fault { (bytes : List ℕ) (from field_number : ℕ) (numbers : List ℕ) (cause : WireCause) →
         NumbersEnd bytes from field_number numbers (Some cause) → IsNumbersFault bytes from field_number cause }
     ensures least { (bytes : List ℕ) (from field_number : ℕ) (numbers : List ℕ) (cause other : WireCause) →
         NumbersEnd bytes from field_number numbers (Some cause) → IsNumbersFault bytes from field_number other → cause.at ≤ other.at }
+    ensures only { (bytes : List ℕ) (from field_number : ℕ) (numbers : List ℕ) (cause other : WireCause) →
+        NumbersEnd bytes from field_number numbers (Some cause) → IsNumbersFault bytes from field_number other → cause.at ≡ other.at → cause ≡ other }
     ensures none { (bytes : List ℕ) (from field_number : ℕ) (numbers : List ℕ) (cause : WireCause) →
         NumbersEnd bytes from field_number numbers None → ¬ IsNumbersFault bytes from field_number cause }
 {}

@@ -1,17 +1,18 @@
-use Rattle.mvt_wire.proofs.Varints.{place_begins, one_end, one_value, varint_or_early, varint_or_long, early_or_long}
+use Rattle.mvt_wire.proofs.Defects.{varint_begins}
+use Rattle.mvt_wire.proofs.Varints.{one_end, one_value, varint_or_defect, one_defect_of_varint}
 use Rattle.mvt_wire.proofs.laws.varint_or_defect.Goals as goal
 
 pub returns-clause-some : goal.returns-clause-some
-returns-clause-some c = place_begins
+returns-clause-some c = varint_begins
 
-pub returns-clause-one_varint : goal.returns-clause-one_varint
-returns-clause-one_varint c = λ bytes at to end m n first second. (one_end bytes at to end m n first second, one_value bytes at to end m n first second)
+pub returns-clause-one_end : goal.returns-clause-one_end
+returns-clause-one_end c = one_end
 
-pub returns-clause-not_early : goal.returns-clause-not_early
-returns-clause-not_early c = varint_or_early
+pub returns-clause-one_value : goal.returns-clause-one_value
+returns-clause-one_value c = one_value
 
-pub returns-clause-not_long : goal.returns-clause-not_long
-returns-clause-not_long c = varint_or_long
+pub returns-clause-not_both : goal.returns-clause-not_both
+returns-clause-not_both c = varint_or_defect
 
 pub returns-clause-one_defect : goal.returns-clause-one_defect
-returns-clause-one_defect c = early_or_long
+returns-clause-one_defect c = one_defect_of_varint
