@@ -11,7 +11,10 @@ use Rattle.mvt_fault.specs.Text.{data_of, IsInRange, Reads}
 use Rattle.mvt_wire.specs.declared.scope.Scope.{Scope}
 use Rattle.mvt_wire.specs.declared.scope.Scope.TheVariants.{Tile, Layer, Value, Feature}
 use Rattle.mvt_fault.specs.declared.fault.Fault.{Fault}
-use Rattle.mvt_fault.specs.declared.fault.Fault.TheVariants.{Wire}
+use Rattle.mvt_fault.specs.declared.fault.Fault.TheVariants.{Wire, Version, Name, Tag}
+use Rattle.mvt_fault.specs.declared.tag.TagCode.{TagCode}
+use Rattle.mvt_fault.specs.declared.tag.TagCode.TheVariants.{OddLength, NoKey, NoValue, Repeated}
+use Rattle.mvt_fault.specs.Code.{tag_code}
 
 -- the cause with a number
 abbrev wire_code_at : ℕ → WireCode
@@ -41,6 +44,20 @@ wire_code_at-code_of OneField = refl
 wire_code_at-code_of NotUtf8 = refl
 wire_code_at-code_of OutOfRange = refl
 
+-- the cause of a fault of tags with a number
+abbrev tag_code_at : ℕ → TagCode
+tag_code_at n =
+    if n == 301 then OddLength else
+    (if n == 302 then NoKey else
+    (if n == 303 then NoValue else Repeated))
+
+-- each number is that of one cause
+tag_code_at-tag_code : (code : TagCode) → tag_code_at (tag_code code) ≡ code
+tag_code_at-tag_code OddLength = refl
+tag_code_at-tag_code NoKey = refl
+tag_code_at-tag_code NoValue = refl
+tag_code_at-tag_code Repeated = refl
+
 -- the whole number at a key, or 0
 abbrev number_at : List ℕ → Data → ℕ
 number_at key d = unwrap_or (option_and_then as_u64 (option_and_then as_number (get key d))) 0
@@ -53,11 +70,19 @@ scope_in d =
     (if is_some (get (codes "value") d) then Value layer (number_at (codes "value") d) else
     (if is_some (get (codes "layer") d) then Layer layer else Tile))
 
+-- a wire fault with this object, where there is one
+abbrev wire_fault_in : Data → Fault
+wire_fault_in d =
+    Wire (wire_code_at (number_at (codes "code") d)) (scope_in d) (number_at (codes "at") d)
+    (number_at (codes "field") d)
+
 -- a fault with this object, where there is one
 abbrev fault_in : Data → Fault
 fault_in d =
-    Wire (wire_code_at (number_at (codes "code") d)) (scope_in d) (number_at (codes "at") d)
-    (number_at (codes "field") d)
+    if is_some (get (codes "scope") d) then wire_fault_in d else
+    (if is_some (get (codes "index") d) then Tag (tag_code_at (number_at (codes "code") d)) (number_at (codes "layer") d) (number_at (codes "feature") d) (number_at (codes "index") d) else
+    (if is_some (get (codes "second") d) then Name (number_at (codes "first") d) (number_at (codes "second") d) else
+    Version (number_at (codes "layer") d)))
 
 -- the fault can be told from its object
 fault_in-data_of : (f : Fault) → fault_in (data_of f) ≡ f
@@ -65,6 +90,9 @@ fault_in-data_of (Wire code Tile at field) = ap (λ c. Wire c Tile at field) (wi
 fault_in-data_of (Wire code (Layer layer) at field) = ap (λ c. Wire c (Layer layer) at field) (wire_code_at-code_of code)
 fault_in-data_of (Wire code (Value layer value) at field) = ap (λ c. Wire c (Value layer value) at field) (wire_code_at-code_of code)
 fault_in-data_of (Wire code (Feature layer feature) at field) = ap (λ c. Wire c (Feature layer feature) at field) (wire_code_at-code_of code)
+fault_in-data_of (Version layer) = refl
+fault_in-data_of (Name first second) = refl
+fault_in-data_of (Tag code layer feature index) = ap (λ c. Tag c layer feature index) (tag_code_at-tag_code code)
 
 -- two faults with one object are the same
 data_of-injective : (f g : Fault) → data_of f ≡ data_of g → f ≡ g
@@ -77,6 +105,9 @@ depth-data_of (Wire code Tile at field) = lit≤ tt
 depth-data_of (Wire code (Layer layer) at field) = lit≤ tt
 depth-data_of (Wire code (Value layer value) at field) = lit≤ tt
 depth-data_of (Wire code (Feature layer feature) at field) = lit≤ tt
+depth-data_of (Version layer) = lit≤ tt
+depth-data_of (Name first second) = lit≤ tt
+depth-data_of (Tag code layer feature index) = lit≤ tt
 
 -- what reads as a fault's object stands for that fault
 pub Reads-string_bytes : (f : Fault) (d : Data) (s : String Global) → d ≡ data_of f → IsInRange f

@@ -3,9 +3,10 @@ use Rattle.std.proofs.Common.{◌≡◌, ◌≢◌, ◌↔◌, ℕ, ◌<◌, ◌
 use Rattle.std.specs.Ordering.{ordering_then, nat_cmp, MatchOrdering, is_le, is_some_and}
 use Rattle.std.specs.Cmp.{ranks}
 use Rattle.std.specs.Cmp.Lexicographic.{slice_cmp, slice_partial_cmp, lists_agrees}
-use Rattle.mvt_fault.specs.Place.{place_of, ComesFirst, IsWireFault, IsLeast}
+use Rattle.mvt_fault.specs.Place.{place_of, ComesFirst, IsLeast}
+use Rattle.mvt_fault.specs.Truth.{IsFault}
 use Rattle.mvt_fault.specs.declared.fault.Fault.{Fault}
-use Rattle.mvt_fault.specs.declared.fault.Fault.TheVariants.{Wire}
+use Rattle.mvt_fault.specs.declared.fault.Fault.TheVariants.{Wire, Version, Name, Tag}
 
 -- a place comes first before itself
 pub ComesFirst-reflexive : (xs : List ℕ) → ComesFirst xs xs
@@ -92,10 +93,25 @@ up_to_tells xs ys = rw (lists_agrees {C = λ x y. Some (nat_cmp x y)} (λ x y. r
     up_to Equal xs ys h = (λ e. subst (ComesFirst xs) h (ComesFirst-reflexive xs), λ p. refl)
     up_to Greater xs ys h = (λ e. absurd (cc e), λ p. absurd (h.1 (ComesFirst-antisymmetric xs ys p h.0)))
 
--- a place tells its wire fault
-same_place : (f g : Fault) → place_of f ≡ place_of g → f ≡ g
-same_place (Wire code scope at field) (Wire other_code other_scope other_at other_field) same = Prim.search rules
+-- a place tells its fault
+pub same_place : (f g : Fault) → place_of f ≡ place_of g → f ≡ g
+same_place (Wire code scope at field) (Wire code2 scope2 at2 field2) same = Prim.search rules
+same_place (Wire code scope at field) (Version layer2) same = Prim.search rules
+same_place (Wire code scope at field) (Name first2 second2) same = Prim.search rules
+same_place (Wire code scope at field) (Tag tag_code2 layer2 feature2 index2) same = Prim.search rules
+same_place (Version layer) (Wire code2 scope2 at2 field2) same = Prim.search rules
+same_place (Version layer) (Version layer2) same = Prim.search rules
+same_place (Version layer) (Name first2 second2) same = Prim.search rules
+same_place (Version layer) (Tag tag_code2 layer2 feature2 index2) same = Prim.search rules
+same_place (Name first second) (Wire code2 scope2 at2 field2) same = Prim.search rules
+same_place (Name first second) (Version layer2) same = Prim.search rules
+same_place (Name first second) (Name first2 second2) same = Prim.search rules
+same_place (Name first second) (Tag tag_code2 layer2 feature2 index2) same = Prim.search rules
+same_place (Tag tag_code layer feature index) (Wire code2 scope2 at2 field2) same = Prim.search rules
+same_place (Tag tag_code layer feature index) (Version layer2) same = Prim.search rules
+same_place (Tag tag_code layer feature index) (Name first2 second2) same = Prim.search rules
+same_place (Tag tag_code layer feature index) (Tag tag_code2 layer2 feature2 index2) same = Prim.search rules
 
--- bytes have one wire fault of least place
-pub one_least : (bytes : List ℕ) (f g : Fault) → IsLeast (IsWireFault bytes) f → IsLeast (IsWireFault bytes) g → f ≡ g
+-- bytes have one fault of least place
+pub one_least : (bytes : List ℕ) (f g : Fault) → IsLeast (IsFault bytes) f → IsLeast (IsFault bytes) g → f ≡ g
 one_least bytes f g first second = same_place f g (ComesFirst-antisymmetric (place_of f) (place_of g) (first.least g second.holds) (second.least f first.holds))

@@ -2,8 +2,20 @@
 use Rattle.std.specs.Prelude.{ℕ}
 use Rattle.mvt_wire.specs.Code.{code_of}
 use Rattle.mvt_fault.specs.declared.fault.Fault.{Fault}
-use Rattle.mvt_fault.specs.declared.fault.Fault.TheVariants.{Wire}
+use Rattle.mvt_fault.specs.declared.fault.Fault.TheVariants.{Wire, Version, Name, Tag}
+use Rattle.mvt_fault.specs.declared.tag.TagCode.{TagCode}
+use Rattle.mvt_fault.specs.declared.tag.TagCode.TheVariants.{OddLength, NoKey, NoValue, Repeated}
+
+-- the number of what is wrong with tags
+abbrev pub tag_code : TagCode → ℕ
+tag_code OddLength = 301
+tag_code NoKey = 302
+tag_code NoValue = 303
+tag_code Repeated = 304
 
 -- the number of a fault's cause
 abbrev pub fault_code : Fault → ℕ
 fault_code (Wire code scope at field) = code_of code
+fault_code (Version layer) = 201
+fault_code (Name first second) = 202
+fault_code (Tag code layer feature index) = tag_code code

@@ -4,3 +4,4 @@ pub use Rattle.serde_json.specs.Written
 pub mod Code
 pub mod Text
 pub mod Place
+pub mod Truth

@@ -8,7 +8,9 @@ use Rattle.mvt_wire.specs.declared.cause.WireCode.{WireCode}
 use Rattle.mvt_wire.specs.declared.scope.Scope.{Scope}
 use Rattle.mvt_wire.specs.declared.scope.Scope.TheVariants.{Tile, Layer, Value, Feature}
 use Rattle.mvt_fault.specs.declared.fault.Fault.{Fault}
-use Rattle.mvt_fault.specs.declared.fault.Fault.TheVariants.{Wire}
+use Rattle.mvt_fault.specs.declared.fault.Fault.TheVariants.{Wire, Version, Name, Tag}
+use Rattle.mvt_fault.specs.declared.tag.TagCode.{TagCode}
+use Rattle.mvt_fault.specs.Code.{tag_code}
 
 -- a JSON number with no sign, fraction or exponent
 abbrev pub whole : ℕ → Data
@@ -46,9 +48,36 @@ wire_data code (Feature layer feature) at field =
     (member (codes "scope") (string (codes "feature"))
     no_members))))))
 
+-- the object of a layer whose version isn't 2
+abbrev pub version_data : ℕ → Data
+version_data layer =
+    object (member (codes "code") (whole 201)
+    (member (codes "layer") (whole layer)
+    no_members))
+
+-- the object of two layers of one name
+abbrev pub name_data : ℕ → ℕ → Data
+name_data first second =
+    object (member (codes "code") (whole 202)
+    (member (codes "first") (whole first)
+    (member (codes "second") (whole second)
+    no_members)))
+
+-- the object of a fault of tags: the feature, and the place in their list
+abbrev pub tag_data : TagCode → ℕ → ℕ → ℕ → Data
+tag_data code layer feature index =
+    object (member (codes "code") (whole (tag_code code))
+    (member (codes "feature") (whole feature)
+    (member (codes "index") (whole index)
+    (member (codes "layer") (whole layer)
+    no_members))))
+
 -- the object of a fault
 abbrev pub data_of : Fault → Data
 data_of (Wire code scope at field) = wire_data code scope at field
+data_of (Version layer) = version_data layer
+data_of (Name first second) = name_data first second
+data_of (Tag code layer feature index) = tag_data code layer feature index
 
 -- a fault's text: its object with no space
 abbrev pub text_of : Fault → List ℕ
@@ -57,6 +86,9 @@ text_of f = compact_text (data_of f)
 -- a field's number has 32 bits; offsets and ordinals have 64, as any whole number that is read
 abbrev pub IsInRange : Fault → Type 0
 IsInRange (Wire code scope at field) = field < 2 ^ 32
+IsInRange (Version layer) = Unit {0}
+IsInRange (Name first second) = Unit {0}
+IsInRange (Tag code layer feature index) = Unit {0}
 
 -- the bytes are a text that stands for this fault, as JSON is read
 pub record Reads (bytes : List ℕ) (f : Fault) : Type 0 where

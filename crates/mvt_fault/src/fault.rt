@@ -3,6 +3,7 @@ ghost use Rattle.mvt_fault.specs.Code.{fault_code};
 ghost use Rattle.mvt_fault.specs.Place.{place_of, scope_place};
 
 use crate::order::Place;
+use crate::tag::TagCode;
 use mvt_wire::{Scope, WireCode};
 
 /// What is wrong with a tile, and where. Any value may be built: it says nothing of a tile's bytes
@@ -21,24 +22,57 @@ pub enum Fault {
         /// The number of the field, or 0 where the fault is about no field with a number.
         field: u32,
     },
+    /// A layer's version isn't 2 (section 4.1).
+    Version {
+        /// The layer's ordinal, counted from 0.
+        layer: usize,
+    },
+    /// Two layers have one name, the same byte for byte (section 4.1).
+    Name {
+        /// The ordinal of the layer that stands first, counted from 0.
+        first: usize,
+        /// The ordinal of the other, counted from 0.
+        second: usize,
+    },
+    /// The tags of a feature are wrong (section 4.4).
+    Tag {
+        /// The cause.
+        code: TagCode,
+        /// The ordinal of the feature's layer, counted from 0.
+        layer: usize,
+        /// The ordinal of the feature in its layer, counted from 0.
+        feature: usize,
+        /// The place in the list of tags, counted from 0; the list's length where that is odd.
+        index: usize,
+    },
 }
 
-/// The number that names the fault's cause: 101 to 111 for a wire fault.
+// The numbers of the causes that have no type of their own.
+pub(crate) const VERSION_CODE: u16 = 201;
+
+pub(crate) const NAME_CODE: u16 = 202;
+
+/// The number that names the fault's cause: 101 to 111 for a wire fault, 201 for a layer's version, 202
+/// for two layers of one name, 301 to 304 for tags.
 pub fn code(fault: &Fault) -> u16
     ensures { result ≡ fault_code fault.now }
 {
     match fault {
         Fault::Wire { code, .. } => code.code(),
+        Fault::Version { .. } => VERSION_CODE,
+        Fault::Name { .. } => NAME_CODE,
+        Fault::Tag { code, .. } => code.code(),
     }
 }
 
-/// The fault's place in the order of faults. The tile's own fields come first; then, layer by layer,
-/// the layer's fields, its values and its features (Mapbox Vector Tile Specification 2.1, section 4).
-/// Within one message the offset in bytes decides, then the code, then the field number.
+/// The fault's place in the order of faults. Wire faults come first: those of the tile's own fields;
+/// then, layer by layer, those of the layer's fields, its values and its features (Mapbox Vector Tile
+/// Specification 2.1, section 4). Within one message the offset in bytes decides, then the code, then
+/// the field number. Versions and names follow layer by layer, and then tags feature by feature.
 pub fn place(fault: &Fault) -> Place
     ensures { result ≡ place_of fault.now }
 {
-    match *fault {
+    Place::new(match *fault {
         Fault::Wire {
             code,
             scope,
@@ -46,21 +80,31 @@ pub fn place(fault: &Fault) -> Place
             field,
         } => {
             let [stage, inner, layer, part, member] = scope_numbers(scope);
-            let code = usize::from(code.code());
-            Place::new([
-                stage,
-                inner,
-                layer,
-                part,
-                member,
-                at,
-                code,
-                field as usize,
-                0,
-                0,
-            ])
+            let (code, field) = (usize::from(code.code()), field as usize);
+            [stage, inner, layer, part, member, at, code, field, 0, 0]
         }
-    }
+        Fault::Version { layer } => { [1, layer, usize::from(VERSION_CODE), 0, 0, 0, 0, 0, 0, 0] }
+        Fault::Name { first, second } => {
+            [1, second, usize::from(NAME_CODE), first, 0, 0, 0, 0, 0, 0]
+        }
+        Fault::Tag {
+            code,
+            layer,
+            feature,
+            index,
+        } => [
+            2,
+            layer,
+            feature,
+            0,
+            index,
+            usize::from(code.code()),
+            0,
+            0,
+            0,
+            0,
+        ],
+    })
 }
 
 // The first five numbers of a wire fault's place: 0, since faults of the bytes come before all others;

@@ -2,9 +2,8 @@
 //! compare. Whoever looks for the first fault of a tile can stand on them.
 
 ghost use Rattle.std.specs.Prelude.{◌≡◌, ◌≢◌, ◌↔◌, ◌⊎◌, ℕ, List, length, IsTrue};
-ghost use Rattle.mvt_wire.specs.declared.cause.WireCode.{WireCode};
-ghost use Rattle.mvt_wire.specs.declared.scope.Scope.{Scope};
-ghost use Rattle.mvt_fault.specs.Place.{place_of, ComesFirst, IsWireFault, IsLeast};
+ghost use Rattle.mvt_fault.specs.Place.{place_of, ComesFirst, IsLeast};
+ghost use Rattle.mvt_fault.specs.Truth.{IsFault};
 
 use crate::fault::Fault;
 use crate::order::Place;
@@ -41,15 +40,13 @@ pub fn comes_first(first: &Place, second: &Place) -> bool
     first <= second
 }
 
-/// No two wire faults have one place.
-pub fn one_wire_fault_a_place()
-    ensures { (code other_code : WireCode) (scope other_scope : Scope) (at other_at field other_field : ℕ) →
-        place_of (Fault.Wire code scope at field) ≡ place_of (Fault.Wire other_code other_scope other_at other_field) →
-        Fault.Wire code scope at field ≡ Fault.Wire other_code other_scope other_at other_field }
+/// No two faults have one place.
+pub fn one_fault_a_place()
+    ensures { (fault other : Fault) → place_of fault ≡ place_of other → fault ≡ other }
 {}
 
-/// Bytes have at most one wire fault of least place.
-pub fn one_least_wire_fault()
+/// Bytes have at most one fault of least place.
+pub fn one_least_fault()
     ensures { (bytes : List ℕ) (fault other : Fault) →
-        IsLeast (IsWireFault bytes) fault → IsLeast (IsWireFault bytes) other → fault ≡ other }
+        IsLeast (IsFault bytes) fault → IsLeast (IsFault bytes) other → fault ≡ other }
 {}

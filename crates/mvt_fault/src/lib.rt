@@ -5,6 +5,7 @@
 mod fault;
 pub mod laws;
 mod order;
+mod tag;
 #[cfg(test)]
 mod tests;
 mod text;
@@ -12,4 +13,5 @@ mod text;
 pub use fault::{Fault, code, place};
 pub use mvt_wire::Scope;
 pub use order::Place;
+pub use tag::TagCode;
 pub use text::fault_text;

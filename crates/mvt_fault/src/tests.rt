@@ -1,4 +1,4 @@
-use crate::{Fault, Place, Scope, code, fault_text, place};
+use crate::{Fault, Place, Scope, TagCode, code, fault_text, place};
 use mvt_wire::WireCode;
 use std::test::Fail;
 
@@ -64,6 +64,84 @@ fn numbers_each_cause(rt: HostRuntime) {
     }
 }
 
+fn tag(code: TagCode, layer: usize, feature: usize, index: usize) -> Fault {
+    Fault::Tag {
+        code,
+        layer,
+        feature,
+        index,
+    }
+}
+
+#[test]
+fn writes_each_rule(rt: HostRuntime) -> Result<(), Fail> {
+    for (fault, number, text) in [
+        (
+            Fault::Version { layer: 0 },
+            201,
+            "{\"code\":201,\"layer\":0}",
+        ),
+        (
+            Fault::Name {
+                first: 0,
+                second: 1,
+            },
+            202,
+            "{\"code\":202,\"first\":0,\"second\":1}",
+        ),
+        (
+            tag(TagCode::OddLength, 0, 0, 1),
+            301,
+            "{\"code\":301,\"feature\":0,\"index\":1,\"layer\":0}",
+        ),
+        (
+            tag(TagCode::NoKey, 5, 6, 0),
+            302,
+            "{\"code\":302,\"feature\":6,\"index\":0,\"layer\":5}",
+        ),
+        (
+            tag(TagCode::NoValue, 0, 0, 1),
+            303,
+            "{\"code\":303,\"feature\":0,\"index\":1,\"layer\":0}",
+        ),
+        (
+            tag(TagCode::Repeated, 0, 0, 2),
+            304,
+            "{\"code\":304,\"feature\":0,\"index\":2,\"layer\":0}",
+        ),
+    ] {
+        assert_eq!(rt; code(&fault), number);
+        assert!(rt;
+            fault_text(rt.alloc(), &fault)?.as_str() == text,
+            "for {text}"
+        );
+    }
+    Ok(())
+}
+
+#[test]
+fn places_each_rule(rt: HostRuntime) {
+    for (fault, numbers) in [
+        (
+            Fault::Version { layer: 5 },
+            [1, 5, 201, 0, 0, 0, 0, 0, 0, 0],
+        ),
+        (
+            Fault::Name {
+                first: 5,
+                second: 6,
+            },
+            [1, 6, 202, 5, 0, 0, 0, 0, 0, 0],
+        ),
+        (
+            tag(TagCode::NoValue, 5, 6, 7),
+            [2, 5, 6, 0, 7, 303, 0, 0, 0, 0],
+        ),
+    ] {
+        assert_eq!(rt; place(&fault), Place::new(numbers), "for {fault:?}");
+    }
+}
+
 #[test]
 fn places_each_scope(rt: HostRuntime) {
     for (fault, numbers) in [
@@ -88,9 +166,9 @@ fn places_each_scope(rt: HostRuntime) {
     }
 }
 
-// Each comes before the next: one number is greater there, and the numbers behind it are less.
+// Each comes before the next: the first number that differs is greater there.
 #[test]
-fn orders_wire_faults(rt: HostRuntime) {
+fn orders_faults(rt: HostRuntime) {
     let faults = [
         wire(WireCode::Ends, Scope::Tile, 0, 8),
         wire(WireCode::Ends, Scope::Tile, 0, 9),
@@ -104,6 +182,21 @@ fn orders_wire_faults(rt: HostRuntime) {
         wire(WireCode::PastEnd, Scope::Feature(0, 1), 5, 2),
         wire(WireCode::BadWireType, Scope::Layer(1), 4, 1),
         wire(WireCode::BadNumber, Scope::Value(1, 0), 3, 0),
+        Fault::Version { layer: 2 },
+        Fault::Name {
+            first: 7,
+            second: 2,
+        },
+        Fault::Name {
+            first: 8,
+            second: 2,
+        },
+        Fault::Version { layer: 3 },
+        tag(TagCode::Repeated, 0, 3, 4),
+        tag(TagCode::NoKey, 0, 3, 5),
+        tag(TagCode::Repeated, 0, 3, 5),
+        tag(TagCode::NoKey, 0, 4, 0),
+        tag(TagCode::OddLength, 1, 0, 0),
     ];
     for pair in faults.windows(2) {
         let (earlier, later) = (place(&pair[0]), place(&pair[1]));

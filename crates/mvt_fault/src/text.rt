@@ -1,8 +1,9 @@
 ghost use Rattle.std.specs.Prelude.{◌≡◌, IfOk, OnOk, string_bytes};
 ghost use Rattle.serde_json.specs.View.{view};
-ghost use Rattle.mvt_fault.specs.Text.{data_of, text_of, wire_data, IsInRange, Reads};
+ghost use Rattle.mvt_fault.specs.Text.{data_of, text_of, wire_data, version_data, name_data, tag_data, IsInRange, Reads};
 
-use crate::fault::Fault;
+use crate::fault::{Fault, NAME_CODE, VERSION_CODE};
+use crate::tag::TagCode;
 use mvt_wire::{Scope, WireCode};
 use serde_json::{Value, json};
 use std::alloc::{AllocError, Global};
@@ -32,6 +33,14 @@ fn fault_object(alloc: Global, fault: &Fault) -> Result<Value, AllocError>
             at,
             field,
         } => wire_object(alloc, code, scope, at, field),
+        Fault::Version { layer } => version_object(alloc, layer),
+        Fault::Name { first, second } => name_object(alloc, first, second),
+        Fault::Tag {
+            code,
+            layer,
+            feature,
+            index,
+        } => tag_object(alloc, code, layer, feature, index),
     }
 }
 
@@ -103,4 +112,28 @@ fn feature_object(
         "at": at, "code": code.code(), "feature": feature, "field": field, "layer": layer,
         "scope": "feature"
     })
+}
+
+fn version_object(alloc: Global, layer: usize) -> Result<Value, AllocError>
+    ensures { IfOk result (λ v. view v ≡ version_data layer) }
+{
+    json!(in alloc; {"code": VERSION_CODE, "layer": layer})
+}
+
+fn name_object(alloc: Global, first: usize, second: usize) -> Result<Value, AllocError>
+    ensures { IfOk result (λ v. view v ≡ name_data first second) }
+{
+    json!(in alloc; {"code": NAME_CODE, "first": first, "second": second})
+}
+
+fn tag_object(
+    alloc: Global,
+    code: TagCode,
+    layer: usize,
+    feature: usize,
+    index: usize,
+) -> Result<Value, AllocError>
+    ensures { IfOk result (λ v. view v ≡ tag_data code layer feature index) }
+{
+    json!(in alloc; {"code": code.code(), "feature": feature, "index": index, "layer": layer})
 }

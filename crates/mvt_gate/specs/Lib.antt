@@ -1,5 +1,6 @@
 pub use Rattle.mvt_fault.specs.Place
 pub use Rattle.mvt_fault.specs.Text
+pub use Rattle.mvt_fault.specs.Truth
 pub use Rattle.mvt_wire.specs.Field
 pub use Rattle.mvt_wire.specs.Message
 pub use Rattle.mvt_wire.specs.Tile

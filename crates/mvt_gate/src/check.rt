@@ -1,4 +1,4 @@
-//! The engine of `check`: whether an input is a tile, as one line of JSON.
+//! The engine of `check`: whether an input is a tile that keeps the rules, as one line of JSON.
 ghost use Rattle.std.specs.Prelude.{◌≡◌, ◌≢◌, ◌<◌, IfOk, IfErr, OnOk};
 ghost use Rattle.mvt_gate.specs.Check.{IsCheckAnswer};
 ghost use Rattle.mvt_gate.specs.Engine.{Answers, BreaksOff, HasFailed, IsClean, input_limit};
@@ -12,9 +12,10 @@ use std::alloc::{AllocError, Global};
 use std::io::{Read, Write};
 
 /// Reads a whole tile, of at most 67,108,864 bytes, and writes the line of its verdict, with one LF:
-/// `{"ok":true}` for a tile by the Mapbox Vector Tile Specification 2.1, section 4, or else the JSON
-/// text of its first fault. An error other than `Memory` comes only where a device is to blame, as its
-/// counts show.
+/// `{"ok":true}` for a tile by the Mapbox Vector Tile Specification 2.1, section 4, whose layers have
+/// version 2 and different names (section 4.1), and whose tags are pairs of a key and a value of their
+/// layer, no key twice in a feature (section 4.4); or else the JSON text of its first fault. An error
+/// other than `Memory` comes only where a device is to blame, as its counts show.
 pub fn check_stream<R: Read, W: Write>(
     alloc: Global,
     reader: &mut Tally<R>,

@@ -57,7 +57,7 @@ more None picked n few = omega arith
 more (Some y) picked n few = omega arith
 
 -- no more is picked than there are fields of the number
-length-filter_map : {A B : Type 0} (pick : A → Option B) (xs : List A) → length (filter_map pick xs) ≤ length xs
+pub length-filter_map : {A B : Type 0} (pick : A → Option B) (xs : List A) → length (filter_map pick xs) ≤ length xs
 length-filter_map pick [] = omega arith
 length-filter_map pick (x ∷ xs) = more (pick x) (filter_map pick xs) (length xs) (length-filter_map pick xs)
 

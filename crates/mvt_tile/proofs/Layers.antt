@@ -11,7 +11,7 @@ use Rattle.mvt_wire.specs.declared.schema.Message.TheVariants as messages
 use Rattle.mvt_wire.proofs.Messages.{one_list}
 use Rattle.mvt_fault.specs.Place.{ComesFirst, IsLeast, place_of}
 use Rattle.mvt_fault.specs.declared.fault.Fault.{Fault}
-use Rattle.mvt_fault.specs.declared.fault.Fault.TheVariants.{Wire}
+use Rattle.mvt_fault.specs.declared.fault.Fault.TheVariants.{Wire, Version, Name, Tag}
 use Rattle.mvt_tile.specs.Embedded.{HasFault, HasNone, HasFirst}
 use Rattle.mvt_tile.specs.First.{AreClean, IsFirst}
 use Rattle.mvt_tile.specs.LayerFault.{FaultInLayer, IsLayerFault}
@@ -77,6 +77,9 @@ module _ (bytes : List ℕ) (outer : Span) (layer : ℕ) where
     where
       behind : (fault : Fault) → IsLayerFault bytes outer layer fault → ComesFirst (place_of (fault_in (Layer layer) cause)) (place_of fault)
       behind (Wire code scope at field) holds = behind_own cause least scope (cause_at code at field) holds
+      behind (Version some_layer) holds = absurd holds
+      behind (Name some other_one) holds = absurd holds
+      behind (Tag tag_code some_layer some_feature index) holds = absurd holds
 
   -- else that of a value
   behind_value : (entries : List Entry) (ordinal : ℕ) (cause : WireCause) → IsMessageAt bytes outer entries → ((own : WireCause) → ¬ HasFault messages.Layer bytes outer own)
@@ -96,6 +99,9 @@ module _ (bytes : List ℕ) (outer : Span) (layer : ℕ) where
     where
       behind : (fault : Fault) → IsLayerFault bytes outer layer fault → ComesFirst (place_of (fault_in (Value layer ordinal) cause)) (place_of fault)
       behind (Wire code scope at field) holds = behind_value entries ordinal cause whole none first scope (cause_at code at field) holds
+      behind (Version some_layer) holds = absurd holds
+      behind (Name some other_one) holds = absurd holds
+      behind (Tag tag_code some_layer some_feature index) holds = absurd holds
 
   -- else that of a feature
   behind_feature : (entries : List Entry) (ordinal : ℕ) (cause : WireCause) → IsMessageAt bytes outer entries → ((own : WireCause) → ¬ HasFault messages.Layer bytes outer own)
@@ -117,6 +123,9 @@ module _ (bytes : List ℕ) (outer : Span) (layer : ℕ) where
     where
       behind : (fault : Fault) → IsLayerFault bytes outer layer fault → ComesFirst (place_of (fault_in (Feature layer ordinal) cause)) (place_of fault)
       behind (Wire code scope at field) holds = behind_feature entries ordinal cause whole none values first scope (cause_at code at field) holds
+      behind (Version some_layer) holds = absurd holds
+      behind (Name some other_one) holds = absurd holds
+      behind (Tag tag_code some_layer some_feature index) holds = absurd holds
 
   -- else there is none
   none_in : (entries : List Entry) → IsMessageAt bytes outer entries → ((own : WireCause) → ¬ HasFault messages.Layer bytes outer own)
@@ -131,3 +140,6 @@ module _ (bytes : List ℕ) (outer : Span) (layer : ℕ) where
       → AreClean (HasNone messages.Value bytes) (spans_of 4 entries) → AreClean (HasNone messages.Feature bytes) (spans_of 2 entries)
       → (fault : Fault) → ¬ IsLayerFault bytes outer layer fault
   IsLayerFault-none entries whole none values features (Wire code scope at field) holds = none_in entries whole none values features scope (cause_at code at field) holds
+  IsLayerFault-none entries whole none values features (Version some_layer) holds = absurd holds
+  IsLayerFault-none entries whole none values features (Name some other_one) holds = absurd holds
+  IsLayerFault-none entries whole none values features (Tag tag_code some_layer some_feature index) holds = absurd holds

@@ -1,7 +1,7 @@
 pub mod Causes
 pub mod SmallNumbers
 pub mod FieldFaults
-pub mod Rules
+pub mod SchemaRules
 pub mod Passing
 pub mod Scans
 pub mod EndFaults
@@ -19,3 +19,12 @@ pub mod ReadingRules
 pub mod ValueReading
 pub mod Stretches
 pub mod LayerReading
+pub mod SummaryReading
+pub mod TagReading
+pub mod TagFaults
+pub mod KeySets
+pub mod LayerNames
+pub mod NamesWalk
+pub mod CleanWalk
+pub mod TaggedFeatures
+pub mod RuleOrder

@@ -1,5 +1,5 @@
 -- What is known while the fields of a whole message are walked.
-use Rattle.std.proofs.Common.{◌≡◌, ℕ, ◌<◌, List, [], ◌∷◌, ◌++◌, All, length, subst}
+use Rattle.std.proofs.Common.{◌≡◌, ℕ, ◌<◌, List, [], ◌∷◌, ◌++◌, All, length, sym, ap, subst}
 use Rattle.std.proofs.lemmas.List.Elements.{All-head, All-tail}
 use Rattle.mvt_wire.specs.Field.{Entry, FieldDefect}
 use Rattle.mvt_wire.specs.Message.{IsMessage}
@@ -7,6 +7,13 @@ use Rattle.mvt_wire.specs.Walk.{Walk, IsOver, GivesField}
 use Rattle.mvt_wire.specs.declared.cause.WireCause.{WireCause}
 use Rattle.mvt_wire.proofs.Messages.{longest_whole, one_list, whole_or_defect}
 use Rattle.mvt_tile.proofs.Walking.{IsWalking, IsWalking-more, IsWalking-whole}
+
+-- a walk begins with no field passed
+pub IsWalking-none : (message : List ℕ) (from : ℕ) (walk : Walk) → walk ≡ record { bytes = message; at = from } → IsWalking message from walk []
+IsWalking-none message from walk begins = record {
+  same_bytes = ap (λ (w : Walk). w.bytes) begins;
+  passed = sym (ap (λ (w : Walk). w.at) begins);
+}
 
 -- a whole message has no defect at the place of the walk
 pub IsWalking-defectless : (message : List ℕ) (from : ℕ) (walk : Walk) (entries whole : List Entry) (cause : WireCause)

@@ -55,20 +55,20 @@ spans_of-no_part field_number entries field own not =
     ∙ append-nil (spans_of field_number entries)
 
 -- what stands in a list stands in a longer one
-slice_get-append : {X : Type 0} (xs ys : List X) (i : ℕ) → i < length xs → slice_get (xs ++ ys) i ≡ slice_get xs i
+pub slice_get-append : {X : Type 0} (xs ys : List X) (i : ℕ) → i < length xs → slice_get (xs ++ ys) i ≡ slice_get xs i
 slice_get-append [] ys i within = absurd (omega arith)
 slice_get-append (x ∷ xs) ys zero within = refl
 slice_get-append (x ∷ xs) ys (suc i) within = slice_get-append xs ys i (omega arith)
 
-slice_get-last : {X : Type 0} (xs : List X) (y : X) → slice_get (xs ++ y ∷ []) (length xs) ≡ Some y
+pub slice_get-last : {X : Type 0} (xs : List X) (y : X) → slice_get (xs ++ y ∷ []) (length xs) ≡ Some y
 slice_get-last [] y = refl
 slice_get-last (x ∷ xs) y = slice_get-last xs y
 
-slice_get-some : {X : Type 0} (xs ys : List X) (i : ℕ) (x : X) → slice_get xs i ≡ Some x → slice_get (xs ++ ys) i ≡ Some x
+pub slice_get-some : {X : Type 0} (xs ys : List X) (i : ℕ) (x : X) → slice_get xs i ≡ Some x → slice_get (xs ++ ys) i ≡ Some x
 slice_get-some xs ys i x here = slice_get-append xs ys i (slice_get_within xs i x here) ∙ here
 
 -- one more clean stretch
-AreClean-push : (Clean : ℕ → Span → Type 0) (spans : List Span) (span : Span) → AreClean Clean spans → Clean (length spans) span → AreClean Clean (spans ++ span ∷ [])
+pub AreClean-push : (Clean : ℕ → Span → Type 0) (spans : List Span) (span : Span) → AreClean Clean spans → Clean (length spans) span → AreClean Clean (spans ++ span ∷ [])
 AreClean-push Clean spans span clean last ordinal other here = elim (cases_lt ordinal (length spans)) [
   | inl within ↦ clean ordinal other (sym (slice_get-append spans (span ∷ []) ordinal within) ∙ here)
   | inr behind ↦

@@ -3,20 +3,30 @@ use Rattle.std.proofs.Common.{◌≡◌, ℕ, ◌<◌, ◌⊎◌, inl, inr, List
 use Rattle.std.proofs.lemmas.Bool.{cases_lt}
 use Rattle.mvt_wire.specs.Field.{Entry, cause_at}
 use Rattle.mvt_wire.specs.Scope.{Span, spans_of, whole_span, IsMessageAt, IsPart}
+use Rattle.mvt_wire.specs.Tile.{TileRecord, IsTile}
 use Rattle.mvt_wire.specs.WireFault.{WireFault}
 use Rattle.mvt_wire.specs.declared.cause.WireCause.{WireCause}
 use Rattle.mvt_wire.specs.declared.scope.Scope.{Scope}
 use Rattle.mvt_wire.specs.declared.scope.Scope.TheVariants.{Tile, Layer, Value, Feature}
 use Rattle.mvt_wire.specs.declared.schema.Message.TheVariants as messages
-use Rattle.mvt_fault.specs.Place.{ComesFirst, IsLeast, IsWireFault, place_of}
+use Rattle.mvt_wire.proofs.Tiles.{tile_or_fault}
+use Rattle.mvt_fault.specs.Place.{ComesFirst, IsLeast, place_of}
+use Rattle.mvt_fault.specs.Truth.{IsWireFault}
 use Rattle.mvt_fault.specs.declared.fault.Fault.{Fault}
-use Rattle.mvt_fault.specs.declared.fault.Fault.TheVariants.{Wire}
+use Rattle.mvt_fault.specs.declared.fault.Fault.TheVariants.{Wire, Version, Name, Tag}
 use Rattle.mvt_tile.specs.Embedded.{HasFault}
 use Rattle.mvt_tile.specs.First.{IsFirst, FindsFirst}
 use Rattle.mvt_tile.specs.LayerFault.{FaultInLayer, IsLayerFault}
 use Rattle.mvt_tile.specs.LayerScan.{IsFaultless, IsFirstOf}
 use Rattle.mvt_tile.specs.Least.{cause_place, IsLeastCause}
 use Rattle.mvt_tile.proofs.Layers.{fault_in, part_among}
+
+-- bytes with no wire fault are a tile
+pub is_tile : (bytes : List ℕ) → ((scope : Scope) (cause : WireCause) → WireFault bytes scope cause → ⊥) → (tile : TileRecord) × IsTile bytes tile
+is_tile bytes faultless = elim (tile_or_fault bytes) [
+  | inl tile ↦ tile
+  | inr fault ↦ absurd (faultless fault.0 fault.1 fault.2)
+]
 
 -- a fault of a message in a layer
 record InSomeLayer (bytes : List ℕ) (scope : Scope) (cause : WireCause) : Type 0 where
@@ -47,6 +57,9 @@ in_layer bytes ordinal span (Feature layer feature) cause part fault = record { 
 
 pub IsWireFault-in : (bytes : List ℕ) (ordinal : ℕ) (span : Span) (fault : Fault) → IsPart bytes (whole_span bytes) 3 ordinal span → IsLayerFault bytes span ordinal fault → IsWireFault bytes fault
 IsWireFault-in bytes ordinal span (Wire code scope at field) part fault = in_layer bytes ordinal span scope (cause_at code at field) part fault
+IsWireFault-in bytes ordinal span (Version some_layer) part fault = absurd fault
+IsWireFault-in bytes ordinal span (Name some other_one) part fault = absurd fault
+IsWireFault-in bytes ordinal span (Tag tag_code some_layer some_feature index) part fault = absurd fault
 
 -- the place of a fault in a layer begins with the layer's ordinal
 abbrev IsBehind : ℕ → List ℕ → Type 0
@@ -60,6 +73,9 @@ place_in_layer bytes span ordinal (Feature layer feature) cause fault = (2 ∷ f
 
 fault_place : (bytes : List ℕ) (span : Span) (ordinal : ℕ) (fault : Fault) → IsLayerFault bytes span ordinal fault → IsBehind ordinal (place_of fault)
 fault_place bytes span ordinal (Wire code scope at field) fault = place_in_layer bytes span ordinal scope (cause_at code at field) fault
+fault_place bytes span ordinal (Version some_layer) fault = absurd fault
+fault_place bytes span ordinal (Name some other_one) fault = absurd fault
+fault_place bytes span ordinal (Tag tag_code some_layer some_feature index) fault = absurd fault
 
 -- so a fault in a layer comes before one in a later layer
 earlier_layer : (ordinal other : ℕ) (place behind : List ℕ) → IsBehind ordinal place → IsBehind other behind → ordinal < other → ComesFirst place behind
@@ -81,6 +97,9 @@ IsLeast-tile bytes cause least = record { holds = record { span = whole_span byt
   where
     behind : (fault : Fault) → IsWireFault bytes fault → ComesFirst (place_of (fault_in Tile cause)) (place_of fault)
     behind (Wire code scope at field) wire = behind_own bytes cause least scope (cause_at code at field) wire
+    behind (Version some_layer) wire = absurd wire
+    behind (Name some other_one) wire = absurd wire
+    behind (Tag tag_code some_layer some_feature index) wire = absurd wire
 
 module _ (bytes : List ℕ) (entries : List Entry) (whole : IsMessageAt bytes (whole_span bytes) entries) (none : (cause : WireCause) → ¬ HasFault messages.Tile bytes (whole_span bytes) cause) where
   -- where no layer has a fault either, there is none
@@ -121,3 +140,6 @@ module _ (bytes : List ℕ) (entries : List Entry) (whole : IsMessageAt bytes (w
       where
         behind : (fault : Fault) → IsWireFault bytes fault → ComesFirst (place_of first) (place_of fault)
         behind (Wire code scope at field) wire = behind_all scope (cause_at code at field) wire
+        behind (Version some_layer) wire = absurd wire
+        behind (Name some other_one) wire = absurd wire
+        behind (Tag tag_code some_layer some_feature index) wire = absurd wire

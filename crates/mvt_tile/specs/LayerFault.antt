@@ -7,7 +7,7 @@ use Rattle.mvt_wire.specs.declared.scope.Scope.{Scope}
 use Rattle.mvt_wire.specs.declared.scope.Scope.TheVariants.{Tile, Layer, Value, Feature}
 use Rattle.mvt_wire.specs.declared.schema.Message.TheVariants as messages
 use Rattle.mvt_fault.specs.declared.fault.Fault.{Fault}
-use Rattle.mvt_fault.specs.declared.fault.Fault.TheVariants.{Wire}
+use Rattle.mvt_fault.specs.declared.fault.Fault.TheVariants.{Wire, Version, Name, Tag}
 use Rattle.mvt_tile.specs.Embedded.{HasFault}
 
 -- the bytes from one place up to another
@@ -26,3 +26,6 @@ FaultInLayer bytes span ordinal (Feature layer feature) cause =
 -- the fault is one of that layer, or of a message in it
 abbrev pub IsLayerFault : List ℕ → Span → ℕ → Fault → Type 0
 IsLayerFault bytes span ordinal (Wire code scope at field) = FaultInLayer bytes span ordinal scope (cause_at code at field)
+IsLayerFault bytes span ordinal (Version layer) = ⊥
+IsLayerFault bytes span ordinal (Name first second) = ⊥
+IsLayerFault bytes span ordinal (Tag code layer feature index) = ⊥

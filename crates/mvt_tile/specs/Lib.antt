@@ -10,3 +10,7 @@ pub mod LayerScan
 pub mod View
 pub mod Reading
 pub mod ReadFault
+pub mod RuleFaults
+pub mod KeySet
+pub mod PassedLayers
+pub mod FeatureRules

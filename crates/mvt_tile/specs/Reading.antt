@@ -7,6 +7,7 @@ use Rattle.mvt_wire.specs.Scope.{contents_of, Span, span_of, spans_of}
 use Rattle.mvt_wire.specs.Tile.{Fits, numbers_of, texts_of, FeatureRecord, IsFeature, IsValue, LayerRecord, IsLayer, TileRecord, Each}
 use Rattle.mvt_wire.specs.declared.schema.FieldRule.{FieldRule}
 use Rattle.mvt_wire.specs.declared.schema.Message.{Message}
+use Rattle.mvt_tile.specs.declared.rules.summary.LayerSummary.{LayerSummary}
 
 -- the field fits the message's rule for its number, if there is one
 abbrev pub FitsRule : Message → Entry → Type 0
@@ -40,6 +41,13 @@ pub record TellsLayer (bytes : List ℕ) (entries : List Entry) (layer : LayerRe
   pub keys : texts_of 3 entries ≡ layer.keys
   pub values : Each (IsValue bytes) (spans_of 4 entries) layer.values
   pub extent : layer.extent ≡ last_of 4096 (numbers_of 5 entries)
+
+-- the summary has what these fields of a layer tell
+pub record TellsSummary (entries : List Entry) (summary : LayerSummary) : Type 0 where
+  pub version : summary.version ≡ last_of 0 (numbers_of 15 entries)
+  pub name : summary.name.now ≡ last_of [] (texts_of 1 entries)
+  pub keys : summary.keys ≡ length (texts_of 3 entries)
+  pub values : summary.values ≡ length (spans_of 4 entries)
 
 -- the tile has what these fields of it tell
 abbrev pub TellsTile : List ℕ → List Entry → TileRecord → Type 0

@@ -4,20 +4,19 @@ ghost use Rattle.mvt_wire.specs.Field.{Entry, entry_of};
 ghost use Rattle.mvt_wire.specs.WireFault.{WireFault};
 ghost use Rattle.mvt_wire.specs.declared.cause.WireCause.{WireCause};
 ghost use Rattle.mvt_wire.specs.declared.scope.Scope.{Scope};
-ghost use Rattle.mvt_fault.specs.Place.{IsLeast, IsWireFault};
+ghost use Rattle.mvt_fault.specs.Place.{IsLeast};
+ghost use Rattle.mvt_fault.specs.Truth.{IsWireFault};
 ghost use Rattle.mvt_tile.specs.Placed.{IsPlaced};
 
 #[cfg(test)]
 mod tests;
 
+use crate::field_number::LAYERS;
 use crate::layer::{in_scope, layer_fault};
 use crate::message::defect_or;
 use crate::scan::FieldScan;
 use mvt_fault::Fault;
 use mvt_wire::{Body, Field, Fields, Message, Scope, WireCause};
-
-/// The field number of a tile's layers (Mapbox Vector Tile Specification 2.1, section 4).
-const LAYERS: u32 = 3;
 
 /// The first wire fault of the bytes of a tile, or None where there is none: a fault of the wire
 /// encoding (Protocol Buffers encoding, "Message Structure"), or a field that the tile's schema

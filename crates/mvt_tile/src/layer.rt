@@ -4,16 +4,11 @@ ghost use Rattle.mvt_tile.specs.LayerFault.{IsLayerFault, stretch};
 ghost use Rattle.mvt_tile.specs.Least.{FindsLeastFault};
 
 use crate::embedded::EmbeddedScan;
+use crate::field_number::{FEATURES, VALUES};
 use crate::message::defect_or;
 use crate::scan::FieldScan;
 use mvt_fault::Fault;
 use mvt_wire::{Fields, Message, Scope, WireCause};
-
-/// The field number of a layer's features (Mapbox Vector Tile Specification 2.1, section 4.1).
-const FEATURES: u32 = 2;
-
-/// The field number of a layer's values.
-const VALUES: u32 = 4;
 
 /// The first fault of the layer with an ordinal, which stands in the bytes from one offset up to
 /// another: that of its own fields, or else of its values, or else of its features (Mapbox Vector

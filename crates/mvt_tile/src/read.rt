@@ -9,11 +9,11 @@ ghost use Rattle.mvt_tile.specs.View.{layer_of, tile_of};
 
 mod feature;
 mod layer;
-mod payload;
+pub(crate) mod payload;
 #[cfg(test)]
 mod tests;
 mod value;
-mod walk;
+pub(crate) mod walk;
 
 use crate::fault::wire_fault;
 use crate::record::{Layer, Tile};

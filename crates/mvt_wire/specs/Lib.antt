@@ -10,3 +10,4 @@ pub mod Scope
 pub mod WireFault
 pub mod Tile
 pub mod Numbers
+pub mod Rules

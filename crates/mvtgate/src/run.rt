@@ -95,7 +95,7 @@ fn command_line<'a>(alloc: Global) -> Result<Command<'a>, AllocError> {
     let check = tile_command(
         alloc,
         "check",
-        "Says yes to a tile, or tells its first fault",
+        "Says yes to a good tile, or tells its first fault",
     )?;
     Command::new(alloc, "mvtgate")
         .about("A gate before the publishing of Mapbox vector tiles")

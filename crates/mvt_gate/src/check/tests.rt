@@ -8,6 +8,10 @@ use std::test::Fail;
 
 const OK: &str = r#"{"ok":true}"#;
 
+/// Two layers that are the same, each named `a` with one point.
+const EQUAL_LAYERS: &str =
+    "1a 0e 78 02 0a 01 61 12 07 18 01 22 03 09 32 22 1a 0e 78 02 0a 01 61 12 07 18 01 22 03 09 32 22";
+
 /// Tiles in hexadecimal that keep every rule.
 const TILES: [&str; 29] = [
     // no layer, and layers with no feature
@@ -51,16 +55,9 @@ const TILES: [&str; 29] = [
     "1a 42 78 02 0a 01 61 12 3b 18 03 22 37 09 ff ff ff ff 07 ff ff ff ff 07 3a 80 80 80 80 08 00 80 80 80 80 08 00 00 80 80 80 80 08 00 80 80 80 80 08 ff ff ff ff 07 00 ff ff ff ff 07 00 00 ff ff ff ff 07 0f",
 ];
 
-/// Messages that are whole and keep the schema. They break rules on layers, tags or geometry that
-/// are not built yet, and so are tiles so far.
-const TILES_SO_FAR: [&str; 31] = [
-    // layers and tags
-    "1a 05 78 01 0a 01 61",
-    "1a 0e 78 02 0a 01 61 12 07 18 01 22 03 09 32 22 1a 0e 78 02 0a 01 61 12 07 18 01 22 03 09 32 22",
-    "1a 1f 78 02 0a 01 61 12 0d 12 04 00 00 00 01 18 01 22 03 09 32 22 1a 01 6b 22 02 38 01 22 02 28 05",
-    "1a 1c 78 02 0a 01 61 12 0a 12 01 00 18 01 22 03 09 32 22 1a 01 6b 22 02 38 01 22 02 28 05",
-    "1a 1d 78 02 0a 01 61 12 0b 12 02 01 00 18 01 22 03 09 32 22 1a 01 6b 22 02 38 01 22 02 28 05",
-    "1a 1d 78 02 0a 01 61 12 0b 12 02 00 02 18 01 22 03 09 32 22 1a 01 6b 22 02 38 01 22 02 28 05",
+/// Tiles that keep the rules on layers and tags. They break rules on geometry that are not built yet,
+/// and so get a yes so far.
+const TILES_SO_FAR: [&str; 25] = [
     // commands and their parameters
     "1a 0b 78 02 0a 01 61 12 04 18 01 22 00",
     "1a 10 78 02 0a 01 61 12 09 18 01 22 05 f9 ff ff ff 0f",
@@ -90,8 +87,8 @@ const TILES_SO_FAR: [&str; 31] = [
     "1a 1f 78 02 0a 01 61 12 18 18 03 22 14 09 00 00 1a 14 00 00 14 13 00 0f 09 0a 09 12 00 04 1e 01 0f",
 ];
 
-/// Bytes in hexadecimal that are no tile, and the line of their first fault.
-const FAULTS: [(&str, &str); 20] = [
+/// Bytes in hexadecimal that are no tile, or one that breaks a rule, and the line of their first fault.
+const FAULTS: [(&str, &str); 28] = [
     // the tile's own fields
     ("80", r#"{"at":0,"code":101,"field":0,"scope":"tile"}"#),
     ("08", r#"{"at":1,"code":101,"field":1,"scope":"tile"}"#),
@@ -164,6 +161,35 @@ const FAULTS: [(&str, &str); 20] = [
         "1a 0e 78 02 0a 01 61 12 07 18 04 22 03 09 32 22",
         r#"{"at":10,"code":111,"feature":0,"field":3,"layer":0,"scope":"feature"}"#,
     ),
+    // versions and names of layers
+    ("1a 05 78 01 0a 01 61", r#"{"code":201,"layer":0}"#),
+    (EQUAL_LAYERS, r#"{"code":202,"first":0,"second":1}"#),
+    // tags: an odd number of them, no such key, no such value, and a key again
+    (
+        "1a 1c 78 02 0a 01 61 12 0a 12 01 00 18 01 22 03 09 32 22 1a 01 6b 22 02 38 01 22 02 28 05",
+        r#"{"code":301,"feature":0,"index":1,"layer":0}"#,
+    ),
+    (
+        "1a 1d 78 02 0a 01 61 12 0b 12 02 01 00 18 01 22 03 09 32 22 1a 01 6b 22 02 38 01 22 02 28 05",
+        r#"{"code":302,"feature":0,"index":0,"layer":0}"#,
+    ),
+    (
+        "1a 1d 78 02 0a 01 61 12 0b 12 02 00 02 18 01 22 03 09 32 22 1a 01 6b 22 02 38 01 22 02 28 05",
+        r#"{"code":303,"feature":0,"index":1,"layer":0}"#,
+    ),
+    (
+        "1a 1f 78 02 0a 01 61 12 0d 12 04 00 00 00 01 18 01 22 03 09 32 22 1a 01 6b 22 02 38 01 22 02 28 05",
+        r#"{"code":304,"feature":0,"index":2,"layer":0}"#,
+    ),
+    // wire faults come first, and the rules on layers before those on tags
+    (
+        "1a 05 78 01 0a 01 61 80",
+        r#"{"at":7,"code":101,"field":0,"scope":"tile"}"#,
+    ),
+    (
+        "1a 1c 78 02 0a 01 61 12 0a 12 01 00 18 01 22 03 09 32 22 1a 01 6b 22 02 38 01 22 02 28 05 1a 05 78 01 0a 01 62",
+        r#"{"code":201,"layer":1}"#,
+    ),
 ];
 
 /// The bytes that a text spells in hexadecimal.
@@ -233,17 +259,18 @@ fn bears_devices_that_fail(rt: HostRuntime) -> Result<(), Fail> {
         fails_at: 1,
         ..calm
     };
+    let bytes = bytes_of(&rt, EQUAL_LAYERS)?;
     for (reads, writes, want, went_out) in [
         (
             calm,
             calm,
             Ok(Outcome::No),
-            b"{\"at\":1,\"code\":101,\"field\":1,\"scope\":\"tile\"}\n".as_slice(),
+            b"{\"code\":202,\"first\":0,\"second\":1}\n".as_slice(),
         ),
         (first, calm, Err(EngineFault::Read), b""),
-        (calm, fails, Err(EngineFault::Write), b"{\"a"),
+        (calm, fails, Err(EngineFault::Write), b"{\"c"),
     ] {
-        let mut source = Device::new(rt.alloc(), b"\x08", reads);
+        let mut source = Device::new(rt.alloc(), &bytes, reads);
         let mut sink = Device::new(rt.alloc(), &[], writes);
         let mut reader = Tally::new(&mut source);
         let mut writer = Tally::new(&mut sink);

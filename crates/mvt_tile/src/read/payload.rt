@@ -56,6 +56,17 @@ pub(crate) fn text_in(body: Body<'_>) -> &str
     }
 }
 
+/// The bytes behind a length.
+pub(crate) fn bytes_in(body: Body<'_>) -> &[u8]
+    requires { wire_type_of (content_of body) ≡ 2 }
+    ensures { bytes_in (content_of body.entry) ≡ Some result.now }
+{
+    match body {
+        Body::Bytes { slice, .. } => slice,
+        _ => unreachable!(),
+    }
+}
+
 /// Bytes that are UTF-8, as a text.
 fn text_of(bytes: &[u8]) -> &str
     requires { IsUtf8 bytes.now }

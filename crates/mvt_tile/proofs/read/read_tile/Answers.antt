@@ -1,17 +1,5 @@
-use Rattle.std.proofs.Common.{inl, inr, ℕ, List}
-use Rattle.mvt_wire.specs.Tile.{TileRecord, IsTile}
-use Rattle.mvt_wire.specs.WireFault.{WireFault}
-use Rattle.mvt_wire.specs.declared.cause.WireCause.{WireCause}
-use Rattle.mvt_wire.specs.declared.scope.Scope.{Scope}
-use Rattle.mvt_wire.proofs.Tiles.{tile_or_fault}
+use Rattle.mvt_tile.proofs.Tiles.{is_tile}
 use Rattle.mvt_tile.proofs.read.read_tile.Goals as goal
-
--- bytes with no wire fault are a tile
-is_tile : (bytes : List ℕ) → ((scope : Scope) (cause : WireCause) → WireFault bytes scope cause → ⊥) → (tile : TileRecord) × IsTile bytes tile
-is_tile bytes faultless = elim (tile_or_fault bytes) [
-  | inl tile ↦ tile
-  | inr fault ↦ absurd (faultless fault.0 fault.1 fault.2)
-]
 
 pub read_layers-requires : goal.read_layers-requires
 read_layers-requires c = is_tile c.args.bytes.now c.in_default.ensures.none

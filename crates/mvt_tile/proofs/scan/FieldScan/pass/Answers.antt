@@ -1,6 +1,6 @@
 use Rattle.std.proofs.Common.{◌<◌, length, sym, arith}
 use Rattle.mvt_wire.specs.Field.{entry_of}
-use Rattle.mvt_tile.proofs.Rules.{known_number}
+use Rattle.mvt_tile.proofs.SchemaRules.{known_number}
 use Rattle.mvt_tile.proofs.Scans.{Passes-unknown, Passes-known, Passes-fault}
 use Rattle.mvt_tile.proofs.scan.FieldScan.pass.Goals as goal
 

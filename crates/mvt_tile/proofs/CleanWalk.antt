@@ -1,0 +1,117 @@
+-- A walk over the fields of a whole message that looks at each message of one field number in turn, for as long as it
+-- finds nothing there.
+use Rattle.std.proofs.Common.{◌≡◌, ◌≢◌, ℕ, zero, suc, ◌+◌, ◌<◌, ◌≤◌, List, [], ◌∷◌, ◌++◌, length, Some, filter_map, slice_get, refl, sym, ◌∙◌, ap, subst, arith, length-append}
+use Rattle.std.proofs.lemmas.List.Elements.{filter_map-append}
+use Rattle.mvt_wire.specs.Field.{Entry}
+use Rattle.mvt_wire.specs.Message.{IsMessage}
+use Rattle.mvt_wire.specs.Scope.{contents_of, Span, span_of, spans_of}
+use Rattle.mvt_wire.specs.Tile.{Each}
+use Rattle.mvt_wire.specs.Walk.{Walk, IsOver, GivesField}
+use Rattle.mvt_tile.specs.First.{AreClean}
+use Rattle.mvt_tile.proofs.Filters.{contents_of-append, picked-push, picked-other}
+use Rattle.mvt_tile.proofs.ReadingWalk.{IsWalking-front, IsWalking-over}
+use Rattle.mvt_tile.proofs.Spans.{AreClean-push, slice_get-append, slice_get-last, slice_get-some}
+use Rattle.mvt_tile.proofs.Walking.{IsWalking, IsWalking-more}
+
+-- the fields that were passed, and how many messages they hold, all of them clean
+pub record CleanWalk (Clean : ℕ → Span → Type 0) (field_number : ℕ) (message : List ℕ) (from : ℕ) (walk : Walk) (count : ℕ) : Type 0 where
+  pub entries : List Entry
+  pub walking : IsWalking message from walk entries
+  pub counted : count ≡ length (spans_of field_number entries)
+  pub clean : AreClean Clean (spans_of field_number entries)
+  pub few : count ≤ walk.at
+
+-- of the messages, the one with this ordinal, behind clean ones
+pub record IsNext (Clean : ℕ → Span → Type 0) (spans : List Span) (ordinal : ℕ) (span : Span) : Type 0 where
+  pub here : slice_get spans ordinal ≡ Some span
+  pub before : (earlier : ℕ) (other : Span) → earlier < ordinal → slice_get spans earlier ≡ Some other → Clean earlier other
+
+module _ (Clean : ℕ → Span → Type 0) (field_number : ℕ) (message : List ℕ) (from : ℕ) where
+  -- before the first field
+  pub CleanWalk-nothing : (walk : Walk) → walk ≡ record { bytes = message; at = from } → CleanWalk Clean field_number message from walk 0
+  CleanWalk-nothing walk begins = record {
+    entries = [];
+    walking = record { same_bytes = ap (λ (w : Walk). w.bytes) begins; passed = sym (ap (λ (w : Walk). w.at) begins) };
+    counted = refl;
+    clean = λ ordinal span here. absurd (cc);
+    few = omega arith;
+  }
+
+  module _ (old new : Walk) (count : ℕ) (so_far : CleanWalk Clean field_number message from old count) where
+    module _ (entry : Entry) (given : GivesField old new entry) where
+      -- a field of another number
+      pub CleanWalk-other : entry.number ≢ field_number → CleanWalk Clean field_number message from new count
+      CleanWalk-other other =
+          let same : spans_of field_number (so_far.entries ++ entry ∷ []) ≡ spans_of field_number so_far.entries = picked-other span_of field_number so_far.entries entry other in
+          let few = so_far.few in
+          let further = given.further in
+          record {
+            entries = so_far.entries ++ entry ∷ [];
+            walking = IsWalking-more message from old new so_far.entries entry so_far.walking given;
+            counted = so_far.counted ∙ ap length (sym same);
+            clean = subst (AreClean Clean) (sym same) so_far.clean;
+            few = omega arith;
+          }
+
+      module _ (own : entry.number ≡ field_number) (span : Span) (there : span_of entry.content ≡ Some span) where
+        -- a field with a message that is clean
+        pub CleanWalk-more : Clean count span → CleanWalk Clean field_number message from new (count + 1)
+        CleanWalk-more clean =
+            let passed : List Span = spans_of field_number so_far.entries in
+            let longer : spans_of field_number (so_far.entries ++ entry ∷ []) ≡ passed ++ span ∷ [] = picked-push span_of field_number so_far.entries entry span own there in
+            let size : length (passed ++ span ∷ []) ≡ length passed + 1 = length-append passed (span ∷ []) in
+            let counted : count ≡ length passed = so_far.counted in
+            let one_more : count + 1 ≡ length (passed ++ span ∷ []) = omega arith in
+            let few = so_far.few in
+            let further = given.further in
+            record {
+              entries = so_far.entries ++ entry ∷ [];
+              walking = IsWalking-more message from old new so_far.entries entry so_far.walking given;
+              counted = one_more ∙ ap length (sym longer);
+              clean = subst (AreClean Clean) (sym longer) (AreClean-push Clean passed span so_far.clean (subst (λ (ordinal : ℕ). Clean ordinal span) counted clean));
+              few = omega arith;
+            }
+
+        -- which is one of the whole message's, behind those that were passed
+        pub CleanWalk-next : (whole : List Entry) → IsMessage message from whole → IsNext Clean (spans_of field_number whole) count span
+        CleanWalk-next whole is_whole =
+            let passed : List Span = spans_of field_number so_far.entries in
+            let front = IsWalking-front message from new (so_far.entries ++ entry ∷ []) whole (IsWalking-more message from old new so_far.entries entry so_far.walking given) is_whole in
+            let rest : List Span = spans_of field_number front.0 in
+            let all : spans_of field_number whole ≡ (passed ++ span ∷ []) ++ rest =
+            ap (spans_of field_number) front.1
+            ∙ ap (filter_map span_of) (contents_of-append field_number (so_far.entries ++ entry ∷ []) front.0)
+            ∙ filter_map-append span_of (contents_of field_number (so_far.entries ++ entry ∷ [])) (contents_of field_number front.0)
+            ∙ ap (λ (list : List Span). list ++ rest) (picked-push span_of field_number so_far.entries entry span own there) in
+            let size : length (passed ++ span ∷ []) ≡ length passed + 1 = length-append passed (span ∷ []) in
+            let counted : count ≡ length passed = so_far.counted in
+            record {
+              here = ap (λ (list : List Span). slice_get list count) all
+                  ∙ slice_get-some (passed ++ span ∷ []) rest count span (ap (slice_get (passed ++ span ∷ [])) counted ∙ slice_get-last passed span);
+              before = λ earlier other less at.
+                  so_far.clean earlier other
+                  (sym (slice_get-append passed (span ∷ []) earlier (omega arith))
+                  ∙ sym (slice_get-append (passed ++ span ∷ []) rest earlier (omega arith))
+                  ∙ ap (λ (list : List Span). slice_get list earlier) (sym all) ∙ at);
+            }
+
+    -- behind the last field all the message's were passed
+    pub CleanWalk-over : IsOver old new → (whole : List Entry) → IsMessage message from whole → AreClean Clean (spans_of field_number whole)
+    CleanWalk-over over whole is_whole =
+        subst (λ (entries : List Entry). AreClean Clean (spans_of field_number entries)) (IsWalking-over message from old new so_far.entries whole so_far.walking over is_whole) so_far.clean
+
+-- what belongs to a stretch stands at the same place in its list
+pub each_there : {A B : Type 0} (R : A → B → Type 0) (xs : List A) (ys : List B) (i : ℕ) (x : A) → Each R xs ys → slice_get xs i ≡ Some x → (y : B) × (slice_get ys i ≡ Some y) × R x y
+each_there R [] [] i x each here = absurd (cc)
+each_there R [] (y ∷ ys) i x each here = absurd each
+each_there R (first ∷ xs) [] i x each here = absurd each
+each_there R (first ∷ xs) (y ∷ ys) zero x each here = let same : first ≡ x = cc in (y, refl, subst (λ (member : _). R member y) same each.0)
+each_there R (first ∷ xs) (y ∷ ys) (suc i) x each here = each_there R xs ys i x each.1 here
+
+-- and the other way round
+pub each_here : {A B : Type 0} (R : A → B → Type 0) (xs : List A) (ys : List B) (i : ℕ) (y : B) → Each R xs ys → slice_get ys i ≡ Some y → (x : A) × (slice_get xs i ≡ Some x) × R x y
+each_here R [] [] i y each there = absurd (cc)
+each_here R [] (other ∷ ys) i y each there = absurd each
+each_here R (x ∷ xs) [] i y each there = absurd each
+each_here R (x ∷ xs) (other ∷ ys) zero y each there = let same : other ≡ y = cc in (x, refl, subst (λ (member : _). R x member) same each.0)
+each_here R (x ∷ xs) (other ∷ ys) (suc i) y each there = each_here R xs ys i y each.1 there

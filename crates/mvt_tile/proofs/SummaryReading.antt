@@ -1,0 +1,136 @@
+-- One more field of a layer is read for its summary.
+use Rattle.std.proofs.Common.{◌≡◌, ◌≢◌, ℕ, ◌+◌, ◌<◌, ◌≤◌, ◌==◌, Bool, not, List, [], ◌∷◌, ◌++◌, length, take, filter_map, Option, Some, refl, sym, ◌∙◌, ap, arith, length-append, length-take}
+use Rattle.std.proofs.lemmas.List.{length-map}
+use Rattle.std.proofs.lemmas.List.Filters.{length-filter_both}
+use Rattle.mvt_wire.specs.Field.{Content, varint, eight_bytes, delimited, four_bytes, Entry, wire_type_of}
+use Rattle.mvt_wire.specs.Message.{FieldList}
+use Rattle.mvt_wire.specs.Scope.{contents_of, Span, span_of, spans_of}
+use Rattle.mvt_wire.specs.Tile.{number_in, numbers_of, bytes_in, texts_of, Each, LayerRecord, IsLayer}
+use Rattle.mvt_wire.specs.Walk.{Walk, GivesField}
+use Rattle.mvt_wire.proofs.Entries.{field_extent}
+use Rattle.mvt_tile.specs.Reading.{TellsSummary, last_of}
+use Rattle.mvt_tile.specs.RuleFaults.{IsSummary}
+use Rattle.mvt_tile.specs.declared.rules.summary.LayerSummary.{LayerSummary}
+use Rattle.mvt_tile.proofs.Filters.{picked-push, picked-other, length-filter_map, last_of-push}
+use Rattle.mvt_tile.proofs.Walking.{IsWalking}
+
+-- one more is picked out of the payloads of a number
+counted : {A : Type 0} (pick : Content → Option A) (field_number : ℕ) (entries : List Entry) (entry : Entry) (x : A) → entry.number ≡ field_number → pick entry.content ≡ Some x
+    → length (filter_map pick (contents_of field_number entries)) + 1 ≡ length (filter_map pick (contents_of field_number (entries ++ entry ∷ [])))
+counted pick field_number entries entry x is picked =
+    sym (length-append (filter_map pick (contents_of field_number entries)) (x ∷ [])) ∙ ap length (sym (picked-push pick field_number entries entry x is picked))
+
+-- a payload of wire type 2 has bytes, and lies somewhere
+bytes_there : (content : Content) → wire_type_of content ≡ 2 → (part : List ℕ) × (bytes_in content ≡ Some part)
+bytes_there (varint value at) own = absurd (omega arith)
+bytes_there (eight_bytes part) own = absurd (omega arith)
+bytes_there (delimited from part) own = (part, refl)
+bytes_there (four_bytes part) own = absurd (omega arith)
+
+span_there : (content : Content) → wire_type_of content ≡ 2 → (span : Span) × (span_of content ≡ Some span)
+span_there (varint value at) own = absurd (omega arith)
+span_there (eight_bytes part) own = absurd (omega arith)
+span_there (delimited from part) own = (record { from = from; to = from + length part }, refl)
+span_there (four_bytes part) own = absurd (omega arith)
+
+module _ (entries : List Entry) (entry : Entry) (summary : LayerSummary) (tells : TellsSummary entries summary) where
+  -- what a field of another number leaves
+  same_version : entry.number ≢ 15 → summary.version ≡ last_of 0 (numbers_of 15 (entries ++ entry ∷ []))
+  same_version other = tells.version ∙ ap (last_of 0) (sym (picked-other number_in 15 entries entry other))
+
+  same_name : entry.number ≢ 1 → summary.name.now ≡ last_of [] (texts_of 1 (entries ++ entry ∷ []))
+  same_name other = tells.name ∙ ap (last_of []) (sym (picked-other bytes_in 1 entries entry other))
+
+  same_keys : entry.number ≢ 3 → summary.keys ≡ length (texts_of 3 (entries ++ entry ∷ []))
+  same_keys other = tells.keys ∙ ap length (sym (picked-other bytes_in 3 entries entry other))
+
+  same_values : entry.number ≢ 4 → summary.values ≡ length (spans_of 4 (entries ++ entry ∷ []))
+  same_values other = tells.values ∙ ap length (sym (picked-other span_of 4 entries entry other))
+
+  -- what a field tells, by its number
+  pub sums_name : (after : LayerSummary) → after.version ≡ summary.version → after.keys ≡ summary.keys → after.values ≡ summary.values
+      → entry.number ≡ 1 → bytes_in entry.content ≡ Some after.name.now → TellsSummary (entries ++ entry ∷ []) after
+  sums_name after version keys values is told = record {
+    version = version ∙ same_version (omega arith);
+    name = sym (last_of-push [] after.name.now (texts_of 1 entries)) ∙ ap (last_of []) (sym (picked-push bytes_in 1 entries entry after.name.now is told));
+    keys = keys ∙ same_keys (omega arith);
+    values = values ∙ same_values (omega arith);
+  }
+
+  pub sums_key : (after : LayerSummary) → after.version ≡ summary.version → after.name ≡ summary.name → after.keys ≡ summary.keys + 1 → after.values ≡ summary.values
+      → entry.number ≡ 3 → wire_type_of entry.content ≡ 2 → TellsSummary (entries ++ entry ∷ []) after
+  sums_key after version name keys values is own =
+      let text = bytes_there entry.content own in
+      record {
+        version = version ∙ same_version (omega arith);
+        name = ap (λ n. n.now) name ∙ same_name (omega arith);
+        keys = keys ∙ ap (λ (n : ℕ). n + 1) tells.keys ∙ counted bytes_in 3 entries entry text.0 is text.1;
+        values = values ∙ same_values (omega arith);
+      }
+
+  pub sums_value : (after : LayerSummary) → after.version ≡ summary.version → after.name ≡ summary.name → after.keys ≡ summary.keys → after.values ≡ summary.values + 1
+      → entry.number ≡ 4 → wire_type_of entry.content ≡ 2 → TellsSummary (entries ++ entry ∷ []) after
+  sums_value after version name keys values is own =
+      let place = span_there entry.content own in
+      record {
+        version = version ∙ same_version (omega arith);
+        name = ap (λ n. n.now) name ∙ same_name (omega arith);
+        keys = keys ∙ same_keys (omega arith);
+        values = values ∙ ap (λ (n : ℕ). n + 1) tells.values ∙ counted span_of 4 entries entry place.0 is place.1;
+      }
+
+  pub sums_version : (after : LayerSummary) → after.name ≡ summary.name → after.keys ≡ summary.keys → after.values ≡ summary.values
+      → entry.number ≡ 15 → number_in entry.content ≡ Some after.version → TellsSummary (entries ++ entry ∷ []) after
+  sums_version after name keys values is told = record {
+    version = sym (last_of-push 0 after.version (numbers_of 15 entries)) ∙ ap (last_of 0) (sym (picked-push number_in 15 entries entry after.version is told));
+    name = ap (λ n. n.now) name ∙ same_name (omega arith);
+    keys = keys ∙ same_keys (omega arith);
+    values = values ∙ same_values (omega arith);
+  }
+
+-- each field has a byte or more
+few_fields : (bytes : List ℕ) (from to : ℕ) (entries : List Entry) → FieldList bytes from entries to → from + length entries ≤ to
+few_fields bytes from to [] list = omega arith
+few_fields bytes from to (entry ∷ entries) list =
+    let extent = field_extent bytes list.1.0 entry list.1.1 in
+    let rest = few_fields bytes list.1.0 to entries list.1.2 in
+    omega (arith, list.0)
+
+-- no more is picked than there are fields
+few_of_list : {A : Type 0} (pick : Content → Option A) (field_number : ℕ) (entries : List Entry) → length (filter_map pick (contents_of field_number entries)) ≤ length entries
+few_of_list pick field_number entries =
+    let has : Entry → Bool = λ (entry : Entry). entry.number == field_number in
+    omega (
+      arith,
+      length-filter_map pick (contents_of field_number entries),
+      length-map {A = Entry} {B = Content},
+      length-filter_both has (λ (entry : Entry). not (has entry)) (λ entry. refl) entries,
+    )
+
+-- the counts leave room for one more, where one more field is given
+pub few_counted : (bytes : List ℕ) (from to : ℕ) (old new : Walk) (entries : List Entry) (entry : Entry) (summary : LayerSummary)
+    → IsWalking (take to bytes) from old entries → GivesField old new entry → TellsSummary entries summary → (summary.keys < to) × (summary.values < to)
+few_counted bytes from to old new entries entry summary so_far given tells =
+    let fields = few_fields (take to bytes) from old.at entries so_far.passed in
+    let left = given.left in
+    let size : length old.bytes ≤ to = omega (arith, ap length so_far.same_bytes, length-take to bytes) in
+    let keys = few_of_list bytes_in 3 entries in
+    let values = few_of_list span_of 4 entries in
+    (omega (arith, tells.keys), omega (arith, tells.values))
+
+-- two lists whose members belong together have one length
+Each-length : {A B : Type 0} (related : A → B → Type 0) (xs : List A) (ys : List B) → Each related xs ys → length xs ≡ length ys
+Each-length related [] [] each = refl
+Each-length related [] (y ∷ ys) each = absurd each
+Each-length related (x ∷ xs) [] each = absurd each
+Each-length related (x ∷ xs) (y ∷ ys) each = omega (arith, Each-length related xs ys each.1)
+
+-- what all fields tell is the summary of the layer that stands there
+pub IsSummary-from_told : (bytes : List ℕ) (span : Span) (layer : LayerRecord) (told : LayerSummary) (is : IsLayer bytes span layer)
+    → TellsSummary is.entries told → IsSummary told layer
+IsSummary-from_told bytes span layer told is tells = record {
+  version = tells.version ∙ ap (last_of 0) is.version;
+  name = tells.name ∙ ap (last_of []) is.name;
+  keys = tells.keys ∙ ap length is.keys;
+  values = tells.values ∙ Each-length _ (spans_of 4 is.entries) layer.values is.values;
+}

@@ -1,0 +1,12 @@
+use Rattle.std.proofs.Common.{◌-◌, List, length, take}
+use Rattle.mvt_wire.specs.Field.{Entry}
+use Rattle.mvt_tile.specs.Reading.{TellsSummary}
+use Rattle.mvt_tile.proofs.Walking.{IsWalking}
+use Rattle.mvt_tile.proofs.rules.summary.summarize.Given as goal
+
+-- the summary has what the fields tell that were passed
+abbrev pub invariant-walk : goal.invariant-walk
+invariant-walk l = (entries : List Entry) × IsWalking (take l.to l.bytes) l.from l.fields entries × TellsSummary entries l.summary
+
+abbrev pub decreases-walk : goal.decreases-walk
+decreases-walk l = length l.fields.bytes - l.fields.at

@@ -1,0 +1,20 @@
+-- The first fault of the rules between a tile's parts, and what is kept of a layer to look for it.
+use Rattle.std.specs.Prelude.{◌≡◌, ℕ, ◌<◌, ◌≤◌, ◌⊎◌, List, length}
+use Rattle.mvt_fault.specs.Code.{tag_code}
+use Rattle.mvt_fault.specs.Truth.{TagsBreak}
+use Rattle.mvt_fault.specs.declared.tag.TagCode.{TagCode}
+use Rattle.mvt_wire.specs.Tile.{LayerRecord}
+use Rattle.mvt_tile.specs.declared.rules.summary.LayerSummary.{LayerSummary}
+
+-- what the layer has, as far as the rules ask for it
+pub record IsSummary (summary : LayerSummary) (layer : LayerRecord) : Type 0 where
+  pub version : summary.version ≡ layer.version
+  pub name : summary.name.now ≡ layer.name
+  pub keys : summary.keys ≡ length layer.keys
+  pub values : summary.values ≡ length layer.values
+
+-- of the faults of tags, the one at the first place, and there the one of least code
+pub record IsFirstTagFault (keys values : ℕ) (tags : List ℕ) (code : TagCode) (place : ℕ) : Type 0 where
+  pub broken : TagsBreak code keys values tags place
+  pub first : (other : TagCode) (other_place : ℕ) → TagsBreak other keys values tags other_place
+      → (place < other_place) ⊎ ((place ≡ other_place) × (tag_code code ≤ tag_code other))

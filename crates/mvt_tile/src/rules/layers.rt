@@ -1,0 +1,57 @@
+//! The versions and names of layers (Mapbox Vector Tile Specification 2.1, section 4.1).
+ghost use Rattle.std.specs.Prelude.{◌≡◌, IfOk, IfNone, IfSome};
+ghost use Rattle.mvt_fault.specs.Place.{IsLeast};
+ghost use Rattle.mvt_fault.specs.Truth.{IsFaultOfLayers};
+ghost use Rattle.mvt_fault.specs.declared.fault.Fault.{Fault};
+ghost use Rattle.mvt_wire.specs.Tile.{TileRecord, IsTile};
+ghost use Rattle.mvt_tile.specs.View.{tile_of};
+
+#[cfg(test)]
+mod tests;
+
+use super::layer_rules::LayerRules;
+use super::summary::summarize;
+use crate::field_number::LAYERS;
+use crate::read::payload::stretch_of;
+use crate::read::walk::next_whole;
+use crate::record::Tile;
+use mvt_fault::Fault;
+use mvt_wire::Fields;
+use std::alloc::{AllocError, Global};
+
+/// The first fault of the layers' versions and names, or None where there is none: a layer whose version
+/// isn't 2, or the second of two layers that have one name, the same byte for byte (section 4.1). The
+/// only error is that memory was refused.
+pub fn check_layers(alloc: Global, tile: &Tile<'_>) -> Result<Option<Fault>, AllocError>
+    ensures none { IfOk result (λ found. IfNone found ((fault : Fault) → ¬ IsFaultOfLayers (tile_of tile.now) fault)) }
+    ensures least { IfOk result (λ found. IfSome found (IsLeast (IsFaultOfLayers (tile_of tile.now)))) }
+{
+    let mut rules = LayerRules::new(alloc);
+    for layer in &tile.layers {
+        if let Some(fault) = rules.note(layer.version, layer.name.as_bytes())? {
+            return Ok(Some(fault));
+        }
+    }
+    Ok(None)
+}
+
+/// The first fault of the versions and names of the layers that the bytes of a tile hold, or None. The
+/// only error is that memory was refused.
+pub(crate) fn first_layer_fault(alloc: Global, bytes: &[u8]) -> Result<Option<Fault>, AllocError>
+    requires { (tile : TileRecord) × IsTile bytes.now tile }
+    ensures none { IfOk result (λ found. IfNone found ((tile : TileRecord) → IsTile bytes.now tile → (fault : Fault) → ¬ IsFaultOfLayers tile fault)) }
+    ensures least { IfOk result (λ found. IfSome found (λ fault. (tile : TileRecord) → IsTile bytes.now tile → IsLeast (IsFaultOfLayers tile) fault)) }
+{
+    let mut rules = LayerRules::new(alloc);
+    let mut fields = Fields::new(bytes, 0, bytes.len());
+    'walk: while let Some(field) = next_whole(&mut fields) {
+        if field.number == LAYERS {
+            let (from, to) = stretch_of(field.body);
+            let layer = summarize(bytes, from, to);
+            if let Some(fault) = rules.note(layer.version, layer.name)? {
+                return Ok(Some(fault));
+            }
+        }
+    }
+    Ok(None)
+}

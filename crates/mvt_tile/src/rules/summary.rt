@@ -1,0 +1,61 @@
+//! What the rules ask of a layer (Mapbox Vector Tile Specification 2.1, section 4.1).
+ghost use Rattle.std.specs.Prelude.{◌+◌, ◌<◌, ◌≤◌, ◌^◌, List, ◌∷◌, [], ◌++◌, length};
+ghost use Rattle.mvt_wire.specs.Field.{Entry, entry_of};
+ghost use Rattle.mvt_wire.specs.Tile.{LayerRecord, IsLayer};
+ghost use Rattle.mvt_wire.specs.declared.schema.Message.TheVariants as messages;
+ghost use Rattle.mvt_tile.specs.Reading.{FitsRule, TellsSummary};
+ghost use Rattle.mvt_tile.specs.RuleFaults.{IsSummary};
+
+#[cfg(test)]
+pub(crate) mod tests;
+
+use crate::read::payload::{bytes_in, number_in};
+use crate::read::walk::next_whole;
+use mvt_wire::{Field, Fields};
+
+/// What the rules ask of a layer: its version, its name, and how many keys and values it has.
+#[derive(Clone, Copy)]
+pub(crate) struct LayerSummary<'a> {
+    pub(crate) version: u32,
+    pub(crate) name: &'a [u8],
+    pub(crate) keys: usize,
+    pub(crate) values: usize,
+}
+
+/// The summary of the layer that stands in the bytes from one offset up to another (Mapbox Vector Tile
+/// Specification 2.1, section 4.1).
+pub(crate) fn summarize(bytes: &[u8], from: usize, to: usize) -> LayerSummary<'_>
+    requires forward { from ≤ to }
+    requires within { to ≤ length bytes.now }
+    requires stands { (layer : LayerRecord) × IsLayer bytes.now (record { from = from; to = to }) layer }
+    ensures { (layer : LayerRecord) → IsLayer bytes.now (record { from = from; to = to }) layer → IsSummary result layer }
+{
+    let mut summary = LayerSummary {
+        version: 0,
+        name: &[],
+        keys: 0,
+        values: 0,
+    };
+    let mut fields = Fields::new(bytes, from, to);
+    'walk: while let Some(field) = next_whole(&mut fields) {
+        add_field(&mut summary, field);
+    }
+    summary
+}
+
+/// Adds what one more field of the layer tells.
+fn add_field<'a>(summary: &mut LayerSummary<'a>, field: Field<'a>)
+    requires fits { FitsRule messages.Layer (entry_of field) }
+    requires keys { summary.old.keys + 1 < 2 ^ 64 }
+    requires values { summary.old.values + 1 < 2 ^ 64 }
+    ensures { (entries : List Entry) → TellsSummary entries summary.old
+        → TellsSummary (entries ++ entry_of field.entry ∷ []) summary.new }
+{
+    match field.number {
+        1 => summary.name = bytes_in(field.body),
+        3 => summary.keys += 1,
+        4 => summary.values += 1,
+        15 => summary.version = number_in(field.body) as u32,
+        _ => {}
+    }
+}

@@ -1,0 +1,78 @@
+//! The tags of a feature (Mapbox Vector Tile Specification 2.1, section 4.4).
+ghost use Rattle.std.specs.Prelude.{◌≡◌, ◌<◌, ℕ, length, IfOk, IfNone, IfSome, Some, slice_get};
+ghost use Rattle.mvt_fault.specs.Place.{IsLeast};
+ghost use Rattle.mvt_fault.specs.Truth.{IsFaultOfTags, TagsBreak};
+ghost use Rattle.mvt_fault.specs.declared.fault.Fault.{Fault};
+ghost use Rattle.mvt_fault.specs.declared.tag.TagCode.{TagCode};
+ghost use Rattle.mvt_wire.specs.Tile.{FeatureRecord};
+ghost use Rattle.mvt_tile.specs.RuleFaults.{IsFirstTagFault};
+ghost use Rattle.mvt_tile.specs.View.{layer_of};
+
+#[cfg(test)]
+mod tests;
+
+use super::key_set::KeySet;
+use crate::record::Layer;
+use mvt_fault::{Fault, TagCode};
+use std::alloc::{AllocError, Global};
+
+/// The first fault of the tags of a layer's feature, or None where there is none (section 4.4). `layer`
+/// is the layer's ordinal in its tile, for the fault to tell; `feature` is the feature's ordinal in the
+/// layer, and below the number of its features; both count from 0. The only error is that memory was
+/// refused.
+pub fn check_tags(
+    alloc: Global,
+    whose: &Layer<'_>,
+    layer: usize,
+    feature: usize,
+) -> Result<Option<Fault>, AllocError>
+    requires { feature < length whose.now.features.items }
+    ensures none { IfOk result (λ found. IfNone found ((it : FeatureRecord) → slice_get (layer_of whose.now).features feature ≡ Some it
+        → (fault : Fault) → ¬ IsFaultOfTags (layer_of whose.now) it layer feature fault)) }
+    ensures least { IfOk result (λ found. IfSome found (λ fault. (it : FeatureRecord) → slice_get (layer_of whose.now).features feature ≡ Some it
+        → IsLeast (IsFaultOfTags (layer_of whose.now) it layer feature) fault)) }
+{
+    let tags = &whose.features[feature].tags;
+    let found = fault_of_tags(alloc, tags, whose.keys.len(), whose.values.len())?;
+    let Some((code, index)) = found else {
+        return Ok(None);
+    };
+    Ok(Some(Fault::Tag {
+        code,
+        layer,
+        feature,
+        index,
+    }))
+}
+
+/// The first fault of tags, in a layer of so many keys and values, and its place in their list. The only
+/// error is that memory was refused.
+pub(crate) fn fault_of_tags(
+    alloc: Global,
+    tags: &[u32],
+    keys: usize,
+    values: usize,
+) -> Result<Option<(TagCode, usize)>, AllocError>
+    ensures none { IfOk result (λ found. IfNone found ((code : TagCode) (place : ℕ) → ¬ TagsBreak code keys values tags.now place)) }
+    ensures first { IfOk result (λ found. IfSome found (λ it. IsFirstTagFault keys values tags.now it.0 it.1)) }
+{
+    if tags.len() % 2 != 0 {
+        return Ok(Some((TagCode::OddLength, tags.len())));
+    }
+    let mut passed = KeySet::new(alloc);
+    let mut at = 0;
+    'pairs: while at < tags.len() {
+        let key = tags[at];
+        if key as usize >= keys {
+            return Ok(Some((TagCode::NoKey, at)));
+        }
+        if !passed.insert(key)? {
+            return Ok(Some((TagCode::Repeated, at)));
+        }
+        if tags[at + 1] as usize >= values {
+            return Ok(Some((TagCode::NoValue, at + 1)));
+        }
+        at += 2;
+    }
+    Ok(None)
+}

@@ -1,0 +1,186 @@
+use crate::rules::tags::fault_of_tags;
+use crate::{Feature, Kind, Layer, Value, check_tags, read_tile};
+use mvt_fault::{Fault, TagCode};
+use std::alloc::{AllocError, Global};
+use std::process::Abort;
+use std::test::Fail;
+
+/// That the one feature of the tile's one layer has this fault of tags.
+fn expect_fault(rt: &impl Abort, alloc: Global, bytes: &[u8], fault: Option<(TagCode, usize)>) {
+    match read_tile(alloc, bytes) {
+        Ok(tile) => {
+            assert_eq!(rt; tile.layers.len(), 1);
+            let layer = &tile.layers[0];
+            assert_eq!(rt; layer.features.len(), 1);
+            let told = fault.map(|(code, index)| Fault::Tag {
+                code,
+                layer: 4,
+                feature: 0,
+                index,
+            });
+            assert!(rt; check_tags(alloc, layer, 4, 0) == Ok(told));
+        }
+        Err(fault) => assert!(rt; false, "{fault:?}"),
+    }
+}
+
+// A layer of one key and two values. Its feature has a key twice.
+#[test]
+fn key_twice(rt: HostRuntime) {
+    let bytes = [
+        0x1a, 0x1f, 0x78, 0x02, 0x0a, 0x01, 0x61, 0x12, 0x0d, 0x12, 0x04, 0x00, 0x00, 0x00, 0x01,
+        0x18, 0x01, 0x22, 0x03, 0x09, 0x32, 0x22, 0x1a, 0x01, 0x6b, 0x22, 0x02, 0x38, 0x01, 0x22,
+        0x02, 0x28, 0x05,
+    ];
+    expect_fault(&rt, rt.alloc(), &bytes, Some((TagCode::Repeated, 2)));
+}
+
+// The same layer, with a pair that is right, a key out of range, and a value out of range.
+#[test]
+fn one_pair(rt: HostRuntime) {
+    let cases = [
+        (0, 0, None),
+        (1, 0, Some((TagCode::NoKey, 0))),
+        (0, 2, Some((TagCode::NoValue, 1))),
+    ];
+    for (key, value, fault) in cases {
+        let bytes = [
+            0x1a, 0x1d, 0x78, 0x02, 0x0a, 0x01, 0x61, 0x12, 0x0b, 0x12, 0x02, key, value, 0x18,
+            0x01, 0x22, 0x03, 0x09, 0x32, 0x22, 0x1a, 0x01, 0x6b, 0x22, 0x02, 0x38, 0x01, 0x22,
+            0x02, 0x28, 0x05,
+        ];
+        expect_fault(&rt, rt.alloc(), &bytes, fault);
+    }
+}
+
+// The same layer, with half a pair, and with no tags.
+#[test]
+fn no_pair(rt: HostRuntime) {
+    let half = [
+        0x1a, 0x1c, 0x78, 0x02, 0x0a, 0x01, 0x61, 0x12, 0x0a, 0x12, 0x01, 0x00, 0x18, 0x01, 0x22,
+        0x03, 0x09, 0x32, 0x22, 0x1a, 0x01, 0x6b, 0x22, 0x02, 0x38, 0x01, 0x22, 0x02, 0x28, 0x05,
+    ];
+    expect_fault(&rt, rt.alloc(), &half, Some((TagCode::OddLength, 1)));
+    let none = [
+        0x1a, 0x19, 0x78, 0x02, 0x0a, 0x01, 0x61, 0x12, 0x07, 0x18, 0x01, 0x22, 0x03, 0x09, 0x32,
+        0x22, 0x1a, 0x01, 0x6b, 0x22, 0x02, 0x38, 0x01, 0x22, 0x02, 0x28, 0x05,
+    ];
+    expect_fault(&rt, rt.alloc(), &none, None);
+}
+
+#[test]
+fn lists_of_tags(rt: HostRuntime) {
+    // tags, the numbers of keys and values, and the fault
+    let cases: [(&[u32], usize, usize, Option<(TagCode, usize)>); 14] = [
+        (&[], 0, 0, None),
+        (&[], 1, 2, None),
+        (&[0, 0], 1, 2, None),
+        (&[0, 0, 0, 1], 1, 2, Some((TagCode::Repeated, 2))),
+        (&[0], 1, 2, Some((TagCode::OddLength, 1))),
+        (&[1, 0], 1, 2, Some((TagCode::NoKey, 0))),
+        (&[0, 2], 1, 2, Some((TagCode::NoValue, 1))),
+        // an odd length hides all else
+        (&[0, 0, 0, 1, 0], 1, 2, Some((TagCode::OddLength, 5))),
+        (&[7, 7, 7], 1, 2, Some((TagCode::OddLength, 3))),
+        // a key out of range, twice
+        (&[0, 0, 1, 0, 1, 0], 1, 2, Some((TagCode::NoKey, 2))),
+        // a value out of range before a key that comes again
+        (&[0, 2, 0, 0], 1, 2, Some((TagCode::NoValue, 1))),
+        // keys about the end of the small ones
+        (
+            &[63, 0, 64, 0, 65, 0, 63, 0],
+            66,
+            1,
+            Some((TagCode::Repeated, 6)),
+        ),
+        (
+            &[63, 0, 64, 0, 65, 0, 64, 0],
+            66,
+            1,
+            Some((TagCode::Repeated, 6)),
+        ),
+        (
+            &[63, 0, 64, 0, 65, 0, 65, 0],
+            66,
+            1,
+            Some((TagCode::Repeated, 6)),
+        ),
+    ];
+    for (tags, keys, values, fault) in cases {
+        assert!(rt;
+            fault_of_tags(rt.alloc(), tags, keys, values) == Ok(fault),
+            "at {tags:?}"
+        );
+    }
+}
+
+// Keys enough that the set takes memory; then one of them again.
+#[test]
+fn many_keys(rt: HostRuntime) {
+    let mut tags = Vec::new(rt.alloc());
+    for key in 0..300 {
+        assert!(rt; tags.push(key).is_ok());
+        assert!(rt; tags.push(0).is_ok());
+    }
+    assert!(rt; fault_of_tags(rt.alloc(), &tags, 300, 1) == Ok(None));
+    assert!(rt; tags.push(200).is_ok());
+    assert!(rt; tags.push(0).is_ok());
+    let again = Some((TagCode::Repeated, 600));
+    assert!(rt; fault_of_tags(rt.alloc(), &tags, 300, 1) == Ok(again));
+}
+
+/// A feature of unknown geometry with these tags.
+fn feature(alloc: Global, tags: &[u32]) -> Result<Feature, AllocError> {
+    let mut list = Vec::new(alloc);
+    for tag in tags {
+        list.push(*tag)?;
+    }
+    Ok(Feature {
+        id: None,
+        tags: list,
+        kind: Kind::Unknown,
+        geometry: Vec::new(alloc),
+    })
+}
+
+/// A layer of 70 keys and one value, with a feature of one pair and one that has these tags.
+fn layer_of_many_keys(alloc: Global, tags: &[u32]) -> Result<Layer<'static>, AllocError> {
+    let mut layer = Layer {
+        version: 2,
+        name: "a",
+        features: Vec::new(alloc),
+        keys: Vec::new(alloc),
+        values: Vec::new(alloc),
+        extent: 4096,
+    };
+    for _ in 0..70 {
+        layer.keys.push("")?;
+    }
+    layer.values.push(Value::Bool(true))?;
+    layer.features.push(feature(alloc, &[0, 0])?)?;
+    layer.features.push(feature(alloc, tags)?)?;
+    Ok(layer)
+}
+
+// Keys from 64 on are kept in memory.
+#[test]
+fn large_keys_of_the_second_feature(rt: HostRuntime) -> Result<(), Fail> {
+    let alloc = rt.alloc();
+    let cases: [(&[u32], Option<(TagCode, usize)>); 3] = [
+        (&[64, 0, 69, 0, 65, 0], None),
+        (&[64, 0, 69, 0, 64, 0], Some((TagCode::Repeated, 4))),
+        (&[64, 0, 70, 0, 64, 0], Some((TagCode::NoKey, 2))),
+    ];
+    for (tags, fault) in cases {
+        let layer = layer_of_many_keys(alloc, tags)?;
+        assert_eq!(rt; layer.features.len(), 2);
+        let told = fault.map(|(code, index)| Fault::Tag {
+            code,
+            layer: 3,
+            feature: 1,
+            index,
+        });
+        assert!(rt; check_tags(alloc, &layer, 3, 1) == Ok(told));
+    }
+    Ok(())
+}
