@@ -1,6 +1,7 @@
 #!/usr/bin/env python3
 """Writes the inputs of bench/run into a folder: inputs.py FOLDER. Each run writes the same bytes."""
 import functools
+import itertools
 import os
 import random
 import sys
@@ -9,7 +10,7 @@ MIB = 1 << 20
 # wire types (Protocol Buffers encoding, "Message Structure")
 VARINT, FIXED64, DELIMITED, FIXED32 = 0, 1, 2, 5
 # geometry types and commands (Mapbox Vector Tile Specification 2.1, sections 4.3.4 and 4.3.1)
-POINT, LINESTRING, POLYGON = 1, 2, 3
+UNKNOWN, POINT, LINESTRING, POLYGON = 0, 1, 2, 3
 MOVE_TO, LINE_TO, CLOSE_PATH = 1, 2, 7
 
 
@@ -179,17 +180,79 @@ def one_payload(begin, one, size):
 SHORT = field(1, VARINT, 5)
 # no protobuf message begins with this byte
 NO_MESSAGE = b"\x07"
+VERSION = field(15, VARINT, 2)
 # a version, and a name of one letter
-NAMED = b"\x78\x02\x0a\x01\x61"
-# The smallest messages without a wire fault: a layer with a version and an empty name, a feature with a type and an
-# empty geometry, and a value with a bool.
-SMALLEST_LAYER = b"\x1a\x04\x78\x02\x0a\x00"
-SMALLEST_FEATURE = b"\x12\x04\x18\x00\x22\x00"
-SMALLEST_VALUE = b"\x22\x02\x38\x01"
+NAMED = VERSION + field(1, DELIMITED, b"a")
+# The smallest messages that keep the rules: a feature with a type and an empty geometry, and a value with a bool. A key
+# may be the empty text.
+SMALLEST_FEATURE = field(2, DELIMITED, feature(UNKNOWN, b""))
+SMALLEST_VALUE = field(4, DELIMITED, field(7, VARINT, 1))
+SMALLEST_KEY = field(3, DELIMITED, b"")
+
+# As many layers or tags as the bytes can hold
+
+ASCII = 128
+# a prime above every count of names or keys
+STEP = 2_654_435_761
+
+
+def scattered(count):
+    """The numbers below the count, each once, in an order that is far from sorted."""
+    return (at * STEP % count for at in range(count))
+
+
+def smallest_layers(size):
+    """As many layers of different names as fit: the names of ASCII characters, the shorter ones first."""
+    layers, left = [], size
+    for length in itertools.count():
+        # (all but the name itself, which comes last)
+        begin = field(3, DELIMITED, VERSION + field(1, DELIMITED, bytes(length)))[:6]
+        each = len(begin) + length
+        count = min(ASCII**length, left // each)
+        names = itertools.islice(itertools.product(range(ASCII), repeat=length), count)
+        layers += [begin + bytes(it) for it in names]
+        left -= count * each
+        if count < ASCII**length:
+            return layers
+
+
+def named_layers(size):
+    """The same layers in an order that is far from sorted."""
+    layers = smallest_layers(size)
+    return b"".join(layers[at] for at in scattered(len(layers)))
+
+
+def many_tags(size):
+    """One layer with as many keys as fit, and one feature with a tag of each key, all with one value."""
+    # (some bytes go to the messages around the keys and the tags)
+    keys, left = 0, size - 64
+    for length in itertools.count(1):
+        # (a tag is the index of its key, of this length, and that of its value)
+        each = len(SMALLEST_KEY) + length + 1
+        count = min(ASCII**length - keys, left // each)
+        keys, left = keys + count, left - count * each
+        if keys < ASCII**length:
+            break
+    tags = b"".join(varint(key) + varint(0) for key in scattered(keys))
+    tagged = field(2, DELIMITED, feature(UNKNOWN, b"", tags=tags))
+    return field(3, DELIMITED, NAMED + tagged + SMALLEST_KEY * keys + SMALLEST_VALUE)
+
+
+def tagged_features(size, keys):
+    """One layer with this many keys, and as many features as fit, each with four tags of different keys from the upper
+    half of them."""
+    half = keys // 2
+    features = []
+    for at in range(1024):
+        chosen = [half + (4 * at + tag) * STEP % half for tag in range(4)]
+        tags = packed(it for key in chosen for it in (key, 0))
+        features.append(field(2, DELIMITED, feature(UNKNOWN, b"", tags=tags)))
+    return one_payload(NAMED + SMALLEST_KEY * keys + SMALLEST_VALUE, b"".join(features), size)
+
 
 INPUTS = {
     "one_payload_64_mib": lambda: one_payload(b"", NO_MESSAGE, 64 * MIB),
-    "small_layers_8_mib": lambda: repeated(field(3, DELIMITED, NAMED), 8 * MIB),
+    "small_layers_8_mib": lambda: b"".join(smallest_layers(8 * MIB)),
     "many_features_20_mb": lambda: many_features(20_000_000),
     "long_geometries_20_mb": lambda: long_geometries(20_000_000),
 }
@@ -197,9 +260,13 @@ INPUTS = {
 for mib in (16, 32, 64):
     INPUTS |= {
         f"short_fields_{mib}_mib": lambda size=mib * MIB: repeated(SHORT, size),
-        f"smallest_layers_{mib}_mib": lambda size=mib * MIB: repeated(SMALLEST_LAYER, size),
+        f"smallest_layers_{mib}_mib": lambda size=mib * MIB: b"".join(smallest_layers(size)),
         f"smallest_features_{mib}_mib": lambda size=mib * MIB: one_payload(NAMED, SMALLEST_FEATURE, size),
         f"smallest_values_{mib}_mib": lambda size=mib * MIB: one_payload(NAMED, SMALLEST_VALUE, size),
+        f"named_layers_{mib}_mib": lambda size=mib * MIB: named_layers(size),
+        f"many_tags_{mib}_mib": lambda size=mib * MIB: many_tags(size),
+        f"tagged_features_{mib}_mib": lambda size=mib * MIB: tagged_features(size, 128),
+        f"many_keys_{mib}_mib": lambda size=mib * MIB: tagged_features(size, size // 8),
     }
 
 folder = sys.argv[1]

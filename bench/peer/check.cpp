@@ -1,9 +1,11 @@
-// Checks the wire grammar of one uncompressed vector tile with protozero, as `mvtgate check` does: check [FILE].
+// Checks one uncompressed vector tile with protozero, as `mvtgate check` does: its wire grammar, the versions and names
+// of its layers, and the tags of its features. Words: check [FILE].
 //
 // Without FILE the tile comes from standard input. It writes {"ok":true} with status 0, or the first fault that it
 // meets with status 1; status 2 says that it could not run. docs/SPECIFICATION.md says what a fault is.
 #include <protozero/pbf_reader.hpp>
 
+#include <algorithm>
 #include <cstddef>
 #include <cstdint>
 #include <cstdio>
@@ -12,6 +14,8 @@
 #include <limits>
 #include <stdexcept>
 #include <string>
+#include <string_view>
+#include <vector>
 
 namespace {
 
@@ -22,6 +26,7 @@ using protozero::pbf_wire_type;
 constexpr std::uint64_t any_number = std::numeric_limits<std::uint64_t>::max();
 constexpr std::uint64_t greatest_uint32 = std::numeric_limits<std::uint32_t>::max();
 constexpr std::uint64_t greatest_type = 3;
+constexpr std::uint64_t only_version = 2;
 
 struct Fault : std::runtime_error {
     using std::runtime_error::runtime_error;
@@ -79,15 +84,18 @@ data_view get_payload(pbf_reader& message) {
     return payload;
 }
 
-void check_number(pbf_reader& message, std::uint64_t greatest) {
+std::uint64_t get_number(pbf_reader& message, std::uint64_t greatest) {
     const char* const begin = message.data().data();
     const std::uint64_t number = message.get_uint64();
     require_short(begin, message.data().data());
     require(number <= greatest, "a number is out of range");
+    return number;
 }
 
-// The packed numbers of tags or of a geometry. protozero's iterator would decode each varint twice and hide its length.
-void check_packed(data_view numbers) {
+// Takes the packed numbers of tags or of a geometry. protozero's iterator would decode each varint twice and hide its
+// length.
+template <typename Take>
+void take_packed(data_view numbers, Take take) {
     const char* at = numbers.data();
     const char* const end = at + numbers.size();
     while (at != end) {
@@ -95,7 +103,12 @@ void check_packed(data_view numbers) {
         const std::uint64_t number = protozero::decode_varint(&at, end);
         require_short(begin, at);
         require(number <= greatest_uint32, "a number is out of range");
+        take(static_cast<std::uint32_t>(number));
     }
+}
+
+void check_packed(data_view numbers) {
+    take_packed(numbers, [](std::uint32_t) {});
 }
 
 // The length of the UTF-8 character at this place (RFC 3629, section 4), or 0 where none stands there.
@@ -140,7 +153,7 @@ void check_text(data_view text) {
 void skip_unknown(pbf_reader& message, bool is_known) {
     require(!is_known, "a known field has another wire type");
     if (message.has_wire_type(pbf_wire_type::varint)) {
-        check_number(message, any_number);
+        get_number(message, any_number);
     } else if (message.has_wire_type(pbf_wire_type::length_delimited)) {
         get_payload(message);
     } else {
@@ -152,6 +165,63 @@ void mark_once(bool& occurs) {
     require(!occurs, "a singular field occurs twice");
     occurs = true;
 }
+
+// The tags of a layer's features, which mostly stand before the keys and values that they index: so the greatest
+// indices are kept up to the layer's end. One object serves all layers of a tile.
+class Tags {
+public:
+    void begin_layer(std::size_t bytes) {
+        most_keys_ = bytes / fewest_bytes_of_key;
+        keys_due_ = 0;
+        values_due_ = 0;
+    }
+
+    void begin_feature() {
+        ++feature_;
+        is_key_ = true;
+    }
+
+    void take(std::uint32_t index) {
+        if (is_key_) {
+            mark_key(index);
+        } else {
+            values_due_ = std::max(values_due_, std::size_t{index} + 1);
+        }
+        is_key_ = !is_key_;
+    }
+
+    void end_feature() const {
+        require(is_key_, "the number of tags is odd");
+    }
+
+    void end_layer(std::size_t keys, std::size_t values) const {
+        require(keys_due_ <= keys, "a tag has a key that the layer hasn't");
+        require(values_due_ <= values, "a tag has a value that the layer hasn't");
+    }
+
+private:
+    // a field's key and a length of 0
+    static constexpr std::size_t fewest_bytes_of_key = 2;
+
+    void mark_key(std::size_t key) {
+        // (so that the marks take no more memory than a layer of these bytes can ask for)
+        require(key < most_keys_, "a tag has a key that the layer hasn't");
+        if (key >= last_features_.size()) {
+            last_features_.resize(key + 1);
+        }
+        require(last_features_[key] != feature_, "a feature has two tags of one key");
+        last_features_[key] = feature_;
+        keys_due_ = std::max(keys_due_, key + 1);
+    }
+
+    std::size_t most_keys_ = 0;
+    std::size_t keys_due_ = 0;
+    std::size_t values_due_ = 0;
+    bool is_key_ = true;
+    // features are counted from 1 through the whole tile, so that no mark is ever taken back (2^32 of them take 24 GiB)
+    std::uint32_t feature_ = 0;
+    std::vector<std::uint32_t> last_features_;
+};
 
 void check_value(pbf_reader value) {
     int fields = 0;
@@ -169,7 +239,7 @@ void check_value(pbf_reader value) {
             case varint(5):
             case varint(6):
             case varint(7):
-                check_number(value, any_number);
+                get_number(value, any_number);
                 break;
             default:
                 skip_unknown(value, value.tag() <= 7);
@@ -178,25 +248,26 @@ void check_value(pbf_reader value) {
     require(fields == 1, "a value has none or several of its fields");
 }
 
-void check_feature(pbf_reader feature) {
+void check_feature(pbf_reader feature, Tags& tags) {
     bool has_id = false;
     bool has_type = false;
     bool has_geometry = false;
+    tags.begin_feature();
     while (next(feature)) {
         switch (feature.tag_and_type()) {
             case varint(1):
                 mark_once(has_id);
-                check_number(feature, any_number);
+                get_number(feature, any_number);
                 break;
             case delimited(2):
-                check_packed(get_payload(feature));
+                take_packed(get_payload(feature), [&tags](std::uint32_t index) { tags.take(index); });
                 break;
             case varint(2):
-                check_number(feature, greatest_uint32);
+                tags.take(static_cast<std::uint32_t>(get_number(feature, greatest_uint32)));
                 break;
             case varint(3):
                 mark_once(has_type);
-                check_number(feature, greatest_type);
+                get_number(feature, greatest_type);
                 break;
             case delimited(4):
                 has_geometry = true;
@@ -204,57 +275,77 @@ void check_feature(pbf_reader feature) {
                 break;
             case varint(4):
                 has_geometry = true;
-                check_number(feature, greatest_uint32);
+                get_number(feature, greatest_uint32);
                 break;
             default:
                 skip_unknown(feature, feature.tag() <= 4);
         }
     }
     require(has_type && has_geometry, "a feature lacks its type or its geometry");
+    tags.end_feature();
 }
 
-void check_layer(pbf_reader layer) {
+// The layer's name.
+std::string_view check_layer(pbf_reader layer, Tags& tags) {
+    data_view name;
+    std::size_t keys = 0;
+    std::size_t values = 0;
     bool has_name = false;
     bool has_extent = false;
     bool has_version = false;
+    tags.begin_layer(layer.length());
     while (next(layer)) {
         switch (layer.tag_and_type()) {
             case delimited(1):
                 mark_once(has_name);
-                check_text(get_payload(layer));
+                name = get_payload(layer);
+                check_text(name);
                 break;
             case delimited(2):
-                check_feature(pbf_reader{get_payload(layer)});
+                check_feature(pbf_reader{get_payload(layer)}, tags);
                 break;
             case delimited(3):
+                ++keys;
                 check_text(get_payload(layer));
                 break;
             case delimited(4):
+                ++values;
                 check_value(pbf_reader{get_payload(layer)});
                 break;
             case varint(5):
                 mark_once(has_extent);
-                check_number(layer, greatest_uint32);
+                get_number(layer, greatest_uint32);
                 break;
             case varint(15):
                 mark_once(has_version);
-                check_number(layer, greatest_uint32);
+                require(get_number(layer, greatest_uint32) == only_version, "a layer's version isn't 2");
                 break;
             default:
                 skip_unknown(layer, layer.tag() <= 5 || layer.tag() == 15);
         }
     }
     require(has_name && has_version, "a layer lacks its name or its version");
+    tags.end_layer(keys, values);
+    return {name.data(), name.size()};
+}
+
+void require_different(std::vector<std::string_view>& names) {
+    std::sort(names.begin(), names.end());
+    const bool is_twice = std::adjacent_find(names.begin(), names.end()) != names.end();
+    require(!is_twice, "two layers have one name");
 }
 
 void check_tile(pbf_reader tile) {
+    std::vector<std::string_view> names;
+    Tags tags;
     while (next(tile)) {
         if (tile.tag_and_type() == delimited(3)) {
-            check_layer(pbf_reader{get_payload(tile)});
+            names.push_back(check_layer(pbf_reader{get_payload(tile)}, tags));
         } else {
             skip_unknown(tile, tile.tag() == 3);
         }
     }
+    require_different(names);
 }
 
 std::string read_whole(std::FILE* input) {
