@@ -1,0 +1,10 @@
+pub mod Beginnings
+pub mod Blames
+pub mod CommandFaults
+pub mod DrawnFigures
+pub mod Figures
+pub mod GoingOn
+pub mod Parameters
+pub mod Residues
+pub mod Spellings
+pub mod Words

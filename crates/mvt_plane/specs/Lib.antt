@@ -1,0 +1,4 @@
+pub mod Position
+pub mod Figure
+pub mod CommandFault
+pub mod Drawing
