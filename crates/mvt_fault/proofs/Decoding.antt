@@ -1,5 +1,5 @@
 -- A fault is told by its object.
-use Rattle.std.proofs.Common.{◌≡◌, ℕ, ◌==◌, ◌≤◌, List, if◌then◌else◌, is_some, Some, option_and_then, unwrap_or, codes, lit≤, String, Global, string_bytes, refl, sym, ap, ◌∙◌}
+use Rattle.std.proofs.Common.{◌≡◌, ℕ, ◌==◌, ◌≤◌, List, if◌then◌else◌, nat_lt, is_some, Some, option_and_then, unwrap_or, codes, lit≤, String, Global, string_bytes, refl, sym, ap, ◌∙◌}
 use Rattle.std.proofs.lemmas.Str.{IsUtf8-string_bytes}
 use Rattle.serde_json.specs.Data.{Data, depth}
 use Rattle.serde_json.specs.Find.{get, as_number, as_u64}
@@ -11,10 +11,11 @@ use Rattle.mvt_fault.specs.Text.{data_of, IsInRange, Reads}
 use Rattle.mvt_wire.specs.declared.scope.Scope.{Scope}
 use Rattle.mvt_wire.specs.declared.scope.Scope.TheVariants.{Tile, Layer, Value, Feature}
 use Rattle.mvt_fault.specs.declared.fault.Fault.{Fault}
-use Rattle.mvt_fault.specs.declared.fault.Fault.TheVariants.{Wire, Version, Name, Tag}
+use Rattle.mvt_fault.specs.declared.fault.Fault.TheVariants.{Wire, Version, Name, Tag, Command}
 use Rattle.mvt_fault.specs.declared.tag.TagCode.{TagCode}
 use Rattle.mvt_fault.specs.declared.tag.TagCode.TheVariants.{OddLength, NoKey, NoValue, Repeated}
-use Rattle.mvt_fault.specs.Code.{tag_code}
+use Rattle.mvt_fault.specs.declared.command.CommandCode.{CommandCode}
+use Rattle.mvt_fault.specs.declared.command.CommandCode.TheVariants.{OtherCommand, OtherCount, Unfinished, GreatestParameter, OutOfBounds, NoStep}
 
 -- the cause with a number
 abbrev wire_code_at : ℕ → WireCode
@@ -51,12 +52,14 @@ tag_code_at n =
     (if n == 302 then NoKey else
     (if n == 303 then NoValue else Repeated))
 
--- each number is that of one cause
-tag_code_at-tag_code : (code : TagCode) → tag_code_at (tag_code code) ≡ code
-tag_code_at-tag_code OddLength = refl
-tag_code_at-tag_code NoKey = refl
-tag_code_at-tag_code NoValue = refl
-tag_code_at-tag_code Repeated = refl
+-- the cause of a fault of commands with a number
+abbrev command_code_at : ℕ → CommandCode
+command_code_at n =
+    if n == 401 then OtherCommand else
+    (if n == 402 then OtherCount else
+    (if n == 403 then Unfinished else
+    (if n == 404 then GreatestParameter else
+    (if n == 405 then OutOfBounds else NoStep))))
 
 -- the whole number at a key, or 0
 abbrev number_at : List ℕ → Data → ℕ
@@ -76,11 +79,19 @@ wire_fault_in d =
     Wire (wire_code_at (number_at (codes "code") d)) (scope_in d) (number_at (codes "at") d)
     (number_at (codes "field") d)
 
+-- a fault in a feature with this object, where there is one: of its commands from 401 on, else of its tags
+abbrev feature_fault_in : Data → Fault
+feature_fault_in d =
+    let code = number_at (codes "code") d in
+    if nat_lt 400 code
+    then Command (command_code_at code) (number_at (codes "layer") d) (number_at (codes "feature") d) (number_at (codes "index") d)
+    else Tag (tag_code_at code) (number_at (codes "layer") d) (number_at (codes "feature") d) (number_at (codes "index") d)
+
 -- a fault with this object, where there is one
 abbrev fault_in : Data → Fault
 fault_in d =
     if is_some (get (codes "scope") d) then wire_fault_in d else
-    (if is_some (get (codes "index") d) then Tag (tag_code_at (number_at (codes "code") d)) (number_at (codes "layer") d) (number_at (codes "feature") d) (number_at (codes "index") d) else
+    (if is_some (get (codes "index") d) then feature_fault_in d else
     (if is_some (get (codes "second") d) then Name (number_at (codes "first") d) (number_at (codes "second") d) else
     Version (number_at (codes "layer") d)))
 
@@ -92,7 +103,16 @@ fault_in-data_of (Wire code (Value layer value) at field) = ap (λ c. Wire c (Va
 fault_in-data_of (Wire code (Feature layer feature) at field) = ap (λ c. Wire c (Feature layer feature) at field) (wire_code_at-code_of code)
 fault_in-data_of (Version layer) = refl
 fault_in-data_of (Name first second) = refl
-fault_in-data_of (Tag code layer feature index) = ap (λ c. Tag c layer feature index) (tag_code_at-tag_code code)
+fault_in-data_of (Tag OddLength layer feature index) = refl
+fault_in-data_of (Tag NoKey layer feature index) = refl
+fault_in-data_of (Tag NoValue layer feature index) = refl
+fault_in-data_of (Tag Repeated layer feature index) = refl
+fault_in-data_of (Command OtherCommand layer feature index) = refl
+fault_in-data_of (Command OtherCount layer feature index) = refl
+fault_in-data_of (Command Unfinished layer feature index) = refl
+fault_in-data_of (Command GreatestParameter layer feature index) = refl
+fault_in-data_of (Command OutOfBounds layer feature index) = refl
+fault_in-data_of (Command NoStep layer feature index) = refl
 
 -- two faults with one object are the same
 data_of-injective : (f g : Fault) → data_of f ≡ data_of g → f ≡ g
@@ -108,6 +128,7 @@ depth-data_of (Wire code (Feature layer feature) at field) = lit≤ tt
 depth-data_of (Version layer) = lit≤ tt
 depth-data_of (Name first second) = lit≤ tt
 depth-data_of (Tag code layer feature index) = lit≤ tt
+depth-data_of (Command code layer feature index) = lit≤ tt
 
 -- what reads as a fault's object stands for that fault
 pub Reads-string_bytes : (f : Fault) (d : Data) (s : String Global) → d ≡ data_of f → IsInRange f

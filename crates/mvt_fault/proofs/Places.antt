@@ -3,10 +3,9 @@ use Rattle.std.proofs.Common.{◌≡◌, ◌≢◌, ◌↔◌, ℕ, ◌<◌, ◌
 use Rattle.std.specs.Ordering.{ordering_then, nat_cmp, MatchOrdering, is_le, is_some_and}
 use Rattle.std.specs.Cmp.{ranks}
 use Rattle.std.specs.Cmp.Lexicographic.{slice_cmp, slice_partial_cmp, lists_agrees}
-use Rattle.mvt_fault.specs.Place.{place_of, ComesFirst, IsLeast}
-use Rattle.mvt_fault.specs.Truth.{IsFault}
+use Rattle.mvt_fault.specs.Place.{place_of, ComesFirst}
 use Rattle.mvt_fault.specs.declared.fault.Fault.{Fault}
-use Rattle.mvt_fault.specs.declared.fault.Fault.TheVariants.{Wire, Version, Name, Tag}
+use Rattle.mvt_fault.specs.declared.fault.Fault.TheVariants.{Wire, Version, Name, Tag, Command}
 
 -- a place comes first before itself
 pub ComesFirst-reflexive : (xs : List ℕ) → ComesFirst xs xs
@@ -99,19 +98,24 @@ same_place (Wire code scope at field) (Wire code2 scope2 at2 field2) same = Prim
 same_place (Wire code scope at field) (Version layer2) same = Prim.search rules
 same_place (Wire code scope at field) (Name first2 second2) same = Prim.search rules
 same_place (Wire code scope at field) (Tag tag_code2 layer2 feature2 index2) same = Prim.search rules
+same_place (Wire code scope at field) (Command command_code2 layer2 feature2 index2) same = Prim.search rules
 same_place (Version layer) (Wire code2 scope2 at2 field2) same = Prim.search rules
 same_place (Version layer) (Version layer2) same = Prim.search rules
 same_place (Version layer) (Name first2 second2) same = Prim.search rules
 same_place (Version layer) (Tag tag_code2 layer2 feature2 index2) same = Prim.search rules
+same_place (Version layer) (Command command_code2 layer2 feature2 index2) same = Prim.search rules
 same_place (Name first second) (Wire code2 scope2 at2 field2) same = Prim.search rules
 same_place (Name first second) (Version layer2) same = Prim.search rules
 same_place (Name first second) (Name first2 second2) same = Prim.search rules
 same_place (Name first second) (Tag tag_code2 layer2 feature2 index2) same = Prim.search rules
+same_place (Name first second) (Command command_code2 layer2 feature2 index2) same = Prim.search rules
 same_place (Tag tag_code layer feature index) (Wire code2 scope2 at2 field2) same = Prim.search rules
 same_place (Tag tag_code layer feature index) (Version layer2) same = Prim.search rules
 same_place (Tag tag_code layer feature index) (Name first2 second2) same = Prim.search rules
 same_place (Tag tag_code layer feature index) (Tag tag_code2 layer2 feature2 index2) same = Prim.search rules
-
--- bytes have one fault of least place
-pub one_least : (bytes : List ℕ) (f g : Fault) → IsLeast (IsFault bytes) f → IsLeast (IsFault bytes) g → f ≡ g
-one_least bytes f g first second = same_place f g (ComesFirst-antisymmetric (place_of f) (place_of g) (first.least g second.holds) (second.least f first.holds))
+same_place (Tag tag_code layer feature index) (Command command_code2 layer2 feature2 index2) same = Prim.search rules
+same_place (Command command_code layer feature index) (Wire code2 scope2 at2 field2) same = Prim.search rules
+same_place (Command command_code layer feature index) (Version layer2) same = Prim.search rules
+same_place (Command command_code layer feature index) (Name first2 second2) same = Prim.search rules
+same_place (Command command_code layer feature index) (Tag tag_code2 layer2 feature2 index2) same = Prim.search rules
+same_place (Command command_code layer feature index) (Command command_code2 layer2 feature2 index2) same = Prim.search rules

@@ -4,8 +4,8 @@ use Rattle.mvt_wire.specs.Code.{code_of}
 use Rattle.mvt_wire.specs.declared.scope.Scope.{Scope}
 use Rattle.mvt_wire.specs.declared.scope.Scope.TheVariants.{Tile, Layer, Value, Feature}
 use Rattle.mvt_fault.specs.declared.fault.Fault.{Fault}
-use Rattle.mvt_fault.specs.declared.fault.Fault.TheVariants.{Wire, Version, Name, Tag}
-use Rattle.mvt_fault.specs.Code.{tag_code}
+use Rattle.mvt_fault.specs.declared.fault.Fault.TheVariants.{Wire, Version, Name, Tag, Command}
+use Rattle.mvt_fault.specs.Code.{tag_code, command_code}
 
 -- the tile's own fields come first; then, layer by layer, the layer's fields, its values and its features
 abbrev pub scope_place : Scope → List ℕ
@@ -20,6 +20,7 @@ place_of (Wire code scope at field) = scope_place scope ++ (at ∷ code_of code 
 place_of (Version layer) = 1 ∷ layer ∷ 201 ∷ 0 ∷ 0 ∷ 0 ∷ 0 ∷ 0 ∷ 0 ∷ 0 ∷ []
 place_of (Name first second) = 1 ∷ second ∷ 202 ∷ first ∷ 0 ∷ 0 ∷ 0 ∷ 0 ∷ 0 ∷ 0 ∷ []
 place_of (Tag code layer feature index) = 2 ∷ layer ∷ feature ∷ 0 ∷ index ∷ tag_code code ∷ 0 ∷ 0 ∷ 0 ∷ 0 ∷ []
+place_of (Command code layer feature index) = 2 ∷ layer ∷ feature ∷ 1 ∷ index ∷ command_code code ∷ 0 ∷ 0 ∷ 0 ∷ 0 ∷ []
 
 -- the first list comes before the second, or is the same
 abbrev pub ComesFirst : List ℕ → List ℕ → Type 0

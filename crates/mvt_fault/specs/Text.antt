@@ -8,9 +8,8 @@ use Rattle.mvt_wire.specs.declared.cause.WireCode.{WireCode}
 use Rattle.mvt_wire.specs.declared.scope.Scope.{Scope}
 use Rattle.mvt_wire.specs.declared.scope.Scope.TheVariants.{Tile, Layer, Value, Feature}
 use Rattle.mvt_fault.specs.declared.fault.Fault.{Fault}
-use Rattle.mvt_fault.specs.declared.fault.Fault.TheVariants.{Wire, Version, Name, Tag}
-use Rattle.mvt_fault.specs.declared.tag.TagCode.{TagCode}
-use Rattle.mvt_fault.specs.Code.{tag_code}
+use Rattle.mvt_fault.specs.declared.fault.Fault.TheVariants.{Wire, Version, Name, Tag, Command}
+use Rattle.mvt_fault.specs.Code.{tag_code, command_code}
 
 -- a JSON number with no sign, fraction or exponent
 abbrev pub whole : ℕ → Data
@@ -63,10 +62,10 @@ name_data first second =
     (member (codes "second") (whole second)
     no_members)))
 
--- the object of a fault of tags: the feature, and the place in their list
-abbrev pub tag_data : TagCode → ℕ → ℕ → ℕ → Data
-tag_data code layer feature index =
-    object (member (codes "code") (whole (tag_code code))
+-- the object of a fault in the tags or the geometry of a feature: its code's number, and the place in the list
+abbrev pub feature_data : ℕ → ℕ → ℕ → ℕ → Data
+feature_data code layer feature index =
+    object (member (codes "code") (whole code)
     (member (codes "feature") (whole feature)
     (member (codes "index") (whole index)
     (member (codes "layer") (whole layer)
@@ -77,7 +76,8 @@ abbrev pub data_of : Fault → Data
 data_of (Wire code scope at field) = wire_data code scope at field
 data_of (Version layer) = version_data layer
 data_of (Name first second) = name_data first second
-data_of (Tag code layer feature index) = tag_data code layer feature index
+data_of (Tag code layer feature index) = feature_data (tag_code code) layer feature index
+data_of (Command code layer feature index) = feature_data (command_code code) layer feature index
 
 -- a fault's text: its object with no space
 abbrev pub text_of : Fault → List ℕ
@@ -89,6 +89,7 @@ IsInRange (Wire code scope at field) = field < 2 ^ 32
 IsInRange (Version layer) = Unit {0}
 IsInRange (Name first second) = Unit {0}
 IsInRange (Tag code layer feature index) = Unit {0}
+IsInRange (Command code layer feature index) = Unit {0}
 
 -- the bytes are a text that stands for this fault, as JSON is read
 pub record Reads (bytes : List ℕ) (f : Fault) : Type 0 where

@@ -2,10 +2,10 @@
 use Rattle.std.specs.Prelude.{◌≡◌, ◌⊎◌, ℕ, List, length}
 use Rattle.mvt_wire.specs.Field.{cause_at}
 use Rattle.mvt_wire.specs.Rules.{OtherVersion, SameName, OddTags, NoSuchKey, NoSuchValue, KeyAgain, IsFeatureOf}
-use Rattle.mvt_wire.specs.Tile.{FeatureRecord, LayerRecord, TileRecord, IsTile}
+use Rattle.mvt_wire.specs.Tile.{FeatureRecord, LayerRecord, TileRecord}
 use Rattle.mvt_wire.specs.WireFault.{WireFault}
 use Rattle.mvt_fault.specs.declared.fault.Fault.{Fault}
-use Rattle.mvt_fault.specs.declared.fault.Fault.TheVariants.{Wire, Version, Name, Tag}
+use Rattle.mvt_fault.specs.declared.fault.Fault.TheVariants.{Wire, Version, Name, Tag, Command}
 use Rattle.mvt_fault.specs.declared.tag.TagCode.{TagCode}
 use Rattle.mvt_fault.specs.declared.tag.TagCode.TheVariants.{OddLength, NoKey, NoValue, Repeated}
 
@@ -15,6 +15,7 @@ IsWireFault bytes (Wire code scope at field) = WireFault bytes scope (cause_at c
 IsWireFault bytes (Version layer) = ⊥
 IsWireFault bytes (Name first second) = ⊥
 IsWireFault bytes (Tag code layer feature index) = ⊥
+IsWireFault bytes (Command code layer feature index) = ⊥
 
 -- the tile's layers have this fault of versions or names (Mapbox Vector Tile Specification 2.1, section 4.1)
 abbrev pub IsFaultOfLayers : TileRecord → Fault → Type 0
@@ -22,6 +23,7 @@ IsFaultOfLayers tile (Wire code scope at field) = ⊥
 IsFaultOfLayers tile (Version layer) = OtherVersion tile layer
 IsFaultOfLayers tile (Name first second) = SameName tile first second
 IsFaultOfLayers tile (Tag code layer feature index) = ⊥
+IsFaultOfLayers tile (Command code layer feature index) = ⊥
 
 -- tags are wrong at a place, in a layer of so many keys and values (section 4.4)
 abbrev pub TagsBreak : TagCode → ℕ → ℕ → List ℕ → ℕ → Type 0
@@ -35,6 +37,7 @@ abbrev pub IsFaultOfTags : LayerRecord → FeatureRecord → ℕ → ℕ → Fau
 IsFaultOfTags whose it layer feature (Wire code scope at field) = ⊥
 IsFaultOfTags whose it layer feature (Version other) = ⊥
 IsFaultOfTags whose it layer feature (Name first second) = ⊥
+IsFaultOfTags whose it layer feature (Command code in_layer in_feature index) = ⊥
 IsFaultOfTags whose it layer feature (Tag code in_layer in_feature index) =
     (in_layer ≡ layer) × (in_feature ≡ feature) × TagsBreak code (length whose.keys) (length whose.values) it.tags index
 
@@ -50,7 +53,3 @@ pub record IsFaultOfFeatures (tile : TileRecord) (fault : Fault) : Type 0 where
 -- the tile's record breaks a rule between its parts
 abbrev pub BreaksRule : TileRecord → Fault → Type 0
 BreaksRule tile fault = IsFaultOfLayers tile fault ⊎ IsFaultOfFeatures tile fault
-
--- the fault is true of the bytes: it is a wire fault of them, or they are a tile that breaks a rule
-abbrev pub IsFault : List ℕ → Fault → Type 0
-IsFault bytes fault = IsWireFault bytes fault ⊎ ((tile : TileRecord) × IsTile bytes tile × BreaksRule tile fault)

@@ -1,7 +1,8 @@
-ghost use Rattle.std.specs.Prelude.{◌≡◌};
+ghost use Rattle.std.specs.Prelude.{◌≡◌, ◌∷◌, []};
 ghost use Rattle.mvt_fault.specs.Code.{fault_code};
 ghost use Rattle.mvt_fault.specs.Place.{place_of, scope_place};
 
+use crate::command::CommandCode;
 use crate::order::Place;
 use crate::tag::TagCode;
 use mvt_wire::{Scope, WireCode};
@@ -45,6 +46,18 @@ pub enum Fault {
         /// The place in the list of tags, counted from 0; the list's length where that is odd.
         index: usize,
     },
+    /// The geometry of a feature doesn't draw a figure of its type (section 4.3).
+    Command {
+        /// The cause.
+        code: CommandCode,
+        /// The ordinal of the feature's layer, counted from 0.
+        layer: usize,
+        /// The ordinal of the feature in its layer, counted from 0.
+        feature: usize,
+        /// The place in the list of geometry numbers, counted from 0; the list's length where the
+        /// numbers end too early.
+        index: usize,
+    },
 }
 
 // The numbers of the causes that have no type of their own.
@@ -53,7 +66,7 @@ pub(crate) const VERSION_CODE: u16 = 201;
 pub(crate) const NAME_CODE: u16 = 202;
 
 /// The number that names the fault's cause: 101 to 111 for a wire fault, 201 for a layer's version, 202
-/// for two layers of one name, 301 to 304 for tags.
+/// for two layers of one name, 301 to 304 for tags, 401 to 406 for geometry commands.
 pub fn code(fault: &Fault) -> u16
     ensures { result ≡ fault_code fault.now }
 {
@@ -62,13 +75,15 @@ pub fn code(fault: &Fault) -> u16
         Fault::Version { .. } => VERSION_CODE,
         Fault::Name { .. } => NAME_CODE,
         Fault::Tag { code, .. } => code.code(),
+        Fault::Command { code, .. } => code.code(),
     }
 }
 
 /// The fault's place in the order of faults. Wire faults come first: those of the tile's own fields;
 /// then, layer by layer, those of the layer's fields, its values and its features (Mapbox Vector Tile
 /// Specification 2.1, section 4). Within one message the offset in bytes decides, then the code, then
-/// the field number. Versions and names follow layer by layer, and then tags feature by feature.
+/// the field number. Versions and names follow layer by layer, and then, feature by feature, tags and
+/// geometry commands.
 pub fn place(fault: &Fault) -> Place
     ensures { result ≡ place_of fault.now }
 {
@@ -92,18 +107,13 @@ pub fn place(fault: &Fault) -> Place
             layer,
             feature,
             index,
-        } => [
-            2,
+        } => feature_numbers(layer, feature, 0, index, code.code()),
+        Fault::Command {
+            code,
             layer,
             feature,
-            0,
             index,
-            usize::from(code.code()),
-            0,
-            0,
-            0,
-            0,
-        ],
+        } => feature_numbers(layer, feature, 1, index, code.code()),
     })
 }
 
@@ -118,4 +128,29 @@ fn scope_numbers(scope: Scope) -> [usize; 5]
         Scope::Value(layer, value) => [0, 1, layer, 1, value],
         Scope::Feature(layer, feature) => [0, 1, layer, 2, feature],
     }
+}
+
+// The numbers of a fault in a feature: 2, since such faults come last; which layer and feature; 0 for its
+// tags and 1 for its commands; the place in their list, and the code.
+fn feature_numbers(
+    layer: usize,
+    feature: usize,
+    part: usize,
+    index: usize,
+    code: u16,
+) -> [usize; 10]
+    ensures { result ≡ 2 ∷ layer ∷ feature ∷ part ∷ index ∷ code ∷ 0 ∷ 0 ∷ 0 ∷ 0 ∷ [] }
+{
+    [
+        2,
+        layer,
+        feature,
+        part,
+        index,
+        usize::from(code),
+        0,
+        0,
+        0,
+        0,
+    ]
 }

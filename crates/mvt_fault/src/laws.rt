@@ -2,8 +2,7 @@
 //! compare. Whoever looks for the first fault of a tile can stand on them.
 
 ghost use Rattle.std.specs.Prelude.{◌≡◌, ◌≢◌, ◌↔◌, ◌⊎◌, ℕ, List, length, IsTrue};
-ghost use Rattle.mvt_fault.specs.Place.{place_of, ComesFirst, IsLeast};
-ghost use Rattle.mvt_fault.specs.Truth.{IsFault};
+ghost use Rattle.mvt_fault.specs.Place.{place_of, ComesFirst};
 
 use crate::fault::Fault;
 use crate::order::Place;
@@ -43,10 +42,4 @@ pub fn comes_first(first: &Place, second: &Place) -> bool
 /// No two faults have one place.
 pub fn one_fault_a_place()
     ensures { (fault other : Fault) → place_of fault ≡ place_of other → fault ≡ other }
-{}
-
-/// Bytes have at most one fault of least place.
-pub fn one_least_fault()
-    ensures { (bytes : List ℕ) (fault other : Fault) →
-        IsLeast (IsFault bytes) fault → IsLeast (IsFault bytes) other → fault ≡ other }
 {}

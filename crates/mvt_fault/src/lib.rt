@@ -2,6 +2,7 @@
 //! order of faults, and its JSON text.
 #![tactic(auto)]
 
+mod command;
 mod fault;
 pub mod laws;
 mod order;
@@ -10,6 +11,7 @@ mod tag;
 mod tests;
 mod text;
 
+pub use command::CommandCode;
 pub use fault::{Fault, code, place};
 pub use mvt_wire::Scope;
 pub use order::Place;

@@ -1,4 +1,4 @@
-use crate::{Fault, Place, Scope, TagCode, code, fault_text, place};
+use crate::{CommandCode, Fault, Place, Scope, TagCode, code, fault_text, place};
 use mvt_wire::WireCode;
 use std::test::Fail;
 
@@ -64,6 +64,15 @@ fn numbers_each_cause(rt: HostRuntime) {
     }
 }
 
+fn command(code: CommandCode, layer: usize, feature: usize, index: usize) -> Fault {
+    Fault::Command {
+        code,
+        layer,
+        feature,
+        index,
+    }
+}
+
 fn tag(code: TagCode, layer: usize, feature: usize, index: usize) -> Fault {
     Fault::Tag {
         code,
@@ -120,6 +129,41 @@ fn writes_each_rule(rt: HostRuntime) -> Result<(), Fail> {
 }
 
 #[test]
+fn writes_command_faults(rt: HostRuntime) -> Result<(), Fail> {
+    for (fault, text) in [
+        (
+            command(CommandCode::Unfinished, 0, 0, 2),
+            "{\"code\":403,\"feature\":0,\"index\":2,\"layer\":0}",
+        ),
+        (
+            command(CommandCode::NoStep, 5, 6, 5),
+            "{\"code\":406,\"feature\":6,\"index\":5,\"layer\":5}",
+        ),
+    ] {
+        assert!(rt;
+            fault_text(rt.alloc(), &fault)?.as_str() == text,
+            "for {text}"
+        );
+    }
+    Ok(())
+}
+
+#[test]
+fn numbers_each_cause_of_commands(rt: HostRuntime) {
+    for (cause, number) in [
+        (CommandCode::OtherCommand, 401),
+        (CommandCode::OtherCount, 402),
+        (CommandCode::Unfinished, 403),
+        (CommandCode::GreatestParameter, 404),
+        (CommandCode::OutOfBounds, 405),
+        (CommandCode::NoStep, 406),
+    ] {
+        assert_eq!(rt; cause.code(), number);
+        assert_eq!(rt; code(&command(cause, 0, 0, 0)), number);
+    }
+}
+
+#[test]
 fn places_each_rule(rt: HostRuntime) {
     for (fault, numbers) in [
         (
@@ -136,6 +180,10 @@ fn places_each_rule(rt: HostRuntime) {
         (
             tag(TagCode::NoValue, 5, 6, 7),
             [2, 5, 6, 0, 7, 303, 0, 0, 0, 0],
+        ),
+        (
+            command(CommandCode::NoStep, 5, 6, 7),
+            [2, 5, 6, 1, 7, 406, 0, 0, 0, 0],
         ),
     ] {
         assert_eq!(rt; place(&fault), Place::new(numbers), "for {fault:?}");
@@ -195,6 +243,10 @@ fn orders_faults(rt: HostRuntime) {
         tag(TagCode::Repeated, 0, 3, 4),
         tag(TagCode::NoKey, 0, 3, 5),
         tag(TagCode::Repeated, 0, 3, 5),
+        tag(TagCode::OddLength, 0, 3, 9),
+        command(CommandCode::NoStep, 0, 3, 4),
+        command(CommandCode::OtherCommand, 0, 3, 5),
+        command(CommandCode::OtherCount, 0, 3, 5),
         tag(TagCode::NoKey, 0, 4, 0),
         tag(TagCode::OddLength, 1, 0, 0),
     ];

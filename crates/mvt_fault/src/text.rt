@@ -1,9 +1,8 @@
 ghost use Rattle.std.specs.Prelude.{◌≡◌, IfOk, OnOk, string_bytes};
 ghost use Rattle.serde_json.specs.View.{view};
-ghost use Rattle.mvt_fault.specs.Text.{data_of, text_of, wire_data, version_data, name_data, tag_data, IsInRange, Reads};
+ghost use Rattle.mvt_fault.specs.Text.{data_of, text_of, wire_data, version_data, name_data, feature_data, IsInRange, Reads};
 
 use crate::fault::{Fault, NAME_CODE, VERSION_CODE};
-use crate::tag::TagCode;
 use mvt_wire::{Scope, WireCode};
 use serde_json::{Value, json};
 use std::alloc::{AllocError, Global};
@@ -40,7 +39,13 @@ fn fault_object(alloc: Global, fault: &Fault) -> Result<Value, AllocError>
             layer,
             feature,
             index,
-        } => tag_object(alloc, code, layer, feature, index),
+        } => feature_rule_object(alloc, code.code(), layer, feature, index),
+        Fault::Command {
+            code,
+            layer,
+            feature,
+            index,
+        } => feature_rule_object(alloc, code.code(), layer, feature, index),
     }
 }
 
@@ -126,14 +131,14 @@ fn name_object(alloc: Global, first: usize, second: usize) -> Result<Value, Allo
     json!(in alloc; {"code": NAME_CODE, "first": first, "second": second})
 }
 
-fn tag_object(
+fn feature_rule_object(
     alloc: Global,
-    code: TagCode,
+    code: u16,
     layer: usize,
     feature: usize,
     index: usize,
 ) -> Result<Value, AllocError>
-    ensures { IfOk result (λ v. view v ≡ tag_data code layer feature index) }
+    ensures { IfOk result (λ v. view v ≡ feature_data code layer feature index) }
 {
-    json!(in alloc; {"code": code.code(), "feature": feature, "index": index, "layer": layer})
+    json!(in alloc; {"code": code, "feature": feature, "index": index, "layer": layer})
 }

@@ -1,4 +1,6 @@
 pub mod EngineLemmas
 pub mod FieldsAnswers
+pub mod Geometries
 pub mod Listing
+pub mod SmallNumbers
 pub mod Verdicts

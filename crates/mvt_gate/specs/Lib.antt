@@ -1,6 +1,5 @@
 pub use Rattle.mvt_fault.specs.Place
 pub use Rattle.mvt_fault.specs.Text
-pub use Rattle.mvt_fault.specs.Truth
 pub use Rattle.mvt_wire.specs.Field
 pub use Rattle.mvt_wire.specs.Message
 pub use Rattle.mvt_wire.specs.Tile
@@ -10,4 +9,5 @@ pub mod FaultLine
 pub mod Fields
 pub mod FieldsLine
 pub mod Tally
+pub mod Truth
 pub mod Verdict

@@ -1,7 +1,10 @@
 //! Laws of the answers: an input has one answer, with one line.
 ghost use Rattle.std.specs.Prelude.{◌≡◌, ℕ, List};
+ghost use Rattle.mvt_fault.specs.Place.{IsLeast};
+ghost use Rattle.mvt_fault.specs.declared.fault.Fault.{Fault};
 ghost use Rattle.mvt_gate.specs.Check.{IsCheckAnswer};
 ghost use Rattle.mvt_gate.specs.Fields.{IsFieldsAnswer};
+ghost use Rattle.mvt_gate.specs.Truth.{IsFault};
 ghost use Rattle.mvt_gate.specs.Verdict.{IsVerdict};
 ghost use Rattle.mvt_gate.specs.declared.engine.Outcome.{Outcome};
 ghost use Rattle.mvt_gate.specs.declared.verdict.Verdict.{Verdict};
@@ -11,6 +14,11 @@ pub fn one_fields_answer()
     ensures some { (input : List ℕ) → (outcome : Outcome) × (line : List ℕ) × IsFieldsAnswer input outcome line }
     ensures alone { (input : List ℕ) (first second : Outcome) (line other : List ℕ) →
         IsFieldsAnswer input first line → IsFieldsAnswer input second other → (first ≡ second) × (line ≡ other) }
+{}
+
+/// Of the faults of bytes, one alone has the least place.
+pub fn one_least_fault()
+    ensures { (bytes : List ℕ) (fault other : Fault) → IsLeast (IsFault bytes) fault → IsLeast (IsFault bytes) other → fault ≡ other }
 {}
 
 /// No bytes have two verdicts.

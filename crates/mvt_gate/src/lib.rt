@@ -6,6 +6,7 @@ mod check;
 mod device;
 mod engine;
 mod fields;
+mod geometry;
 pub mod laws;
 mod tally;
 mod verdict;

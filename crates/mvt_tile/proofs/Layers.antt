@@ -11,7 +11,7 @@ use Rattle.mvt_wire.specs.declared.schema.Message.TheVariants as messages
 use Rattle.mvt_wire.proofs.Messages.{one_list}
 use Rattle.mvt_fault.specs.Place.{ComesFirst, IsLeast, place_of}
 use Rattle.mvt_fault.specs.declared.fault.Fault.{Fault}
-use Rattle.mvt_fault.specs.declared.fault.Fault.TheVariants.{Wire, Version, Name, Tag}
+use Rattle.mvt_fault.specs.declared.fault.Fault.TheVariants.{Wire, Version, Name, Tag, Command}
 use Rattle.mvt_tile.specs.Embedded.{HasFault, HasNone, HasFirst}
 use Rattle.mvt_tile.specs.First.{AreClean, IsFirst}
 use Rattle.mvt_tile.specs.LayerFault.{FaultInLayer, IsLayerFault}
@@ -80,6 +80,7 @@ module _ (bytes : List ℕ) (outer : Span) (layer : ℕ) where
       behind (Version some_layer) holds = absurd holds
       behind (Name some other_one) holds = absurd holds
       behind (Tag tag_code some_layer some_feature index) holds = absurd holds
+      behind (Command command_code in_layer in_feature index) holds = absurd holds
 
   -- else that of a value
   behind_value : (entries : List Entry) (ordinal : ℕ) (cause : WireCause) → IsMessageAt bytes outer entries → ((own : WireCause) → ¬ HasFault messages.Layer bytes outer own)
@@ -102,6 +103,7 @@ module _ (bytes : List ℕ) (outer : Span) (layer : ℕ) where
       behind (Version some_layer) holds = absurd holds
       behind (Name some other_one) holds = absurd holds
       behind (Tag tag_code some_layer some_feature index) holds = absurd holds
+      behind (Command command_code in_layer in_feature index) holds = absurd holds
 
   -- else that of a feature
   behind_feature : (entries : List Entry) (ordinal : ℕ) (cause : WireCause) → IsMessageAt bytes outer entries → ((own : WireCause) → ¬ HasFault messages.Layer bytes outer own)
@@ -126,6 +128,7 @@ module _ (bytes : List ℕ) (outer : Span) (layer : ℕ) where
       behind (Version some_layer) holds = absurd holds
       behind (Name some other_one) holds = absurd holds
       behind (Tag tag_code some_layer some_feature index) holds = absurd holds
+      behind (Command command_code in_layer in_feature index) holds = absurd holds
 
   -- else there is none
   none_in : (entries : List Entry) → IsMessageAt bytes outer entries → ((own : WireCause) → ¬ HasFault messages.Layer bytes outer own)
@@ -143,3 +146,4 @@ module _ (bytes : List ℕ) (outer : Span) (layer : ℕ) where
   IsLayerFault-none entries whole none values features (Version some_layer) holds = absurd holds
   IsLayerFault-none entries whole none values features (Name some other_one) holds = absurd holds
   IsLayerFault-none entries whole none values features (Tag tag_code some_layer some_feature index) holds = absurd holds
+  IsLayerFault-none entries whole none values features (Command command_code in_layer in_feature index) holds = absurd holds

@@ -1,5 +1,6 @@
 pub mod Causes
 pub mod SmallNumbers
+pub mod ShortNumbers
 pub mod FieldFaults
 pub mod SchemaRules
 pub mod Passing
@@ -20,11 +21,11 @@ pub mod ValueReading
 pub mod Stretches
 pub mod LayerReading
 pub mod SummaryReading
-pub mod TagReading
+pub mod StatedNumbers
 pub mod TagFaults
 pub mod KeySets
 pub mod LayerNames
 pub mod NamesWalk
 pub mod CleanWalk
-pub mod TaggedFeatures
+pub mod FeatureFaults
 pub mod RuleOrder

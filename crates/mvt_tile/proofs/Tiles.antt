@@ -13,7 +13,7 @@ use Rattle.mvt_wire.proofs.Tiles.{tile_or_fault}
 use Rattle.mvt_fault.specs.Place.{ComesFirst, IsLeast, place_of}
 use Rattle.mvt_fault.specs.Truth.{IsWireFault}
 use Rattle.mvt_fault.specs.declared.fault.Fault.{Fault}
-use Rattle.mvt_fault.specs.declared.fault.Fault.TheVariants.{Wire, Version, Name, Tag}
+use Rattle.mvt_fault.specs.declared.fault.Fault.TheVariants.{Wire, Version, Name, Tag, Command}
 use Rattle.mvt_tile.specs.Embedded.{HasFault}
 use Rattle.mvt_tile.specs.First.{IsFirst, FindsFirst}
 use Rattle.mvt_tile.specs.LayerFault.{FaultInLayer, IsLayerFault}
@@ -60,6 +60,7 @@ IsWireFault-in bytes ordinal span (Wire code scope at field) part fault = in_lay
 IsWireFault-in bytes ordinal span (Version some_layer) part fault = absurd fault
 IsWireFault-in bytes ordinal span (Name some other_one) part fault = absurd fault
 IsWireFault-in bytes ordinal span (Tag tag_code some_layer some_feature index) part fault = absurd fault
+IsWireFault-in bytes ordinal span (Command command_code in_layer in_feature index) part fault = absurd fault
 
 -- the place of a fault in a layer begins with the layer's ordinal
 abbrev IsBehind : ℕ → List ℕ → Type 0
@@ -76,6 +77,7 @@ fault_place bytes span ordinal (Wire code scope at field) fault = place_in_layer
 fault_place bytes span ordinal (Version some_layer) fault = absurd fault
 fault_place bytes span ordinal (Name some other_one) fault = absurd fault
 fault_place bytes span ordinal (Tag tag_code some_layer some_feature index) fault = absurd fault
+fault_place bytes span ordinal (Command command_code in_layer in_feature index) fault = absurd fault
 
 -- so a fault in a layer comes before one in a later layer
 earlier_layer : (ordinal other : ℕ) (place behind : List ℕ) → IsBehind ordinal place → IsBehind other behind → ordinal < other → ComesFirst place behind
@@ -100,6 +102,7 @@ IsLeast-tile bytes cause least = record { holds = record { span = whole_span byt
     behind (Version some_layer) wire = absurd wire
     behind (Name some other_one) wire = absurd wire
     behind (Tag tag_code some_layer some_feature index) wire = absurd wire
+    behind (Command command_code in_layer in_feature index) wire = absurd wire
 
 module _ (bytes : List ℕ) (entries : List Entry) (whole : IsMessageAt bytes (whole_span bytes) entries) (none : (cause : WireCause) → ¬ HasFault messages.Tile bytes (whole_span bytes) cause) where
   -- where no layer has a fault either, there is none
@@ -143,3 +146,4 @@ module _ (bytes : List ℕ) (entries : List Entry) (whole : IsMessageAt bytes (w
         behind (Version some_layer) wire = absurd wire
         behind (Name some other_one) wire = absurd wire
         behind (Tag tag_code some_layer some_feature index) wire = absurd wire
+        behind (Command command_code in_layer in_feature index) wire = absurd wire

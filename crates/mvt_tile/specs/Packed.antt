@@ -1,5 +1,5 @@
 -- The numbers of a packed list, as a walk over its bytes finds them.
-use Rattle.std.specs.Prelude.{◌≡◌, ℕ, ◌^◌, ◌<◌, ◌≤◌, ◌⊎◌, List, length, drop}
+use Rattle.std.specs.Prelude.{◌≡◌, ℕ, ◌+◌, ◌^◌, ◌<◌, ◌≤◌, ◌⊎◌, List, length, drop, slice_index}
 use Rattle.mvt_wire.specs.Varint.{SpellsVarint, VarintDefect}
 use Rattle.mvt_wire.specs.Number.{VarintList, AreSmall}
 use Rattle.mvt_wire.specs.declared.cause.WireCode.{WireCode}
@@ -27,3 +27,11 @@ pub record IsFirstBad (part : List ℕ) (at : ℕ) (code : WireCode) : Type 0 wh
   pub before : AreSmallBefore part at
   pub left : at < length part
   pub fault : NumberFault part at code
+
+-- four bytes in a row that are 128 or more begin at a place
+abbrev pub IsRun : List ℕ → ℕ → Type 0
+IsRun part at = (k : ℕ) → at ≤ k → k < at + 4 → 128 ≤ slice_index part k
+
+-- no four such bytes begin at a place from one to another
+abbrev pub HasNoRun : List ℕ → ℕ → ℕ → Type 0
+HasNoRun part from to = (at : ℕ) → from ≤ at → at < to → ¬ IsRun part at

@@ -8,6 +8,3 @@ pub(crate) const FEATURES: u32 = 2;
 
 /// The values of a layer (section 4.1).
 pub(crate) const VALUES: u32 = 4;
-
-/// The tags of a feature (section 4.2).
-pub(crate) const TAGS: u32 = 2;

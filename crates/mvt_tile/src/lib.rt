@@ -17,4 +17,4 @@ mod scan;
 pub use fault::wire_fault;
 pub use read::{ReadFault, read_tile};
 pub use record::{Feature, Kind, Layer, Tile, Value};
-pub use rules::{check_layers, check_tags, rule_fault};
+pub use rules::{FeatureRule, check_layers, check_tags, rule_fault};

@@ -1,10 +1,11 @@
 //! Packed lists of numbers (Protocol Buffers encoding, "Packed Repeated Fields").
-ghost use Rattle.std.specs.Prelude.{◌≡◌, ◌+◌, ◌<◌, ◌≤◌, ◌^◌, length, IfNone, IfSome, MatchOption};
+ghost use Rattle.std.specs.Prelude.{◌≡◌, ◌+◌, ◌<◌, ◌≤◌, ◌^◌, length, IfNone, IfSome, IsFalse, IsTrue, MatchOption};
 ghost use Rattle.mvt_wire.specs.Number.{PackedFault};
 ghost use Rattle.mvt_tile.specs.Least.{FindsLeastCause};
-ghost use Rattle.mvt_tile.specs.Packed.{NumberFault, IsSmallNumber, AreSmallBefore, IsFirstBad};
+ghost use Rattle.mvt_tile.specs.Packed.{NumberFault, IsSmallNumber, AreSmallBefore, HasNoRun, IsFirstBad};
 
 use mvt_wire::{WireCause, WireCode, read_varint};
+use std::simd::prelude::*;
 
 /// The first fault of a packed list of numbers below 2^32, the payload of a field with a number.
 /// The payload begins at the offset `from`.
@@ -12,6 +13,10 @@ pub(crate) fn packed_fault(part: &[u8], from: usize, number: u32) -> Option<Wire
     requires { from + length part.now < 2 ^ 64 }
     ensures { FindsLeastCause (PackedFault from part.now number) result }
 {
+    // (so it is with most lists, and is told without a walk over single bytes)
+    if are_short(part) {
+        return None;
+    }
     let (at, code) = first_bad(part)?;
     Some(WireCause {
         code,
@@ -69,4 +74,62 @@ fn number_fault(part: &[u8], at: usize) -> Option<WireCode>
         Ok(_) => None,
         Err(code) => Some(code),
     }
+}
+
+/// Whether a list is known to be whole, with numbers of up to four bytes only, and so below 2^28.
+#[inline(never)]
+fn are_short(part: &[u8]) -> bool
+    ensures { IsTrue result → AreSmallBefore part.now (length part.now) }
+{
+    match part.last() {
+        None => true,
+        Some(&last) => last < 128 && !has_run(part),
+    }
+}
+
+/// Whether four bytes in a row may be 128 or more, as in a number that goes on behind its fourth
+/// byte. A look takes as many places at once as fit.
+#[inline(always)]
+fn has_run(part: &[u8]) -> bool
+    ensures { IsFalse result → HasNoRun part.now 0 (length part.now) }
+{
+    match part.len() {
+        0..4 => false,
+        4..7 => has_run_by::<1>(part),
+        7..11 => has_run_by::<4>(part),
+        11..19 => has_run_by::<8>(part),
+        _ => has_run_by::<16>(part),
+    }
+}
+
+/// The same by looks at WIDTH places. The last of them goes back to the last WIDTH places, so that
+/// none are left over.
+#[inline(always)]
+fn has_run_by<const WIDTH: usize>(part: &[u8]) -> bool
+    requires long { WIDTH + 3 ≤ length part.now }
+    requires positive { 0 < WIDTH }
+    requires lanes { WIDTH ≤ 64 }
+    ensures { IsFalse result → HasNoRun part.now 0 (length part.now) }
+{
+    let last = part.len() - WIDTH - 3;
+    let mut at = 0;
+    'looks: while at < last {
+        if has_run_at::<WIDTH>(part, at) {
+            return true;
+        }
+        at += WIDTH;
+    }
+    has_run_at::<WIDTH>(part, last)
+}
+
+/// Whether four bytes in a row are 128 or more from one of the WIDTH places behind an offset on.
+#[inline(always)]
+fn has_run_at<const WIDTH: usize>(part: &[u8], at: usize) -> bool
+    requires within { at + WIDTH + 3 ≤ length part.now }
+    requires lanes { WIDTH ≤ 64 }
+    ensures { IsFalse result → HasNoRun part.now at (at + WIDTH) }
+{
+    let low = Simd::<u8, WIDTH>::from_slice(&part[at..]) & Simd::from_slice(&part[at + 1..]);
+    let high = Simd::<u8, WIDTH>::from_slice(&part[at + 2..]) & Simd::from_slice(&part[at + 3..]);
+    (low & high).simd_ge(Simd::splat(128)).any()
 }

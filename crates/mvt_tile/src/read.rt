@@ -7,7 +7,7 @@ ghost use Rattle.mvt_tile.specs.ReadFault.{IsReadFault};
 ghost use Rattle.mvt_tile.specs.Reading.{Embeds, FitsRule, LiesIn, TellsTile};
 ghost use Rattle.mvt_tile.specs.View.{layer_of, tile_of};
 
-mod feature;
+pub(crate) mod feature;
 mod layer;
 pub(crate) mod payload;
 #[cfg(test)]

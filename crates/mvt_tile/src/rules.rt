@@ -1,40 +1,51 @@
 //! The rules between the parts of a tile (Mapbox Vector Tile Specification 2.1, sections 4.1, 4.2 and 4.4):
-//! the versions and names of its layers, and the tags of its features.
-ghost use Rattle.std.specs.Prelude.{IfOk, IfNone, IfSome};
-ghost use Rattle.mvt_fault.specs.Place.{IsLeast};
-ghost use Rattle.mvt_fault.specs.Truth.{BreaksRule, IsFault};
+//! the versions and names of its layers, and the tags of its features; and a further rule on features.
+ghost use Rattle.std.specs.Prelude.{ℕ, IfOk, IfNone, IfSome};
+ghost use Rattle.mvt_fault.specs.Place.{IsLeast, place_of};
 ghost use Rattle.mvt_fault.specs.declared.fault.Fault.{Fault};
-ghost use Rattle.mvt_wire.specs.Tile.{TileRecord, IsTile};
+ghost use Rattle.mvt_wire.specs.Tile.{FeatureRecord, TileRecord, IsTile};
+ghost use Rattle.mvt_tile.specs.RuleFaults.{IsBehindTags, BreaksAnyRule};
 
-mod feature_tags;
 mod features;
 mod key_set;
 mod layer_rules;
 mod layers;
-mod summary;
+pub(crate) mod summary;
 mod tags;
 #[cfg(test)]
 mod tests;
 
-use features::first_tag_fault;
+pub use features::FeatureRule;
+use features::first_feature_fault;
 pub use layers::check_layers;
 use layers::first_layer_fault;
 use mvt_fault::Fault;
 use std::alloc::{AllocError, Global};
 pub use tags::check_tags;
 
-/// The first fault of a tile's layers and tags, or None where it keeps the rules: its layers have
-/// version 2 and different names (Mapbox Vector Tile Specification 2.1, section 4.1), and the tags of
-/// each feature are pairs of a key and a value of its layer, no key twice (section 4.4). The bytes
-/// are to have no wire fault (`wire_fault`). They are read again, and no record is built. Its memory is for the names of the layers, and for the tags of one
-/// feature at a time. The only error is that memory was refused.
-pub fn rule_fault(alloc: Global, bytes: &[u8]) -> Result<Option<Fault>, AllocError>
-    requires { (tile : TileRecord) × IsTile bytes.now tile }
-    ensures none { IfOk result (λ found. IfNone found ((tile : TileRecord) → IsTile bytes.now tile → (fault : Fault) → ¬ BreaksRule tile fault)) }
-    ensures least { IfOk result (λ found. IfSome found (IsLeast (IsFault bytes.now))) }
+/// The first fault of a tile by its rules, or None where it keeps them: its layers have version 2 and
+/// different names (Mapbox Vector Tile Specification 2.1, section 4.1), the tags of each feature are pairs
+/// of a key and a value of its layer, no key twice (section 4.4), and each feature keeps the further rule.
+/// The layers' faults come first; then the first feature that has a fault decides, and its tags come before
+/// the further rule. The bytes are to have no wire fault (`wire_fault`), and the rule's faults are to
+/// stand behind the tags of their feature in the order of faults. The bytes are read again, and no record
+/// of the tile is built. Its memory is for the names of the layers, and for one feature at a time. The only
+/// error is that memory was refused.
+pub fn rule_fault<R: FeatureRule>(
+    alloc: Global,
+    bytes: &[u8],
+    rule: &R,
+) -> Result<Option<Fault>, AllocError>
+    requires tile { (tile : TileRecord) × IsTile bytes.now tile }
+    requires behind_tags { (it : FeatureRecord) (layer ordinal : ℕ) (fault : Fault) → R.IsBroken rule.now it layer ordinal fault
+        → IsBehindTags layer ordinal (place_of fault) }
+    ensures none { IfOk result (λ found. IfNone found ((tile : TileRecord) → IsTile bytes.now tile
+        → (fault : Fault) → ¬ BreaksAnyRule (R.IsBroken rule.now) tile fault)) }
+    ensures least { IfOk result (λ found. IfSome found (λ fault. (tile : TileRecord) → IsTile bytes.now tile
+        → IsLeast (BreaksAnyRule (R.IsBroken rule.now) tile) fault)) }
 {
     match first_layer_fault(alloc, bytes)? {
         Some(fault) => Ok(Some(fault)),
-        None => first_tag_fault(alloc, bytes),
+        None => first_feature_fault(alloc, bytes, rule),
     }
 }

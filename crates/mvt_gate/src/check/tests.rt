@@ -55,22 +55,9 @@ const TILES: [&str; 29] = [
     "1a 42 78 02 0a 01 61 12 3b 18 03 22 37 09 ff ff ff ff 07 ff ff ff ff 07 3a 80 80 80 80 08 00 80 80 80 80 08 00 00 80 80 80 80 08 00 80 80 80 80 08 ff ff ff ff 07 00 ff ff ff ff 07 00 00 ff ff ff ff 07 0f",
 ];
 
-/// Tiles that keep the rules on layers and tags. They break rules on geometry that are not built yet,
-/// and so get a yes so far.
-const TILES_SO_FAR: [&str; 25] = [
-    // commands and their parameters
-    "1a 0b 78 02 0a 01 61 12 04 18 01 22 00",
-    "1a 10 78 02 0a 01 61 12 09 18 01 22 05 f9 ff ff ff 0f",
-    "1a 12 78 02 0a 01 61 12 0b 18 01 22 07 09 ff ff ff ff 0f 00",
-    "1a 12 78 02 0a 01 61 12 0b 18 01 22 07 09 82 80 80 80 08 00",
-    "1a 12 78 02 0a 01 61 12 0b 18 01 22 07 09 81 80 80 80 08 00",
-    "1a 18 78 02 0a 01 61 12 11 18 01 22 0d 11 80 80 80 80 08 00 ff ff ff ff 0f 00",
-    "1a 0e 78 02 0a 01 61 12 07 18 01 22 03 0a 32 22",
-    "1a 0c 78 02 0a 01 61 12 05 18 01 22 01 01",
-    "1a 0d 78 02 0a 01 61 12 06 18 01 22 02 09 32",
-    "1a 11 78 02 0a 01 61 12 0a 18 01 22 06 09 32 22 09 32 22",
-    "1a 14 78 02 0a 01 61 12 0d 18 03 22 09 09 00 00 12 00 00 0a 0a 0f",
-    // rings and polygons
+/// Tiles that keep the rules on layers, tags and geometry commands. They break rules on rings and polygons
+/// that are not built yet, and so get a yes so far.
+const TILES_SO_FAR: [&str; 14] = [
     "1a 16 78 02 0a 01 61 12 0f 18 03 22 0b 09 00 10 1a 14 0f 00 14 13 13 0f",
     "1a 16 78 02 0a 01 61 12 0f 18 03 22 0b 09 00 00 1a 14 00 00 14 00 09 0f",
     "1a 1f 78 02 0a 01 61 12 18 18 03 22 14 09 00 00 1a 14 00 00 14 13 00 0f 09 00 09 12 06 04 00 07 0f",
@@ -88,7 +75,7 @@ const TILES_SO_FAR: [&str; 25] = [
 ];
 
 /// Bytes in hexadecimal that are no tile, or one that breaks a rule, and the line of their first fault.
-const FAULTS: [(&str, &str); 28] = [
+const FAULTS: [(&str, &str); 44] = [
     // the tile's own fields
     ("80", r#"{"at":0,"code":101,"field":0,"scope":"tile"}"#),
     ("08", r#"{"at":1,"code":101,"field":1,"scope":"tile"}"#),
@@ -181,6 +168,61 @@ const FAULTS: [(&str, &str); 28] = [
         "1a 1f 78 02 0a 01 61 12 0d 12 04 00 00 00 01 18 01 22 03 09 32 22 1a 01 6b 22 02 38 01 22 02 28 05",
         r#"{"code":304,"feature":0,"index":2,"layer":0}"#,
     ),
+    // geometry commands: another one than the one that is due, and one behind all points
+    (
+        "1a 0e 78 02 0a 01 61 12 07 18 01 22 03 0a 32 22",
+        r#"{"code":401,"feature":0,"index":0,"layer":0}"#,
+    ),
+    (
+        "1a 11 78 02 0a 01 61 12 0a 18 01 22 06 09 32 22 09 32 22",
+        r#"{"code":401,"feature":0,"index":3,"layer":0}"#,
+    ),
+    // a count that is not allowed
+    (
+        "1a 0c 78 02 0a 01 61 12 05 18 01 22 01 01",
+        r#"{"code":402,"feature":0,"index":0,"layer":0}"#,
+    ),
+    // no numbers, one too few, and a count of 536,870,911
+    (
+        "1a 0b 78 02 0a 01 61 12 04 18 01 22 00",
+        r#"{"code":403,"feature":0,"index":0,"layer":0}"#,
+    ),
+    (
+        "1a 0d 78 02 0a 01 61 12 06 18 01 22 02 09 32",
+        r#"{"code":403,"feature":0,"index":2,"layer":0}"#,
+    ),
+    (
+        "1a 10 78 02 0a 01 61 12 09 18 01 22 05 f9 ff ff ff 0f",
+        r#"{"code":403,"feature":0,"index":1,"layer":0}"#,
+    ),
+    // the greatest parameter
+    (
+        "1a 12 78 02 0a 01 61 12 0b 18 01 22 07 09 ff ff ff ff 0f 00",
+        r#"{"code":404,"feature":0,"index":1,"layer":0}"#,
+    ),
+    (
+        "1a 18 78 02 0a 01 61 12 11 18 01 22 0d 11 80 80 80 80 08 00 ff ff ff ff 0f 00",
+        r#"{"code":404,"feature":0,"index":3,"layer":0}"#,
+    ),
+    // coordinates beyond the greatest and the least
+    (
+        "1a 12 78 02 0a 01 61 12 0b 18 01 22 07 09 82 80 80 80 08 00",
+        r#"{"code":405,"feature":0,"index":1,"layer":0}"#,
+    ),
+    (
+        "1a 12 78 02 0a 01 61 12 0b 18 01 22 07 09 81 80 80 80 08 00",
+        r#"{"code":405,"feature":0,"index":1,"layer":0}"#,
+    ),
+    // a LineTo to where the cursor is
+    (
+        "1a 14 78 02 0a 01 61 12 0d 18 03 22 09 09 00 00 12 00 00 0a 0a 0f",
+        r#"{"code":406,"feature":0,"index":5,"layer":0}"#,
+    ),
+    // the second feature of the second layer
+    (
+        "1a 0e 78 02 0a 01 61 12 07 18 01 22 03 09 32 22 1a 16 78 02 0a 01 62 12 07 18 01 22 03 09 32 22 12 06 18 01 22 02 09 32",
+        r#"{"code":403,"feature":1,"index":2,"layer":1}"#,
+    ),
     // wire faults come first, and the rules on layers before those on tags
     (
         "1a 05 78 01 0a 01 61 80",
@@ -189,6 +231,24 @@ const FAULTS: [(&str, &str); 28] = [
     (
         "1a 1c 78 02 0a 01 61 12 0a 12 01 00 18 01 22 03 09 32 22 1a 01 6b 22 02 38 01 22 02 28 05 1a 05 78 01 0a 01 62",
         r#"{"code":201,"layer":1}"#,
+    ),
+    // in one feature tags come before commands, and each feature before the next one
+    (
+        "1a 1c 78 02 0a 01 61 12 0a 12 01 00 18 01 22 03 0a 32 22 1a 01 6b 22 02 38 01 22 02 28 05",
+        r#"{"code":301,"feature":0,"index":1,"layer":0}"#,
+    ),
+    (
+        "1a 25 78 02 0a 01 61 12 07 18 01 22 03 0a 32 22 12 0a 12 01 00 18 01 22 03 09 32 22 1a 01 6b 22 02 38 01 22 02 28 05",
+        r#"{"code":401,"feature":0,"index":0,"layer":0}"#,
+    ),
+    // both come behind the rules on layers, and behind wire faults
+    (
+        "1a 0c 78 02 0a 01 61 12 05 18 01 22 01 01 1a 05 78 01 0a 01 62",
+        r#"{"code":201,"layer":1}"#,
+    ),
+    (
+        "1a 0c 78 02 0a 01 61 12 05 18 01 22 01 01 80",
+        r#"{"at":14,"code":101,"field":0,"scope":"tile"}"#,
     ),
 ];
 

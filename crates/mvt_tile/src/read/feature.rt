@@ -5,6 +5,9 @@ ghost use Rattle.mvt_wire.specs.declared.schema.Message.TheVariants as messages;
 ghost use Rattle.mvt_tile.specs.Reading.{FitsRule, TellsFeature};
 ghost use Rattle.mvt_tile.specs.View.{feature_of, kind_number};
 
+#[cfg(test)]
+mod tests;
+
 use super::payload::{number_in, push_numbers};
 use super::walk::next_whole;
 use crate::record::{Feature, Kind};
@@ -24,17 +27,33 @@ pub(crate) fn read_feature(
     requires stands { (feature : FeatureRecord) × IsFeature bytes.now (record { from = from; to = to }) feature }
     ensures { IfOk result (λ feature. IsFeature bytes.now (record { from = from; to = to }) (feature_of feature)) }
 {
-    let mut feature = Feature {
-        id: None,
-        tags: Vec::new(alloc),
-        kind: Kind::Unknown,
-        geometry: Vec::new(alloc),
-    };
+    let mut feature = Feature::empty(alloc);
+    read_feature_into(bytes, from, to, &mut feature)?;
+    Ok(feature)
+}
+
+/// Puts the feature that stands in the bytes from one offset up to another in the place of what was there.
+/// The memory of its lists is used again.
+pub(crate) fn read_feature_into(
+    bytes: &[u8],
+    from: usize,
+    to: usize,
+    feature: &mut Feature,
+) -> Result<(), AllocError>
+    requires forward { from ≤ to }
+    requires within { to ≤ length bytes.now }
+    requires stands { (it : FeatureRecord) × IsFeature bytes.now (record { from = from; to = to }) it }
+    ensures { OnOk result ((it : FeatureRecord) → IsFeature bytes.now (record { from = from; to = to }) it → feature_of feature.new ≡ it) }
+{
+    feature.id = None;
+    feature.tags.clear();
+    feature.kind = Kind::Unknown;
+    feature.geometry.clear();
     let mut fields = Fields::new(bytes, from, to);
     'walk: while let Some(field) = next_whole(&mut fields) {
-        add_field(&mut feature, field)?;
+        add_field(feature, field)?;
     }
-    Ok(feature)
+    Ok(())
 }
 
 /// Adds what one more field tells.

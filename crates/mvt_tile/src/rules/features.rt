@@ -1,36 +1,67 @@
-//! The tags of all features of a tile, read from its bytes.
-ghost use Rattle.std.specs.Prelude.{◌≤◌, length, IfOk, IfNone, IfSome};
-ghost use Rattle.mvt_fault.specs.Place.{IsLeast};
-ghost use Rattle.mvt_fault.specs.Truth.{IsFaultOfFeatures};
+//! The rules on the features of a tile, which are read from its bytes one after another.
+ghost use Rattle.std.specs.Prelude.{◌≤◌, ℕ, length, IfOk, IfNone, IfSome};
+ghost use Rattle.mvt_fault.specs.Place.{IsLeast, place_of};
 ghost use Rattle.mvt_fault.specs.declared.fault.Fault.{Fault};
-ghost use Rattle.mvt_wire.specs.Tile.{LayerRecord, IsLayer, TileRecord, IsTile};
-ghost use Rattle.mvt_tile.specs.FeatureRules.{IsFaultInLayer};
+ghost use Rattle.mvt_wire.specs.Tile.{FeatureRecord, LayerRecord, IsLayer, TileRecord, IsTile};
+ghost use Rattle.mvt_tile.specs.FeatureRules.{IsFaultOfFeature, IsFaultInLayer, IsFaultInFeatures};
+ghost use Rattle.mvt_tile.specs.RuleFaults.{IsBehindTags, IsSummary};
+ghost use Rattle.mvt_tile.specs.View.{feature_of};
 
-use super::feature_tags::read_tags;
-use super::summary::summarize;
+use super::summary::{LayerSummary, summarize};
 use super::tags::fault_of_tags;
 use crate::field_number::{FEATURES, LAYERS};
+use crate::read::feature::read_feature_into;
 use crate::read::payload::stretch_of;
 use crate::read::walk::next_whole;
+use crate::record::Feature;
 use mvt_fault::Fault;
 use mvt_wire::Fields;
 use std::alloc::{AllocError, Global};
 
-/// The first fault of the tags of the features that the bytes of a tile hold, or None (section 4.4). The
-/// layers come in the order of the bytes, and in each its features, so the first feature that has a fault
-/// ends the walk. The only error is that memory was refused.
-pub(crate) fn first_tag_fault(alloc: Global, bytes: &[u8]) -> Result<Option<Fault>, AllocError>
-    requires { (tile : TileRecord) × IsTile bytes.now tile }
-    ensures none { IfOk result (λ found. IfNone found ((tile : TileRecord) → IsTile bytes.now tile → (fault : Fault) → ¬ IsFaultOfFeatures tile fault)) }
-    ensures least { IfOk result (λ found. IfSome found (λ fault. (tile : TileRecord) → IsTile bytes.now tile → IsLeast (IsFaultOfFeatures tile) fault)) }
+/// What is asked of each feature of a tile beyond its tags. Its faults are to stand behind those of the
+/// feature's tags in the order of faults, and before those of later features.
+pub trait FeatureRule {
+    // the fault is one of this feature's, whose layer and place in it are these ordinals
+    ghost IsBroken: { Self → FeatureRecord → ℕ → ℕ → Fault → Type 0 };
+
+    /// The first fault of a feature, or None where it has none. `layer` is the ordinal of its layer in the
+    /// tile, and `ordinal` its own in the layer, both counted from 0, for the fault to tell. The only error
+    /// is that memory was refused.
+    fn fault(
+        &self,
+        alloc: Global,
+        feature: &Feature,
+        layer: usize,
+        ordinal: usize,
+    ) -> Result<Option<Fault>, AllocError>
+        ensures none { IfOk result (λ found. IfNone found ((fault : Fault) → ¬ IsBroken self.now (feature_of feature.now) layer ordinal fault)) }
+        ensures least { IfOk result (λ found. IfSome found (IsLeast (IsBroken self.now (feature_of feature.now) layer ordinal))) };
+}
+
+/// The first fault of the features that the bytes of a tile hold, or None: of their tags (section 4.4), or
+/// of the further rule. The layers come in the order of the bytes, and in each its features, so the first
+/// feature that has a fault ends the walk. The only error is that memory was refused.
+pub(crate) fn first_feature_fault<R: FeatureRule>(
+    alloc: Global,
+    bytes: &[u8],
+    rule: &R,
+) -> Result<Option<Fault>, AllocError>
+    requires tile { (tile : TileRecord) × IsTile bytes.now tile }
+    requires behind_tags { (it : FeatureRecord) (layer ordinal : ℕ) (fault : Fault) → R.IsBroken rule.now it layer ordinal fault
+        → IsBehindTags layer ordinal (place_of fault) }
+    ensures none { IfOk result (λ found. IfNone found ((tile : TileRecord) → IsTile bytes.now tile
+        → (fault : Fault) → ¬ IsFaultInFeatures (R.IsBroken rule.now) tile fault)) }
+    ensures least { IfOk result (λ found. IfSome found (λ fault. (tile : TileRecord) → IsTile bytes.now tile
+        → IsLeast (IsFaultInFeatures (R.IsBroken rule.now) tile) fault)) }
 {
-    let mut tags = Vec::new(alloc);
+    let mut feature = Feature::empty(alloc);
     let mut layer = 0;
     let mut fields = Fields::new(bytes, 0, bytes.len());
     'walk: while let Some(field) = next_whole(&mut fields) {
         if field.number == LAYERS {
             let (from, to) = stretch_of(field.body);
-            if let Some(fault) = fault_in_layer(alloc, bytes, layer, from, to, &mut tags)? {
+            let found = fault_in_layer(alloc, bytes, rule, layer, from, to, &mut feature)?;
+            if let Some(fault) = found {
                 return Ok(Some(fault));
             }
             layer += 1;
@@ -39,42 +70,69 @@ pub(crate) fn first_tag_fault(alloc: Global, bytes: &[u8]) -> Result<Option<Faul
     Ok(None)
 }
 
-/// The first fault of the tags of the features of the layer with an ordinal, or None. The layer stands in
-/// the bytes from one offset up to another. `tags` is room for the tags of one feature after another. The
-/// only error is that memory was refused.
-fn fault_in_layer(
+/// The first fault of the features of the layer with an ordinal, or None. The layer stands in the bytes
+/// from one offset up to another. `feature` is room for one feature after another. The only error is that
+/// memory was refused.
+fn fault_in_layer<R: FeatureRule>(
     alloc: Global,
     bytes: &[u8],
+    rule: &R,
     layer: usize,
     from: usize,
     to: usize,
-    tags: &mut Vec<u32>,
+    feature: &mut Feature,
 ) -> Result<Option<Fault>, AllocError>
     requires forward { from ≤ to }
     requires within { to ≤ length bytes.now }
     requires stands { (whose : LayerRecord) × IsLayer bytes.now (record { from = from; to = to }) whose }
+    requires behind_tags { (it : FeatureRecord) (in_layer ordinal : ℕ) (fault : Fault) → R.IsBroken rule.now it in_layer ordinal fault
+        → IsBehindTags in_layer ordinal (place_of fault) }
     ensures none { IfOk result (λ found. IfNone found ((whose : LayerRecord) → IsLayer bytes.now (record { from = from; to = to }) whose
-        → (fault : Fault) → ¬ IsFaultInLayer whose layer fault)) }
+        → (fault : Fault) → ¬ IsFaultInLayer (R.IsBroken rule.now) whose layer fault)) }
     ensures least { IfOk result (λ found. IfSome found (λ fault. (whose : LayerRecord) → IsLayer bytes.now (record { from = from; to = to }) whose
-        → IsLeast (IsFaultInLayer whose layer) fault)) }
+        → IsLeast (IsFaultInLayer (R.IsBroken rule.now) whose layer) fault)) }
 {
     let summary = summarize(bytes, from, to);
-    let mut feature = 0;
+    let mut ordinal = 0;
     let mut fields = Fields::new(bytes, from, to);
     'walk: while let Some(field) = next_whole(&mut fields) {
         if field.number == FEATURES {
             let (start, end) = stretch_of(field.body);
-            read_tags(bytes, start, end, tags)?;
-            if let Some((code, index)) = fault_of_tags(alloc, tags, summary.keys, summary.values)? {
-                return Ok(Some(Fault::Tag {
-                    code,
-                    layer,
-                    feature,
-                    index,
-                }));
+            read_feature_into(bytes, start, end, feature)?;
+            let found = fault_of_feature(alloc, rule, summary, feature, layer, ordinal)?;
+            if let Some(fault) = found {
+                return Ok(Some(fault));
             }
-            feature += 1;
+            ordinal += 1;
         }
     }
     Ok(None)
+}
+
+/// The first fault of a feature, or None: its tags come before the further rule. `summary` is that of its
+/// layer.
+fn fault_of_feature<R: FeatureRule>(
+    alloc: Global,
+    rule: &R,
+    summary: LayerSummary<'_>,
+    feature: &Feature,
+    layer: usize,
+    ordinal: usize,
+) -> Result<Option<Fault>, AllocError>
+    requires behind_tags { (fault : Fault) → R.IsBroken rule.now (feature_of feature.now) layer ordinal fault
+        → IsBehindTags layer ordinal (place_of fault) }
+    ensures none { IfOk result (λ found. IfNone found ((whose : LayerRecord) → IsSummary summary.entry whose
+        → (fault : Fault) → ¬ IsFaultOfFeature (R.IsBroken rule.now) whose (feature_of feature.now) layer ordinal fault)) }
+    ensures least { IfOk result (λ found. IfSome found (λ fault. (whose : LayerRecord) → IsSummary summary.entry whose
+        → IsLeast (IsFaultOfFeature (R.IsBroken rule.now) whose (feature_of feature.now) layer ordinal) fault)) }
+{
+    match fault_of_tags(alloc, &feature.tags, summary.keys, summary.values)? {
+        Some((code, index)) => Ok(Some(Fault::Tag {
+            code,
+            layer,
+            feature: ordinal,
+            index,
+        })),
+        None => rule.fault(alloc, feature, layer, ordinal),
+    }
 }

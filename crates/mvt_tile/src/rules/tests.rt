@@ -1,14 +1,51 @@
+ghost use Rattle.std.specs.Prelude.{◌≡◌, Some};
+ghost use Rattle.mvt_fault.specs.declared.command.CommandCode.{CommandCode};
+ghost use Rattle.mvt_fault.specs.declared.fault.Fault.{Fault};
+
+use super::FeatureRule;
+use crate::record::{Feature, Kind};
 use crate::{rule_fault, wire_fault};
-use mvt_fault::{Fault, TagCode};
-use std::alloc::Global;
+use mvt_fault::{CommandCode, Fault, TagCode};
+use std::alloc::{AllocError, Global};
 use std::process::Abort;
 
-/// That all bytes are tiles, and that this is the first fault of each tile's rules.
+/// A rule that is broken by a feature of unknown type, at the first number of its geometry.
+struct TypesAreKnown;
+
+impl FeatureRule for TypesAreKnown {
+    ghost IsBroken = { λ _ it layer feature fault. (it.kind ≡ 0) × (fault ≡ Fault.Command CommandCode.OtherCommand layer feature 0) };
+
+    fn fault(
+        &self,
+        _alloc: Global,
+        feature: &Feature,
+        layer: usize,
+        ordinal: usize,
+    ) -> Result<Option<Fault>, AllocError> {
+        match feature.kind {
+            Kind::Unknown => Ok(command(layer, ordinal)),
+            Kind::Point | Kind::LineString | Kind::Polygon => Ok(None),
+        }
+    }
+}
+
+fn command(layer: usize, feature: usize) -> Option<Fault>
+    ensures { result ≡ Some (Fault.Command CommandCode.OtherCommand layer feature 0) }
+{
+    Some(Fault::Command {
+        code: CommandCode::OtherCommand,
+        layer,
+        feature,
+        index: 0,
+    })
+}
+
+/// That all bytes are tiles, and that this is the first fault of each by its rules and that further one.
 fn expect_faults(rt: &impl Abort, alloc: Global, cases: &[(&[u8], Option<Fault>)]) {
     for (bytes, fault) in cases {
         match wire_fault(bytes) {
             Some(other) => assert!(rt; false, "{other:?} at {bytes:?}"),
-            None => match rule_fault(alloc, bytes) {
+            None => match rule_fault(alloc, bytes, &TypesAreKnown) {
                 Ok(found) => assert_eq!(rt; found, *fault, "at {bytes:?}"),
                 Err(_refused) => assert!(rt; false, "no memory at {bytes:?}"),
             },
@@ -192,6 +229,47 @@ fn layers_before_tags(rt: HostRuntime) {
                 first: 0,
                 second: 1,
             }),
+        ),
+    ];
+    expect_faults(&rt, rt.alloc(), &cases);
+}
+
+// The first feature that has a fault decides, and its tags come before the further rule.
+#[test]
+fn further_rule_behind_tags(rt: HostRuntime) {
+    let cases: [(&[u8], Option<Fault>); 4] = [
+        // a feature of unknown type, and one of unknown type with the tags 0
+        (
+            &[
+                0x1a, 0x14, 0x78, 0x02, 0x0a, 0x01, 0x61, 0x12, 0x04, 0x18, 0x00, 0x22, 0x00, 0x12,
+                0x07, 0x12, 0x01, 0x00, 0x18, 0x00, 0x22, 0x00,
+            ],
+            command(0, 0),
+        ),
+        // one of unknown type with the tags 0
+        (
+            &[
+                0x1a, 0x0e, 0x78, 0x02, 0x0a, 0x01, 0x61, 0x12, 0x07, 0x12, 0x01, 0x00, 0x18, 0x00,
+                0x22, 0x00,
+            ],
+            tag(TagCode::OddLength, 0, 0, 1),
+        ),
+        // a point, and in the next layer a point and one of unknown type
+        (
+            &[
+                0x1a, 0x0e, 0x78, 0x02, 0x0a, 0x01, 0x61, 0x12, 0x07, 0x18, 0x01, 0x22, 0x03, 0x09,
+                0x32, 0x22, 0x1a, 0x14, 0x78, 0x02, 0x0a, 0x01, 0x62, 0x12, 0x07, 0x18, 0x01, 0x22,
+                0x03, 0x09, 0x32, 0x22, 0x12, 0x04, 0x18, 0x00, 0x22, 0x00,
+            ],
+            command(1, 1),
+        ),
+        // one of unknown type, and behind it a layer of version 1
+        (
+            &[
+                0x1a, 0x0b, 0x78, 0x02, 0x0a, 0x01, 0x61, 0x12, 0x04, 0x18, 0x00, 0x22, 0x00, 0x1a,
+                0x05, 0x78, 0x01, 0x0a, 0x01, 0x62,
+            ],
+            Some(Fault::Version { layer: 1 }),
         ),
     ];
     expect_faults(&rt, rt.alloc(), &cases);

@@ -10,3 +10,6 @@ returns c = IsLeastCause-first c.args.from c.args.part.now c.args.number c.in_ok
 pub returns-in_err-at : goal.returns-in_err-at
 returns-in_err-at c = subst (λ found. FindsLeastCause (PackedFault c.args.from c.args.part.now c.args.number) found) (sym c.from_residual.ensures)
     (small_faultless c.args.from c.args.part.now c.args.number c.in_err-at.ensures.none)
+
+pub returns-then-are_short : goal.returns-then-are_short
+returns-then-are_short c = small_faultless c.args.from c.args.part.now c.args.number (c.are_short.ensures c.if-are_short.true)

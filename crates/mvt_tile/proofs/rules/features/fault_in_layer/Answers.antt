@@ -1,28 +1,29 @@
-use Rattle.std.proofs.Common.{take, refl, ◌∙◌, arith}
+use Rattle.std.proofs.Common.{take, refl, arith}
 use Rattle.mvt_wire.specs.Field.{content_of, entry_of}
 use Rattle.mvt_wire.specs.Scope.{Span}
 use Rattle.mvt_wire.specs.Tile.{IsFeature}
 use Rattle.mvt_wire.specs.declared.schema.Message.TheVariants as messages
 use Rattle.mvt_tile.specs.Reading.{FitsRule}
+use Rattle.mvt_tile.specs.View.{feature_of}
 use Rattle.mvt_tile.proofs.CleanWalk.{CleanWalk-nothing, CleanWalk-other, CleanWalk-more, CleanWalk-next, CleanWalk-over}
 use Rattle.mvt_tile.proofs.ReadingRules.{fits_at, own_type}
 use Rattle.mvt_tile.proofs.ReadingWalk.{IsWalking-defectless, All-given}
 use Rattle.mvt_tile.proofs.Stretches.{Embeds-given, LiesIn-given}
-use Rattle.mvt_tile.proofs.TaggedFeatures.{HasGoodTags, good_tags, first_fault, first_in_layer, good_layer}
+use Rattle.mvt_tile.proofs.FeatureFaults.{IsGoodFeature, good_feature, first_of_feature, first_in_layer, good_layer}
 use Rattle.mvt_tile.proofs.rules.features.fault_in_layer.Goals as goal
 
 pub walk-init : goal.walk-init
-walk-init c =
-    CleanWalk-nothing (HasGoodTags c.args.bytes.now c.summarize-summary.result.keys c.summarize-summary.result.values) 2 (take c.args.to c.args.bytes.now) c.args.from c.new-fields.result c.new-fields.ensures
+walk-init over c =
+    CleanWalk-nothing (IsGoodFeature (over.R.FeatureRule.IsBroken c.args.rule.now) c.args.bytes.now c.summarize-summary.result c.args.layer) 2 (take c.args.to c.args.bytes.now) c.args.from c.new-fields.result c.new-fields.ensures
 
 pub next_whole-requires : goal.next_whole-requires
-next_whole-requires c = λ cause left defect.
+next_whole-requires over c = λ cause left defect.
     let so_far = c.walk.invariant in
     let there = c.requires.stands.1 in
     IsWalking-defectless (take c.args.to c.args.bytes.now) c.args.from c.walk.fields so_far.entries there.entries cause so_far.walking there.whole left defect
 
 pub stretch_of-start-requires-clause-own : goal.stretch_of-start-requires-clause-own
-stretch_of-start-requires-clause-own c =
+stretch_of-start-requires-clause-own over c =
     let so_far = c.walk.invariant in
     let there = c.requires.stands.1 in
     let fits = All-given (FitsRule messages.Layer) (take c.args.to c.args.bytes.now) c.args.from c.walk.fields c.next_whole.new.fields so_far.entries there.entries (entry_of c.in-Some.field)
@@ -30,52 +31,52 @@ stretch_of-start-requires-clause-own c =
     own_type _ (content_of c.in-Some.field.body) 2 (fits_at messages.Layer (entry_of c.in-Some.field) 2 _ fits c.if-field-eq-FEATURES.true refl) (λ t. refl)
 
 pub stretch_of-start-requires-clause-below : goal.stretch_of-start-requires-clause-below
-stretch_of-start-requires-clause-below c = λ span there.
+stretch_of-start-requires-clause-below over c = λ span there.
     let so_far = c.walk.invariant in
     let within = c.requires.within in
     let inside = LiesIn-given c.args.bytes.now c.args.to c.args.from c.walk.fields c.next_whole.new.fields so_far.entries (entry_of c.in-Some.field) so_far.walking c.in-Some.ensures.field span there in
     omega (arith, inside.1)
 
-pub read_tags-requires-clause-within : goal.read_tags-requires-clause-within
-read_tags-requires-clause-within c =
+pub read_feature_into-requires-clause-within : goal.read_feature_into-requires-clause-within
+read_feature_into-requires-clause-within over c =
     let so_far = c.walk.invariant in
     (LiesIn-given c.args.bytes.now c.args.to c.args.from c.walk.fields c.next_whole.new.fields so_far.entries (entry_of c.in-Some.field) so_far.walking c.in-Some.ensures.field _ c.stretch_of-start.ensures).1
 
-pub read_tags-requires-clause-stands : goal.read_tags-requires-clause-stands
-read_tags-requires-clause-stands c =
+pub read_feature_into-requires-clause-stands : goal.read_feature_into-requires-clause-stands
+read_feature_into-requires-clause-stands over c =
     let so_far = c.walk.invariant in
     let there = c.requires.stands.1 in
     Embeds-given (IsFeature c.args.bytes.now) 2 (take c.args.to c.args.bytes.now) c.args.from c.walk.fields c.next_whole.new.fields so_far.entries there.entries (entry_of c.in-Some.field)
     c.requires.stands.0.features so_far.walking c.in-Some.ensures.field there.whole there.features _ c.if-field-eq-FEATURES.true c.stretch_of-start.ensures
 
-pub returns-in-Some-2-clause-least : goal.returns-in-Some-2-clause-least
-returns-in-Some-2-clause-least c = λ whose is.
+pub returns-in-Some-found-clause-least : goal.returns-in-Some-found-clause-least
+returns-in-Some-found-clause-least over c = λ whose is.
     let bytes = c.args.bytes.now in
-    let keys = c.summarize-summary.result.keys in
-    let values = c.summarize-summary.result.values in
-    let summary = c.summarize-summary.ensures whose is in
+    let summary = c.summarize-summary.result in
     let span : Span = record { from = c.stretch_of-start.result.0; to = c.stretch_of-start.result.1 } in
-    let next = CleanWalk-next (HasGoodTags bytes keys values) 2 (take c.args.to bytes) c.args.from c.walk.fields c.next_whole.new.fields c.walk.feature c.walk.invariant
+    let next = CleanWalk-next (IsGoodFeature (over.R.FeatureRule.IsBroken c.args.rule.now) bytes summary c.args.layer) 2 (take c.args.to bytes) c.args.from c.walk.fields c.next_whole.new.fields c.walk.ordinal c.walk.invariant
     (entry_of c.in-Some.field) c.in-Some.ensures.field c.if-field-eq-FEATURES.true span c.stretch_of-start.ensures is.entries is.whole in
-    first_in_layer bytes _ whose is c.args.layer keys values summary.keys summary.values c.walk.feature span c.in-Some-2.code c.in-Some-2.index next
-    (first_fault bytes span keys values c.deref.result.now (λ it stands. c.deref.ensures.value ∙ c.in_ok-read_tags.ensures it stands) c.in_ok-code.field-0 c.in-Some-2.code c.in-Some-2.index c.in-Some-2.is c.in_ok-code.ensures.first)
+    first_in_layer (over.R.FeatureRule.IsBroken c.args.rule.now) c.requires.behind_tags bytes _ whose is c.args.layer summary (c.summarize-summary.ensures whose is) c.walk.ordinal span c.in-Some-found.fault next
+    (first_of_feature (over.R.FeatureRule.IsBroken c.args.rule.now) bytes summary c.args.layer c.walk.ordinal span (feature_of c.read_feature_into.new.feature) c.in_ok-read_feature_into.ensures
+    c.in_ok-found.found c.in-Some-found.fault c.in-Some-found.is c.in_ok-found.ensures.least)
 
 pub walk-preserved-then-field-eq-FEATURES : goal.walk-preserved-then-field-eq-FEATURES
-walk-preserved-then-field-eq-FEATURES c =
+walk-preserved-then-field-eq-FEATURES over c =
     let bytes = c.args.bytes.now in
-    let keys = c.summarize-summary.result.keys in
-    let values = c.summarize-summary.result.values in
+    let summary = c.summarize-summary.result in
     let span : Span = record { from = c.stretch_of-start.result.0; to = c.stretch_of-start.result.1 } in
-    CleanWalk-more (HasGoodTags bytes keys values) 2 (take c.args.to bytes) c.args.from c.walk.fields c.next_whole.new.fields c.walk.feature c.walk.invariant
+    CleanWalk-more (IsGoodFeature (over.R.FeatureRule.IsBroken c.args.rule.now) bytes summary c.args.layer) 2 (take c.args.to bytes) c.args.from c.walk.fields c.next_whole.new.fields c.walk.ordinal c.walk.invariant
     (entry_of c.in-Some.field) c.in-Some.ensures.field c.if-field-eq-FEATURES.true span c.stretch_of-start.ensures
-    (good_tags bytes span keys values c.deref.result.now (λ it stands. c.deref.ensures.value ∙ c.in_ok-read_tags.ensures it stands) c.in_ok-code.field-0 c.walk.feature c.in_default-2.is c.in_ok-code.ensures.none)
+    (good_feature (over.R.FeatureRule.IsBroken c.args.rule.now) bytes summary c.args.layer c.walk.ordinal span (feature_of c.read_feature_into.new.feature) c.in_ok-read_feature_into.ensures c.in_ok-found.found c.in_default-found.is c.in_ok-found.ensures.none)
 
 pub walk-preserved : goal.walk-preserved
-walk-preserved c =
-    CleanWalk-other _ 2 (take c.args.to c.args.bytes.now) c.args.from c.walk.fields c.next_whole.new.fields c.walk.feature c.walk.invariant (entry_of c.in-Some.field) c.in-Some.ensures.field c.if-field-eq-FEATURES.false
+walk-preserved over c =
+    CleanWalk-other (IsGoodFeature (over.R.FeatureRule.IsBroken c.args.rule.now) c.args.bytes.now c.summarize-summary.result c.args.layer) 2 (take c.args.to c.args.bytes.now) c.args.from c.walk.fields c.next_whole.new.fields c.walk.ordinal c.walk.invariant
+    (entry_of c.in-Some.field) c.in-Some.ensures.field c.if-field-eq-FEATURES.false
 
 pub returns-clause-none : goal.returns-clause-none
-returns-clause-none c = λ whose is fault.
-    let summary = c.summarize-summary.ensures whose is in
-    good_layer c.args.bytes.now _ whose is c.args.layer c.summarize-summary.result.keys c.summarize-summary.result.values summary.keys summary.values
-    (CleanWalk-over _ 2 (take c.args.to c.args.bytes.now) c.args.from c.walk.fields c.next_whole.new.fields c.walk.feature c.walk.invariant c.in_default.ensures.over is.entries is.whole) fault
+returns-clause-none over c = λ whose is fault.
+    let bytes = c.args.bytes.now in
+    let summary = c.summarize-summary.result in
+    good_layer (over.R.FeatureRule.IsBroken c.args.rule.now) c.requires.behind_tags bytes _ whose is c.args.layer summary (c.summarize-summary.ensures whose is)
+    (CleanWalk-over (IsGoodFeature (over.R.FeatureRule.IsBroken c.args.rule.now) bytes summary c.args.layer) 2 (take c.args.to bytes) c.args.from c.walk.fields c.next_whole.new.fields c.walk.ordinal c.walk.invariant c.in_default.ensures.over is.entries is.whole) fault

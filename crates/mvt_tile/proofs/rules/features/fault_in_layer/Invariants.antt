@@ -1,11 +1,11 @@
 use Rattle.std.proofs.Common.{◌-◌, length, take}
 use Rattle.mvt_tile.proofs.CleanWalk.{CleanWalk}
-use Rattle.mvt_tile.proofs.TaggedFeatures.{HasGoodTags}
+use Rattle.mvt_tile.proofs.FeatureFaults.{IsGoodFeature}
 use Rattle.mvt_tile.proofs.rules.features.fault_in_layer.Given as goal
 
--- the features that were passed have no fault of tags
+-- the features that were passed have no fault
 abbrev pub invariant-walk : goal.invariant-walk
-invariant-walk l = CleanWalk (HasGoodTags l.bytes l.summary.keys l.summary.values) 2 (take l.to l.bytes) l.from l.fields l.feature
+invariant-walk over l = CleanWalk (IsGoodFeature (over.R.FeatureRule.IsBroken l.rule) l.bytes l.summary l.layer) 2 (take l.to l.bytes) l.from l.fields l.ordinal
 
 abbrev pub decreases-walk : goal.decreases-walk
-decreases-walk l = length l.fields.bytes - l.fields.at
+decreases-walk over l = length l.fields.bytes - l.fields.at

@@ -1,0 +1,96 @@
+-- How a pen gets on with the numbers of a figure.
+use Rattle.std.proofs.Common.{◌≡◌, ℕ, zero, suc, ◌+◌, ◌/◌, ◌<◌, ◌≤◌, List, [], ◌∷◌, ◌++◌, length, drop, get_or, ap, sym, ◌∙◌, subst, refl, append_assoc, append-nil, arith}
+use Rattle.mvt_plane.specs.Figure.{steps, cursor, command_integer, AreSteps}
+use Rattle.mvt_plane.specs.Position.{Position}
+use Rattle.mvt_draw.specs.Course.{Course, IsStepAhead, IsRunAhead}
+
+-- A step
+
+-- the two numbers at a place, and those behind them
+two_at : (at : ℕ) (numbers : List ℕ) (x y : ℕ) (rest : List ℕ) → drop at numbers ≡ x ∷ y ∷ rest
+    → (get_or numbers at 0 ≡ x) × (get_or numbers (suc at) 0 ≡ y) × (drop (suc (suc at)) numbers ≡ rest) × (at + 2 ≤ length numbers)
+two_at zero numbers x y rest stands =
+    (ap (λ (it : List ℕ). get_or it 0 0) stands, ap (λ (it : List ℕ). get_or it 1 0) stands, ap (λ (it : List ℕ). drop 2 it) stands, omega (arith, ap (length {A = ℕ}) stands))
+two_at (suc at) [] x y rest stands = cc
+two_at (suc at) (n ∷ numbers) x y rest stands =
+    let there = two_at at numbers x y rest stands in
+    let within : at + 2 ≤ length numbers = there.3 in (there.0, there.1, there.2, omega arith)
+
+-- the same, with places as sums
+pub two_ahead : (at : ℕ) (numbers : List ℕ) (x y : ℕ) (rest : List ℕ) → drop at numbers ≡ x ∷ y ∷ rest
+    → (get_or numbers at 0 ≡ x) × (get_or numbers (at + 1) 0 ≡ y) × (drop (at + 2) numbers ≡ rest) × (at + 2 ≤ length numbers)
+two_ahead at numbers x y rest stands =
+    let there = two_at at numbers x y rest stands in
+    let one : at + 1 ≡ suc at = omega arith in
+    let two : at + 2 ≡ suc (suc at) = omega arith in
+    (there.0, ap (λ (place : ℕ). get_or numbers place 0) one ∙ there.1, ap (λ (place : ℕ). drop place numbers) two ∙ there.2, there.3)
+
+-- the course with this cursor and these numbers
+pub same_course : (course : Course) (here : Position) (left : List ℕ) → course.here ≡ here → course.left ≡ left → course ≡ record { here = here; left = left }
+same_course course here left same_here same_left = λ i. record { here = same_here i; left = same_left i }
+
+-- A run: the steps of one command
+
+-- of the steps of a run, those through these positions are ahead, and the others are drawn
+pub record IsAmidRun (before : List Position) (start : Course) (positions : List Position) (rest : List ℕ) (drawn : List Position) (now : Course) (left : ℕ) : Type 0 where
+  pub ahead : List Position
+  pub able : AreSteps now.here ahead
+  pub stands : now.left ≡ steps now.here ahead ++ rest
+  pub so_many : length ahead ≡ left
+  pub end : cursor now.here ahead ≡ cursor start.here positions
+  pub whole : drawn ++ ahead ≡ before ++ positions
+
+-- behind the command, all of them are ahead
+pub IsAmidRun-start : (before : List Position) (start now : Course) (count : ℕ) (positions : List Position) (rest : List ℕ) → IsRunAhead start positions rest
+    → count ≡ get_or start.left 0 0 / 8 → now ≡ record { here = start.here; left = drop 1 start.left }
+    → IsAmidRun before start positions rest before now count
+IsAmidRun-start before start now count positions rest run counted behind =
+    let number : get_or start.left 0 0 ≡ command_integer run.id (length positions) = ap (λ (it : List ℕ). get_or it 0 0) run.stands in
+    let small : run.id < 8 = run.is_id in
+    let so_many : length positions ≡ count = omega arith in
+    subst (λ (it : Course). IsAmidRun before start positions rest before it count) (sym behind) (record {
+      ahead = positions;
+      able = run.able;
+      stands = ap (λ (it : List ℕ). drop 1 it) run.stands;
+      so_many = so_many;
+      end = refl;
+      whole = refl;
+    })
+
+-- while one is left, a step is ahead
+pub step_ahead : (now : Course) (ahead : List Position) (rest : List ℕ) → AreSteps now.here ahead → now.left ≡ steps now.here ahead ++ rest → 0 < length ahead
+    → (to : Position) × (more : List ℕ) × IsStepAhead now to more
+step_ahead now [] rest able stands some = absurd (omega arith)
+step_ahead now (to ∷ ahead) rest able stands some = (to, steps to ahead ++ rest, record { able = able.0; stands = stands })
+
+-- behind it, one more is drawn
+pub IsAmidRun-more : (before : List Position) (start : Course) (positions : List Position) (rest : List ℕ) (drawn : List Position) (now new : Course) (to : Position) (left : ℕ)
+    → IsAmidRun before start positions rest drawn now (left + 1)
+    → ((goal : Position) (more : List ℕ) → IsStepAhead now goal more → (to ≡ goal) × (new ≡ record { here = goal; left = more }))
+    → IsAmidRun before start positions rest (drawn ++ to ∷ []) new left
+IsAmidRun-more before start positions rest drawn now new to left amid told = from amid.ahead amid.able amid.stands amid.so_many amid.end amid.whole
+  where
+    from : (ahead : List Position) → AreSteps now.here ahead → now.left ≡ steps now.here ahead ++ rest → length ahead ≡ left + 1
+        → cursor now.here ahead ≡ cursor start.here positions → drawn ++ ahead ≡ before ++ positions → IsAmidRun before start positions rest (drawn ++ to ∷ []) new left
+    from [] able stands so_many end whole = absurd (omega arith)
+    from (next ∷ ahead) able stands so_many end whole =
+        let there = told next (steps next ahead ++ rest) (record { able = able.0; stands = stands }) in
+        let fewer : length ahead ≡ left = omega arith in
+        subst (λ (it : Course). IsAmidRun before start positions rest (drawn ++ to ∷ []) it left) (sym there.1) (record {
+          ahead = ahead;
+          able = able.1;
+          stands = refl;
+          so_many = fewer;
+          end = end;
+          whole = append_assoc drawn (to ∷ []) ahead ∙ (ap (λ (it : Position). drawn ++ it ∷ ahead) there.0 ∙ whole);
+        })
+
+-- with none left, all are drawn
+pub IsAmidRun-over : (before : List Position) (start : Course) (positions : List Position) (rest : List ℕ) (drawn : List Position) (now : Course)
+    → IsAmidRun before start positions rest drawn now 0 → (drawn ≡ before ++ positions) × (now ≡ record { here = cursor start.here positions; left = rest })
+IsAmidRun-over before start positions rest drawn now amid = from amid.ahead amid.stands amid.so_many amid.end amid.whole
+  where
+    from : (ahead : List Position) → now.left ≡ steps now.here ahead ++ rest → length ahead ≡ 0 → cursor now.here ahead ≡ cursor start.here positions
+        → drawn ++ ahead ≡ before ++ positions → (drawn ≡ before ++ positions) × (now ≡ record { here = cursor start.here positions; left = rest })
+    from [] stands so_many end whole = (sym (append-nil drawn) ∙ whole, same_course now (cursor start.here positions) rest end stands)
+    from (next ∷ ahead) stands so_many end whole = absurd (omega arith)

@@ -1,0 +1,10 @@
+pub mod Readers
+pub mod ToldFaults
+pub mod Courses
+pub mod FigurePaths
+pub mod Parameters
+pub mod Paths
+pub mod SpellingFaults
+pub mod SpellingFigures
+pub mod SpellingPaths
+pub mod SpellingSteps

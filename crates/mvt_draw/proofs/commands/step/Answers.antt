@@ -1,0 +1,94 @@
+use Rattle.std.proofs.Common.{◌≡◌, ◌+◌, ℕ, ℤ, pos, ◌+ℤ◌, true≢false, ap, sym, ◌∙◌, subst, get_or, w32, SFits, to_z, of_z, rules, arith}
+use Rattle.std.proofs.lemmas.Int.{ints, to_z-of_z}
+use Rattle.std.proofs.lemmas.Result.{err_from_is_err_and}
+use Rattle.mvt_plane.specs.Drawing.{start, step_x, step_y, unzigzag, IsMove}
+use Rattle.mvt_plane.specs.Position.{Position}
+use Rattle.mvt_draw.specs.Commands.{AsksCoordinate, position_of, of_x, of_y}
+use Rattle.mvt_draw.proofs.Readers.{leads_on, step_leads, no_step_there, zero_parameter, goes_elsewhere}
+use Rattle.mvt_draw.proofs.commands.step.Goals as goal
+use Rattle.mvt_draw.proofs.commands.step.Goals.{else-line-via-then-line+then-x-cursor+else-y-cursor, else-line-via-then-line+else-x-cursor, else-line-via-else-line}
+
+-- a coordinate as it was passed
+abbrev passed : ℤ → ℤ
+passed z = to_z w32 (of_z w32 z)
+
+-- a parameter of 0 stays
+stays : (from : ℤ) (n : ℕ) → n ≡ 0 → from +ℤ unzigzag n ≡ from
+stays from n none =
+    let zero_step : unzigzag n ≡ pos 0 = ap unzigzag none in
+    omega (arith, ints)
+
+-- positions of the same coordinates
+abbrev position : ℤ → ℤ → Position
+position x y = record { x = x; y = y }
+
+same_position : (x y x' y' : ℤ) → x ≡ x' → y ≡ y' → position x y ≡ position x' y'
+same_position x y x' y' same_x same_y = cc
+
+-- what is said of a coordinate as it was passed
+moves : (from : ℤ) (n : ℕ) → passed from ≡ from → IsMove (passed from) n → IsMove from n
+moves from n same move = subst (λ (z : ℤ). IsMove z n) same move
+
+leads_to : (from to : ℤ) (n : ℕ) → passed from ≡ from → to ≡ passed from +ℤ unzigzag n → to ≡ from +ℤ unzigzag n
+leads_to from to n same is = subst (λ (z : ℤ). to ≡ z +ℤ unzigzag n) same is
+
+-- coordinates of the same bits
+same_bits : (x from : ℤ) → SFits w32 x → SFits w32 from → of_z w32 x ≡ of_z w32 from → x ≡ from
+same_bits x from fits fits' same = sym (to_z-of_z w32 x fits) ∙ ap (to_z w32) same ∙ to_z-of_z w32 from fits'
+
+pub returns-in_err-x-clause-fault : goal.returns-in_err-x-clause-fault
+returns-in_err-x-clause-fault c =
+    let p = err_from_is_err_and c.from_residual.result c.from_residual.ensures.1 in
+    let fits_x : SFits w32 c.args.cursor.now.x = search rules in
+    let from = position_of c.args.cursor.now in
+    rw (p.1, p.2) (λ geometry_type leg line leads.
+    c.in_err-x.ensures.fault geometry_type (step_x leg from)
+    (subst (λ (z : ℤ). AsksCoordinate (step_x leg from) z) (sym (to_z-of_z w32 c.args.cursor.now.x fits_x)) (of_x leg from)) leads)
+
+pub returns-in_err-y-clause-fault : goal.returns-in_err-y-clause-fault
+returns-in_err-y-clause-fault c =
+    let p = err_from_is_err_and c.from_residual-in_err-y.result c.from_residual-in_err-y.ensures.1 in
+    let fits_x : SFits w32 c.args.cursor.now.x = search rules in
+    let fits_y : SFits w32 c.args.cursor.now.y = search rules in
+    let from = position_of c.args.cursor.now in
+    let at_x = get_or c.args.numbers.now c.args.at 0 in
+    let move_x = moves c.args.cursor.now.x at_x (to_z-of_z w32 c.args.cursor.now.x fits_x) c.in_ok-x.ensures.allowed in
+    rw (p.1, p.2) (λ geometry_type leg line leads.
+    c.in_err-y.ensures.fault geometry_type (step_y leg from at_x)
+    (subst (λ (z : ℤ). AsksCoordinate (step_y leg from at_x) z) (sym (to_z-of_z w32 c.args.cursor.now.y fits_y)) (of_y leg from at_x))
+    (leads_on geometry_type (start geometry_type) c.args.numbers.now c.args.at (step_x leg from) leads c.in_ok-x.ensures.within move_x))
+
+pub returns-then-y-cursor-clause-fault : goal.returns-then-y-cursor-clause-fault
+returns-then-y-cursor-clause-fault c = λ geometry_type leg line leads.
+    let fits_x : SFits w32 c.args.cursor.now.x = search rules in
+    let fits_y : SFits w32 c.args.cursor.now.y = search rules in
+    let same_x = to_z-of_z w32 c.args.cursor.now.x fits_x in
+    let same_y = to_z-of_z w32 c.args.cursor.now.y fits_y in
+    let at_x = get_or c.args.numbers.now c.args.at 0 in
+    let at_y = get_or c.args.numbers.now (c.args.at + 1) 0 in
+    no_step_there geometry_type (start geometry_type) c.args.numbers.now c.args.at leg (position_of c.args.cursor.now) (line ∙ c.if-line.true) leads c.in_ok-y.ensures.within
+    (moves c.args.cursor.now.x at_x same_x c.in_ok-x.ensures.allowed) (moves c.args.cursor.now.y at_y same_y c.in_ok-y.ensures.allowed)
+    (zero_parameter c.args.cursor.now.x at_x (sym (leads_to c.args.cursor.now.x c.in_ok-x.x at_x same_x c.in_ok-x.ensures.value) ∙ same_bits c.in_ok-x.x c.args.cursor.now.x (search rules) fits_x c.if-x-cursor.true))
+    (zero_parameter c.args.cursor.now.y at_y (sym (leads_to c.args.cursor.now.y c.in_ok-y.y at_y same_y c.in_ok-y.ensures.value) ∙ same_bits c.in_ok-y.y c.args.cursor.now.y (search rules) fits_y c.if-y-cursor.true))
+
+pub returns-clause-goes : goal.returns-clause-goes
+returns-clause-goes c = λ geometry_type leg line leads.
+    let fits_x : SFits w32 c.args.cursor.now.x = search rules in
+    let fits_y : SFits w32 c.args.cursor.now.y = search rules in
+    let same_x = to_z-of_z w32 c.args.cursor.now.x fits_x in
+    let same_y = to_z-of_z w32 c.args.cursor.now.y fits_y in
+    let at_x = get_or c.args.numbers.now c.args.at 0 in
+    let at_y = get_or c.args.numbers.now (c.args.at + 1) 0 in
+    let move_x = moves c.args.cursor.now.x at_x same_x c.in_ok-x.ensures.allowed in
+    let move_y = moves c.args.cursor.now.y at_y same_y c.in_ok-y.ensures.allowed in
+    let there_x = leads_to c.args.cursor.now.x c.in_ok-x.x at_x same_x c.in_ok-x.ensures.value in
+    let there_y = leads_to c.args.cursor.now.y c.in_ok-y.y at_y same_y c.in_ok-y.ensures.value in
+    let inside_x = move_x.there in
+    let inside_y = move_y.there in
+    step_leads geometry_type (start geometry_type) c.args.numbers.now c.args.at leg (position_of c.args.cursor.now) _ leads c.in_ok-y.ensures.within move_x move_y
+    (goes_elsewhere leg at_x at_y (λ is none_x none_y. elim c.else-line.branch [
+      | else-line-via-then-line+then-x-cursor+else-y-cursor w ↦ w.if-y-cursor.false (ap (of_z w32) (there_y ∙ stays c.args.cursor.now.y at_y none_y))
+      | else-line-via-then-line+else-x-cursor w ↦ w.if-x-cursor.false (ap (of_z w32) (there_x ∙ stays c.args.cursor.now.x at_x none_x))
+      | else-line-via-else-line w ↦ true≢false (sym is ∙ line ∙ w.if-line.false)
+    ]))
+    (same_position _ _ _ _ (omega (arith, ints)) (omega (arith, ints)))

@@ -1,0 +1,137 @@
+//! The commands of a geometry, read number by number from a list (Mapbox Vector Tile Specification 2.1,
+//! section 4.3). Each reader begins at a place in the list. An error is the cause and the place of the
+//! first number that isn't allowed.
+ghost use Rattle.std.specs.Prelude.{◌≡◌, ◌+◌, ◌*◌, ◌<◌, ◌≤◌, ℕ, IfErr, IfOk, length, slice_index, ◌+ℤ◌};
+ghost use Rattle.mvt_draw.specs.Commands.{position_of, IsAt, IsFaulty, AsksCommand, AsksCoordinate, is_line, with_left};
+ghost use Rattle.mvt_plane.specs.Drawing.{Leg, State, MayEnd, IsMove, unzigzag, behind, step_x, next};
+ghost use Rattle.mvt_plane.specs.Figure.{GeometryType, command_integer};
+
+use mvt_fault::CommandCode;
+use mvt_wire::unzigzag32;
+
+/// Where the next step begins.
+#[derive(Clone, Copy, Debug, PartialEq, Eq)]
+pub(crate) struct Cursor {
+    /// The coordinate along the x axis.
+    pub(crate) x: i32,
+    /// The coordinate along the y axis.
+    pub(crate) y: i32,
+}
+
+/// The id of a command that moves the cursor (section 4.3.3.1).
+pub(crate) const MOVE_TO: u32 = 1;
+
+/// The id of a command that draws lines (section 4.3.3.2).
+pub(crate) const LINE_TO: u32 = 2;
+
+/// The id of a command that closes a ring (section 4.3.3.3).
+pub(crate) const CLOSE_PATH: u32 = 7;
+
+/// The greatest count of a command, which has 29 bits (section 4.3.1).
+pub(crate) const GREATEST_COUNT: u32 = (1 << 29) - 1;
+
+/// The greatest coordinate; the least is its negative.
+const GREATEST_COORDINATE: i64 = 1 << 30;
+
+/// The count of the command at a place, which is to have this id and a count from `fewest` to `most`.
+pub(crate) fn command(
+    numbers: &[u32],
+    at: usize,
+    id: u32,
+    fewest: u32,
+    most: u32,
+) -> Result<u32, (CommandCode, usize)>
+    ensures within { IfOk result (λ _. at < length numbers.now) }
+    ensures count { IfOk result (λ count. (fewest ≤ count) × (count ≤ most)) }
+    ensures goes { IfOk result (λ count. (geometry_type : GeometryType) (state : State) → AsksCommand geometry_type state id fewest most
+        → IsAt geometry_type numbers.now at state → IsAt geometry_type numbers.now (at + 1) (next geometry_type state (command_integer id count))) }
+    ensures fault { IfErr result (λ it. (geometry_type : GeometryType) (state : State) → AsksCommand geometry_type state id fewest most
+        → (at ≡ length numbers.now → ¬ MayEnd state) → IsAt geometry_type numbers.now at state → IsFaulty geometry_type numbers.now it.0 it.1) }
+{
+    if at >= numbers.len() {
+        return Err((CommandCode::Unfinished, at));
+    }
+    let number = numbers[at];
+    if number % 8 != id {
+        return Err((CommandCode::OtherCommand, at));
+    }
+    let count = number / 8;
+    if count < fewest || count > most {
+        return Err((CommandCode::OtherCount, at));
+    }
+    Ok(count)
+}
+
+/// The coordinate where the parameter at a place leads from another one (section 4.3.2).
+#[inline(always)]
+fn coordinate(numbers: &[u32], at: usize, from: i32) -> Result<i32, (CommandCode, usize)>
+    ensures within { IfOk result (λ _. at < length numbers.now) }
+    ensures allowed { IfOk result (λ _. IsMove from (slice_index numbers.now at)) }
+    ensures value { IfOk result (λ to. to ≡ from +ℤ unzigzag (slice_index numbers.now at)) }
+    ensures fault { IfErr result (λ it. (geometry_type : GeometryType) (state : State) → AsksCoordinate state from
+        → IsAt geometry_type numbers.now at state → IsFaulty geometry_type numbers.now it.0 it.1) }
+{
+    if at >= numbers.len() {
+        return Err((CommandCode::Unfinished, at));
+    }
+    let number = numbers[at];
+    if number == u32::MAX {
+        return Err((CommandCode::GreatestParameter, at));
+    }
+    let to = i64::from(from) + i64::from(unzigzag32(number));
+    if to < -GREATEST_COORDINATE || to > GREATEST_COORDINATE {
+        return Err((CommandCode::OutOfBounds, at));
+    }
+    Ok(to as i32)
+}
+
+/// Moves the cursor where the two parameters at a place lead; of a LineTo they may not stay.
+#[inline(always)]
+pub(crate) fn step(
+    numbers: &[u32],
+    at: usize,
+    cursor: &mut Cursor,
+    line: bool,
+) -> Result<(), (CommandCode, usize)>
+    ensures within { IfOk result (λ _. at + 1 < length numbers.now) }
+    ensures goes { IfOk result (λ _. (geometry_type : GeometryType) (leg : Leg) → is_line leg ≡ line
+        → IsAt geometry_type numbers.now at (step_x leg (position_of cursor.old)) → IsAt geometry_type numbers.now (at + 2) (behind geometry_type leg (position_of cursor.new))) }
+    ensures fault { IfErr result (λ it. (geometry_type : GeometryType) (leg : Leg) → is_line leg ≡ line
+        → IsAt geometry_type numbers.now at (step_x leg (position_of cursor.old)) → IsFaulty geometry_type numbers.now it.0 it.1) }
+{
+    let x = coordinate(numbers, at, cursor.x)?;
+    let y = coordinate(numbers, at + 1, cursor.y)?;
+    if line && x == cursor.x && y == cursor.y {
+        return Err((CommandCode::NoStep, at + 1));
+    }
+    // Each coordinate by itself: a new cursor would go through memory at each step.
+    cursor.x = x;
+    cursor.y = y;
+    Ok(())
+}
+
+/// Where so many steps lead that begin at a place.
+pub(crate) fn steps(
+    numbers: &[u32],
+    start: usize,
+    count: u32,
+    from: Cursor,
+    line: bool,
+) -> Result<Cursor, (CommandCode, usize)>
+    requires { start ≤ length numbers.now }
+    ensures within { IfOk result (λ _. start + 2 * count ≤ length numbers.now) }
+    ensures goes { IfOk result (λ to. (geometry_type : GeometryType) → IsAt geometry_type numbers.now start (with_left geometry_type line count (position_of from))
+        → IsAt geometry_type numbers.now (start + 2 * count) (with_left geometry_type line 0 (position_of to))) }
+    ensures fault { IfErr result (λ it. (geometry_type : GeometryType) → IsAt geometry_type numbers.now start (with_left geometry_type line count (position_of from))
+        → IsFaulty geometry_type numbers.now it.0 it.1) }
+{
+    let mut cursor = from;
+    let mut at = start;
+    let mut left = count;
+    'steps: while left > 0 {
+        step(numbers, at, &mut cursor, line)?;
+        at += 2;
+        left -= 1;
+    }
+    Ok(cursor)
+}

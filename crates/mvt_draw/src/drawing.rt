@@ -1,0 +1,119 @@
+ghost use Rattle.std.specs.Prelude.{◌≡◌, ℕ, ◌++◌, List, [], map, IfErr, IfOk, OnOk};
+ghost use Rattle.mvt_plane.specs.Figure.{cursor};
+ghost use Rattle.mvt_plane.specs.Position.{Position, origin};
+ghost use Rattle.mvt_tile.specs.View.{kind_number};
+ghost use Rattle.mvt_draw.specs.Course.{IsRunAhead, IsPathAhead, ArePathsAhead};
+ghost use Rattle.mvt_draw.specs.Geometry.{HasFigure, IsDrawn, IsDrawFault};
+
+mod pen;
+#[cfg(test)]
+mod tests;
+
+use crate::checking::command_fault;
+use crate::figure::Figure;
+use mvt_fault::CommandCode;
+use mvt_plane::Point;
+use mvt_tile::Kind;
+use pen::Pen;
+use std::alloc::{AllocError, Global};
+
+/// Why a geometry wasn't drawn.
+#[derive(Clone, Copy, Debug, PartialEq, Eq)]
+pub enum DrawFault {
+    /// The numbers draw no figure of the kind.
+    Command {
+        /// The cause.
+        code: CommandCode,
+        /// The place in the list of numbers, counted from 0; the list's length where more is due.
+        index: usize,
+    },
+    /// Memory was refused.
+    Memory,
+}
+
+/// The figure that the numbers of a geometry draw, by its kind (Mapbox Vector Tile Specification 2.1,
+/// section 4.3). Nothing is reserved by a count that was read, and nothing is taken for numbers that draw
+/// none.
+///
+/// Errors: `Command` with what keeps the numbers from drawing a figure; `Memory` where a figure found no
+/// memory.
+pub fn draw(alloc: Global, kind: Kind, numbers: &[u32]) -> Result<Figure, DrawFault>
+    ensures figure { IfOk result (IsDrawn (kind_number kind) numbers.now) }
+    ensures fault { IfErr result (IsDrawFault (kind_number kind) numbers.now) }
+{
+    if let Some((code, index)) = command_fault(kind, numbers) {
+        return Err(DrawFault::Command { code, index });
+    }
+    match draw_figure(alloc, kind, numbers) {
+        Ok(figure) => Ok(figure),
+        Err(_refused) => Err(DrawFault::Memory),
+    }
+}
+
+/// The figure of numbers that are known to draw one.
+fn draw_figure(alloc: Global, kind: Kind, numbers: &[u32]) -> Result<Figure, AllocError>
+    requires { HasFigure (kind_number kind) numbers.now }
+    ensures { IfOk result (IsDrawn (kind_number kind) numbers.now) }
+{
+    match kind {
+        Kind::Unknown => Ok(Figure::Unknown),
+        Kind::Point => Ok(Figure::Points(draw_points(alloc, numbers)?)),
+        Kind::LineString => Ok(Figure::Lines(draw_paths(alloc, numbers, false)?)),
+        Kind::Polygon => Ok(Figure::Rings(draw_paths(alloc, numbers, true)?)),
+    }
+}
+
+/// Points, to which one MoveTo leads (section 4.3.4.2).
+fn draw_points(alloc: Global, numbers: &[u32]) -> Result<Vec<Point>, AllocError>
+    requires { (positions : List Position) × IsRunAhead (record { here = origin; left = numbers.now }) positions [] }
+    ensures { IfOk result (λ points. (positions : List Position)
+        → IsRunAhead (record { here = origin; left = numbers.now }) positions [] → points.items ≡ positions) }
+{
+    let mut points = Vec::new(alloc);
+    let mut pen = Pen::new(numbers);
+    push_run(&mut pen, &mut points)?;
+    Ok(points)
+}
+
+/// Lines (section 4.3.4.3), or rings, each of which is closed (section 4.3.4.4).
+fn draw_paths(alloc: Global, numbers: &[u32], closed: bool) -> Result<Vec<Vec<Point>>, AllocError>
+    requires { (parts : List (List Position)) × ArePathsAhead (record { here = origin; left = numbers.now }) closed parts }
+    ensures { IfOk result (λ drawn. (parts : List (List Position))
+        → ArePathsAhead (record { here = origin; left = numbers.now }) closed parts → map (λ part. part.items) drawn.items ≡ parts) }
+{
+    let mut parts = Vec::new(alloc);
+    let mut pen = Pen::new(numbers);
+    'walk: while !pen.is_done() {
+        parts.push(draw_path(alloc, &mut pen)?)?;
+        if closed {
+            // A ClosePath leaves the cursor where it is (section 4.3.3.3).
+            pen.command();
+        }
+    }
+    Ok(parts)
+}
+
+/// A line, or a ring without its end: a MoveTo, and a LineTo through all further positions.
+fn draw_path(alloc: Global, pen: &mut Pen<'_>) -> Result<Vec<Point>, AllocError>
+    requires { (part : List Position) × (rest : List ℕ) × IsPathAhead pen.old part rest }
+    ensures { IfOk result (λ points. (part : List Position) (rest : List ℕ) → IsPathAhead pen.old part rest
+        → (points.items ≡ part) × (pen.new ≡ record { here = cursor pen.old.here part; left = rest })) }
+{
+    let mut points = Vec::new(alloc);
+    push_run(pen, &mut points)?;
+    push_run(pen, &mut points)?;
+    Ok(points)
+}
+
+/// Pushes the positions to which a command leads, one for each of its count.
+fn push_run(pen: &mut Pen<'_>, points: &mut Vec<Point>) -> Result<(), AllocError>
+    requires { (positions : List Position) × (rest : List ℕ) × IsRunAhead pen.old positions rest }
+    ensures { OnOk result ((positions : List Position) (rest : List ℕ) → IsRunAhead pen.old positions rest
+        → (points.new.items ≡ points.old.items ++ positions) × (pen.new ≡ record { here = cursor pen.old.here positions; left = rest })) }
+{
+    let count = pen.command();
+    'walk: for _ in 0..count {
+        points.push(pen.step())?;
+    }
+    Ok(())
+}

@@ -1,0 +1,14 @@
+//! The geometry of features: commands drawn as figures, figures spelled as commands, and what keeps commands
+//! from being a figure.
+#![tactic(auto)]
+
+mod checking;
+mod commands;
+mod drawing;
+mod figure;
+mod spelling;
+
+pub use checking::command_fault;
+pub use drawing::{DrawFault, draw};
+pub use figure::Figure;
+pub use spelling::{SpellFault, spell};
