@@ -183,11 +183,40 @@ NO_MESSAGE = b"\x07"
 VERSION = field(15, VARINT, 2)
 # a version, and a name of one letter
 NAMED = VERSION + field(1, DELIMITED, b"a")
-# The smallest messages that keep the rules: a feature with a type and an empty geometry, and a value with a bool. A key
-# may be the empty text.
+# The smallest messages that keep the rules: a feature with a type and an empty geometry, one that draws a point, and a
+# value with a bool. A key may be the empty text.
 SMALLEST_FEATURE = field(2, DELIMITED, feature(UNKNOWN, b""))
+SMALLEST_POINT = field(2, DELIMITED, feature(POINT, packed([command(MOVE_TO, 1), 0, 0])))
 SMALLEST_VALUE = field(4, DELIMITED, field(7, VARINT, 1))
 SMALLEST_KEY = field(3, DELIMITED, b"")
+
+# One geometry that takes all bytes
+
+# the line of fewest numbers: from where the cursor is to the position below
+SMALLEST_LINE = [command(MOVE_TO, 1), 0, 0, command(LINE_TO, 1), 0, zigzag(1)]
+# and back, so that no number of lines leaves the range of coordinates
+LINE_BACK = [*SMALLEST_LINE[:-1], zigzag(-1)]
+
+
+def one_line_string(fields):
+    """One layer with one feature, whose geometry is these fields."""
+    begin = field(3, VARINT, LINESTRING)
+    return field(3, DELIMITED, NAMED + field(2, DELIMITED, begin + fields))
+
+
+def smallest_lines(size):
+    """As many lines as fit, in one packed field."""
+    # (some bytes go to the messages around them)
+    lines = repeated(packed(SMALLEST_LINE + LINE_BACK), size - 64)
+    return one_line_string(field(4, DELIMITED, lines))
+
+
+def parted_lines(size):
+    """The same with each number in a field of its own, by turns packed and not."""
+    numbers = SMALLEST_LINE + LINE_BACK
+    fields = [field(4, DELIMITED, varint(it)) if at % 2 else field(4, VARINT, it) for at, it in enumerate(numbers)]
+    return one_line_string(repeated(b"".join(fields), size - 64))
+
 
 # As many layers or tags as the bytes can hold
 
@@ -262,6 +291,9 @@ for mib in (16, 32, 64):
         f"short_fields_{mib}_mib": lambda size=mib * MIB: repeated(SHORT, size),
         f"smallest_layers_{mib}_mib": lambda size=mib * MIB: b"".join(smallest_layers(size)),
         f"smallest_features_{mib}_mib": lambda size=mib * MIB: one_payload(NAMED, SMALLEST_FEATURE, size),
+        f"smallest_points_{mib}_mib": lambda size=mib * MIB: one_payload(NAMED, SMALLEST_POINT, size),
+        f"smallest_lines_{mib}_mib": lambda size=mib * MIB: smallest_lines(size),
+        f"parted_lines_{mib}_mib": lambda size=mib * MIB: parted_lines(size),
         f"smallest_values_{mib}_mib": lambda size=mib * MIB: one_payload(NAMED, SMALLEST_VALUE, size),
         f"named_layers_{mib}_mib": lambda size=mib * MIB: named_layers(size),
         f"many_tags_{mib}_mib": lambda size=mib * MIB: many_tags(size),

@@ -1,170 +1,25 @@
 // Checks one uncompressed vector tile with protozero, as `mvtgate check` does: its wire grammar, the versions and names
-// of its layers, and the tags of its features. Words: check [FILE].
+// of its layers, and the tags and the geometry commands of its features. Words: check [FILE].
 //
 // Without FILE the tile comes from standard input. It writes {"ok":true} with status 0, or the first fault that it
 // meets with status 1; status 2 says that it could not run. docs/SPECIFICATION.md says what a fault is.
-#include <protozero/pbf_reader.hpp>
+#include "geometry.hpp"
+#include "reading.hpp"
 
 #include <algorithm>
 #include <cstddef>
 #include <cstdint>
 #include <cstdio>
-#include <cstring>
 #include <exception>
-#include <limits>
-#include <stdexcept>
 #include <string>
 #include <string_view>
 #include <vector>
 
 namespace {
 
-using protozero::data_view;
-using protozero::pbf_reader;
-using protozero::pbf_wire_type;
+using namespace peer;
 
-constexpr std::uint64_t any_number = std::numeric_limits<std::uint64_t>::max();
-constexpr std::uint64_t greatest_uint32 = std::numeric_limits<std::uint32_t>::max();
-constexpr std::uint64_t greatest_type = 3;
 constexpr std::uint64_t only_version = 2;
-
-struct Fault : std::runtime_error {
-    using std::runtime_error::runtime_error;
-};
-
-// The key of a field, as the cases of a switch have it.
-constexpr std::uint32_t varint(std::uint32_t number) {
-    return protozero::tag_and_type(number, pbf_wire_type::varint);
-}
-
-constexpr std::uint32_t delimited(std::uint32_t number) {
-    return protozero::tag_and_type(number, pbf_wire_type::length_delimited);
-}
-
-constexpr std::uint32_t fixed32(std::uint32_t number) {
-    return protozero::tag_and_type(number, pbf_wire_type::fixed32);
-}
-
-constexpr std::uint32_t fixed64(std::uint32_t number) {
-    return protozero::tag_and_type(number, pbf_wire_type::fixed64);
-}
-
-void require(bool holds, const char* fault) {
-    if (!holds) {
-        throw Fault{fault};
-    }
-}
-
-// Of a varint's tenth byte protozero takes the lowest bit and drops the others, which are a fault here.
-void require_short(const char* begin, const char* end) {
-    require(end - begin < protozero::max_varint_length || end[-1] <= 1, "a varint is too long");
-}
-
-// protozero cuts keys and lengths to 32 bits, where a greater number is a fault. Less than five bytes hold none.
-void require_uint32(const char* begin, const char* end) {
-    if (end - begin >= 5) {
-        require_short(begin, end);
-        require(protozero::decode_varint(&begin, end) <= greatest_uint32, "a key or a length passes 32 bits");
-    }
-}
-
-bool next(pbf_reader& message) {
-    const char* const key = message.data().data();
-    if (!message.next()) {
-        return false;
-    }
-    require_uint32(key, message.data().data());
-    return true;
-}
-
-data_view get_payload(pbf_reader& message) {
-    const char* const length = message.data().data();
-    const data_view payload = message.get_view();
-    require_uint32(length, payload.data());
-    return payload;
-}
-
-std::uint64_t get_number(pbf_reader& message, std::uint64_t greatest) {
-    const char* const begin = message.data().data();
-    const std::uint64_t number = message.get_uint64();
-    require_short(begin, message.data().data());
-    require(number <= greatest, "a number is out of range");
-    return number;
-}
-
-// Takes the packed numbers of tags or of a geometry. protozero's iterator would decode each varint twice and hide its
-// length.
-template <typename Take>
-void take_packed(data_view numbers, Take take) {
-    const char* at = numbers.data();
-    const char* const end = at + numbers.size();
-    while (at != end) {
-        const char* const begin = at;
-        const std::uint64_t number = protozero::decode_varint(&at, end);
-        require_short(begin, at);
-        require(number <= greatest_uint32, "a number is out of range");
-        take(static_cast<std::uint32_t>(number));
-    }
-}
-
-void check_packed(data_view numbers) {
-    take_packed(numbers, [](std::uint32_t) {});
-}
-
-// The length of the UTF-8 character at this place (RFC 3629, section 4), or 0 where none stands there.
-std::size_t character(const unsigned char* at, std::size_t left) {
-    const unsigned first = at[0];
-    if (first < 0x80) {
-        return 1;
-    }
-    if (first < 0xC2 || first > 0xF4) {
-        return 0;
-    }
-    const std::size_t length = first < 0xE0 ? 2 : first < 0xF0 ? 3 : 4;
-    if (left < length) {
-        return 0;
-    }
-    // (these keep out longer spellings than needed, surrogates, and what is above U+10FFFF)
-    const unsigned least = first == 0xE0 ? 0xA0 : first == 0xF0 ? 0x90 : 0x80;
-    const unsigned greatest = first == 0xED ? 0x9F : first == 0xF4 ? 0x8F : 0xBF;
-    bool is_whole = at[1] >= least && at[1] <= greatest;
-    for (std::size_t i = 2; i < length; ++i) {
-        is_whole = is_whole && at[i] >= 0x80 && at[i] <= 0xBF;
-    }
-    return is_whole ? length : 0;
-}
-
-void check_text(data_view text) {
-    constexpr std::uint64_t upper_bits = 0x8080808080808080;
-    const auto* at = reinterpret_cast<const unsigned char*>(text.data());
-    for (std::size_t left = text.size(); left > 0;) {
-        std::uint64_t eight = upper_bits;
-        if (left >= sizeof eight) {
-            std::memcpy(&eight, at, sizeof eight);
-        }
-        const std::size_t length = (eight & upper_bits) == 0 ? sizeof eight : character(at, left);
-        require(length != 0, "a text isn't UTF-8");
-        at += length;
-        left -= length;
-    }
-}
-
-// Skips a field whose number is unknown; one of a known number is here for its wire type, which isn't its own.
-void skip_unknown(pbf_reader& message, bool is_known) {
-    require(!is_known, "a known field has another wire type");
-    if (message.has_wire_type(pbf_wire_type::varint)) {
-        get_number(message, any_number);
-    } else if (message.has_wire_type(pbf_wire_type::length_delimited)) {
-        get_payload(message);
-    } else {
-        message.skip();
-    }
-}
-
-void mark_once(bool& occurs) {
-    require(!occurs, "a singular field occurs twice");
-    occurs = true;
-}
 
 // The tags of a layer's features, which mostly stand before the keys and values that they index: so the greatest
 // indices are kept up to the layer's end. One object serves all layers of a tile.
@@ -248,11 +103,12 @@ void check_value(pbf_reader value) {
     require(fields == 1, "a value has none or several of its fields");
 }
 
-void check_feature(pbf_reader feature, Tags& tags) {
+void check_feature(pbf_reader feature, Tags& tags, Geometry& geometry) {
+    std::uint64_t type = unknown;
     bool has_id = false;
     bool has_type = false;
-    bool has_geometry = false;
     tags.begin_feature();
+    geometry.begin_feature();
     while (next(feature)) {
         switch (feature.tag_and_type()) {
             case varint(1):
@@ -260,33 +116,34 @@ void check_feature(pbf_reader feature, Tags& tags) {
                 get_number(feature, any_number);
                 break;
             case delimited(2):
-                take_packed(get_payload(feature), [&tags](std::uint32_t index) { tags.take(index); });
+                for (Numbers indices{get_payload(feature)}; !indices.at_end();) {
+                    tags.take(indices.next());
+                }
                 break;
             case varint(2):
                 tags.take(static_cast<std::uint32_t>(get_number(feature, greatest_uint32)));
                 break;
             case varint(3):
                 mark_once(has_type);
-                get_number(feature, greatest_type);
+                type = get_number(feature, polygon);
                 break;
             case delimited(4):
-                has_geometry = true;
-                check_packed(get_payload(feature));
+                geometry.add(get_payload(feature));
                 break;
             case varint(4):
-                has_geometry = true;
-                get_number(feature, greatest_uint32);
+                geometry.add(get_varint(feature));
                 break;
             default:
                 skip_unknown(feature, feature.tag() <= 4);
         }
     }
-    require(has_type && has_geometry, "a feature lacks its type or its geometry");
+    require(has_type, "a feature lacks its type");
     tags.end_feature();
+    geometry.end_feature(type);
 }
 
 // The layer's name.
-std::string_view check_layer(pbf_reader layer, Tags& tags) {
+std::string_view check_layer(pbf_reader layer, Tags& tags, Geometry& geometry) {
     data_view name;
     std::size_t keys = 0;
     std::size_t values = 0;
@@ -302,7 +159,7 @@ std::string_view check_layer(pbf_reader layer, Tags& tags) {
                 check_text(name);
                 break;
             case delimited(2):
-                check_feature(pbf_reader{get_payload(layer)}, tags);
+                check_feature(pbf_reader{get_payload(layer)}, tags, geometry);
                 break;
             case delimited(3):
                 ++keys;
@@ -338,9 +195,10 @@ void require_different(std::vector<std::string_view>& names) {
 void check_tile(pbf_reader tile) {
     std::vector<std::string_view> names;
     Tags tags;
+    Geometry geometry;
     while (next(tile)) {
         if (tile.tag_and_type() == delimited(3)) {
-            names.push_back(check_layer(pbf_reader{get_payload(tile)}, tags));
+            names.push_back(check_layer(pbf_reader{get_payload(tile)}, tags, geometry));
         } else {
             skip_unknown(tile, tile.tag() == 3);
         }
