@@ -1,10 +1,14 @@
 //! The laws of geometry commands (Mapbox Vector Tile Specification 2.1, section 4.3), as contracts of
-//! functions that do nothing.
+//! functions that do nothing; `points` and `rings` have those of points on edges, of rings and of polygons.
 
 ghost use Rattle.std.specs.Prelude.{◌≡◌, ◌⊎◌, ℕ, ◌^◌, ◌<◌, List, All, map, ℤ};
 ghost use Rattle.mvt_plane.specs.CommandFault.{HasCommandFault, Word, words};
 ghost use Rattle.mvt_plane.specs.Drawing.{start, Passes, state_behind, MayEnd, Draws, FaultFrom, IsSound, unzigzag};
 ghost use Rattle.mvt_plane.specs.Figure.{GeometryType, Figure, type_of, spelling, HasSpelling, Spells, zigzag};
+
+pub mod examples;
+pub mod points;
+pub mod rings;
 
 /// A list of numbers spells at most one figure of a geometry type.
 pub fn one_figure()

@@ -1,9 +1,24 @@
-//! The plane of a vector tile's geometry: positions, and how figures of them are spelled as commands.
+//! The plane of a vector tile's geometry: positions, and how figures of them are spelled as commands;
+//! edges, areas, what is inside a ring, and where two edges meet. No call takes memory.
 #![tactic(auto)]
 
+mod count;
+mod crossing;
+mod edge;
+mod hpoint;
 pub mod laws;
+mod measure;
+mod parity;
 mod point;
+mod side;
+mod step;
 #[cfg(test)]
 mod tests;
 
+pub use count::Count;
+pub use crossing::common;
+pub use edge::{Edge, on_edge};
+pub use hpoint::Hpoint;
+pub use measure::{orient, sweep_key, twice_area};
+pub use parity::inside;
 pub use point::Point;

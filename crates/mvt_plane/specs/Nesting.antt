@@ -1,0 +1,32 @@
+-- Holes that aren't where they should be: each vertex of a hole is inside the exterior of its polygon, and inside no other
+-- hole of it (Mapbox Vector Tile Specification 2.1, section 4.3.4.4).
+use Rattle.std.specs.Prelude.{◌≡◌, ◌≢◌, ℕ, List, slice_get, Some}
+use Rattle.mvt_plane.specs.Inside.{IsInside}
+use Rattle.mvt_plane.specs.Polygon.{PolygonRings, IsHoleOf}
+use Rattle.mvt_plane.specs.Position.{Position}
+
+-- the position of a vertex, by the number of its ring and its own number in that ring
+pub record IsVertexOf (rings : List (List Position)) (ring vertex : ℕ) (position : Position) : Type 0 where
+  pub vertices : List Position
+  pub there : slice_get rings ring ≡ Some vertices
+  pub here : slice_get vertices vertex ≡ Some position
+
+-- the vertex of a hole isn't inside the exterior
+pub record IsOutside (rings : List (List Position)) (it : PolygonRings) (ring vertex : ℕ) : Type 0 where
+  pub hole : IsHoleOf it ring
+  pub position : Position
+  pub here : IsVertexOf rings ring vertex position
+  pub exterior : List Position
+  pub there : slice_get rings it.exterior ≡ Some exterior
+  pub outside : ¬ IsInside position exterior
+
+-- the vertex of a hole is inside another hole
+pub record IsInHole (rings : List (List Position)) (it : PolygonRings) (ring vertex other : ℕ) : Type 0 where
+  pub hole : IsHoleOf it ring
+  pub position : Position
+  pub here : IsVertexOf rings ring vertex position
+  pub other_hole : IsHoleOf it other
+  pub different : other ≢ ring
+  pub around : List Position
+  pub there : slice_get rings other ≡ Some around
+  pub inside : IsInside position around

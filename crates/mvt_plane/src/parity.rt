@@ -1,0 +1,52 @@
+ghost use Rattle.std.specs.Prelude.{◌≡◌, ◌↔◌, IsTrue, ◌-ℤ◌, ◌*ℤ◌};
+ghost use Rattle.mvt_plane.specs.Inside.{PassesOver, IsInside};
+
+use crate::point::Point;
+use crate::step::{x_step, y_step};
+
+/// Whether the position is inside the ring: whether an odd number of the ring's edges pass over it, each
+/// with just one end at the position's x or on the side of lesser ones, and with a greater y at that x
+/// (Mapbox Vector Tile Specification 2.1, section 4.3.4.4). On the ring itself some positions count as
+/// inside and some don't, by the same rule.
+pub fn inside(point: Point, ring: &[Point]) -> bool
+    ensures { IsTrue result ↔ IsInside point ring.now }
+{
+    let Some((first, rest)) = ring.split_first() else {
+        return false;
+    };
+    let mut is_odd = false;
+    // by reference, so that most vertices are read by their x alone
+    let mut from = first;
+    for to in rest {
+        is_odd ^= passes_over(point, *from, *to);
+        from = to;
+    }
+    is_odd ^ passes_over(point, *from, *first)
+}
+
+/// Whether the edge from `a` to `b` passes over the position. Most edges have both of their ends on one
+/// side, so that is asked first.
+fn passes_over(point: Point, a: Point, b: Point) -> bool
+    ensures { IsTrue result ↔ PassesOver point (record { a = a; b = b }) }
+{
+    let begins_behind = a.x() <= point.x();
+    let ends_behind = b.x() <= point.x();
+    if begins_behind == ends_behind {
+        return false;
+    }
+    let of_point = rectangle(a, b, point);
+    let of_edge = rectangle(a, point, b);
+    if begins_behind {
+        of_point < of_edge
+    } else {
+        of_edge < of_point
+    }
+}
+
+/// The area of the rectangle from `corner` to the x of `across` and the y of `along`, negative where just
+/// one of them is less than that of `corner`.
+fn rectangle(corner: Point, across: Point, along: Point) -> i64
+    ensures { result ≡ (across.x -ℤ corner.x) *ℤ (along.y -ℤ corner.y) }
+{
+    x_step(corner, across) * y_step(corner, along)
+}
