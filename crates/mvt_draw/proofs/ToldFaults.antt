@@ -7,7 +7,8 @@ use Rattle.mvt_plane.specs.Figure.{GeometryType, point, line_string, polygon, Fi
 use Rattle.mvt_plane.proofs.Beginnings.{passes_spells}
 use Rattle.mvt_plane.proofs.CommandFaults.{has_command_fault}
 use Rattle.mvt_draw.specs.Commands.{IsWhole, IsFaulty}
-use Rattle.mvt_draw.specs.Geometry.{type_number, HasFigure, IsCommandFault}
+use Rattle.mvt_draw.specs.Geometry.{IsCommandFault}
+use Rattle.mvt_plane.specs.Geometry.{type_number, HasFigure}
 
 -- no two types have one number
 one_type : (geometry_type other : GeometryType) → type_number geometry_type ≡ type_number other → geometry_type ≡ other

@@ -1,10 +1,10 @@
--- The geometry of a feature by its type's number (Mapbox Vector Tile Specification 2.1, section 4.3.4).
+-- What the readers and the writer of geometry answer, by the number of its type (Mapbox Vector Tile Specification 2.1, section 4.3.4).
 use Rattle.std.specs.Prelude.{◌≡◌, ◌≢◌, ℕ, List, map, Option, Some, None}
 use Rattle.mvt_fault.specs.Code.{command_code}
 use Rattle.mvt_fault.specs.declared.command.CommandCode.{CommandCode}
-use Rattle.mvt_plane.specs.CommandFault.{HasCommandFault}
-use Rattle.mvt_plane.specs.Figure.{GeometryType, point, line_string, polygon, points, lines, rings, HasSpelling, Spells}
+use Rattle.mvt_plane.specs.Figure.{GeometryType, points, lines, rings, HasSpelling, Spells}
 use Rattle.mvt_plane.specs.Figure as plane
+use Rattle.mvt_plane.specs.Geometry.{type_number, BreaksCommands}
 use Rattle.mvt_draw.specs.declared.drawing.DrawFault.{DrawFault}
 use Rattle.mvt_draw.specs.declared.drawing.DrawFault.TheVariants as draw_faults
 use Rattle.mvt_draw.specs.declared.figure.Figure.{Figure}
@@ -12,20 +12,9 @@ use Rattle.mvt_draw.specs.declared.figure.Figure.TheVariants.{Points, Lines, Rin
 use Rattle.mvt_draw.specs.declared.spelling.SpellFault.{SpellFault}
 use Rattle.mvt_draw.specs.declared.spelling.SpellFault.TheVariants as spell_faults
 
--- the number of a geometry type; that of an unknown one is 0
-abbrev pub type_number : GeometryType → ℕ
-type_number point = 1
-type_number line_string = 2
-type_number polygon = 3
-
--- where the type is known, the numbers spell a figure of it
-abbrev pub HasFigure : ℕ → List ℕ → Type 0
-HasFigure kind numbers = (geometry_type : GeometryType) → kind ≡ type_number geometry_type → (figure : plane.Figure) × Spells geometry_type figure numbers
-
 -- the type is known, and the numbers have this fault
 abbrev pub IsCommandFault : ℕ → List ℕ → CommandCode → ℕ → Type 0
-IsCommandFault kind numbers code index =
-    (geometry_type : GeometryType) × (kind ≡ type_number geometry_type) × HasCommandFault geometry_type numbers (command_code code) index
+IsCommandFault kind numbers code index = BreaksCommands kind numbers (command_code code) index
 
 -- the figure that a value of the code shows, where it is known
 abbrev pub figure_of : Figure → Option plane.Figure

@@ -1,6 +1,7 @@
 ghost use Rattle.std.specs.Prelude.{◌≡◌, ◌<◌, ◌≤◌, ℕ, Bool, true, false, IfErr, IfNone, IfOk, IfSome, length};
 ghost use Rattle.mvt_draw.specs.Commands.{position_of, IsAt, IsFaulty, IsWhole, path_type};
-ghost use Rattle.mvt_draw.specs.Geometry.{HasFigure, IsCommandFault};
+ghost use Rattle.mvt_draw.specs.Geometry.{IsCommandFault};
+ghost use Rattle.mvt_plane.specs.Geometry.{HasFigure};
 ghost use Rattle.mvt_fault.specs.declared.command.CommandCode.{CommandCode};
 ghost use Rattle.mvt_plane.specs.Drawing.{least, path_command};
 ghost use Rattle.mvt_plane.specs.Figure.{point};

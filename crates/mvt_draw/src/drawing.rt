@@ -3,7 +3,8 @@ ghost use Rattle.mvt_plane.specs.Figure.{cursor};
 ghost use Rattle.mvt_plane.specs.Position.{Position, origin};
 ghost use Rattle.mvt_tile.specs.View.{kind_number};
 ghost use Rattle.mvt_draw.specs.Course.{IsRunAhead, IsPathAhead, ArePathsAhead};
-ghost use Rattle.mvt_draw.specs.Geometry.{HasFigure, IsDrawn, IsDrawFault};
+ghost use Rattle.mvt_draw.specs.Geometry.{IsDrawn, IsDrawFault};
+ghost use Rattle.mvt_plane.specs.Geometry.{HasFigure};
 
 mod pen;
 #[cfg(test)]

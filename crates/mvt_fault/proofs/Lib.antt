@@ -1,2 +1,4 @@
+pub mod Causes
 pub mod Decoding
 pub mod Places
+pub mod SignedDecimals

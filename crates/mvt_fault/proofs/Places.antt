@@ -1,11 +1,15 @@
--- The order of places is total, the comparisons of lists tell it, and a place tells its wire fault.
-use Rattle.std.proofs.Common.{◌≡◌, ◌≢◌, ◌↔◌, ℕ, ◌<◌, ◌⊎◌, inl, inr, IsTrue, List, [], ◌∷◌, refl, sym, ◌∙◌, subst, arith, rules, Some, Ordering, Less, Equal, Greater}
+-- The order of places is total, the comparisons of lists tell it, and a place tells its fault, or of a meeting its polygon.
+use Rattle.std.proofs.Common.{◌≡◌, ◌≢◌, ◌↔◌, ℕ, ◌<◌, ◌⊎◌, inl, inr, IsTrue, ◌==◌, if◌then◌else◌, pos, List, [], ◌∷◌, refl, sym, ◌∙◌, subst, ap, get_or, arith, Some, Ordering, Less, Equal, Greater}
 use Rattle.std.specs.Ordering.{ordering_then, nat_cmp, MatchOrdering, is_le, is_some_and}
 use Rattle.std.specs.Cmp.{ranks}
 use Rattle.std.specs.Cmp.Lexicographic.{slice_cmp, slice_partial_cmp, lists_agrees}
-use Rattle.mvt_fault.specs.Place.{place_of, ComesFirst}
+use Rattle.mvt_fault.specs.Place.{place_of, ComesFirst, IsMeetingIn, AreMeetingsInOne}
 use Rattle.mvt_fault.specs.declared.fault.Fault.{Fault}
-use Rattle.mvt_fault.specs.declared.fault.Fault.TheVariants.{Wire, Version, Name, Tag, Command}
+use Rattle.mvt_fault.specs.declared.fault.Fault.TheVariants.{Wire, Version, Name, Tag, Command, Ring, Meeting, Outside, HoleInHole}
+use Rattle.mvt_fault.specs.declared.ring.RingEdge.{RingEdge}
+use Rattle.mvt_wire.specs.declared.scope.Scope.{Scope}
+use Rattle.mvt_wire.specs.declared.scope.Scope.TheVariants.{Tile, Layer, Value, Feature}
+use Rattle.mvt_fault.proofs.Causes.{wire_code_at, wire_code_at-code_of, tag_code_at, tag_code_at-tag_code, command_code_at, command_code_at-command_code, ring_code_at, ring_code_at-ring_code}
 
 -- a place comes first before itself
 pub ComesFirst-reflexive : (xs : List ℕ) → ComesFirst xs xs
@@ -92,30 +96,95 @@ up_to_tells xs ys = rw (lists_agrees {C = λ x y. Some (nat_cmp x y)} (λ x y. r
     up_to Equal xs ys h = (λ e. subst (ComesFirst xs) h (ComesFirst-reflexive xs), λ p. refl)
     up_to Greater xs ys h = (λ e. absurd (cc e), λ p. absurd (h.1 (ComesFirst-antisymmetric xs ys p h.0)))
 
--- a place tells its fault
-pub same_place : (f g : Fault) → place_of f ≡ place_of g → f ≡ g
-same_place (Wire code scope at field) (Wire code2 scope2 at2 field2) same = Prim.search rules
-same_place (Wire code scope at field) (Version layer2) same = Prim.search rules
-same_place (Wire code scope at field) (Name first2 second2) same = Prim.search rules
-same_place (Wire code scope at field) (Tag tag_code2 layer2 feature2 index2) same = Prim.search rules
-same_place (Wire code scope at field) (Command command_code2 layer2 feature2 index2) same = Prim.search rules
-same_place (Version layer) (Wire code2 scope2 at2 field2) same = Prim.search rules
-same_place (Version layer) (Version layer2) same = Prim.search rules
-same_place (Version layer) (Name first2 second2) same = Prim.search rules
-same_place (Version layer) (Tag tag_code2 layer2 feature2 index2) same = Prim.search rules
-same_place (Version layer) (Command command_code2 layer2 feature2 index2) same = Prim.search rules
-same_place (Name first second) (Wire code2 scope2 at2 field2) same = Prim.search rules
-same_place (Name first second) (Version layer2) same = Prim.search rules
-same_place (Name first second) (Name first2 second2) same = Prim.search rules
-same_place (Name first second) (Tag tag_code2 layer2 feature2 index2) same = Prim.search rules
-same_place (Name first second) (Command command_code2 layer2 feature2 index2) same = Prim.search rules
-same_place (Tag tag_code layer feature index) (Wire code2 scope2 at2 field2) same = Prim.search rules
-same_place (Tag tag_code layer feature index) (Version layer2) same = Prim.search rules
-same_place (Tag tag_code layer feature index) (Name first2 second2) same = Prim.search rules
-same_place (Tag tag_code layer feature index) (Tag tag_code2 layer2 feature2 index2) same = Prim.search rules
-same_place (Tag tag_code layer feature index) (Command command_code2 layer2 feature2 index2) same = Prim.search rules
-same_place (Command command_code layer feature index) (Wire code2 scope2 at2 field2) same = Prim.search rules
-same_place (Command command_code layer feature index) (Version layer2) same = Prim.search rules
-same_place (Command command_code layer feature index) (Name first2 second2) same = Prim.search rules
-same_place (Command command_code layer feature index) (Tag tag_code2 layer2 feature2 index2) same = Prim.search rules
-same_place (Command command_code layer feature index) (Command command_code2 layer2 feature2 index2) same = Prim.search rules
+-- the scope that the first numbers of a place tell
+abbrev scope_at : List ℕ → Scope
+scope_at place =
+    if get_or place 1 0 == 0 then Tile else
+    (if get_or place 3 0 == 0 then Layer (get_or place 2 0) else
+    (if get_or place 3 0 == 1 then Value (get_or place 2 0) (get_or place 4 0) else Feature (get_or place 2 0) (get_or place 4 0)))
+
+-- the edge that stands where a place tells of no edge
+abbrev no_edge : RingEdge
+no_edge = record { ring = 0; edge = 0 }
+
+-- a meeting in a polygon; its place tells no more
+abbrev some_meeting : ℕ → ℕ → ℕ → Fault
+some_meeting layer feature polygon = Meeting layer feature polygon no_edge no_edge (pos 0) (pos 0) (pos 0)
+
+-- the fault of a polygon that a place tells
+abbrev polygon_fault_at : List ℕ → Fault
+polygon_fault_at place =
+    let layer = get_or place 1 0 in
+    let feature = get_or place 2 0 in
+    let polygon = get_or place 4 0 in
+    if get_or place 5 0 == 0 then some_meeting layer feature polygon else
+    (if get_or place 8 0 == 505 then Outside layer feature polygon (get_or place 6 0) (get_or place 7 0) else
+    HoleInHole layer feature polygon (get_or place 6 0) (get_or place 7 0) (get_or place 9 0))
+
+-- the fault of a feature that a place tells
+abbrev feature_fault_at : List ℕ → Fault
+feature_fault_at place =
+    let layer = get_or place 1 0 in
+    let feature = get_or place 2 0 in
+    let index = get_or place 4 0 in
+    let code = get_or place 5 0 in
+    if get_or place 3 0 == 0 then Tag (tag_code_at code) layer feature index else
+    (if get_or place 3 0 == 1 then Command (command_code_at code) layer feature index else
+    (if get_or place 3 0 == 2 then Ring (ring_code_at code) layer feature index else polygon_fault_at place))
+
+-- the fault that a place tells
+abbrev fault_at : List ℕ → Fault
+fault_at place =
+    if get_or place 0 0 == 0 then Wire (wire_code_at (get_or place 6 0)) (scope_at place) (get_or place 5 0) (get_or place 7 0) else
+    (if get_or place 0 0 == 2 then feature_fault_at place else
+    (if get_or place 2 0 == 201 then Version (get_or place 1 0) else Name (get_or place 3 0) (get_or place 1 0)))
+
+-- the place tells the fault, or of a meeting its polygon
+abbrev IsTold : Fault → Type 0
+IsTold fault = (fault_at (place_of fault) ≡ fault)
+    ⊎ ((layer : ℕ) × (feature : ℕ) × (polygon : ℕ) × IsMeetingIn layer feature polygon fault × (fault_at (place_of fault) ≡ some_meeting layer feature polygon))
+
+-- every fault is told so by its place
+told : (fault : Fault) → IsTold fault
+told (Wire code Tile at field) = inl (ap (λ c. Wire c Tile at field) (wire_code_at-code_of code))
+told (Wire code (Layer layer) at field) = inl (ap (λ c. Wire c (Layer layer) at field) (wire_code_at-code_of code))
+told (Wire code (Value layer value) at field) = inl (ap (λ c. Wire c (Value layer value) at field) (wire_code_at-code_of code))
+told (Wire code (Feature layer feature) at field) = inl (ap (λ c. Wire c (Feature layer feature) at field) (wire_code_at-code_of code))
+told (Version layer) = inl refl
+told (Name first second) = inl refl
+told (Tag code layer feature index) = inl (ap (λ c. Tag c layer feature index) (tag_code_at-tag_code code))
+told (Command code layer feature index) = inl (ap (λ c. Command c layer feature index) (command_code_at-command_code code))
+told (Ring code layer feature ring) = inl (ap (λ c. Ring c layer feature ring) (ring_code_at-ring_code code))
+told (Meeting layer feature polygon first second x y w) = inr (layer, feature, polygon, record { first = first; second = second; x = x; y = y; w = w; is = refl }, refl)
+told (Outside layer feature polygon ring vertex) = inl refl
+told (HoleInHole layer feature polygon ring vertex other) = inl refl
+
+-- what is equal to such a meeting is a meeting in that polygon
+is_some_meeting : (layer feature polygon : ℕ) (fault : Fault) → fault ≡ some_meeting layer feature polygon → IsMeetingIn layer feature polygon fault
+is_some_meeting layer feature polygon fault is = record { first = no_edge; second = no_edge; x = pos 0; y = pos 0; w = pos 0; is = is }
+
+-- faults with one place are the same, or meetings in one polygon
+pub same_place_or_meetings : (fault other : Fault) → place_of fault ≡ place_of other → (fault ≡ other) ⊎ AreMeetingsInOne fault other
+same_place_or_meetings fault other same = by (told fault) (told other)
+  where
+    alike : fault_at (place_of fault) ≡ fault_at (place_of other)
+    alike = ap fault_at same
+
+    by : IsTold fault → IsTold other → (fault ≡ other) ⊎ AreMeetingsInOne fault other
+    by (inl a) (inl b) = inl (sym a ∙ alike ∙ b)
+    by (inl a) (inr b) = inr record { layer = b.0; feature = b.1; polygon = b.2; one = is_some_meeting b.0 b.1 b.2 fault (sym a ∙ alike ∙ b.4); another = b.3 }
+    by (inr a) (inl b) = inr record { layer = a.0; feature = a.1; polygon = a.2; one = a.3; another = is_some_meeting a.0 a.1 a.2 other (sym b ∙ sym alike ∙ a.4) }
+    by (inr a) (inr b) =
+        let meetings : some_meeting a.0 a.1 a.2 ≡ some_meeting b.0 b.1 b.2 = sym a.4 ∙ alike ∙ b.4 in
+        let layers : a.0 ≡ b.0 = cc in
+        let features : a.1 ≡ b.1 = cc in
+        let polygons : a.2 ≡ b.2 = cc in
+        inr record { layer = b.0; feature = b.1; polygon = b.2; one = subst (λ (n : ℕ). IsMeetingIn n b.1 b.2 fault) layers (subst (λ (n : ℕ). IsMeetingIn a.0 n b.2 fault) features (subst (λ (n : ℕ). IsMeetingIn a.0 a.1 n fault) polygons a.3)); another = b.3 }
+
+-- faults with one place that aren't meetings in one polygon are the same
+pub same_place : (fault other : Fault) → (AreMeetingsInOne fault other → ⊥) → place_of fault ≡ place_of other → fault ≡ other
+same_place fault other apart same = elim (same_place_or_meetings fault other same) [ inl equal ↦ equal | inr meetings ↦ absurd (apart meetings) ]
+
+-- meetings in one polygon have one place
+pub meetings_share_a_place : (fault other : Fault) → AreMeetingsInOne fault other → place_of fault ≡ place_of other
+meetings_share_a_place fault other both = ap place_of both.one.is ∙ sym (ap place_of both.another.is)

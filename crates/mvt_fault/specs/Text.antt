@@ -1,5 +1,6 @@
 -- The JSON objects that stand for faults, and their texts.
-use Rattle.std.specs.Prelude.{◌≡◌, ℕ, ◌^◌, ◌<◌, List, Some, codes, IsUtf8}
+use Rattle.std.specs.Fmt.{signed_decimal}
+use Rattle.std.specs.Prelude.{◌≡◌, ℕ, ◌^◌, ◌<◌, List, Some, codes, IsUtf8, ℤ, pos, neg_ℤ, ◌≤ℤ◌, ◌<ℤ◌}
 use Rattle.serde_json.specs.Data.{Data, number, unsigned, string, object, member, no_members}
 use Rattle.serde_json.specs.Read.{read}
 use Rattle.serde_json.specs.Written.{compact_text}
@@ -8,8 +9,9 @@ use Rattle.mvt_wire.specs.declared.cause.WireCode.{WireCode}
 use Rattle.mvt_wire.specs.declared.scope.Scope.{Scope}
 use Rattle.mvt_wire.specs.declared.scope.Scope.TheVariants.{Tile, Layer, Value, Feature}
 use Rattle.mvt_fault.specs.declared.fault.Fault.{Fault}
-use Rattle.mvt_fault.specs.declared.fault.Fault.TheVariants.{Wire, Version, Name, Tag, Command}
-use Rattle.mvt_fault.specs.Code.{tag_code, command_code}
+use Rattle.mvt_fault.specs.declared.fault.Fault.TheVariants.{Wire, Version, Name, Tag, Command, Ring, Meeting, Outside, HoleInHole}
+use Rattle.mvt_fault.specs.declared.ring.RingEdge.{RingEdge}
+use Rattle.mvt_fault.specs.Code.{tag_code, command_code, ring_code}
 
 -- a JSON number with no sign, fraction or exponent
 abbrev pub whole : ℕ → Data
@@ -71,6 +73,68 @@ feature_data code layer feature index =
     (member (codes "layer") (whole layer)
     no_members))))
 
+-- the object of a fault of a ring
+abbrev pub ring_data : ℕ → ℕ → ℕ → ℕ → Data
+ring_data code layer feature ring =
+    object (member (codes "code") (whole code)
+    (member (codes "feature") (whole feature)
+    (member (codes "layer") (whole layer)
+    (member (codes "ring") (whole ring)
+    no_members))))
+
+-- the object of an edge
+abbrev pub edge_data : RingEdge → Data
+edge_data it =
+    object (member (codes "edge") (whole it.edge)
+    (member (codes "ring") (whole it.ring)
+    no_members))
+
+-- a whole number that may be larger than JSON readers take: its decimal digits as a string
+abbrev pub digits : ℤ → Data
+digits z = string (signed_decimal z)
+
+-- the object of two edges that meet, from the values of the edges and of the point's numbers
+abbrev pub meeting_parts : ℕ → ℕ → ℕ → Data → Data → Data → Data → Data → Data
+meeting_parts layer feature polygon first second w x y =
+    object (member (codes "code") (whole 504)
+    (member (codes "feature") (whole feature)
+    (member (codes "first") first
+    (member (codes "layer") (whole layer)
+    (member (codes "polygon") (whole polygon)
+    (member (codes "second") second
+    (member (codes "w") w
+    (member (codes "x") x
+    (member (codes "y") y
+    no_members)))))))))
+
+-- the same of the edges and numbers themselves
+abbrev pub meeting_data : ℕ → ℕ → ℕ → RingEdge → RingEdge → ℤ → ℤ → ℤ → Data
+meeting_data layer feature polygon first second x y w =
+    meeting_parts layer feature polygon (edge_data first) (edge_data second) (digits w) (digits x) (digits y)
+
+-- the object of a hole's vertex that isn't inside the exterior
+abbrev pub outside_data : ℕ → ℕ → ℕ → ℕ → ℕ → Data
+outside_data layer feature polygon ring vertex =
+    object (member (codes "code") (whole 505)
+    (member (codes "feature") (whole feature)
+    (member (codes "layer") (whole layer)
+    (member (codes "polygon") (whole polygon)
+    (member (codes "ring") (whole ring)
+    (member (codes "vertex") (whole vertex)
+    no_members))))))
+
+-- the object of a hole's vertex that is inside another hole
+abbrev pub hole_in_hole_data : ℕ → ℕ → ℕ → ℕ → ℕ → ℕ → Data
+hole_in_hole_data layer feature polygon ring vertex other =
+    object (member (codes "code") (whole 506)
+    (member (codes "feature") (whole feature)
+    (member (codes "layer") (whole layer)
+    (member (codes "other") (whole other)
+    (member (codes "polygon") (whole polygon)
+    (member (codes "ring") (whole ring)
+    (member (codes "vertex") (whole vertex)
+    no_members)))))))
+
 -- the object of a fault
 abbrev pub data_of : Fault → Data
 data_of (Wire code scope at field) = wire_data code scope at field
@@ -78,18 +142,30 @@ data_of (Version layer) = version_data layer
 data_of (Name first second) = name_data first second
 data_of (Tag code layer feature index) = feature_data (tag_code code) layer feature index
 data_of (Command code layer feature index) = feature_data (command_code code) layer feature index
+data_of (Ring code layer feature ring) = ring_data (ring_code code) layer feature ring
+data_of (Meeting layer feature polygon first second x y w) = meeting_data layer feature polygon first second x y w
+data_of (Outside layer feature polygon ring vertex) = outside_data layer feature polygon ring vertex
+data_of (HoleInHole layer feature polygon ring vertex other) = hole_in_hole_data layer feature polygon ring vertex other
 
 -- a fault's text: its object with no space
 abbrev pub text_of : Fault → List ℕ
 text_of f = compact_text (data_of f)
 
--- a field's number has 32 bits; offsets and ordinals have 64, as any whole number that is read
+-- a number of a point has 128 bits and a sign
+abbrev pub HasWidth : ℤ → Type 0
+HasWidth z = (neg_ℤ (pos (2 ^ 127)) ≤ℤ z) × (z <ℤ pos (2 ^ 127))
+
+-- a field's number has 32 bits, the numbers of a point 128; offsets and ordinals have 64, as any whole number that is read
 abbrev pub IsInRange : Fault → Type 0
 IsInRange (Wire code scope at field) = field < 2 ^ 32
 IsInRange (Version layer) = Unit {0}
 IsInRange (Name first second) = Unit {0}
 IsInRange (Tag code layer feature index) = Unit {0}
 IsInRange (Command code layer feature index) = Unit {0}
+IsInRange (Ring code layer feature ring) = Unit {0}
+IsInRange (Meeting layer feature polygon first second x y w) = HasWidth x × HasWidth y × HasWidth w
+IsInRange (Outside layer feature polygon ring vertex) = Unit {0}
+IsInRange (HoleInHole layer feature polygon ring vertex other) = Unit {0}
 
 -- the bytes are a text that stands for this fault, as JSON is read
 pub record Reads (bytes : List ℕ) (f : Fault) : Type 0 where

@@ -5,7 +5,7 @@ use Rattle.mvt_wire.specs.Rules.{OtherVersion, SameName, OddTags, NoSuchKey, NoS
 use Rattle.mvt_wire.specs.Tile.{FeatureRecord, LayerRecord, TileRecord}
 use Rattle.mvt_wire.specs.WireFault.{WireFault}
 use Rattle.mvt_fault.specs.declared.fault.Fault.{Fault}
-use Rattle.mvt_fault.specs.declared.fault.Fault.TheVariants.{Wire, Version, Name, Tag, Command}
+use Rattle.mvt_fault.specs.declared.fault.Fault.TheVariants.{Wire, Version, Name, Tag, Command, Ring, Meeting, Outside, HoleInHole}
 use Rattle.mvt_fault.specs.declared.tag.TagCode.{TagCode}
 use Rattle.mvt_fault.specs.declared.tag.TagCode.TheVariants.{OddLength, NoKey, NoValue, Repeated}
 
@@ -16,6 +16,10 @@ IsWireFault bytes (Version layer) = ⊥
 IsWireFault bytes (Name first second) = ⊥
 IsWireFault bytes (Tag code layer feature index) = ⊥
 IsWireFault bytes (Command code layer feature index) = ⊥
+IsWireFault bytes (Ring code layer feature ring) = ⊥
+IsWireFault bytes (Meeting layer feature polygon first second x y w) = ⊥
+IsWireFault bytes (Outside layer feature polygon ring vertex) = ⊥
+IsWireFault bytes (HoleInHole layer feature polygon ring vertex other) = ⊥
 
 -- the tile's layers have this fault of versions or names (Mapbox Vector Tile Specification 2.1, section 4.1)
 abbrev pub IsFaultOfLayers : TileRecord → Fault → Type 0
@@ -24,6 +28,10 @@ IsFaultOfLayers tile (Version layer) = OtherVersion tile layer
 IsFaultOfLayers tile (Name first second) = SameName tile first second
 IsFaultOfLayers tile (Tag code layer feature index) = ⊥
 IsFaultOfLayers tile (Command code layer feature index) = ⊥
+IsFaultOfLayers tile (Ring code layer feature ring) = ⊥
+IsFaultOfLayers tile (Meeting layer feature polygon first second x y w) = ⊥
+IsFaultOfLayers tile (Outside layer feature polygon ring vertex) = ⊥
+IsFaultOfLayers tile (HoleInHole layer feature polygon ring vertex other) = ⊥
 
 -- tags are wrong at a place, in a layer of so many keys and values (section 4.4)
 abbrev pub TagsBreak : TagCode → ℕ → ℕ → List ℕ → ℕ → Type 0
@@ -38,6 +46,10 @@ IsFaultOfTags whose it layer feature (Wire code scope at field) = ⊥
 IsFaultOfTags whose it layer feature (Version other) = ⊥
 IsFaultOfTags whose it layer feature (Name first second) = ⊥
 IsFaultOfTags whose it layer feature (Command code in_layer in_feature index) = ⊥
+IsFaultOfTags whose it layer feature (Ring code in_layer in_feature ring) = ⊥
+IsFaultOfTags whose it layer feature (Meeting in_layer in_feature polygon first second x y w) = ⊥
+IsFaultOfTags whose it layer feature (Outside in_layer in_feature polygon ring vertex) = ⊥
+IsFaultOfTags whose it layer feature (HoleInHole in_layer in_feature polygon ring vertex other) = ⊥
 IsFaultOfTags whose it layer feature (Tag code in_layer in_feature index) =
     (in_layer ≡ layer) × (in_feature ≡ feature) × TagsBreak code (length whose.keys) (length whose.values) it.tags index
 

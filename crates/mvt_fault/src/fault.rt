@@ -4,6 +4,7 @@ ghost use Rattle.mvt_fault.specs.Place.{place_of, scope_place};
 
 use crate::command::CommandCode;
 use crate::order::Place;
+use crate::ring::{RingCode, RingEdge};
 use crate::tag::TagCode;
 use mvt_wire::{Scope, WireCode};
 
@@ -58,6 +59,65 @@ pub enum Fault {
         /// numbers end too early.
         index: usize,
     },
+    /// A ring of a feature can be none of a polygon (section 4.3.4.4).
+    Ring {
+        /// The cause.
+        code: RingCode,
+        /// The ordinal of the feature's layer, counted from 0.
+        layer: usize,
+        /// The ordinal of the feature in its layer, counted from 0.
+        feature: usize,
+        /// The ordinal of the ring in the feature, counted from 0.
+        ring: usize,
+    },
+    /// Two edges of a polygon have a point in common that isn't the vertex between them as neighbours
+    /// (section 4.3.4.4). The point is (x / w, y / w).
+    Meeting {
+        /// The ordinal of the feature's layer, counted from 0.
+        layer: usize,
+        /// The ordinal of the feature in its layer, counted from 0.
+        feature: usize,
+        /// The ordinal of the polygon in the feature, counted from 0.
+        polygon: usize,
+        /// The edge that comes first, by its ring and then by its own ordinal.
+        first: RingEdge,
+        /// The other edge.
+        second: RingEdge,
+        /// The point's x coordinate times `w`; from -2^93 to 2^93 where the fault is true.
+        x: i128,
+        /// The point's y coordinate times `w`; from -2^93 to 2^93 where the fault is true.
+        y: i128,
+        /// What both are to be divided by; from 1 to 2^63 where the fault is true.
+        w: i128,
+    },
+    /// A vertex of a hole isn't inside the exterior of its polygon (section 4.3.4.4).
+    Outside {
+        /// The ordinal of the feature's layer, counted from 0.
+        layer: usize,
+        /// The ordinal of the feature in its layer, counted from 0.
+        feature: usize,
+        /// The ordinal of the polygon in the feature, counted from 0.
+        polygon: usize,
+        /// The ordinal of the hole among all rings of the feature, counted from 0.
+        ring: usize,
+        /// The ordinal of the vertex in the hole, counted from 0.
+        vertex: usize,
+    },
+    /// A vertex of a hole is inside another hole of its polygon (section 4.3.4.4).
+    HoleInHole {
+        /// The ordinal of the feature's layer, counted from 0.
+        layer: usize,
+        /// The ordinal of the feature in its layer, counted from 0.
+        feature: usize,
+        /// The ordinal of the polygon in the feature, counted from 0.
+        polygon: usize,
+        /// The ordinal of the hole among all rings of the feature, counted from 0.
+        ring: usize,
+        /// The ordinal of the vertex in the hole, counted from 0.
+        vertex: usize,
+        /// The ordinal of the other hole among all rings of the feature, counted from 0.
+        other: usize,
+    },
 }
 
 // The numbers of the causes that have no type of their own.
@@ -65,8 +125,15 @@ pub(crate) const VERSION_CODE: u16 = 201;
 
 pub(crate) const NAME_CODE: u16 = 202;
 
+pub(crate) const MEETING_CODE: u16 = 504;
+
+pub(crate) const OUTSIDE_CODE: u16 = 505;
+
+pub(crate) const HOLE_IN_HOLE_CODE: u16 = 506;
+
 /// The number that names the fault's cause: 101 to 111 for a wire fault, 201 for a layer's version, 202
-/// for two layers of one name, 301 to 304 for tags, 401 to 406 for geometry commands.
+/// for two layers of one name, 301 to 304 for tags, 401 to 406 for geometry commands, 501 to 503 for
+/// rings, 504 for edges that meet, 505 and 506 for holes.
 pub fn code(fault: &Fault) -> u16
     ensures { result ≡ fault_code fault.now }
 {
@@ -76,14 +143,19 @@ pub fn code(fault: &Fault) -> u16
         Fault::Name { .. } => NAME_CODE,
         Fault::Tag { code, .. } => code.code(),
         Fault::Command { code, .. } => code.code(),
+        Fault::Ring { code, .. } => code.code(),
+        Fault::Meeting { .. } => MEETING_CODE,
+        Fault::Outside { .. } => OUTSIDE_CODE,
+        Fault::HoleInHole { .. } => HOLE_IN_HOLE_CODE,
     }
 }
 
 /// The fault's place in the order of faults. Wire faults come first: those of the tile's own fields;
 /// then, layer by layer, those of the layer's fields, its values and its features (Mapbox Vector Tile
 /// Specification 2.1, section 4). Within one message the offset in bytes decides, then the code, then
-/// the field number. Versions and names follow layer by layer, and then, feature by feature, tags and
-/// geometry commands.
+/// the field number. Versions and names follow layer by layer, and then, feature by feature, tags,
+/// geometry commands, rings, and polygon by polygon the meeting of edges and the holes. All meetings of
+/// one polygon have the same place.
 pub fn place(fault: &Fault) -> Place
     ensures { result ≡ place_of fault.now }
 {
@@ -114,6 +186,39 @@ pub fn place(fault: &Fault) -> Place
             feature,
             index,
         } => feature_numbers(layer, feature, 1, index, code.code()),
+        Fault::Ring {
+            code,
+            layer,
+            feature,
+            ring,
+        } => feature_numbers(layer, feature, 2, ring, code.code()),
+        Fault::Meeting {
+            layer,
+            feature,
+            polygon,
+            ..
+        } => { [2, layer, feature, 3, polygon, 0, 0, 0, 0, 0] }
+        Fault::Outside {
+            layer,
+            feature,
+            polygon,
+            ring,
+            vertex,
+        } => {
+            let code = usize::from(OUTSIDE_CODE);
+            [2, layer, feature, 3, polygon, 1, ring, vertex, code, 0]
+        }
+        Fault::HoleInHole {
+            layer,
+            feature,
+            polygon,
+            ring,
+            vertex,
+            other,
+        } => {
+            let code = usize::from(HOLE_IN_HOLE_CODE);
+            [2, layer, feature, 3, polygon, 1, ring, vertex, code, other]
+        }
     })
 }
 
@@ -131,7 +236,7 @@ fn scope_numbers(scope: Scope) -> [usize; 5]
 }
 
 // The numbers of a fault in a feature: 2, since such faults come last; which layer and feature; 0 for its
-// tags and 1 for its commands; the place in their list, and the code.
+// tags, 1 for its commands and 2 for its rings; the place in their list, and the code.
 fn feature_numbers(
     layer: usize,
     feature: usize,

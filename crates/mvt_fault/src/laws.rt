@@ -2,7 +2,7 @@
 //! compare. Whoever looks for the first fault of a tile can stand on them.
 
 ghost use Rattle.std.specs.Prelude.{◌≡◌, ◌≢◌, ◌↔◌, ◌⊎◌, ℕ, List, length, IsTrue};
-ghost use Rattle.mvt_fault.specs.Place.{place_of, ComesFirst};
+ghost use Rattle.mvt_fault.specs.Place.{place_of, ComesFirst, AreMeetingsInOne};
 
 use crate::fault::Fault;
 use crate::order::Place;
@@ -39,7 +39,12 @@ pub fn comes_first(first: &Place, second: &Place) -> bool
     first <= second
 }
 
-/// No two faults have one place.
+/// No two faults have one place, but for the meetings of edges in one polygon.
 pub fn one_fault_a_place()
-    ensures { (fault other : Fault) → place_of fault ≡ place_of other → fault ≡ other }
+    ensures { (fault other : Fault) → place_of fault ≡ place_of other → (fault ≡ other) ⊎ AreMeetingsInOne fault other }
+{}
+
+/// All meetings of edges in one polygon have one place.
+pub fn meetings_share_a_place()
+    ensures { (fault other : Fault) → AreMeetingsInOne fault other → place_of fault ≡ place_of other }
 {}

@@ -6,6 +6,7 @@ mod command;
 mod fault;
 pub mod laws;
 mod order;
+mod ring;
 mod tag;
 #[cfg(test)]
 mod tests;
@@ -15,5 +16,6 @@ pub use command::CommandCode;
 pub use fault::{Fault, code, place};
 pub use mvt_wire::Scope;
 pub use order::Place;
+pub use ring::{RingCode, RingEdge};
 pub use tag::TagCode;
 pub use text::fault_text;

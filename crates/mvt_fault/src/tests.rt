@@ -1,4 +1,6 @@
-use crate::{CommandCode, Fault, Place, Scope, TagCode, code, fault_text, place};
+use crate::{
+    CommandCode, Fault, Place, RingCode, RingEdge, Scope, TagCode, code, fault_text, place,
+};
 use mvt_wire::WireCode;
 use std::test::Fail;
 
@@ -148,6 +150,126 @@ fn writes_command_faults(rt: HostRuntime) -> Result<(), Fail> {
     Ok(())
 }
 
+fn ring(code: RingCode, layer: usize, feature: usize, ring: usize) -> Fault {
+    Fault::Ring {
+        code,
+        layer,
+        feature,
+        ring,
+    }
+}
+
+// Edges 0 and 2 of the polygon's first ring meet.
+fn meeting(polygon: usize, ring: usize, x: i128, y: i128, w: i128) -> Fault {
+    Fault::Meeting {
+        layer: 0,
+        feature: 0,
+        polygon,
+        first: RingEdge { ring, edge: 0 },
+        second: RingEdge { ring, edge: 2 },
+        x,
+        y,
+        w,
+    }
+}
+
+fn outside(polygon: usize, ring: usize, vertex: usize) -> Fault {
+    Fault::Outside {
+        layer: 0,
+        feature: 0,
+        polygon,
+        ring,
+        vertex,
+    }
+}
+
+fn hole_in_hole(polygon: usize, ring: usize, vertex: usize, other: usize) -> Fault {
+    Fault::HoleInHole {
+        layer: 0,
+        feature: 0,
+        polygon,
+        ring,
+        vertex,
+        other,
+    }
+}
+
+#[test]
+fn writes_ring_faults(rt: HostRuntime) -> Result<(), Fail> {
+    for (fault, text) in [
+        (
+            ring(RingCode::BeginsWithHole, 0, 0, 0),
+            "{\"code\":503,\"feature\":0,\"layer\":0,\"ring\":0}",
+        ),
+        (
+            ring(RingCode::NoArea, 0, 0, 0),
+            "{\"code\":502,\"feature\":0,\"layer\":0,\"ring\":0}",
+        ),
+        (
+            ring(RingCode::EndsAtItsBeginning, 5, 6, 7),
+            "{\"code\":501,\"feature\":6,\"layer\":5,\"ring\":7}",
+        ),
+    ] {
+        assert!(rt;
+            fault_text(rt.alloc(), &fault)?.as_str() == text,
+            "for {text}"
+        );
+    }
+    Ok(())
+}
+
+#[test]
+fn writes_meetings(rt: HostRuntime) -> Result<(), Fail> {
+    for (fault, number, text) in [
+        (
+            meeting(0, 0, 800, 800, 180),
+            504,
+            "{\"code\":504,\"feature\":0,\"first\":{\"edge\":0,\"ring\":0},\"layer\":0,\"polygon\":0,\"second\":{\"edge\":2,\"ring\":0},\"w\":\"180\",\"x\":\"800\",\"y\":\"800\"}",
+        ),
+        (
+            meeting(
+                0,
+                0,
+                -6917529020124889090,
+                -6917529020124889090,
+                9223372026117357571,
+            ),
+            504,
+            "{\"code\":504,\"feature\":0,\"first\":{\"edge\":0,\"ring\":0},\"layer\":0,\"polygon\":0,\"second\":{\"edge\":2,\"ring\":0},\"w\":\"9223372026117357571\",\"x\":\"-6917529020124889090\",\"y\":\"-6917529020124889090\"}",
+        ),
+    ] {
+        assert_eq!(rt; code(&fault), number);
+        assert!(rt;
+            fault_text(rt.alloc(), &fault)?.as_str() == text,
+            "for {text}"
+        );
+    }
+    Ok(())
+}
+
+#[test]
+fn writes_hole_faults(rt: HostRuntime) -> Result<(), Fail> {
+    for (fault, number, text) in [
+        (
+            outside(0, 1, 0),
+            505,
+            "{\"code\":505,\"feature\":0,\"layer\":0,\"polygon\":0,\"ring\":1,\"vertex\":0}",
+        ),
+        (
+            hole_in_hole(0, 2, 0, 1),
+            506,
+            "{\"code\":506,\"feature\":0,\"layer\":0,\"other\":1,\"polygon\":0,\"ring\":2,\"vertex\":0}",
+        ),
+    ] {
+        assert_eq!(rt; code(&fault), number);
+        assert!(rt;
+            fault_text(rt.alloc(), &fault)?.as_str() == text,
+            "for {text}"
+        );
+    }
+    Ok(())
+}
+
 #[test]
 fn numbers_each_cause_of_commands(rt: HostRuntime) {
     for (cause, number) in [
@@ -160,6 +282,18 @@ fn numbers_each_cause_of_commands(rt: HostRuntime) {
     ] {
         assert_eq!(rt; cause.code(), number);
         assert_eq!(rt; code(&command(cause, 0, 0, 0)), number);
+    }
+}
+
+#[test]
+fn numbers_each_cause_of_rings(rt: HostRuntime) {
+    for (cause, number) in [
+        (RingCode::EndsAtItsBeginning, 501),
+        (RingCode::NoArea, 502),
+        (RingCode::BeginsWithHole, 503),
+    ] {
+        assert_eq!(rt; cause.code(), number);
+        assert_eq!(rt; code(&ring(cause, 0, 0, 0)), number);
     }
 }
 
@@ -188,6 +322,31 @@ fn places_each_rule(rt: HostRuntime) {
     ] {
         assert_eq!(rt; place(&fault), Place::new(numbers), "for {fault:?}");
     }
+}
+
+#[test]
+fn places_each_rule_of_polygons(rt: HostRuntime) {
+    for (fault, numbers) in [
+        (
+            ring(RingCode::NoArea, 5, 6, 7),
+            [2, 5, 6, 2, 7, 502, 0, 0, 0, 0],
+        ),
+        (
+            meeting(7, 8, -800, 800, 180),
+            [2, 0, 0, 3, 7, 0, 0, 0, 0, 0],
+        ),
+        (outside(7, 8, 9), [2, 0, 0, 3, 7, 1, 8, 9, 505, 0]),
+        (hole_in_hole(7, 8, 9, 6), [2, 0, 0, 3, 7, 1, 8, 9, 506, 6]),
+    ] {
+        assert_eq!(rt; place(&fault), Place::new(numbers), "for {fault:?}");
+    }
+}
+
+#[test]
+fn places_meetings_of_one_polygon_alike(rt: HostRuntime) {
+    let (fault, other) = (meeting(7, 8, -800, 800, 180), meeting(7, 9, 3, 4, 1));
+    assert!(rt; fault != other);
+    assert_eq!(rt; place(&fault), place(&other));
 }
 
 #[test]
@@ -240,6 +399,18 @@ fn orders_faults(rt: HostRuntime) {
             second: 2,
         },
         Fault::Version { layer: 3 },
+        command(CommandCode::NoStep, 0, 0, 9),
+        ring(RingCode::BeginsWithHole, 0, 0, 0),
+        ring(RingCode::EndsAtItsBeginning, 0, 0, 8),
+        ring(RingCode::NoArea, 0, 0, 8),
+        meeting(0, 7, 8, 9, 1),
+        outside(0, 1, 6),
+        hole_in_hole(0, 1, 6, 3),
+        hole_in_hole(0, 1, 6, 4),
+        outside(0, 1, 7),
+        hole_in_hole(0, 2, 0, 1),
+        meeting(1, 4, -3, -2, 1),
+        outside(1, 4, 5),
         tag(TagCode::Repeated, 0, 3, 4),
         tag(TagCode::NoKey, 0, 3, 5),
         tag(TagCode::Repeated, 0, 3, 5),

@@ -1,14 +1,23 @@
 ghost use Rattle.std.specs.Prelude.{◌≡◌, IfOk, OnOk, string_bytes};
 ghost use Rattle.serde_json.specs.View.{view};
-ghost use Rattle.mvt_fault.specs.Text.{data_of, text_of, wire_data, version_data, name_data, feature_data, IsInRange, Reads};
+ghost use Rattle.mvt_fault.specs.Text.{data_of, text_of, IsInRange, Reads};
 
-use crate::fault::{Fault, NAME_CODE, VERSION_CODE};
-use mvt_wire::{Scope, WireCode};
-use serde_json::{Value, json};
+mod polygons;
+mod rules;
+mod wire;
+
+use crate::fault::Fault;
+use polygons::{
+    MeetingPoint, PolygonId, hole_in_hole_object, meeting_object, outside_object, ring_object,
+};
+use rules::{feature_rule_object, name_object, version_object};
+use serde_json::Value;
 use std::alloc::{AllocError, Global};
+use wire::wire_object;
 
 /// The fault as a JSON text (RFC 8259) with no space, its keys in the order of their bytes. Offsets
-/// are in bytes, and they and the ordinals count from 0.
+/// are in bytes, and they and the ordinals count from 0. The numbers of a point are strings of decimal
+/// digits, with a `-` before a negative one.
 pub fn fault_text(alloc: Global, fault: &Fault) -> Result<String, AllocError>
     ensures text { IfOk result (λ s. string_bytes s ≡ text_of fault.now) }
 
@@ -19,10 +28,12 @@ pub fn fault_text(alloc: Global, fault: &Fault) -> Result<String, AllocError>
     fault_object(alloc, fault)?.to_string(alloc)
 }
 
+// One function for each kind of object: several in one are too much for the search of proofs.
 fn fault_object(alloc: Global, fault: &Fault) -> Result<Value, AllocError>
     ensures object { IfOk result (λ v. view v ≡ data_of fault.now) }
 
-    // `field` is a u32, and a caller's proof sees that only here, where the fault is taken apart.
+    // `field` is a u32, and a caller's proof sees that only here, where the fault is taken apart. So
+    // it is with the i128 of a point.
     ensures in_range { OnOk result (IsInRange fault.now) }
 {
     match *fault {
@@ -46,99 +57,57 @@ fn fault_object(alloc: Global, fault: &Fault) -> Result<Value, AllocError>
             feature,
             index,
         } => feature_rule_object(alloc, code.code(), layer, feature, index),
+        Fault::Ring {
+            code,
+            layer,
+            feature,
+            ring,
+        } => ring_object(alloc, code.code(), layer, feature, ring),
+        Fault::Meeting {
+            layer,
+            feature,
+            polygon,
+            first,
+            second,
+            x,
+            y,
+            w,
+        } => {
+            let id = PolygonId {
+                layer,
+                feature,
+                polygon,
+            };
+            meeting_object(alloc, id, first, second, MeetingPoint { x, y, w })
+        }
+        Fault::Outside {
+            layer,
+            feature,
+            polygon,
+            ring,
+            vertex,
+        } => {
+            let id = PolygonId {
+                layer,
+                feature,
+                polygon,
+            };
+            outside_object(alloc, id, ring, vertex)
+        }
+        Fault::HoleInHole {
+            layer,
+            feature,
+            polygon,
+            ring,
+            vertex,
+            other,
+        } => {
+            let id = PolygonId {
+                layer,
+                feature,
+                polygon,
+            };
+            hole_in_hole_object(alloc, id, ring, vertex, other)
+        }
     }
-}
-
-// One function for each scope: several objects in one are too much for the search of proofs.
-fn wire_object(
-    alloc: Global,
-    code: WireCode,
-    scope: Scope,
-    at: usize,
-    field: u32,
-) -> Result<Value, AllocError>
-    ensures { IfOk result (λ v. view v ≡ wire_data code scope at field) }
-{
-    match scope {
-        Scope::Tile => tile_object(alloc, code, at, field),
-        Scope::Layer(layer) => layer_object(alloc, code, layer, at, field),
-        Scope::Value(layer, value) => value_object(alloc, code, layer, value, at, field),
-        Scope::Feature(layer, feature) => feature_object(alloc, code, layer, feature, at, field),
-    }
-}
-
-fn tile_object(alloc: Global, code: WireCode, at: usize, field: u32) -> Result<Value, AllocError>
-    ensures { IfOk result (λ v. view v ≡ wire_data code Scope.Tile at field) }
-{
-    json!(in alloc; {"at": at, "code": code.code(), "field": field, "scope": "tile"})
-}
-
-fn layer_object(
-    alloc: Global,
-    code: WireCode,
-    layer: usize,
-    at: usize,
-    field: u32,
-) -> Result<Value, AllocError>
-    ensures { IfOk result (λ v. view v ≡ wire_data code (Scope.Layer layer) at field) }
-{
-    json!(in alloc; {
-        "at": at, "code": code.code(), "field": field, "layer": layer, "scope": "layer"
-    })
-}
-
-fn value_object(
-    alloc: Global,
-    code: WireCode,
-    layer: usize,
-    value: usize,
-    at: usize,
-    field: u32,
-) -> Result<Value, AllocError>
-    ensures { IfOk result (λ v. view v ≡ wire_data code (Scope.Value layer value) at field) }
-{
-    json!(in alloc; {
-        "at": at, "code": code.code(), "field": field, "layer": layer, "scope": "value",
-        "value": value
-    })
-}
-
-fn feature_object(
-    alloc: Global,
-    code: WireCode,
-    layer: usize,
-    feature: usize,
-    at: usize,
-    field: u32,
-) -> Result<Value, AllocError>
-    ensures { IfOk result (λ v. view v ≡ wire_data code (Scope.Feature layer feature) at field) }
-{
-    json!(in alloc; {
-        "at": at, "code": code.code(), "feature": feature, "field": field, "layer": layer,
-        "scope": "feature"
-    })
-}
-
-fn version_object(alloc: Global, layer: usize) -> Result<Value, AllocError>
-    ensures { IfOk result (λ v. view v ≡ version_data layer) }
-{
-    json!(in alloc; {"code": VERSION_CODE, "layer": layer})
-}
-
-fn name_object(alloc: Global, first: usize, second: usize) -> Result<Value, AllocError>
-    ensures { IfOk result (λ v. view v ≡ name_data first second) }
-{
-    json!(in alloc; {"code": NAME_CODE, "first": first, "second": second})
-}
-
-fn feature_rule_object(
-    alloc: Global,
-    code: u16,
-    layer: usize,
-    feature: usize,
-    index: usize,
-) -> Result<Value, AllocError>
-    ensures { IfOk result (λ v. view v ≡ feature_data code layer feature index) }
-{
-    json!(in alloc; {"code": code, "feature": feature, "index": index, "layer": layer})
 }

@@ -8,7 +8,7 @@ use Rattle.mvt_fault.specs.Code.{tag_code}
 use Rattle.mvt_fault.specs.Place.{ComesFirst, IsLeast, place_of}
 use Rattle.mvt_fault.specs.Truth.{TagsBreak, IsFaultOfTags}
 use Rattle.mvt_fault.specs.declared.fault.Fault.{Fault}
-use Rattle.mvt_fault.specs.declared.fault.Fault.TheVariants.{Wire, Version, Name, Tag, Command}
+use Rattle.mvt_fault.specs.declared.fault.Fault.TheVariants.{Wire, Version, Name, Tag, Command, Ring, Meeting, Outside, HoleInHole}
 use Rattle.mvt_fault.specs.declared.tag.TagCode.{TagCode}
 use Rattle.mvt_tile.specs.FeatureRules.{IsFaultOfFeature, IsFaultInLayer, IsFaultInFeatures}
 use Rattle.mvt_tile.specs.First.{AreClean}
@@ -56,6 +56,10 @@ tag_fault whose it layer feature (Name first second) broken = absurd broken
 tag_fault whose it layer feature (Tag code in_layer in_feature index) broken =
     record { code = code; index = index; is = λ i. Tag code (broken.0 i) (broken.1 i) index; broken = broken.2 }
 tag_fault whose it layer feature (Command command_code in_layer in_feature index) broken = absurd broken
+tag_fault whose it layer feature (Ring ring_code its_layer its_feature ring) broken = absurd broken
+tag_fault whose it layer feature (Meeting its_layer its_feature polygon one_edge other_edge x y w) broken = absurd broken
+tag_fault whose it layer feature (Outside its_layer its_feature polygon ring vertex) broken = absurd broken
+tag_fault whose it layer feature (HoleInHole its_layer its_feature polygon ring vertex other_hole) broken = absurd broken
 
 -- the ends of two places, where the first index and code come first
 by_index : (index other code other_code : ℕ) → (index < other) ⊎ ((index ≡ other) × (code ≤ other_code))

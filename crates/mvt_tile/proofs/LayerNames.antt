@@ -10,7 +10,7 @@ use Rattle.mvt_wire.specs.Tile.{LayerRecord, TileRecord}
 use Rattle.mvt_fault.specs.Place.{place_of, ComesFirst, IsLeast}
 use Rattle.mvt_fault.specs.Truth.{IsFaultOfLayers}
 use Rattle.mvt_fault.specs.declared.fault.Fault.{Fault}
-use Rattle.mvt_fault.specs.declared.fault.Fault.TheVariants.{Wire, Version, Name, Tag, Command}
+use Rattle.mvt_fault.specs.declared.fault.Fault.TheVariants.{Wire, Version, Name, Tag, Command, Ring, Meeting, Outside, HoleInHole}
 use Rattle.mvt_fault.proofs.Places.{ComesFirst-reflexive}
 use Rattle.mvt_tile.specs.PassedLayers.{passed, ordinal_of, PassesLayers, IsNextLayer}
 use Rattle.mvt_tile.specs.declared.rules.layer_rules.LayerRules.{LayerRules}
@@ -66,6 +66,10 @@ module _ (rules : LayerRules) (tile : TileRecord) (passes : PassesLayers rules t
       absurd (omega arith)
   PassesLayers-all all (Tag code layer feature index) holds = holds
   PassesLayers-all all (Command command_code in_layer in_feature index) holds = holds
+  PassesLayers-all all (Ring ring_code its_layer its_feature ring) holds = holds
+  PassesLayers-all all (Meeting its_layer its_feature polygon one_edge other_edge x y w) holds = holds
+  PassesLayers-all all (Outside its_layer its_feature polygon ring vertex) holds = holds
+  PassesLayers-all all (HoleInHole its_layer its_feature polygon ring vertex other_hole) holds = holds
 
   module _ (version : ℕ) (name : List ℕ) (next : IsNextLayer rules tile version name) where
     -- another version of the next layer is the first fault
@@ -81,6 +85,10 @@ module _ (rules : LayerRules) (tile : TileRecord) (passes : PassesLayers rules t
         least (Name first second) holds = by_layer (passed rules) second version_numbers (name_numbers first) (behind_name first second holds) (λ same. inl (omega arith))
         least (Tag code layer feature index) holds = absurd holds
         least (Command command_code in_layer in_feature index) holds = absurd holds
+        least (Ring ring_code its_layer its_feature ring) holds = absurd holds
+        least (Meeting its_layer its_feature polygon one_edge other_edge x y w) holds = absurd holds
+        least (Outside its_layer its_feature polygon ring vertex) holds = absurd holds
+        least (HoleInHole its_layer its_feature polygon ring vertex other_hole) holds = absurd holds
 
     -- and so is its name, where that was kept, with the layer that it was kept of
     pub IsLeast-name : (first : ℕ) → version ≡ 2 → ordinal_of rules name ≡ Some first → IsLeast (IsFaultOfLayers tile) (Name first (passed rules))
@@ -113,6 +121,10 @@ module _ (rules : LayerRules) (tile : TileRecord) (passes : PassesLayers rules t
             inr (refl, inr (one, ComesFirst-reflexive (0 ∷ 0 ∷ 0 ∷ 0 ∷ 0 ∷ 0 ∷ []))))
         least (Tag code layer feature index) holds = absurd holds
         least (Command command_code in_layer in_feature index) holds = absurd holds
+        least (Ring ring_code its_layer its_feature ring) holds = absurd holds
+        least (Meeting its_layer its_feature polygon one_edge other_edge x y w) holds = absurd holds
+        least (Outside its_layer its_feature polygon ring vertex) holds = absurd holds
+        least (HoleInHole its_layer its_feature polygon ring vertex other_hole) holds = absurd holds
 
     -- else it is passed
     pub PassesLayers-more : (more : LayerRules) → version ≡ 2 → ordinal_of rules name ≡ None → passed more ≡ passed rules + 1

@@ -11,7 +11,7 @@ use Rattle.mvt_wire.specs.declared.schema.Message.TheVariants as messages
 use Rattle.mvt_wire.proofs.Messages.{one_list}
 use Rattle.mvt_fault.specs.Place.{ComesFirst, IsLeast, place_of}
 use Rattle.mvt_fault.specs.declared.fault.Fault.{Fault}
-use Rattle.mvt_fault.specs.declared.fault.Fault.TheVariants.{Wire, Version, Name, Tag, Command}
+use Rattle.mvt_fault.specs.declared.fault.Fault.TheVariants.{Wire, Version, Name, Tag, Command, Ring, Meeting, Outside, HoleInHole}
 use Rattle.mvt_tile.specs.Embedded.{HasFault, HasNone, HasFirst}
 use Rattle.mvt_tile.specs.First.{AreClean, IsFirst}
 use Rattle.mvt_tile.specs.LayerFault.{FaultInLayer, IsLayerFault}
@@ -81,6 +81,10 @@ module _ (bytes : List ℕ) (outer : Span) (layer : ℕ) where
       behind (Name some other_one) holds = absurd holds
       behind (Tag tag_code some_layer some_feature index) holds = absurd holds
       behind (Command command_code in_layer in_feature index) holds = absurd holds
+      behind (Ring ring_code its_layer its_feature ring) holds = absurd holds
+      behind (Meeting its_layer its_feature polygon one_edge other_edge x y w) holds = absurd holds
+      behind (Outside its_layer its_feature polygon ring vertex) holds = absurd holds
+      behind (HoleInHole its_layer its_feature polygon ring vertex other_hole) holds = absurd holds
 
   -- else that of a value
   behind_value : (entries : List Entry) (ordinal : ℕ) (cause : WireCause) → IsMessageAt bytes outer entries → ((own : WireCause) → ¬ HasFault messages.Layer bytes outer own)
@@ -104,6 +108,10 @@ module _ (bytes : List ℕ) (outer : Span) (layer : ℕ) where
       behind (Name some other_one) holds = absurd holds
       behind (Tag tag_code some_layer some_feature index) holds = absurd holds
       behind (Command command_code in_layer in_feature index) holds = absurd holds
+      behind (Ring ring_code its_layer its_feature ring) holds = absurd holds
+      behind (Meeting its_layer its_feature polygon one_edge other_edge x y w) holds = absurd holds
+      behind (Outside its_layer its_feature polygon ring vertex) holds = absurd holds
+      behind (HoleInHole its_layer its_feature polygon ring vertex other_hole) holds = absurd holds
 
   -- else that of a feature
   behind_feature : (entries : List Entry) (ordinal : ℕ) (cause : WireCause) → IsMessageAt bytes outer entries → ((own : WireCause) → ¬ HasFault messages.Layer bytes outer own)
@@ -129,6 +137,10 @@ module _ (bytes : List ℕ) (outer : Span) (layer : ℕ) where
       behind (Name some other_one) holds = absurd holds
       behind (Tag tag_code some_layer some_feature index) holds = absurd holds
       behind (Command command_code in_layer in_feature index) holds = absurd holds
+      behind (Ring ring_code its_layer its_feature ring) holds = absurd holds
+      behind (Meeting its_layer its_feature polygon one_edge other_edge x y w) holds = absurd holds
+      behind (Outside its_layer its_feature polygon ring vertex) holds = absurd holds
+      behind (HoleInHole its_layer its_feature polygon ring vertex other_hole) holds = absurd holds
 
   -- else there is none
   none_in : (entries : List Entry) → IsMessageAt bytes outer entries → ((own : WireCause) → ¬ HasFault messages.Layer bytes outer own)
@@ -147,3 +159,7 @@ module _ (bytes : List ℕ) (outer : Span) (layer : ℕ) where
   IsLayerFault-none entries whole none values features (Name some other_one) holds = absurd holds
   IsLayerFault-none entries whole none values features (Tag tag_code some_layer some_feature index) holds = absurd holds
   IsLayerFault-none entries whole none values features (Command command_code in_layer in_feature index) holds = absurd holds
+  IsLayerFault-none entries whole none values features (Ring ring_code its_layer its_feature ring) holds = absurd holds
+  IsLayerFault-none entries whole none values features (Meeting its_layer its_feature polygon one_edge other_edge x y w) holds = absurd holds
+  IsLayerFault-none entries whole none values features (Outside its_layer its_feature polygon ring vertex) holds = absurd holds
+  IsLayerFault-none entries whole none values features (HoleInHole its_layer its_feature polygon ring vertex other_hole) holds = absurd holds

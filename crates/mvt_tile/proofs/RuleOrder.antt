@@ -4,7 +4,7 @@ use Rattle.mvt_wire.specs.Tile.{TileRecord, IsTile}
 use Rattle.mvt_fault.specs.Place.{ComesFirst, IsLeast, place_of}
 use Rattle.mvt_fault.specs.Truth.{IsFaultOfLayers}
 use Rattle.mvt_fault.specs.declared.fault.Fault.{Fault}
-use Rattle.mvt_fault.specs.declared.fault.Fault.TheVariants.{Wire, Version, Name, Tag, Command}
+use Rattle.mvt_fault.specs.declared.fault.Fault.TheVariants.{Wire, Version, Name, Tag, Command, Ring, Meeting, Outside, HoleInHole}
 use Rattle.mvt_tile.specs.FeatureRules.{IsFaultInFeatures}
 use Rattle.mvt_tile.specs.RuleFaults.{BreaksAnyRule}
 use Rattle.mvt_tile.proofs.FeatureFaults.{Breaks, AreBehindTags, features_begin}
@@ -15,6 +15,10 @@ layers_begin tile (Version layer) holds = (_, refl)
 layers_begin tile (Name first second) holds = (_, refl)
 layers_begin tile (Tag code layer feature index) holds = absurd holds
 layers_begin tile (Command command_code in_layer in_feature index) holds = absurd holds
+layers_begin tile (Ring ring_code its_layer its_feature ring) holds = absurd holds
+layers_begin tile (Meeting its_layer its_feature polygon one_edge other_edge x y w) holds = absurd holds
+layers_begin tile (Outside its_layer its_feature polygon ring vertex) holds = absurd holds
+layers_begin tile (HoleInHole its_layer its_feature polygon ring vertex other_hole) holds = absurd holds
 
 module _ (IsBroken : Breaks) (behind_tags : AreBehindTags IsBroken) where
   -- so a fault of layers comes before one of features

@@ -6,7 +6,7 @@ use Rattle.mvt_fault.specs.Code.{tag_code}
 use Rattle.mvt_fault.specs.Place.{place_of, ComesFirst, IsLeast}
 use Rattle.mvt_fault.specs.Truth.{TagsBreak, IsFaultOfTags}
 use Rattle.mvt_fault.specs.declared.fault.Fault.{Fault}
-use Rattle.mvt_fault.specs.declared.fault.Fault.TheVariants.{Wire, Version, Name, Tag, Command}
+use Rattle.mvt_fault.specs.declared.fault.Fault.TheVariants.{Wire, Version, Name, Tag, Command, Ring, Meeting, Outside, HoleInHole}
 use Rattle.mvt_fault.specs.declared.tag.TagCode.{TagCode}
 use Rattle.mvt_fault.specs.declared.tag.TagCode.TheVariants.{OddLength, NoKey, NoValue, Repeated}
 use Rattle.mvt_wire.specs.Rules.{OddTags, IsKeyAt, NoSuchKey, NoSuchValue}
@@ -244,6 +244,10 @@ module _ (whose : LayerRecord) (it : FeatureRecord) (layer feature : ℕ) (code 
   comes_first (Tag other in_layer in_feature at) broken =
       inr (refl, inr (sym broken.0, inr (sym broken.1, inr (refl, index_first code other index at (first.first other at broken.2)))))
   comes_first (Command command_code in_layer in_feature index) broken = absurd broken
+  comes_first (Ring ring_code its_layer its_feature ring) broken = absurd broken
+  comes_first (Meeting its_layer its_feature polygon one_edge other_edge x y w) broken = absurd broken
+  comes_first (Outside its_layer its_feature polygon ring vertex) broken = absurd broken
+  comes_first (HoleInHole its_layer its_feature polygon ring vertex other_hole) broken = absurd broken
 
   -- the first fault of a feature's tags, told with its layer and its feature, is the one with the least place
   pub IsLeast-first : IsLeast (IsFaultOfTags whose it layer feature) (Tag code layer feature index)

@@ -13,7 +13,7 @@ use Rattle.mvt_wire.proofs.Tiles.{tile_or_fault}
 use Rattle.mvt_fault.specs.Place.{ComesFirst, IsLeast, place_of}
 use Rattle.mvt_fault.specs.Truth.{IsWireFault}
 use Rattle.mvt_fault.specs.declared.fault.Fault.{Fault}
-use Rattle.mvt_fault.specs.declared.fault.Fault.TheVariants.{Wire, Version, Name, Tag, Command}
+use Rattle.mvt_fault.specs.declared.fault.Fault.TheVariants.{Wire, Version, Name, Tag, Command, Ring, Meeting, Outside, HoleInHole}
 use Rattle.mvt_tile.specs.Embedded.{HasFault}
 use Rattle.mvt_tile.specs.First.{IsFirst, FindsFirst}
 use Rattle.mvt_tile.specs.LayerFault.{FaultInLayer, IsLayerFault}
@@ -61,6 +61,10 @@ IsWireFault-in bytes ordinal span (Version some_layer) part fault = absurd fault
 IsWireFault-in bytes ordinal span (Name some other_one) part fault = absurd fault
 IsWireFault-in bytes ordinal span (Tag tag_code some_layer some_feature index) part fault = absurd fault
 IsWireFault-in bytes ordinal span (Command command_code in_layer in_feature index) part fault = absurd fault
+IsWireFault-in bytes ordinal span (Ring ring_code its_layer its_feature ring) part fault = absurd fault
+IsWireFault-in bytes ordinal span (Meeting its_layer its_feature polygon one_edge other_edge x y w) part fault = absurd fault
+IsWireFault-in bytes ordinal span (Outside its_layer its_feature polygon ring vertex) part fault = absurd fault
+IsWireFault-in bytes ordinal span (HoleInHole its_layer its_feature polygon ring vertex other_hole) part fault = absurd fault
 
 -- the place of a fault in a layer begins with the layer's ordinal
 abbrev IsBehind : ℕ → List ℕ → Type 0
@@ -78,6 +82,10 @@ fault_place bytes span ordinal (Version some_layer) fault = absurd fault
 fault_place bytes span ordinal (Name some other_one) fault = absurd fault
 fault_place bytes span ordinal (Tag tag_code some_layer some_feature index) fault = absurd fault
 fault_place bytes span ordinal (Command command_code in_layer in_feature index) fault = absurd fault
+fault_place bytes span ordinal (Ring ring_code its_layer its_feature ring) fault = absurd fault
+fault_place bytes span ordinal (Meeting its_layer its_feature polygon one_edge other_edge x y w) fault = absurd fault
+fault_place bytes span ordinal (Outside its_layer its_feature polygon ring vertex) fault = absurd fault
+fault_place bytes span ordinal (HoleInHole its_layer its_feature polygon ring vertex other_hole) fault = absurd fault
 
 -- so a fault in a layer comes before one in a later layer
 earlier_layer : (ordinal other : ℕ) (place behind : List ℕ) → IsBehind ordinal place → IsBehind other behind → ordinal < other → ComesFirst place behind
@@ -103,6 +111,10 @@ IsLeast-tile bytes cause least = record { holds = record { span = whole_span byt
     behind (Name some other_one) wire = absurd wire
     behind (Tag tag_code some_layer some_feature index) wire = absurd wire
     behind (Command command_code in_layer in_feature index) wire = absurd wire
+    behind (Ring ring_code its_layer its_feature ring) wire = absurd wire
+    behind (Meeting its_layer its_feature polygon one_edge other_edge x y w) wire = absurd wire
+    behind (Outside its_layer its_feature polygon ring vertex) wire = absurd wire
+    behind (HoleInHole its_layer its_feature polygon ring vertex other_hole) wire = absurd wire
 
 module _ (bytes : List ℕ) (entries : List Entry) (whole : IsMessageAt bytes (whole_span bytes) entries) (none : (cause : WireCause) → ¬ HasFault messages.Tile bytes (whole_span bytes) cause) where
   -- where no layer has a fault either, there is none
@@ -147,3 +159,7 @@ module _ (bytes : List ℕ) (entries : List Entry) (whole : IsMessageAt bytes (w
         behind (Name some other_one) wire = absurd wire
         behind (Tag tag_code some_layer some_feature index) wire = absurd wire
         behind (Command command_code in_layer in_feature index) wire = absurd wire
+        behind (Ring ring_code its_layer its_feature ring) wire = absurd wire
+        behind (Meeting its_layer its_feature polygon one_edge other_edge x y w) wire = absurd wire
+        behind (Outside its_layer its_feature polygon ring vertex) wire = absurd wire
+        behind (HoleInHole its_layer its_feature polygon ring vertex other_hole) wire = absurd wire

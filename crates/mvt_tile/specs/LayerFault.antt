@@ -7,7 +7,7 @@ use Rattle.mvt_wire.specs.declared.scope.Scope.{Scope}
 use Rattle.mvt_wire.specs.declared.scope.Scope.TheVariants.{Tile, Layer, Value, Feature}
 use Rattle.mvt_wire.specs.declared.schema.Message.TheVariants as messages
 use Rattle.mvt_fault.specs.declared.fault.Fault.{Fault}
-use Rattle.mvt_fault.specs.declared.fault.Fault.TheVariants.{Wire, Version, Name, Tag, Command}
+use Rattle.mvt_fault.specs.declared.fault.Fault.TheVariants.{Wire, Version, Name, Tag, Command, Ring, Meeting, Outside, HoleInHole}
 use Rattle.mvt_tile.specs.Embedded.{HasFault}
 
 -- the bytes from one place up to another
@@ -30,3 +30,7 @@ IsLayerFault bytes span ordinal (Version layer) = ⊥
 IsLayerFault bytes span ordinal (Name first second) = ⊥
 IsLayerFault bytes span ordinal (Tag code layer feature index) = ⊥
 IsLayerFault bytes span ordinal (Command command_code in_layer in_feature index) = ⊥
+IsLayerFault bytes span ordinal (Ring ring_code its_layer its_feature ring) = ⊥
+IsLayerFault bytes span ordinal (Meeting its_layer its_feature polygon one_edge other_edge x y w) = ⊥
+IsLayerFault bytes span ordinal (Outside its_layer its_feature polygon ring vertex) = ⊥
+IsLayerFault bytes span ordinal (HoleInHole its_layer its_feature polygon ring vertex other_hole) = ⊥

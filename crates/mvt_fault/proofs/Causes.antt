@@ -1,0 +1,84 @@
+-- A cause is told by its number.
+use Rattle.std.proofs.Common.{◌≡◌, ℕ, ◌==◌, if◌then◌else◌, refl}
+use Rattle.mvt_wire.specs.Code.{code_of}
+use Rattle.mvt_wire.specs.declared.cause.WireCode.{WireCode}
+use Rattle.mvt_wire.specs.declared.cause.WireCode.TheVariants.{Ends, TooLong, BadNumber, BadWireType, PastEnd, OtherType, Again, Missing, OneField, NotUtf8, OutOfRange}
+use Rattle.mvt_fault.specs.Code.{tag_code, command_code, ring_code}
+use Rattle.mvt_fault.specs.declared.tag.TagCode.{TagCode}
+use Rattle.mvt_fault.specs.declared.tag.TagCode.TheVariants.{OddLength, NoKey, NoValue, Repeated}
+use Rattle.mvt_fault.specs.declared.command.CommandCode.{CommandCode}
+use Rattle.mvt_fault.specs.declared.command.CommandCode.TheVariants.{OtherCommand, OtherCount, Unfinished, GreatestParameter, OutOfBounds, NoStep}
+use Rattle.mvt_fault.specs.declared.ring.RingCode.{RingCode}
+use Rattle.mvt_fault.specs.declared.ring.RingCode.TheVariants.{EndsAtItsBeginning, NoArea, BeginsWithHole}
+
+-- the cause of a wire fault with a number
+abbrev pub wire_code_at : ℕ → WireCode
+wire_code_at n =
+    if n == 101 then Ends else
+    (if n == 102 then TooLong else
+    (if n == 103 then BadNumber else
+    (if n == 104 then BadWireType else
+    (if n == 105 then PastEnd else
+    (if n == 106 then OtherType else
+    (if n == 107 then Again else
+    (if n == 108 then Missing else
+    (if n == 109 then OneField else
+    (if n == 110 then NotUtf8 else OutOfRange)))))))))
+
+-- each number is that of one cause
+pub wire_code_at-code_of : (code : WireCode) → wire_code_at (code_of code) ≡ code
+wire_code_at-code_of Ends = refl
+wire_code_at-code_of TooLong = refl
+wire_code_at-code_of BadNumber = refl
+wire_code_at-code_of BadWireType = refl
+wire_code_at-code_of PastEnd = refl
+wire_code_at-code_of OtherType = refl
+wire_code_at-code_of Again = refl
+wire_code_at-code_of Missing = refl
+wire_code_at-code_of OneField = refl
+wire_code_at-code_of NotUtf8 = refl
+wire_code_at-code_of OutOfRange = refl
+
+-- the cause of a fault of tags with a number
+abbrev pub tag_code_at : ℕ → TagCode
+tag_code_at n =
+    if n == 301 then OddLength else
+    (if n == 302 then NoKey else
+    (if n == 303 then NoValue else Repeated))
+
+-- each number is that of one cause
+pub tag_code_at-tag_code : (code : TagCode) → tag_code_at (tag_code code) ≡ code
+tag_code_at-tag_code OddLength = refl
+tag_code_at-tag_code NoKey = refl
+tag_code_at-tag_code NoValue = refl
+tag_code_at-tag_code Repeated = refl
+
+-- the cause of a fault of commands with a number
+abbrev pub command_code_at : ℕ → CommandCode
+command_code_at n =
+    if n == 401 then OtherCommand else
+    (if n == 402 then OtherCount else
+    (if n == 403 then Unfinished else
+    (if n == 404 then GreatestParameter else
+    (if n == 405 then OutOfBounds else NoStep))))
+
+-- each number is that of one cause
+pub command_code_at-command_code : (code : CommandCode) → command_code_at (command_code code) ≡ code
+command_code_at-command_code OtherCommand = refl
+command_code_at-command_code OtherCount = refl
+command_code_at-command_code Unfinished = refl
+command_code_at-command_code GreatestParameter = refl
+command_code_at-command_code OutOfBounds = refl
+command_code_at-command_code NoStep = refl
+
+-- the cause of a fault of rings with a number
+abbrev pub ring_code_at : ℕ → RingCode
+ring_code_at n =
+    if n == 501 then EndsAtItsBeginning else
+    (if n == 502 then NoArea else BeginsWithHole)
+
+-- each number is that of one cause
+pub ring_code_at-ring_code : (code : RingCode) → ring_code_at (ring_code code) ≡ code
+ring_code_at-ring_code EndsAtItsBeginning = refl
+ring_code_at-ring_code NoArea = refl
+ring_code_at-ring_code BeginsWithHole = refl

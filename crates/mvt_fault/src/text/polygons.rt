@@ -1,0 +1,114 @@
+//! The JSON objects of the faults of rings and polygons.
+
+ghost use Rattle.std.specs.Prelude.{◌≡◌, IfOk};
+ghost use Rattle.serde_json.specs.View.{view};
+ghost use Rattle.mvt_fault.specs.Text.{ring_data, edge_data, digits, meeting_data, meeting_parts, outside_data, hole_in_hole_data};
+
+use crate::fault::{HOLE_IN_HOLE_CODE, MEETING_CODE, OUTSIDE_CODE};
+use crate::ring::RingEdge;
+use serde_json::{Value, json};
+use std::alloc::{AllocError, Global};
+
+/// A polygon of a tile by ordinals: of its layer, of the feature in the layer, and of the polygon in the
+/// feature.
+#[derive(Clone, Copy)]
+pub(super) struct PolygonId {
+    pub layer: usize,
+    pub feature: usize,
+    pub polygon: usize,
+}
+
+/// The point (x / w, y / w).
+#[derive(Clone, Copy)]
+pub(super) struct MeetingPoint {
+    pub x: i128,
+    pub y: i128,
+    pub w: i128,
+}
+
+pub(super) fn ring_object(
+    alloc: Global,
+    code: u16,
+    layer: usize,
+    feature: usize,
+    ring: usize,
+) -> Result<Value, AllocError>
+    ensures { IfOk result (λ v. view v ≡ ring_data code layer feature ring) }
+{
+    json!(in alloc; {"code": code, "feature": feature, "layer": layer, "ring": ring})
+}
+
+pub(super) fn meeting_object(
+    alloc: Global,
+    id: PolygonId,
+    first: RingEdge,
+    second: RingEdge,
+    point: MeetingPoint,
+) -> Result<Value, AllocError>
+    ensures { IfOk result (λ v. view v ≡ meeting_data id.layer id.feature id.polygon first second point.x point.y point.w) }
+{
+    let (first, second) = (edge_object(alloc, first)?, edge_object(alloc, second)?);
+    let w = digits_value(alloc, point.w)?;
+    let x = digits_value(alloc, point.x)?;
+    let y = digits_value(alloc, point.y)?;
+    meeting_of_values(alloc, id, first, second, w, x, y)
+}
+
+// A function of its own: more calls in one are too much for the search of proofs.
+fn meeting_of_values(
+    alloc: Global,
+    id: PolygonId,
+    first: Value,
+    second: Value,
+    w: Value,
+    x: Value,
+    y: Value,
+) -> Result<Value, AllocError>
+    ensures { IfOk result (λ v. view v ≡ meeting_parts id.layer id.feature id.polygon (view first) (view second) (view w) (view x) (view y)) }
+{
+    json!(in alloc; {
+        "code": MEETING_CODE, "feature": id.feature, "first": first, "layer": id.layer,
+        "polygon": id.polygon, "second": second, "w": w, "x": x, "y": y
+    })
+}
+
+fn edge_object(alloc: Global, edge: RingEdge) -> Result<Value, AllocError>
+    ensures { IfOk result (λ v. view v ≡ edge_data edge) }
+{
+    json!(in alloc; {"edge": edge.edge, "ring": edge.ring})
+}
+
+fn digits_value(alloc: Global, number: i128) -> Result<Value, AllocError>
+    ensures { IfOk result (λ v. view v ≡ digits number) }
+{
+    Ok(Value::String(number.to_string(alloc)?))
+}
+
+pub(super) fn outside_object(
+    alloc: Global,
+    id: PolygonId,
+    ring: usize,
+    vertex: usize,
+) -> Result<Value, AllocError>
+    ensures { IfOk result (λ v. view v ≡ outside_data id.layer id.feature id.polygon ring vertex) }
+{
+    json!(in alloc; {
+        "code": OUTSIDE_CODE, "feature": id.feature, "layer": id.layer,
+        "polygon": id.polygon, "ring": ring, "vertex": vertex
+    })
+}
+
+pub(super) fn hole_in_hole_object(
+    alloc: Global,
+    id: PolygonId,
+    ring: usize,
+    vertex: usize,
+    other: usize,
+) -> Result<Value, AllocError>
+    ensures { IfOk result (λ v. view v ≡ hole_in_hole_data id.layer id.feature id.polygon ring vertex other) }
+{
+    json!(in alloc; {
+        "code": HOLE_IN_HOLE_CODE, "feature": id.feature, "layer": id.layer, "other": other,
+        "polygon": id.polygon, "ring": ring, "vertex": vertex
+    })
+}
