@@ -1,6 +1,7 @@
 -- The rule on geometry: what has no fault of commands draws a figure, and what draws a figure has no such fault.
 use Rattle.std.proofs.Common.{◌≡◌, ℕ, inl, inr, List, [], ◌∷◌, refl, sym, ◌∙◌, subst, arith}
-use Rattle.mvt_draw.specs.Geometry.{type_number, HasFigure, IsCommandFault}
+use Rattle.mvt_draw.specs.Geometry.{IsCommandFault}
+use Rattle.mvt_plane.specs.Geometry.{type_number, HasFigure}
 use Rattle.mvt_draw.specs.Truth.{IsFaultOfCommands, BreaksCommandRule, DrawsFigures}
 use Rattle.mvt_fault.specs.Code.{command_code}
 use Rattle.mvt_fault.proofs.Places.{ComesFirst-reflexive}
@@ -8,7 +9,7 @@ use Rattle.mvt_fault.specs.Place.{place_of, ComesFirst, IsLeast}
 use Rattle.mvt_fault.specs.declared.command.CommandCode.{CommandCode}
 use Rattle.mvt_fault.specs.declared.command.CommandCode.TheVariants.{OtherCommand, OtherCount, Unfinished, GreatestParameter, OutOfBounds, NoStep}
 use Rattle.mvt_fault.specs.declared.fault.Fault.{Fault}
-use Rattle.mvt_fault.specs.declared.fault.Fault.TheVariants.{Wire, Version, Name, Tag, Command}
+use Rattle.mvt_fault.specs.declared.fault.Fault.TheVariants.{Wire, Version, Name, Tag, Command, Ring, Meeting, Outside, HoleInHole}
 use Rattle.mvt_plane.proofs.CommandFaults.{figure_or_command_fault, one_command_fault}
 use Rattle.mvt_plane.specs.CommandFault.{Part, Applies, other_command, other_count, greatest_x, greatest_y, x_outside, y_outside, no_step, IsCause, ends, nothing_due, due, HasCommandFault}
 use Rattle.mvt_plane.specs.Figure.{GeometryType, point, line_string, polygon}
@@ -23,6 +24,10 @@ behind_tags it layer feature (Wire code scope at field) broken = absurd broken
 behind_tags it layer feature (Version other) broken = absurd broken
 behind_tags it layer feature (Name first second) broken = absurd broken
 behind_tags it layer feature (Tag code in_layer in_feature index) broken = absurd broken
+behind_tags it layer feature (Ring ring_code its_layer its_feature ring) broken = absurd broken
+behind_tags it layer feature (Meeting its_layer its_feature of_polygon one_edge other_edge x y w) broken = absurd broken
+behind_tags it layer feature (Outside its_layer its_feature of_polygon ring vertex) broken = absurd broken
+behind_tags it layer feature (HoleInHole its_layer its_feature of_polygon ring vertex other_hole) broken = absurd broken
 behind_tags it layer feature (Command code in_layer in_feature index) broken =
     let rest : List ℕ = index ∷ command_code code ∷ 0 ∷ 0 ∷ 0 ∷ 0 ∷ [] in
     (1, rest, omega arith, λ i. 2 ∷ broken.0 i ∷ broken.1 i ∷ 1 ∷ rest)
@@ -53,6 +58,10 @@ comes_first it layer feature code index (Wire wire_code scope at field) bad brok
 comes_first it layer feature code index (Version whose) bad broken = absurd broken
 comes_first it layer feature code index (Name first second) bad broken = absurd broken
 comes_first it layer feature code index (Tag tag_code in_layer in_feature place) bad broken = absurd broken
+comes_first it layer feature code index (Ring ring_code its_layer its_feature ring) bad broken = absurd broken
+comes_first it layer feature code index (Meeting its_layer its_feature of_polygon one_edge other_edge x y w) bad broken = absurd broken
+comes_first it layer feature code index (Outside its_layer its_feature of_polygon ring vertex) bad broken = absurd broken
+comes_first it layer feature code index (HoleInHole its_layer its_feature of_polygon ring vertex other_hole) bad broken = absurd broken
 comes_first it layer feature code index (Command other in_layer in_feature place) bad broken =
     let same = one_fault it.kind it.geometry code other index place bad broken.2 in
     subst (λ (numbers : List ℕ). ComesFirst (place_of (Command code layer feature index)) numbers)
@@ -142,6 +151,10 @@ no_fault_drawn it layer feature (Wire code scope at field) has broken = broken
 no_fault_drawn it layer feature (Version other) has broken = broken
 no_fault_drawn it layer feature (Name first second) has broken = broken
 no_fault_drawn it layer feature (Tag code in_layer in_feature index) has broken = broken
+no_fault_drawn it layer feature (Ring ring_code its_layer its_feature ring) has broken = broken
+no_fault_drawn it layer feature (Meeting its_layer its_feature of_polygon one_edge other_edge x y w) has broken = broken
+no_fault_drawn it layer feature (Outside its_layer its_feature of_polygon ring vertex) has broken = broken
+no_fault_drawn it layer feature (HoleInHole its_layer its_feature of_polygon ring vertex other_hole) has broken = broken
 no_fault_drawn it layer feature (Command code in_layer in_feature index) has broken = no_fault_of_figure it.kind it.geometry code index has broken.2
 
 -- a tile that draws figures has no fault of commands

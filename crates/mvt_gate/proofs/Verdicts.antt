@@ -3,10 +3,10 @@
 use Rattle.std.proofs.Common.{◌≡◌, ℕ, List, ◌⊎◌, inl, inr, refl, sym, ◌∙◌, ap, subst}
 use Rattle.mvt_draw.specs.Truth.{BreaksCommandRule, IsFaultOfCommands}
 use Rattle.mvt_fault.proofs.Places.{same_place, ComesFirst-antisymmetric}
-use Rattle.mvt_fault.specs.Place.{IsLeast, place_of}
+use Rattle.mvt_fault.specs.Place.{IsLeast, place_of, IsMeetingIn}
 use Rattle.mvt_fault.specs.Truth.{BreaksRule, IsWireFault}
 use Rattle.mvt_fault.specs.declared.fault.Fault.{Fault}
-use Rattle.mvt_fault.specs.declared.fault.Fault.TheVariants.{Wire, Version, Name, Tag, Command}
+use Rattle.mvt_fault.specs.declared.fault.Fault.TheVariants.{Wire, Version, Name, Tag, Command, Ring, Meeting, Outside, HoleInHole}
 use Rattle.mvt_tile.specs.RuleFaults.{BreaksAnyRule}
 use Rattle.mvt_wire.proofs.Tiles.{one_tile, tile_faultless, tile_or_fault}
 use Rattle.mvt_wire.specs.Field.{cause_at}
@@ -44,6 +44,10 @@ no_fault_of_tile bytes tile (Version some_layer) whole holds = absurd holds
 no_fault_of_tile bytes tile (Name some other_one) whole holds = absurd holds
 no_fault_of_tile bytes tile (Tag tag_code some_layer some_feature index) whole holds = absurd holds
 no_fault_of_tile bytes tile (Command command_code in_layer in_feature index) whole holds = absurd holds
+no_fault_of_tile bytes tile (Ring ring_code its_layer its_feature ring) whole holds = absurd holds
+no_fault_of_tile bytes tile (Meeting its_layer its_feature polygon one_edge other_edge x y w) whole holds = absurd holds
+no_fault_of_tile bytes tile (Outside its_layer its_feature polygon ring vertex) whole holds = absurd holds
+no_fault_of_tile bytes tile (HoleInHole its_layer its_feature polygon ring vertex other_hole) whole holds = absurd holds
 
 -- the faults of a tile, as those that the rules give, and the other way round
 abbrev BreaksOne : TileRecord → Fault → Type 0
@@ -83,10 +87,22 @@ no_fault_of_yes bytes fault kept (inr broken) =
       | inr breaks ↦ drawn_without_fault kept.0 fault kept.3 breaks
     ]
 
+-- no meeting of edges is a fault that is known so far
+no_meeting_known : (bytes : List ℕ) (layer feature polygon : ℕ) (fault : Fault) → IsMeetingIn layer feature polygon fault → IsFault bytes fault → ⊥
+no_meeting_known bytes layer feature polygon fault meeting known =
+    elim (subst (IsFault bytes) meeting.is known) [
+      | inl wire ↦ wire
+      | inr broken ↦ elim broken.2 [
+        | inl breaks ↦ elim breaks [ inl layers ↦ layers | inr features ↦ features.broken ]
+        | inr breaks ↦ breaks.broken
+      ]
+    ]
+
 -- bytes have one fault of least place
 pub one_least : (bytes : List ℕ) (fault other : Fault) → IsLeast (IsFault bytes) fault → IsLeast (IsFault bytes) other → fault ≡ other
 one_least bytes fault other first second =
-    same_place fault other (ComesFirst-antisymmetric (place_of fault) (place_of other) (first.least other second.holds) (second.least fault first.holds))
+    same_place fault other (λ meetings. no_meeting_known bytes meetings.layer meetings.feature meetings.polygon fault meetings.one first.holds)
+    (ComesFirst-antisymmetric (place_of fault) (place_of other) (first.least other second.holds) (second.least fault first.holds))
 
 pub one_verdict : (bytes : List ℕ) (first second : Verdict) → IsVerdict bytes first → IsVerdict bytes second → first ≡ second
 one_verdict bytes Yes Yes a b = refl

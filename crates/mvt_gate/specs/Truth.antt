@@ -1,4 +1,5 @@
--- Which faults are true of a tile's bytes.
+-- Which faults of a tile's bytes the gate asks so far: all that are true of them, but for those of rings and polygons (the
+-- law `known_faults_are_shown`).
 use Rattle.std.specs.Prelude.{◌⊎◌, ℕ, List}
 use Rattle.mvt_draw.specs.Truth.{BreaksCommandRule}
 use Rattle.mvt_fault.specs.Truth.{IsWireFault, BreaksRule}

@@ -12,7 +12,7 @@ pub enum Verdict {
     /// The bytes are a tile (Mapbox Vector Tile Specification 2.1, section 4) that keeps the rules on its
     /// layers, on tags and on geometry commands.
     Yes,
-    /// They are not. Of all their faults this one comes first.
+    /// They are not. Of those of their faults that are asked so far this one comes first.
     No(Fault),
 }
 

@@ -1,0 +1,123 @@
+-- The polygons of known rings.
+use Rattle.std.proofs.Common.{rules, ◌≡◌, ℕ, suc, ◌<◌, ◌≤◌, inl, inr, List, [], ◌∷◌, length, refl, subst, arith}
+use Rattle.std.proofs.lemmas.Bool.{cases_lt}
+use Rattle.std.proofs.lemmas.Int.{ints}
+use Rattle.std.proofs.lemmas.Option.{slice_get_within}
+use Rattle.mvt_plane.proofs.ExampleRings.{polygon_with_two_holes}
+use Rattle.mvt_plane.proofs.SamePolygons.{one_polygon}
+use Rattle.mvt_plane.specs.Examples.{rings_from, square, crossed, triangle, touching_hole, hole_beside, hole_in_hole}
+use Rattle.mvt_plane.specs.Polygon.{IsExterior, NoExterior, IsExteriorOf, first, next, PolygonRings, IsPolygon}
+use Rattle.mvt_plane.specs.Position.{Position}
+use Rattle.mvt_confirm.specs.PolygonFault.{IsPolygonOf}
+
+-- Stretches of rings
+
+-- none of no rings is an exterior
+none_of_none : (rings : List (List Position)) (number : ℕ) → NoExterior rings number number
+none_of_none rings number other behind before = absurd (omega arith)
+
+-- nor of a ring that isn't one
+none_of_one : (rings : List (List Position)) (hole : ℕ) → ¬ IsExterior rings hole → NoExterior rings hole (suc hole)
+none_of_one rings hole none number behind before exterior = none (subst (IsExterior rings) (omega arith) exterior)
+
+-- nor of those and a ring more
+none_of_more : (rings : List (List Position)) (from to : ℕ) → ¬ IsExterior rings from → NoExterior rings (suc from) to → NoExterior rings from to
+none_of_more rings from to here none number behind before = elim (cases_lt from number) [
+  | inl later ↦ none number later before
+  | inr earlier ↦ λ exterior. here (subst (IsExterior rings) (omega arith) exterior)
+]
+
+-- Polygons up to the last ring
+
+-- the first one, where the first ring alone is an exterior
+first_to_last : (rings : List (List Position)) → 0 < length rings → IsExterior rings 0 → NoExterior rings 1 (length rings) → IsPolygon rings 0 (rings_from 0 (length rings))
+first_to_last rings some exterior holes = record { begins = first 0 exterior (none_of_none rings 0); further = some; holes = holes; ends = inl refl }
+
+-- the second one, where the first two rings alone are exteriors
+second_to_last : (rings : List (List Position)) → 1 < length rings → IsExterior rings 0 → IsExterior rings 1 → NoExterior rings 2 (length rings) → IsPolygon rings 1 (rings_from 1 (length rings))
+second_to_last rings some before exterior holes = record {
+  begins = next 0 0 1 (first 0 before (none_of_none rings 0)) (omega arith) exterior (none_of_none rings 1);
+  further = some;
+  holes = holes;
+  ends = inl refl;
+}
+
+-- Other polygons
+
+-- the exterior of a polygon is one of the rings
+exterior_within : (rings : List (List Position)) (polygon exterior : ℕ) → IsExteriorOf rings polygon exterior → exterior < length rings
+exterior_within rings _ _ (first exterior it none) = slice_get_within rings exterior it.ring it.there
+exterior_within rings _ _ (next polygon before exterior begins further it none) = slice_get_within rings exterior it.ring it.there
+
+-- at least as many rings stand before it as polygons
+pub exterior_behind : (rings : List (List Position)) (polygon exterior : ℕ) → IsExteriorOf rings polygon exterior → polygon ≤ exterior
+exterior_behind rings _ _ (first exterior it none) = omega arith
+exterior_behind rings _ _ (next polygon before exterior begins further it none) = omega (arith, exterior_behind rings polygon before begins)
+
+-- behind a first polygon of all rings there is no other
+pub no_other_polygon : (rings : List (List Position)) (polygon : ℕ) (it : PolygonRings) → IsPolygon rings 0 (rings_from 0 (length rings)) → IsPolygon rings polygon it → (polygon ≡ 0) × (it ≡ rings_from 0 (length rings))
+no_other_polygon rings polygon it whole other =
+    let within : it.exterior < length rings = exterior_within rings polygon it.exterior other.begins in
+    one_polygon rings it.exterior polygon 0 it (rings_from 0 (length rings)) other
+    (record { from = omega arith; before = other.further }) whole (record { from = omega arith; before = within })
+
+-- Known rings
+
+-- the standard's ring is an exterior
+pub triangle_polygon : IsPolygonOf (triangle ∷ []) 0 (rings_from 0 1)
+triangle_polygon = record {
+  sound = search rules;
+  there = first_to_last (triangle ∷ []) (omega arith) (record { ring = triangle; there = refl; positive = omega (arith, ints) }) (none_of_none (triangle ∷ []) 1);
+}
+
+-- so is the one that crosses itself
+pub crossed_polygon : IsPolygonOf (crossed ∷ []) 0 (rings_from 0 1)
+crossed_polygon = record {
+  sound = search rules;
+  there = first_to_last (crossed ∷ []) (omega arith) (record { ring = crossed; there = refl; positive = omega (arith, ints) }) (none_of_none (crossed ∷ []) 1);
+}
+
+-- the same behind another
+pub crossed_second : IsPolygonOf (square ∷ crossed ∷ []) 1 (rings_from 1 2)
+crossed_second = record {
+  sound = search rules;
+  there = second_to_last (square ∷ crossed ∷ []) (omega arith) (record { ring = square; there = refl; positive = omega (arith, ints) })
+      (record { ring = crossed; there = refl; positive = omega (arith, ints) }) (none_of_none (square ∷ crossed ∷ []) 2);
+}
+
+-- a hole at the square's edge
+pub touching_polygon : IsPolygonOf (square ∷ touching_hole ∷ []) 0 (rings_from 0 2)
+touching_polygon = record {
+  sound = search rules;
+  there = first_to_last (square ∷ touching_hole ∷ []) (omega arith) (record { ring = square; there = refl; positive = omega (arith, ints) })
+      (none_of_one (square ∷ touching_hole ∷ []) 1 (search rules));
+}
+
+-- one beside it
+pub beside_polygon : IsPolygonOf (square ∷ hole_beside ∷ []) 0 (rings_from 0 2)
+beside_polygon = record {
+  sound = search rules;
+  there = first_to_last (square ∷ hole_beside ∷ []) (omega arith) (record { ring = square; there = refl; positive = omega (arith, ints) })
+      (none_of_one (square ∷ hole_beside ∷ []) 1 (search rules));
+}
+
+-- one beside the second of two
+pub beside_second : IsPolygonOf (square ∷ square ∷ hole_beside ∷ []) 1 (rings_from 1 3)
+beside_second = record {
+  sound = search rules;
+  there = second_to_last (square ∷ square ∷ hole_beside ∷ []) (omega arith) (record { ring = square; there = refl; positive = omega (arith, ints) })
+      (record { ring = square; there = refl; positive = omega (arith, ints) }) (none_of_one (square ∷ square ∷ hole_beside ∷ []) 2 (search rules));
+}
+
+-- a hole in another
+pub two_holes : IsPolygonOf hole_in_hole 0 (rings_from 0 3)
+two_holes = record { sound = search rules; there = polygon_with_two_holes }
+
+-- the same in a second polygon
+pub two_holes_second : IsPolygonOf (square ∷ hole_in_hole) 1 (rings_from 1 4)
+two_holes_second = record {
+  sound = search rules;
+  there = second_to_last (square ∷ hole_in_hole) (omega arith) (record { ring = square; there = refl; positive = omega (arith, ints) })
+      (record { ring = _; there = refl; positive = omega (arith, ints) })
+      (none_of_more (square ∷ hole_in_hole) 2 4 (search rules) (none_of_one (square ∷ hole_in_hole) 3 (search rules)));
+}

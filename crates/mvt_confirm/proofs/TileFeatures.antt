@@ -1,0 +1,49 @@
+-- Bytes are one tile, so what is true of some tile of them, or of some feature of it, is true of any.
+use Rattle.std.proofs.Common.{◌≡◌, ℕ, List, subst}
+use Rattle.mvt_plane.proofs.Spellings.{one_figure}
+use Rattle.mvt_plane.specs.Figure.{polygon, rings}
+use Rattle.mvt_plane.specs.Geometry.{HasRings}
+use Rattle.mvt_plane.specs.Position.{Position}
+use Rattle.mvt_wire.proofs.Tiles.{one_tile}
+use Rattle.mvt_wire.specs.Rules.{IsFeatureOf}
+use Rattle.mvt_wire.specs.Tile.{FeatureRecord, LayerRecord, TileRecord, IsTile}
+use Rattle.mvt_confirm.specs.Feature.{IsFeatureIn, HasRingsIn}
+use Rattle.mvt_confirm.specs.Shows.{OfTile}
+
+-- what is true of the tile that bytes are
+pub of_this_tile : (bytes : List ℕ) (tile : TileRecord) (Holds : TileRecord → Type 0) → IsTile bytes tile → OfTile bytes Holds → Holds tile
+of_this_tile bytes tile Holds is shown = subst Holds (one_tile bytes shown.0 tile shown.1 is) shown.2
+
+-- a feature of it
+pub feature_of_this_tile : (bytes : List ℕ) (tile : TileRecord) (layer feature : ℕ) (whose : LayerRecord) (it : FeatureRecord)
+    → IsTile bytes tile → IsFeatureIn bytes layer feature whose it → IsFeatureOf tile layer feature whose it
+feature_of_this_tile bytes tile layer feature whose it is there =
+    subst (λ (t : TileRecord). IsFeatureOf t layer feature whose it) (one_tile bytes there.tile tile there.is is) there.there
+
+-- a tile has one feature of these ordinals
+one_feature_of : (tile : TileRecord) (layer feature : ℕ) (whose other : LayerRecord) (it its : FeatureRecord)
+    → IsFeatureOf tile layer feature whose it → IsFeatureOf tile layer feature other its → (whose ≡ other) × (it ≡ its)
+one_feature_of tile layer feature whose other it its first second =
+    let same : whose ≡ other = cc (first.in_tile, second.in_tile) in
+    (same, cc (first.in_layer, second.in_layer))
+
+-- and so have bytes
+pub one_feature : (bytes : List ℕ) (layer feature : ℕ) (whose other : LayerRecord) (it its : FeatureRecord)
+    → IsFeatureIn bytes layer feature whose it → IsFeatureIn bytes layer feature other its → (whose ≡ other) × (it ≡ its)
+one_feature bytes layer feature whose other it its first second =
+    one_feature_of second.tile layer feature whose other it its
+    (feature_of_this_tile bytes second.tile layer feature whose it second.is first) second.there
+
+-- a geometry has one list of rings
+one_list : (kind : ℕ) (numbers : List ℕ) (first second : List (List Position)) → HasRings kind numbers first → HasRings kind numbers second → first ≡ second
+one_list kind numbers first second its others =
+    let same : rings first ≡ rings second = one_figure polygon numbers (rings first) (rings second) its.spelled others.spelled in
+    cc same
+
+-- and so has a feature of the bytes
+pub one_list_of_rings : (bytes : List ℕ) (layer feature : ℕ) (first second : List (List Position))
+    → HasRingsIn bytes layer feature first → HasRingsIn bytes layer feature second → first ≡ second
+one_list_of_rings bytes layer feature first second its others =
+    let same = one_feature bytes layer feature its.whose others.whose its.it others.it its.there others.there in
+    one_list others.it.kind others.it.geometry first second
+    (subst (λ (it : FeatureRecord). HasRings it.kind it.geometry first) same.1 its.spelled) others.spelled

@@ -1,0 +1,17 @@
+use Rattle.mvt_confirm.proofs.ExampleValid.{triangle_valid, crossed_invalid, beside_invalid, in_hole_invalid, flat_invalid}
+use Rattle.mvt_confirm.proofs.laws.examples.valid_rings.Goals as goal
+
+pub returns-clause-standard : goal.returns-clause-standard
+returns-clause-standard c = triangle_valid
+
+pub returns-clause-crossed : goal.returns-clause-crossed
+returns-clause-crossed c = crossed_invalid
+
+pub returns-clause-beside : goal.returns-clause-beside
+returns-clause-beside c = beside_invalid
+
+pub returns-clause-in_hole : goal.returns-clause-in_hole
+returns-clause-in_hole c = in_hole_invalid
+
+pub returns-clause-flat : goal.returns-clause-flat
+returns-clause-flat c = flat_invalid

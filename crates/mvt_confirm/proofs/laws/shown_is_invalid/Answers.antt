@@ -1,0 +1,5 @@
+use Rattle.mvt_confirm.proofs.Shown.{shown_is_invalid}
+use Rattle.mvt_confirm.proofs.laws.shown_is_invalid.Goals as goal
+
+pub returns : goal.returns
+returns c = shown_is_invalid

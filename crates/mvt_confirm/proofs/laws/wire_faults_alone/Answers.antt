@@ -1,0 +1,5 @@
+use Rattle.mvt_confirm.proofs.Shown.{wire_faults_alone}
+use Rattle.mvt_confirm.proofs.laws.wire_faults_alone.Goals as goal
+
+pub returns : goal.returns
+returns c = wire_faults_alone

@@ -1,0 +1,45 @@
+-- Valid tiles: the profile of the Mapbox Vector Tile Specification 2.1, section 4, that is kept to.
+use Rattle.std.specs.Prelude.{ℕ, List, length}
+use Rattle.mvt_fault.specs.Truth.{TagsBreak}
+use Rattle.mvt_fault.specs.declared.tag.TagCode.{TagCode}
+use Rattle.mvt_plane.specs.Geometry.{HasFigure, HasRings}
+use Rattle.mvt_plane.specs.Meeting.{EdgeNumber, MeetsWrongly}
+use Rattle.mvt_plane.specs.Nesting.{IsOutside, IsInHole}
+use Rattle.mvt_plane.specs.Polygon.{PolygonRings, IsPolygon, IsRingOf}
+use Rattle.mvt_plane.specs.Position.{Position}
+use Rattle.mvt_plane.specs.RationalPoint.{RationalPoint}
+use Rattle.mvt_plane.specs.Ring.{ArePolygonRings}
+use Rattle.mvt_wire.specs.Rules.{OtherVersion, SameName, IsFeatureOf}
+use Rattle.mvt_wire.specs.Tile.{FeatureRecord, LayerRecord, TileRecord, IsTile}
+
+-- the rings of one polygon neither cross nor touch, and its holes are inside its exterior and not inside each other (section
+-- 4.3.4.4)
+pub record IsValidPolygon (rings : List (List Position)) (it : PolygonRings) : Type 0 where
+  pub apart : (first second : EdgeNumber) (point : RationalPoint) → IsRingOf it first.ring → IsRingOf it second.ring
+      → ¬ MeetsWrongly rings first second point
+  pub enclosed : (ring vertex : ℕ) → ¬ IsOutside rings it ring vertex
+  pub side_by_side : (ring vertex other : ℕ) → ¬ IsInHole rings it ring vertex other
+
+-- rings are those of valid polygons
+pub record AreValidRings (rings : List (List Position)) : Type 0 where
+  pub sound : ArePolygonRings rings
+  pub polygons : (polygon : ℕ) (it : PolygonRings) → IsPolygon rings polygon it → IsValidPolygon rings it
+
+-- the feature of a layer has good tags; its geometry is the spelling of a figure of its type, if that is known; and if that
+-- is rings, they are those of valid polygons
+pub record IsValidFeature (whose : LayerRecord) (it : FeatureRecord) : Type 0 where
+  pub tags : (code : TagCode) (index : ℕ) → ¬ TagsBreak code (length whose.keys) (length whose.values) it.tags index
+  pub figure : HasFigure it.kind it.geometry
+  pub polygons : (rings : List (List Position)) → HasRings it.kind it.geometry rings → AreValidRings rings
+
+-- all layers have version 2 and names of their own, and all features are valid
+pub record IsValidTile (tile : TileRecord) : Type 0 where
+  pub versions : (layer : ℕ) → ¬ OtherVersion tile layer
+  pub names : (first second : ℕ) → ¬ SameName tile first second
+  pub features : (layer feature : ℕ) (whose : LayerRecord) (it : FeatureRecord) → IsFeatureOf tile layer feature whose it → IsValidFeature whose it
+
+-- the bytes are a tile that keeps all rules
+pub record Valid (bytes : List ℕ) : Type 0 where
+  pub tile : TileRecord
+  pub is : IsTile bytes tile
+  pub valid : IsValidTile tile

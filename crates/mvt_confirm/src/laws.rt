@@ -1,0 +1,82 @@
+//! The laws of valid tiles and of faults that are true of bytes, as contracts of functions that do
+//! nothing.
+
+ghost use Rattle.std.specs.Prelude.{◌≡◌, ◌≢◌, ◌↔◌, ◌⊎◌, ℕ, List, ℤ};
+ghost use Rattle.mvt_confirm.specs.Feature.{IsFeatureIn, HasRingsIn};
+ghost use Rattle.mvt_confirm.specs.Geometry.{BreaksGeometryRule, HasValidGeometry};
+ghost use Rattle.mvt_confirm.specs.Shows.{Shows};
+ghost use Rattle.mvt_confirm.specs.Valid.{Valid};
+ghost use Rattle.mvt_fault.specs.Truth.{IsWireFault, BreaksRule};
+ghost use Rattle.mvt_fault.specs.declared.fault.Fault.{Fault};
+ghost use Rattle.mvt_fault.specs.declared.fault.Fault.TheVariants.{Wire, Ring, Meeting, Outside, HoleInHole};
+ghost use Rattle.mvt_fault.specs.declared.ring.RingCode.{RingCode};
+ghost use Rattle.mvt_fault.specs.declared.ring.RingEdge.{RingEdge};
+ghost use Rattle.mvt_plane.specs.Position.{Position};
+ghost use Rattle.mvt_wire.specs.Tile.{FeatureRecord, LayerRecord, TileRecord, IsTile};
+ghost use Rattle.mvt_wire.specs.declared.cause.WireCode.{WireCode};
+ghost use Rattle.mvt_wire.specs.declared.scope.Scope.{Scope};
+
+pub mod examples;
+
+/// Bytes have at most one feature of the same ordinals, and that has at most one list of rings.
+pub fn one_feature()
+    ensures feature { (bytes : List ℕ) (layer feature : ℕ) (whose other : LayerRecord) (it its : FeatureRecord) →
+        IsFeatureIn bytes layer feature whose it → IsFeatureIn bytes layer feature other its → (whose ≡ other) × (it ≡ its) }
+    ensures rings { (bytes : List ℕ) (layer feature : ℕ) (first second : List (List Position)) →
+        HasRingsIn bytes layer feature first → HasRingsIn bytes layer feature second → first ≡ second }
+{}
+
+/// No fault is true of a valid tile.
+pub fn shown_is_invalid()
+    ensures { (bytes : List ℕ) (fault : Fault) → Shows bytes fault → ¬ Valid bytes }
+{}
+
+/// Where a wire fault is true, no other fault is but wire faults: bytes with one are no tile.
+pub fn wire_faults_alone()
+    ensures { (bytes : List ℕ) (code : WireCode) (scope : Scope) (at field : ℕ) (fault : Fault) → Shows bytes (Wire code scope at field) →
+        Shows bytes fault → (other : WireCode) × (its : Scope) × (place : ℕ) × (number : ℕ) × (fault ≡ Wire other its place number) }
+{}
+
+/// Where a ring of a feature has a fault of its own, nothing is said of the feature's polygons.
+pub fn rings_before_polygons()
+    ensures meeting { (bytes : List ℕ) (code : RingCode) (layer feature ring polygon : ℕ) (first second : RingEdge) (x y w : ℤ) →
+        Shows bytes (Ring code layer feature ring) → ¬ Shows bytes (Meeting layer feature polygon first second x y w) }
+    ensures outside { (bytes : List ℕ) (code : RingCode) (layer feature ring polygon hole vertex : ℕ) →
+        Shows bytes (Ring code layer feature ring) → ¬ Shows bytes (Outside layer feature polygon hole vertex) }
+    ensures hole_in_hole { (bytes : List ℕ) (code : RingCode) (layer feature ring polygon hole vertex other : ℕ) →
+        Shows bytes (Ring code layer feature ring) → ¬ Shows bytes (HoleInHole layer feature polygon hole vertex other) }
+{}
+
+/// A meeting has its edges in one order alone.
+pub fn one_order_of_edges()
+    ensures { (bytes : List ℕ) (layer feature polygon other_polygon : ℕ) (first second : RingEdge) (x y w other_x other_y other_w : ℤ) →
+        Shows bytes (Meeting layer feature polygon first second x y w) →
+        ¬ Shows bytes (Meeting layer feature other_polygon second first other_x other_y other_w) }
+{}
+
+/// The two edges of a meeting are in one polygon: they aren't a meeting of another one.
+pub fn one_polygon_of_meeting()
+    ensures { (bytes : List ℕ) (layer feature polygon other : ℕ) (first second its_first its_second : RingEdge) (x y w its_x its_y its_w : ℤ) →
+        Shows bytes (Meeting layer feature polygon first second x y w) →
+        Shows bytes (Meeting layer feature other its_first its_second its_x its_y its_w) →
+        first.ring ≡ its_first.ring → polygon ≡ other }
+{}
+
+/// A hole whose vertex is shown to be inside another isn't that other one.
+pub fn another_hole()
+    ensures { (bytes : List ℕ) (layer feature polygon ring vertex other : ℕ) →
+        Shows bytes (HoleInHole layer feature polygon ring vertex other) → ring ≢ other }
+{}
+
+/// The faults that are true of bytes are their wire faults and, where they are a tile, those of the rules
+/// between its parts and those of its features' geometries.
+pub fn shown_by_parts()
+    ensures { (bytes : List ℕ) (fault : Fault) → Shows bytes fault ↔
+        (IsWireFault bytes fault ⊎ ((tile : TileRecord) × IsTile bytes tile × (BreaksRule tile fault ⊎ BreaksGeometryRule tile fault))) }
+{}
+
+/// Valid bytes are a tile that breaks no rule between its parts and whose features have valid geometries.
+pub fn valid_by_parts()
+    ensures { (bytes : List ℕ) → Valid bytes ↔
+        ((tile : TileRecord) × IsTile bytes tile × ((fault : Fault) → ¬ BreaksRule tile fault) × HasValidGeometry tile) }
+{}
