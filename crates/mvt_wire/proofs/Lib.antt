@@ -3,11 +3,13 @@ pub mod Defects
 pub mod Entries
 pub mod Groups
 pub mod Judgements
+pub mod Members
 pub mod Messages
 pub mod PackedLists
 pub mod Pieces
 pub mod Records
 pub mod Schemas
+pub mod SmallNumbers
 pub mod Spans
 pub mod Tiles
 pub mod Varints
@@ -20,4 +22,5 @@ pub mod NumberLaws
 pub mod NumberPlaces
 pub mod NumberStops
 pub mod NumberWalks
+pub mod NumbersLeft
 pub mod VarintLists

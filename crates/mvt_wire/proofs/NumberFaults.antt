@@ -33,7 +33,7 @@ fault_here from part k at cause (too_large numbers stop next n list spelled larg
     subst (λ (place : ℕ). FaultHere from part k place cause) same (inr (next, n, spelled, large, is))
 
 -- a place of a list has at most one fault
-one_fault_here : (from : ℕ) (part : List ℕ) (k at : ℕ) (c d : WireCause) → FaultHere from part k at c → FaultHere from part k at d → c ≡ d
+pub one_fault_here : (from : ℕ) (part : List ℕ) (k at : ℕ) (c d : WireCause) → FaultHere from part k at c → FaultHere from part k at d → c ≡ d
 one_fault_here from part k at c d (inl a) (inl b) = a.3 ∙ ap (λ (code : WireCode). cause_at code (from + at) k) (one_defect_of_varint (drop at part) a.0 b.0 a.2 b.2) ∙ sym b.3
 one_fault_here from part k at c d (inl a) (inr b) = absurd (varint_or_defect part at b.0 b.1 a.0 b.2 a.2)
 one_fault_here from part k at c d (inr a) (inl b) = absurd (varint_or_defect part at a.0 a.1 b.0 a.2 b.2)
@@ -58,8 +58,8 @@ not_past_fault from part k at to longer shorter (n ∷ rest) cause small is list
     absurd (small_or_fault from part k at list.0 n cause list.1 (small_behind longer shorter rest n is small) fault)
 
 -- of two faults behind numbers of one list, that behind small numbers comes first
-first_fault : (from : ℕ) (part : List ℕ) (k at stop : ℕ) (ms ns : List ℕ) (cause : WireCause) → VarintList part 0 ms at → VarintList part 0 ns stop → AreSmall ms → FaultHere from part k stop cause → at ≤ stop
-first_fault from part k at stop ms ns cause first second small fault = elim (one_goes_on part 0 at stop ms ns first second) [
+pub first_fault : (from : ℕ) (part : List ℕ) (k start at stop : ℕ) (ms ns : List ℕ) (cause : WireCause) → VarintList part start ms at → VarintList part start ns stop → AreSmall ms → FaultHere from part k stop cause → at ≤ stop
+first_fault from part k start at stop ms ns cause first second small fault = elim (one_goes_on part start at stop ms ns first second) [
   | inr longer ↦ varints_forward part at stop longer.0 longer.2
   | inl longer ↦
       let none : longer.0 ≡ [] = not_past_fault from part k stop at ms ns longer.0 cause small longer.1 longer.2 fault in
@@ -68,8 +68,8 @@ first_fault from part k at stop ms ns cause first second small fault = elim (one
 ]
 
 -- what a front of numbers that ends where the list ends leaves: nothing
-same_front : (part : List ℕ) (at stop : ℕ) (ms ns : List ℕ) → VarintList part 0 ms at → VarintList part 0 ns stop → at ≡ stop → ms ≡ ns
-same_front part at stop ms ns first second same = one_varint_list part 0 stop ms ns (subst (λ (place : ℕ). VarintList part 0 ms place) same first) second
+pub same_front : (part : List ℕ) (start at stop : ℕ) (ms ns : List ℕ) → VarintList part start ms at → VarintList part start ns stop → at ≡ stop → ms ≡ ns
+same_front part start at stop ms ns first second same = one_varint_list part start stop ms ns (subst (λ (place : ℕ). VarintList part start ms place) same first) second
 
 -- what is wrong with a field of numbers, by its payload
 abbrev pub FaultOf : ℕ → ℕ → Content → List ℕ → WireCause → Type 0
@@ -96,10 +96,10 @@ one_fault_of at k (varint value place) ms ns c d first second small below = (fir
 one_fault_of at k (eight_bytes part) ms ns c d first second small below = (first.0 ∙ sym second.0, first.1 ∙ sym second.1)
 one_fault_of at k (four_bytes part) ms ns c d first second small below = (first.0 ∙ sym second.0, first.1 ∙ sym second.1)
 one_fault_of at k (delimited from part) ms ns c d first second small below =
-    let low = first_fault from part k first.0 second.0 ms ns d first.1 second.1 small second.2 in
-    let high = first_fault from part k second.0 first.0 ns ms c second.1 first.1 below first.2 in
+    let low = first_fault from part k 0 first.0 second.0 ms ns d first.1 second.1 small second.2 in
+    let high = first_fault from part k 0 second.0 first.0 ns ms c second.1 first.1 below first.2 in
     let same : first.0 ≡ second.0 = omega arith in (
-      same_front part first.0 second.0 ms ns first.1 second.1 same,
+      same_front part 0 first.0 second.0 ms ns first.1 second.1 same,
       one_fault_here from part k second.0 c d (subst (λ (place : ℕ). FaultHere from part k place c) same first.2) second.2,
     )
 
@@ -117,7 +117,7 @@ least_fault_of at k (varint value place) ms ns c d first small second = inr (fir
 least_fault_of at k (eight_bytes part) ms ns c d first small second = inr (first.1 ∙ sym second.1)
 least_fault_of at k (four_bytes part) ms ns c d first small second = inr (first.1 ∙ sym second.1)
 least_fault_of at k (delimited from part) ms ns c d first small second =
-    let low = first_fault from part k first.0 second.0 ms ns d first.1 second.1 small second.2 in
+    let low = first_fault from part k 0 first.0 second.0 ms ns d first.1 second.1 small second.2 in
     elim (cases_lt first.0 second.0) [
       | inl less ↦
           let here = place_here from part k first.0 c first.2 in
@@ -131,7 +131,7 @@ least_fault_of at k (delimited from part) ms ns c d first small second =
 -- a field that states small numbers has no fault
 packed_or_fault_here : (from : ℕ) (part : List ℕ) (k stop : ℕ) (ms ns : List ℕ) (cause : WireCause) → VarintList part 0 ms (length part) → AreSmall ms → VarintList part 0 ns stop → FaultHere from part k stop cause → ⊥
 packed_or_fault_here from part k stop ms ns cause whole small list fault =
-    let low = first_fault from part k (length part) stop ms ns cause whole list small fault in
+    let low = first_fault from part k 0 (length part) stop ms ns cause whole list small fault in
     let within = fault_within from part k stop cause fault in
     omega arith
 

@@ -1,9 +1,11 @@
 -- The steps of a walk over numbers.
 use Rattle.std.proofs.Common.{◌≡◌, ℕ, ◌^◌, ◌<◌, ◌≤◌, List, [], ◌∷◌, Option, Some, length, take, refl, ap, subst, arith}
+use Rattle.std.proofs.lemmas.List.{length-take-le}
 use Rattle.std.proofs.lemmas.List.Elements.{All-cons, All-nil}
 use Rattle.mvt_wire.specs.Varint.{SpellsVarint}
 use Rattle.mvt_wire.specs.Numbers.{NumbersEnd, NumberWalk, walk_at, StopsVarints, NumbersLeft, goes_on, stops, GivesNumber, EndsNumbers, LeavesVarints}
 use Rattle.mvt_wire.specs.declared.cause.WireCause.{WireCause}
+use Rattle.mvt_wire.proofs.NumbersLeft.{one_left, some_left, rest_left}
 
 -- at a field all that stands from there on is left
 pub left_from_field : (bytes : List ℕ) (at k : ℕ) (numbers : List ℕ) (ending : Option WireCause) → NumbersEnd bytes at k numbers ending → NumbersLeft (walk_at bytes k at at) numbers ending
@@ -24,8 +26,13 @@ GivesNumber-at old bytes k varint_place field_place at end next n is leaves spel
     let further = leaves.further in
     let left = leaves.left in
     let within = leaves.within in
+    let size = length-take-le end bytes within in
+    let inside = spelled.within in
+    let first : (numbers : List ℕ) (ending : Option WireCause) → NumbersLeft (walk_at bytes k next end) numbers ending → NumbersLeft (walk_at bytes k varint_place field_place) (n ∷ numbers) ending =
+    λ numbers ending after. leaves.same (n ∷ numbers) ending (left-cons bytes k at end next n numbers ending spelled fits after) in
     let given : GivesNumber (walk_at bytes k varint_place field_place) (walk_at bytes k next end) n = record {
-      first = λ numbers ending after. leaves.same (n ∷ numbers) ending (left-cons bytes k at end next n numbers ending spelled fits after);
+      first = first;
+      others = rest_left (walk_at bytes k varint_place field_place) (walk_at bytes k next end) n (some_left bytes k next end (omega arith) within) first;
       small = fits;
       fewer = omega arith;
     } in
@@ -35,7 +42,7 @@ GivesNumber-at old bytes k varint_place field_place at end next n is leaves spel
 pub EndsNumbers-at : (old : NumberWalk) (bytes : List ℕ) (k varint_place field_place : ℕ) (ending : Option WireCause) → walk_at bytes k varint_place field_place ≡ old → NumbersLeft (walk_at bytes k varint_place field_place) [] ending
     → EndsNumbers old (walk_at bytes k (length bytes) (length bytes)) ending
 EndsNumbers-at old bytes k varint_place field_place ending is none =
-    let ended : EndsNumbers (walk_at bytes k varint_place field_place) (walk_at bytes k (length bytes) (length bytes)) ending = record { none = none; over = record { last_varint = refl; last_field = refl } } in
+    let ended : EndsNumbers (walk_at bytes k varint_place field_place) (walk_at bytes k (length bytes) (length bytes)) ending = record { none = none; only = λ numbers other left. one_left (walk_at bytes k varint_place field_place) numbers [] other ending left none; over = record { last_varint = refl; last_field = refl } } in
     subst (λ (walk : NumberWalk). EndsNumbers walk (walk_at bytes k (length bytes) (length bytes)) ending) is ended
 
 -- a fault in the list that is being read

@@ -1,5 +1,5 @@
 -- Where the payloads of a message lie, and lists whose members belong to them in order.
-use Rattle.std.proofs.Common.{◌≡◌, ℕ, zero, suc, ◌+◌, ◌-◌, ◌≤◌, ◌==◌, ◌⊎◌, inl, inr, List, [], ◌∷◌, length, take, slice_get, filter_map, All, Some, refl, sym, ◌∙◌, ap, subst, arith, length-take-le}
+use Rattle.std.proofs.Common.{◌≡◌, ℕ, suc, ◌+◌, ◌-◌, ◌≤◌, ◌==◌, ◌⊎◌, inl, inr, List, [], ◌∷◌, length, take, slice_get, filter_map, All, Some, refl, sym, ◌∙◌, ap, subst, arith, length-take-le}
 use Rattle.std.proofs.lemmas.Bool.{cases_Bool}
 use Rattle.std.proofs.lemmas.List.{length-take}
 use Rattle.std.proofs.lemmas.List.Edits.{length-between}
@@ -53,14 +53,6 @@ begins_within bytes span within =
     let forward = within.forward in
     let size : length (take span.to bytes) ≡ span.to = length-take-le span.to bytes within.inside in
     omega arith
-
--- a member of the first list has one of the second that belongs to it
-pub each_at : {A B : Type 0} (related : A → B → Type 0) (xs : List A) (ys : List B) (i : ℕ) (x : A) → Each related xs ys → slice_get xs i ≡ Some x → (y : B) × related x y
-each_at related [] [] i x each here = absurd (cc)
-each_at related [] (y ∷ ys) i x each here = absurd each
-each_at related (first ∷ xs) [] i x each here = absurd each
-each_at related (first ∷ xs) (y ∷ ys) zero x each here = let same : first ≡ x = cc in (y, subst (λ member. related member y) same each.0)
-each_at related (first ∷ xs) (y ∷ ys) (suc i) x each here = each_at related xs ys i x each.1 here
 
 -- where one thing belongs to a member, one list belongs to a list
 pub one_each : {A B : Type 0} (related : A → B → Type 0) → ((x : A) (y z : B) → related x y → related x z → y ≡ z) → (xs : List A) (ys zs : List B) → Each related xs ys → Each related xs zs → ys ≡ zs

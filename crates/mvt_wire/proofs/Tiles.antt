@@ -14,9 +14,10 @@ use Rattle.mvt_wire.specs.declared.scope.Scope.{Scope}
 use Rattle.mvt_wire.specs.declared.scope.Scope.TheVariants.{Tile, Layer, Value, Feature}
 use Rattle.mvt_wire.proofs.Contents.{one_number, one_text}
 use Rattle.mvt_wire.proofs.Judgements.{message_judged, message_or_fault}
+use Rattle.mvt_wire.proofs.Members.{each_there}
 use Rattle.mvt_wire.proofs.Messages.{one_list}
 use Rattle.mvt_wire.proofs.Records.{feature_or_fault, one_feature, value_or_fault, one_value_record}
-use Rattle.mvt_wire.proofs.Spans.{Within, spans_within, begins_within, each_at, one_each, each_or_bad}
+use Rattle.mvt_wire.proofs.Spans.{Within, spans_within, begins_within, one_each, each_or_bad}
 
 -- a stretch is faulty as a message
 abbrev pub SpanFault : Message → List ℕ → Span → Type 0
@@ -104,7 +105,7 @@ tile_or_fault bytes = elim (message_judged messages.Tile (take (length bytes) by
 ]
 
 -- a part of a message lies where its field list says
-part_here : (bytes : List ℕ) (outer : Span) (field_number ordinal : ℕ) (span : Span) (entries : List Entry) → IsMessageAt bytes outer entries → IsPart bytes outer field_number ordinal span → slice_get (spans_of field_number entries) ordinal ≡ Some span
+pub part_here : (bytes : List ℕ) (outer : Span) (field_number ordinal : ℕ) (span : Span) (entries : List Entry) → IsMessageAt bytes outer entries → IsPart bytes outer field_number ordinal span → slice_get (spans_of field_number entries) ordinal ≡ Some span
 part_here bytes outer field_number ordinal span entries whole part =
     let same : entries ≡ part.entries = one_list (take outer.to bytes) outer.from entries part.entries whole part.whole in
     ap (λ (es : List Entry). slice_get (spans_of field_number es) ordinal) same ∙ part.here
@@ -112,7 +113,8 @@ part_here bytes outer field_number ordinal span entries whole part =
 -- the layer of a tile that a part is
 layer_at : (bytes : List ℕ) (tile : TileRecord) (ordinal : ℕ) (span : Span) → IsTile bytes tile → IsPart bytes (whole_span bytes) 3 ordinal span → (layer : LayerRecord) × IsLayer bytes span layer
 layer_at bytes tile ordinal span is part =
-    each_at (IsLayer bytes) (spans_of 3 is.entries) tile.layers ordinal span is.layers (part_here bytes (whole_span bytes) 3 ordinal span is.entries is.whole part)
+    let member = each_there (IsLayer bytes) (spans_of 3 is.entries) tile.layers ordinal span is.layers (part_here bytes (whole_span bytes) 3 ordinal span is.entries is.whole part) in
+    (member.0, member.2)
 
 -- a stretch that keeps a schema is not faulty
 stretch_or_fault : (message : Message) (bytes : List ℕ) (span : Span) (entries : List Entry) (cause : WireCause) → IsMessageAt bytes span entries → KeepsSchema message entries → MessageFault message (take span.to bytes) span.from cause → ⊥
@@ -127,12 +129,12 @@ no_scope_fault bytes tile (Layer layer) span cause is there fault =
 no_scope_fault bytes tile (Value layer value) span cause is there fault =
     let outer = (layer_at bytes tile layer there.0 is there.1).1 in
     let here = part_here bytes there.0 4 value span outer.entries outer.whole there.2 in
-    let held = (each_at (IsValue bytes) (spans_of 4 outer.entries) _ value span outer.values here).1 in
+    let held = (each_there (IsValue bytes) (spans_of 4 outer.entries) _ value span outer.values here).2 in
     stretch_or_fault messages.Value bytes span held.entries cause held.whole held.keeps fault
 no_scope_fault bytes tile (Feature layer feature) span cause is there fault =
     let outer = (layer_at bytes tile layer there.0 is there.1).1 in
     let here = part_here bytes there.0 2 feature span outer.entries outer.whole there.2 in
-    let held = (each_at (IsFeature bytes) (spans_of 2 outer.entries) _ feature span outer.features here).1 in
+    let held = (each_there (IsFeature bytes) (spans_of 2 outer.entries) _ feature span outer.features here).2 in
     stretch_or_fault messages.Feature bytes span held.entries cause held.whole held.keeps fault
 
 -- bytes that are a tile have no wire fault

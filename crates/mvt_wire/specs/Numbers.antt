@@ -140,15 +140,17 @@ pub record HasEnded (walk : NumberWalk) : Type 0 where
   pub last_varint : walk.varint_at ≡ length walk.bytes
   pub last_field : walk.field_at ≡ length walk.bytes
 
--- a number of 32 bits was given, and stood before all that is left
+-- a number of 32 bits was given: it stood before all that is left, and of all that was left it was the first
 pub record GivesNumber (old new : NumberWalk) (n : ℕ) : Type 0 where
   pub first : (numbers : List ℕ) (ending : Option WireCause) → NumbersLeft new numbers ending → NumbersLeft old (n ∷ numbers) ending
+  pub others : (numbers : List ℕ) (ending : Option WireCause) → NumbersLeft old numbers ending → (rest : List ℕ) × (numbers ≡ n ∷ rest) × NumbersLeft new rest ending
   pub small : n < 2 ^ 32
   pub fewer : most_left new < most_left old
 
--- no number was left, and the walk is over
+-- no number was left, with this ending and no other, and the walk is over
 pub record EndsNumbers (old new : NumberWalk) (ending : Option WireCause) : Type 0 where
   pub none : NumbersLeft old [] ending
+  pub only : (numbers : List ℕ) (other : Option WireCause) → NumbersLeft old numbers other → (numbers ≡ []) × (other ≡ ending)
   pub over : HasEnded new
 
 -- all that was left is left from the varint on that stands at a place of a list

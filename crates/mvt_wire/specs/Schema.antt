@@ -8,14 +8,58 @@ use Rattle.mvt_wire.specs.declared.schema.Shape.TheVariants.{Embedded, Text, Fou
 use Rattle.mvt_wire.specs.declared.schema.Occurrence.{Occurrence}
 use Rattle.mvt_wire.specs.declared.schema.Occurrence.TheVariants.{AnyNumber, AtLeastOnce, AtMostOnce, Once}
 use Rattle.mvt_wire.specs.declared.schema.FieldRule.{FieldRule}
-use Rattle.mvt_wire.specs.declared.schema.TheConstants.{TILE_FIELDS, LAYER_FIELDS, VALUE_FIELDS, FEATURE_FIELDS}
+
+-- The fields that each message knows, by its name in vector_tile.proto. The program has these four tables too, and its
+-- contracts compare them with these.
+
+-- one line of a table: the fields of this number are of this shape, and so of its wire types (`is_own`), and stand this often
+abbrev pub field_rule : ℕ → Shape → Occurrence → FieldRule
+field_rule field_number shape occurrence = record { number = field_number; shape = shape; occurrence = occurrence }
+
+-- the fields of a tile (section 4)
+abbrev pub tile_fields : List FieldRule
+tile_fields =
+    field_rule 3 Embedded AnyNumber  -- layers
+    ∷ []
+
+-- the fields of a layer (section 4.1)
+abbrev pub layer_fields : List FieldRule
+layer_fields =
+    field_rule 1 Text Once  -- name
+    ∷ field_rule 2 Embedded AnyNumber  -- features
+    ∷ field_rule 3 Text AnyNumber  -- keys
+    ∷ field_rule 4 Embedded AnyNumber  -- values
+    ∷ field_rule 5 Uint32 AtMostOnce  -- extent
+    ∷ field_rule 15 Uint32 Once  -- version
+    ∷ []
+
+-- the fields of a value, of which it has just one (section 4.4)
+abbrev pub value_fields : List FieldRule
+value_fields =
+    field_rule 1 Text AtMostOnce  -- string_value
+    ∷ field_rule 2 FourBytes AtMostOnce  -- float_value
+    ∷ field_rule 3 EightBytes AtMostOnce  -- double_value
+    ∷ field_rule 4 Uint64 AtMostOnce  -- int_value
+    ∷ field_rule 5 Uint64 AtMostOnce  -- uint_value
+    ∷ field_rule 6 Uint64 AtMostOnce  -- sint_value
+    ∷ field_rule 7 Uint64 AtMostOnce  -- bool_value
+    ∷ []
+
+-- the fields of a feature (section 4.2)
+abbrev pub feature_fields : List FieldRule
+feature_fields =
+    field_rule 1 Uint64 AtMostOnce  -- id
+    ∷ field_rule 2 Numbers AnyNumber  -- tags
+    ∷ field_rule 3 GeometryType Once  -- type
+    ∷ field_rule 4 Numbers AtLeastOnce  -- geometry
+    ∷ []
 
 -- the fields that a message knows
 abbrev pub rules_of : Message → List FieldRule
-rules_of Tile = TILE_FIELDS
-rules_of Layer = LAYER_FIELDS
-rules_of Value = VALUE_FIELDS
-rules_of Feature = FEATURE_FIELDS
+rules_of Tile = tile_fields
+rules_of Layer = layer_fields
+rules_of Value = value_fields
+rules_of Feature = feature_fields
 
 -- the first rule for a field number
 abbrev pub find_rule : List FieldRule → ℕ → Option FieldRule

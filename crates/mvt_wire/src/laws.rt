@@ -7,12 +7,16 @@ ghost use Rattle.mvt_wire.specs.Varint.{sum_of_groups, IsVarint, SpellsVarint, V
 ghost use Rattle.mvt_wire.specs.Field.{Entry, IsField, IsFieldSpelling};
 ghost use Rattle.mvt_wire.specs.Message.{FieldList, IsMessage, AreSpellings, HasDefect};
 ghost use Rattle.mvt_wire.specs.WireFault.{WireFault};
-ghost use Rattle.mvt_wire.specs.Tile.{TileRecord, IsTile};
+ghost use Rattle.mvt_wire.specs.Scope.{Span};
+ghost use Rattle.mvt_wire.specs.Tile.{FeatureRecord, IsFeature, TileRecord, IsTile};
 ghost use Rattle.mvt_wire.specs.Number.{VarintList, AreSmall, PackedFault};
 ghost use Rattle.mvt_wire.specs.Numbers.{IsNumbersFault, NumbersEnd, IsNumberAt, StandBetween, place_of_end};
 ghost use Rattle.mvt_wire.specs.declared.cause.WireCause.{WireCause};
 ghost use Rattle.mvt_wire.specs.declared.cause.WireCode.{WireCode};
 ghost use Rattle.mvt_wire.specs.declared.scope.Scope.{Scope};
+
+pub mod geometry;
+pub mod messages;
 
 /// No spelling of a varint is a proper front of another one (Protocol Buffers encoding, "Base 128
 /// Varints").
@@ -137,6 +141,16 @@ pub fn numbers_end_at_least_fault()
 pub fn numbers_stand_before_end()
     ensures { (bytes : List ℕ) (from field_number : ℕ) (numbers : List ℕ) (ending : Option WireCause) →
         NumbersEnd bytes from field_number numbers ending → StandBetween (IsNumberAt bytes from field_number) from numbers (place_of_end bytes ending) }
+{}
+
+/// The tags and the geometry of a feature are the numbers of its fields 2 and 4, which end with the
+/// whole message: a walk over these fields has just these numbers left (Mapbox Vector Tile
+/// Specification 2.1, section 4.2).
+pub fn feature_numbers_end()
+    ensures tags { (bytes : List ℕ) (span : Span) (feature : FeatureRecord) →
+        IsFeature bytes span feature → NumbersEnd (take span.to bytes) span.from 2 feature.tags None }
+    ensures geometry { (bytes : List ℕ) (span : Span) (feature : FeatureRecord) →
+        IsFeature bytes span feature → NumbersEnd (take span.to bytes) span.from 4 feature.geometry None }
 {}
 
 /// Bytes are a tile, or have a wire fault, and not both (Mapbox Vector Tile Specification 2.1,

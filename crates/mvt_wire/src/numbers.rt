@@ -1,4 +1,4 @@
-ghost use Rattle.std.specs.Prelude.{◌≡◌, ℕ, List, [], ◌<◌, ◌≤◌, ◌^◌, length, take, Option, Some, None, IsNone, IfSome, IfNone, IfOk, IfErr};
+ghost use Rattle.std.specs.Prelude.{◌≡◌, ◌↔◌, ℕ, List, [], ◌<◌, ◌≤◌, ◌^◌, length, take, Option, Some, None, IsNone, IfSome, IfNone, IfOk, IfErr};
 ghost use Rattle.mvt_wire.specs.Varint.{SpellsVarint};
 ghost use Rattle.mvt_wire.specs.Numbers.{NumbersEnd, NumberWalk, walk_at, StopsVarints, NumbersLeft, HasEnded, GivesNumber, EndsNumbers, LeavesVarints};
 ghost use Rattle.mvt_wire.specs.declared.cause.WireCause.{WireCause};
@@ -46,7 +46,7 @@ impl<'a> Numbers<'a> {
         requires forward { from ≤ to }
         requires within { to ≤ length bytes.now }
         ensures { (numbers : List ℕ) (ending : Option WireCause) →
-            NumbersLeft result numbers ending → NumbersEnd (take to bytes.entry.now) from number numbers ending }
+            NumbersLeft result numbers ending ↔ NumbersEnd (take to bytes.entry.now) from number numbers ending }
     {
         Numbers {
             bytes: &bytes[..to],
@@ -106,7 +106,7 @@ fn no_varints(at: usize) -> Varints
 }
 
 /// The varints that come next: those left of a list, or else those of the next field that has the
-/// field number and any.
+/// field number and states at least one number.
 #[inline(always)]
 fn varints_left(
     bytes: &[u8],
@@ -128,7 +128,7 @@ fn varints_left(
     next_varints(bytes, field_number, varints.end)
 }
 
-/// The varints of the next field that has the field number and any.
+/// The varints of the next field that has the field number and states at least one number.
 #[inline(never)]
 fn next_varints(bytes: &[u8], field_number: u32, from: usize) -> Option<Result<Varints, WireCause>>
     requires { from ≤ length bytes.now }

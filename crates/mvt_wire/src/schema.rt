@@ -1,5 +1,6 @@
-//! The messages of a tile and the fields that they know, as one table (Mapbox Vector Tile
-//! Specification 2.1, section 4 and its `vector_tile.proto`). Code and definitions read it.
+//! The messages of a tile and the fields that they know, as tables (Mapbox Vector Tile
+//! Specification 2.1, section 4 and its `vector_tile.proto`). The definitions have these tables
+//! once more, written out to be read, and the contracts of `Message` compare the two.
 ghost use Rattle.std.specs.Prelude.{◌≡◌};
 ghost use Rattle.mvt_wire.specs.Schema.{rules_of, rule_of, find_rule, is_own, is_out_of_range, is_singular, is_required};
 
@@ -88,7 +89,7 @@ pub const LAYER_FIELDS: [FieldRule; 6] = rules![
 
 /// The fields of a value, of which it has just one (section 4.4).
 pub const VALUE_FIELDS: [FieldRule; 7] = rules![
-    1 Text AtMostOnce,
+    1 Text AtMostOnce, // string
     2 FourBytes AtMostOnce, // float
     3 EightBytes AtMostOnce, // double
     4 Uint64 AtMostOnce, // int64

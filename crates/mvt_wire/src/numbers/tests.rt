@@ -1,4 +1,39 @@
+ghost use Rattle.std.specs.Prelude.{◌≡◌, ℕ, List, Option, slice_get};
+ghost use Rattle.mvt_wire.specs.Numbers.{NumbersEnd};
+ghost use Rattle.mvt_wire.specs.declared.cause.WireCause.{WireCause};
+
 use crate::{Numbers, WireCause, WireCode};
+
+/// The number at an index, of those that the fields of a field number state. It stops there: what
+/// the cursor says of its steps suffices to know which number that is.
+fn number_at(bytes: &[u8], field_number: u32, index: usize) -> Option<u32>
+    ensures { (numbers : List ℕ) (ending : Option WireCause) →
+        NumbersEnd bytes.now 0 field_number numbers ending → result ≡ slice_get numbers index }
+{
+    let mut numbers = Numbers::new(bytes, 0, bytes.len(), field_number);
+    'passed: for _ in 0..index {
+        match numbers.next_number() {
+            Some(Ok(_)) => {}
+            Some(Err(_)) => return None,
+            None => return None,
+        }
+    }
+    match numbers.next_number() {
+        Some(Ok(number)) => Some(number),
+        Some(Err(_)) => None,
+        None => None,
+    }
+}
+
+// Numbers of a message with two packed lists and a single number, and one that isn't there.
+#[test]
+fn numbers_by_index(rt: HostRuntime) {
+    let bytes = b"\x22\x02\x09\x32\x20\x22\x22\x01\x0f";
+    let wanted = [Some(9), Some(50), Some(34), Some(15), None];
+    for (index, want) in wanted.into_iter().enumerate() {
+        assert_eq!(rt; number_at(bytes, 4, index), want, "at {index}");
+    }
+}
 
 // The features of tiles with one layer, up to the end of the input: field 2 has the tags, field 4
 // the geometry. Bytes from a place on, field number, numbers.
