@@ -12,11 +12,11 @@ abbrev pub apart : Bool → Bool → Bool
 apart x y = not (beq x y)
 
 -- a test that fails doesn't hold
-no_truth : IsTrue false → ⊥
+pub no_truth : IsTrue false → ⊥
 no_truth impossible = cc
 
 -- one of two facts holds and not the other, where their tests differ
-parts_differ : (x y : Bool) (First Second : Type 0) → (IsTrue x ↔ First) → (IsTrue y ↔ Second) → IsTrue (apart x y) ↔ Differ First Second
+pub parts_differ : (x y : Bool) (First Second : Type 0) → (IsTrue x ↔ First) → (IsTrue y ↔ Second) → IsTrue (apart x y) ↔ Differ First Second
 parts_differ true true First Second first second = (λ impossible. absurd (no_truth impossible), refuse)
   where
     refuse : Differ First Second → IsTrue false
@@ -31,7 +31,7 @@ parts_differ false false First Second first second = (λ impossible. absurd (no_
     refuse (inr (_, it)) = second.1 it
 
 -- it doesn't matter which two come first
-apart_assoc : (x y z : Bool) → apart (apart x y) z ≡ apart x (apart y z)
+pub apart_assoc : (x y z : Bool) → apart (apart x y) z ≡ apart x (apart y z)
 apart_assoc true true true = refl
 apart_assoc true true false = refl
 apart_assoc true false true = refl

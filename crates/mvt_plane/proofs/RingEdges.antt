@@ -1,6 +1,7 @@
 -- The edges of a ring by their numbers, and the vertex that two of them share.
-use Rattle.std.proofs.Common.{◌≡◌, ◌≢◌, ℕ, zero, suc, ◌⊎◌, inl, inr, ◌==◌, List, [], ◌∷◌, length, slice_get, Some, refl, sym, ◌∙◌, ap, arith}
+use Rattle.std.proofs.Common.{◌≡◌, ◌≢◌, ◌<◌, ℕ, zero, suc, ◌⊎◌, inl, inr, ◌==◌, List, [], ◌∷◌, length, slice_get, Some, refl, sym, ◌∙◌, ap, arith}
 use Rattle.std.proofs.lemmas.Bool.{eq-eqb, ne_eqb, cond-true, cond-false}
+use Rattle.std.proofs.lemmas.Bool.Decides.{nat_tests}
 use Rattle.mvt_plane.specs.Position.{Position}
 use Rattle.mvt_plane.specs.RationalPoint.{RationalPoint}
 use Rattle.mvt_plane.specs.Ring.{edges_through, edges, next_round}
@@ -67,6 +68,29 @@ ends_of_edge (first ∷ rest) number edge here =
 pub shared_either_way : (rings : List (List Position)) (first second : EdgeNumber) (vertex : Position) → IsShared rings first second vertex → IsShared rings second first vertex
 shared_either_way rings first second vertex (forward follows) = backward follows
 shared_either_way rings first second vertex (backward follows) = forward follows
+
+-- of three vertices or more, an edge doesn't both follow another and come before it
+follows_one_way : (count first second : ℕ) → 2 < count → second ≡ next_round count first → first ≡ next_round count second → ⊥
+follows_one_way count first second several next before = grind (arith, nat_tests)
+
+-- so two edges share at most one vertex
+pub one_shared_vertex : (rings : List (List Position)) (first second : EdgeNumber) (ring : List Position) (vertex other : Position) → slice_get rings first.ring ≡ Some ring → 2 < length ring → IsShared rings first second vertex → IsShared rings first second other → vertex ≡ other
+one_shared_vertex rings first second ring vertex other there several (forward follows) (forward its) =
+    let one : follows.ring ≡ ring = cc in
+    let same : its.ring ≡ ring = cc in
+    cc
+one_shared_vertex rings first second ring vertex other there several (backward follows) (backward its) =
+    let one : follows.ring ≡ ring = cc in
+    let same : its.ring ≡ ring = cc in
+    cc
+one_shared_vertex rings first second ring vertex other there several (forward follows) (backward its) =
+    let one : follows.ring ≡ ring = cc in
+    let same : its.ring ≡ ring = cc in
+    absurd (follows_one_way (length ring) first.edge second.edge several (cc) (cc))
+one_shared_vertex rings first second ring vertex other there several (backward follows) (forward its) =
+    let one : follows.ring ≡ ring = cc in
+    let same : its.ring ≡ ring = cc in
+    absurd (follows_one_way (length ring) first.edge second.edge several (cc) (cc))
 
 -- so is a wrong meeting
 pub meets_either_way : (rings : List (List Position)) (first second : EdgeNumber) (point : RationalPoint) → MeetsWrongly rings first second point → MeetsWrongly rings second first point

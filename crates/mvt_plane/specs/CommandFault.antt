@@ -18,6 +18,7 @@ pub record Word : Type 0 where
   pub part : Part
   pub number : ℕ
 
+-- the word of these two
 abbrev pub word : Part → ℕ → Word
 word part number = record { part = part; number = number }
 
@@ -81,7 +82,7 @@ LeavesRange from number = (step : ℤ) × (zigzag step ≡ number) × ¬ IsCoord
 pub data Applies : Part → ℕ → ℕ → Type 0 where
   -- another command than the one that is due
   other_command : (id number : ℕ) → number % 8 ≢ id → Applies (command id) number 401
-  -- the command that is due, so that its count isn't allowed
+  -- the id that is due, with a count that isn't allowed
   other_count : (id number : ℕ) → number % 8 ≡ id → Applies (command id) number 402
   greatest_x : (from : ℤ) → Applies (x_of_step from) greatest_parameter 404
   greatest_y : (id : ℕ) (from : ℤ) (x : ℕ) → Applies (y_of_step id from x) greatest_parameter 404

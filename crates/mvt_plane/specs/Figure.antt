@@ -27,13 +27,15 @@ abbrev pub zigzag : ℤ → ℕ
 zigzag (pos n) = 2 * n
 zigzag (negsuc n) = 2 * n + 1
 
--- the ids of the commands (section 4.3.3)
+-- the id of the command that moves the cursor (section 4.3.3.1)
 abbrev pub move_to : ℕ
 move_to = 1
 
+-- the id of the command that draws lines (section 4.3.3.2)
 abbrev pub line_to : ℕ
 line_to = 2
 
+-- the id of the command that closes a ring (section 4.3.3.3)
 abbrev pub close_path : ℕ
 close_path = 7
 

@@ -2,6 +2,7 @@ pub mod Bound
 pub mod CommandFault
 pub mod CommonPoint
 pub mod Counted
+pub mod Course
 pub mod Drawing
 pub mod Examples
 pub mod Figure
@@ -10,7 +11,9 @@ pub mod Inside
 pub mod Measure
 pub mod Meeting
 pub mod Nesting
+pub mod Part
 pub mod Polygon
 pub mod Position
 pub mod RationalPoint
+pub mod Reading
 pub mod Ring

@@ -1,6 +1,6 @@
 -- Edges that meet where they may not (Mapbox Vector Tile Specification 2.1, section 4.3.4.4): the rings of a polygon don't
 -- cross, and by this project's choice they don't touch either, not even in one vertex.
-use Rattle.std.specs.Prelude.{◌≡◌, ◌≢◌, ℕ, List, length, slice_get, Some}
+use Rattle.std.specs.Prelude.{◌≡◌, ◌≢◌, ◌<◌, ◌⊎◌, ℕ, List, length, slice_get, Some}
 use Rattle.mvt_plane.specs.Position.{Position}
 use Rattle.mvt_plane.specs.RationalPoint.{RationalPoint, LiesOn, IsAt}
 use Rattle.mvt_plane.specs.Ring.{edges, next_round}
@@ -10,6 +10,10 @@ use Rattle.mvt_plane.specs.declared.edge.Edge.{Edge}
 pub record EdgeNumber : Type 0 where
   pub ring : ℕ
   pub edge : ℕ
+
+-- the edge comes before another: by its ring, and in one ring by its own number
+abbrev pub ComesBefore : EdgeNumber → EdgeNumber → Type 0
+ComesBefore first second = (first.ring < second.ring) ⊎ ((first.ring ≡ second.ring) × (first.edge < second.edge))
 
 -- the edge of this number
 pub record IsEdgeOf (rings : List (List Position)) (number : EdgeNumber) (it : Edge) : Type 0 where

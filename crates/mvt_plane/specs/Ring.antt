@@ -35,9 +35,9 @@ area_of_edges (edge ∷ rest) = edge_area edge +ℤ area_of_edges rest
 abbrev pub doubled_area : List Position → ℤ
 doubled_area ring = area_of_edges (edges ring)
 
--- Rings that are none
+-- Rings with a fault of their own
 
--- the ring of this number ends in the position where it begins, which ClosePath adds anyway
+-- the last position of the ring of this number is its first one, to which ClosePath leads anyway
 pub record EndsAtItsBeginning (rings : List (List Position)) (number : ℕ) : Type 0 where
   pub ring : List Position
   pub there : slice_get rings number ≡ Some ring
@@ -57,6 +57,12 @@ pub record BeginsWithHole (rings : List (List Position)) (number : ℕ) : Type 0
   pub ring : List Position
   pub there : slice_get rings number ≡ Some ring
   pub negative : doubled_area ring <ℤ pos 0
+
+-- the ring of this number has the fault of this code
+pub data BreaksRings (rings : List (List Position)) (code ring : ℕ) : Type 0 where
+  ends_at_its_beginning : code ≡ 501 → EndsAtItsBeginning rings ring → BreaksRings rings code ring
+  no_area : code ≡ 502 → HasNoArea rings ring → BreaksRings rings code ring
+  begins_with_hole : code ≡ 503 → BeginsWithHole rings ring → BreaksRings rings code ring
 
 -- no ring has any of these faults
 pub record ArePolygonRings (rings : List (List Position)) : Type 0 where

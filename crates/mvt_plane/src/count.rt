@@ -20,7 +20,7 @@ impl Model for Count {
 }
 
 impl Count {
-    ghost use Rattle.std.specs.Prelude.{◌≡◌};
+    ghost use Rattle.std.specs.Prelude.{◌≡◌, ◌≤◌};
     ghost use Rattle.mvt_plane.specs.Counted.{Counted, ticked};
 
     /// Nothing is counted yet.
@@ -58,6 +58,7 @@ impl Count {
     /// Counts a test of two edges.
     pub fn tick_test(&mut self)
         ensures tests { self.new.tests ≡ ticked self.old.tests }
+        ensures no_fewer { self.old.tests ≤ self.new.tests }
         ensures probes { self.new.probes ≡ self.old.probes }
         ensures visits { self.new.visits ≡ self.old.visits }
     {

@@ -1,11 +1,11 @@
-ghost use Rattle.std.specs.Prelude.{◌≡◌, ◌↔◌, IsTrue, ℤ, pos, ◌<ℤ◌, ◌≤ℤ◌, ◌+ℤ◌, ◌-ℤ◌, ◌*ℤ◌, ◌^◌, nat_abs};
+ghost use Rattle.std.specs.Prelude.{◌≡◌, ◌↔◌, ◌≤◌, IsTrue, IfSome, ℤ, pos, ◌<ℤ◌, ◌≤ℤ◌, ◌+ℤ◌, ◌-ℤ◌, ◌*ℤ◌, ◌^◌, nat_abs};
 ghost use Rattle.std.specs.Ordering.{int_cmp};
 ghost use Rattle.mvt_plane.specs.Bound.{IsWithin};
 ghost use Rattle.mvt_plane.specs.CommonPoint.{IsNamed, cross_product};
 ghost use Rattle.mvt_plane.specs.Counted.{ticked};
 ghost use Rattle.mvt_plane.specs.Measure.{orientation, AreOpposite};
 ghost use Rattle.mvt_plane.specs.Position.{Position, IsCoordinate};
-ghost use Rattle.mvt_plane.specs.RationalPoint.{RationalPoint, LiesOn, IsAt, IsBetween, whole};
+ghost use Rattle.mvt_plane.specs.RationalPoint.{RationalPoint, LiesOn, IsAt, IsBetween, IsBounded, whole};
 
 use crate::count::Count;
 use crate::edge::{Edge, x_offset, y_offset};
@@ -22,7 +22,9 @@ use std::cmp::Ordering;
 /// 4.3.4.4). It counts as one test.
 pub fn common(e: Edge, f: Edge, shared: Option<Point>, count: &mut Count) -> Option<Hpoint>
     ensures point { IsNamed shared e f result }
+    ensures bounded { IfSome result IsBounded }
     ensures tests { count.new.tests ≡ ticked count.old.tests }
+    ensures no_fewer { count.old.tests ≤ count.new.tests }
     ensures probes { count.new.probes ≡ count.old.probes }
     ensures visits { count.new.visits ≡ count.old.visits }
 {
@@ -102,7 +104,8 @@ fn is_between(from: i32, to: i32, z: i32) -> bool
 
 /// A position as a rational point.
 fn at(position: Point) -> Hpoint
-    ensures { result ≡ whole position }
+    ensures value { result ≡ whole position }
+    ensures bounded { IsBounded result }
 {
     Hpoint::new(i128::from(position.x()), i128::from(position.y()), 1).unwrap()
 }
@@ -115,6 +118,7 @@ fn crossing(a: Point, b: Point, c: Point, d: Point) -> Hpoint
     ensures on_first { LiesOn result (record { a = a; b = b }) }
     ensures on_second { LiesOn result (record { a = c; b = d }) }
     ensures size { result.w ≡ pos (nat_abs (cross_product (record { a = a; b = b }) (record { a = c; b = d }))) }
+    ensures bounded { IsBounded result }
 {
     let w = cross_size(a, b, c, d);
     let weight_b = cross_size(c, d, c, a);
@@ -137,7 +141,8 @@ fn mean(a: Point, b: Point, weight_a: i128, weight_b: i128) -> Hpoint
     requires b_sign { pos 0 ≤ℤ weight_b }
     requires some { pos 1 ≤ℤ (weight_a +ℤ weight_b) }
     requires bound { (weight_a +ℤ weight_b) ≤ℤ pos (2 ^ 63) }
-    ensures { result ≡ record { x = weight_a *ℤ a.x +ℤ weight_b *ℤ b.x; y = weight_a *ℤ a.y +ℤ weight_b *ℤ b.y; w = weight_a +ℤ weight_b } }
+    ensures value { result ≡ record { x = weight_a *ℤ a.x +ℤ weight_b *ℤ b.x; y = weight_a *ℤ a.y +ℤ weight_b *ℤ b.y; w = weight_a +ℤ weight_b } }
+    ensures bounded { IsBounded result }
 {
     let x = weighted_sum(weight_a, a.x(), weight_b, b.x());
     let y = weighted_sum(weight_a, a.y(), weight_b, b.y());

@@ -1,7 +1,9 @@
 //! The laws of rings and polygons (section 4.3.4.4).
 
-ghost use Rattle.std.specs.Prelude.{◌≡◌, ℕ, ◌<◌, List, length, slice_get, Some};
-ghost use Rattle.mvt_plane.specs.Meeting.{EdgeNumber, IsShared, MeetsWrongly};
+ghost use Rattle.std.specs.Prelude.{◌≡◌, ◌↔◌, ℕ, ◌+◌, ◌-◌, ◌<◌, ◌≤◌, List, length, slice_get, Some};
+ghost use Rattle.mvt_plane.specs.Meeting.{EdgeNumber, IsEdgeOf, IsShared, MeetsWrongly};
+ghost use Rattle.mvt_plane.specs.Nesting.{IsOutside, IsInHole};
+ghost use Rattle.mvt_plane.specs.Part.{part_of, within_part, in_whole};
 ghost use Rattle.mvt_plane.specs.Polygon.{PolygonRings, IsPolygon, IsRingOf};
 ghost use Rattle.mvt_plane.specs.Position.{Position};
 ghost use Rattle.mvt_plane.specs.RationalPoint.{RationalPoint};
@@ -38,4 +40,26 @@ pub fn one_polygon_a_ring()
         IsPolygon rings polygon it → IsRingOf it ring → IsPolygon rings other its → IsRingOf its ring → (polygon ≡ other) × (it ≡ its) }
     ensures numbered { (rings : List (List Position)) (polygon : ℕ) (it its : PolygonRings) →
         IsPolygon rings polygon it → IsPolygon rings polygon its → it ≡ its }
+{}
+
+/// Where some of the rings, from one up to another, are handed on alone, their numbers begin with 0. What is
+/// said of the part is said of the whole, with the number of the part's first ring added to those of rings.
+pub fn a_part_of_rings()
+    ensures count { (rings : List (List Position)) (it : PolygonRings) → it.after ≤ length rings → length (part_of rings it) ≡ it.after - it.exterior }
+    ensures ring { (rings : List (List Position)) (it : PolygonRings) (ring : ℕ) → ring < it.after - it.exterior →
+        slice_get (part_of rings it) ring ≡ slice_get rings (it.exterior + ring) }
+    ensures edge { (rings : List (List Position)) (it : PolygonRings) (number : EdgeNumber) (edge : Edge) → number.ring < it.after - it.exterior →
+        IsEdgeOf (part_of rings it) number edge ↔ IsEdgeOf rings (in_whole it.exterior number) edge }
+    ensures shared { (rings : List (List Position)) (it : PolygonRings) (first second : EdgeNumber) (vertex : Position) →
+        first.ring < it.after - it.exterior → second.ring < it.after - it.exterior →
+        IsShared (part_of rings it) first second vertex ↔ IsShared rings (in_whole it.exterior first) (in_whole it.exterior second) vertex }
+    ensures meeting { (rings : List (List Position)) (it : PolygonRings) (first second : EdgeNumber) (point : RationalPoint) →
+        first.ring < it.after - it.exterior → second.ring < it.after - it.exterior →
+        MeetsWrongly (part_of rings it) first second point ↔ MeetsWrongly rings (in_whole it.exterior first) (in_whole it.exterior second) point }
+    ensures outside { (rings : List (List Position)) (it : PolygonRings) (ring vertex : ℕ) →
+        IsOutside (part_of rings it) (within_part it) ring vertex ↔ IsOutside rings it (it.exterior + ring) vertex }
+    ensures in_hole { (rings : List (List Position)) (it : PolygonRings) (ring vertex other : ℕ) →
+        IsInHole (part_of rings it) (within_part it) ring vertex other ↔ IsInHole rings it (it.exterior + ring) vertex (it.exterior + other) }
+    ensures numbered { (it : PolygonRings) (ring : ℕ) → IsRingOf it ring →
+        (own : ℕ) × (own < it.after - it.exterior) × (ring ≡ it.exterior + own) }
 {}

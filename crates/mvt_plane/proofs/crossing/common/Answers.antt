@@ -26,14 +26,14 @@ pub returns-then-touches-clause-point : goal.returns-then-touches-clause-point
 returns-then-touches-clause-point c =
     let e = c.args.e in
     let f = c.args.f in
-    first_a (ap Some c.at.ensures) (common_by_first_a c.args.shared e f c.touches.result c.touches.ensures c.if-touches.true)
+    first_a (ap Some c.at.ensures.value) (common_by_first_a c.args.shared e f c.touches.result c.touches.ensures c.if-touches.true)
 
 pub returns-then-touches-2-clause-point : goal.returns-then-touches-2-clause-point
 returns-then-touches-2-clause-point c =
     let e = c.args.e in
     let f = c.args.f in
     let a = first_not_common c.args.shared e f c.touches.result e.a c.touches.ensures c.if-touches.false in
-    first_b (ap Some c.at-then-touches-2.ensures) (common_by_first_b c.args.shared e f c.touches-2.result c.touches-2.ensures c.if-touches-2.true) a
+    first_b (ap Some c.at-then-touches-2.ensures.value) (common_by_first_b c.args.shared e f c.touches-2.result c.touches-2.ensures c.if-touches-2.true) a
 
 pub returns-then-touches-3-clause-point : goal.returns-then-touches-3-clause-point
 returns-then-touches-3-clause-point c =
@@ -41,7 +41,7 @@ returns-then-touches-3-clause-point c =
     let f = c.args.f in
     let a = first_not_common c.args.shared e f c.touches.result e.a c.touches.ensures c.if-touches.false in
     let b = first_not_common c.args.shared e f c.touches-2.result e.b c.touches-2.ensures c.if-touches-2.false in
-    second_a (ap Some c.at-then-touches-3.ensures) (common_by_second_a c.args.shared e f c.touches-3.result c.touches-3.ensures c.if-touches-3.true) a b
+    second_a (ap Some c.at-then-touches-3.ensures.value) (common_by_second_a c.args.shared e f c.touches-3.result c.touches-3.ensures c.if-touches-3.true) a b
 
 pub returns-then-touches-4-clause-point : goal.returns-then-touches-4-clause-point
 returns-then-touches-4-clause-point c =
@@ -50,7 +50,7 @@ returns-then-touches-4-clause-point c =
     let a = first_not_common c.args.shared e f c.touches.result e.a c.touches.ensures c.if-touches.false in
     let b = first_not_common c.args.shared e f c.touches-2.result e.b c.touches-2.ensures c.if-touches-2.false in
     let a' = second_not_common c.args.shared e f c.touches-3.result f.a c.touches-3.ensures c.if-touches-3.false in
-    second_b (ap Some c.at-then-touches-4.ensures) (common_by_second_b c.args.shared e f c.touches-4.result c.touches-4.ensures c.if-touches-4.true) a b a'
+    second_b (ap Some c.at-then-touches-4.ensures.value) (common_by_second_b c.args.shared e f c.touches-4.result c.touches-4.ensures c.if-touches-4.true) a b a'
 
 pub returns-then-is_eq-clause-point : goal.returns-then-is_eq-clause-point
 returns-then-is_eq-clause-point c =

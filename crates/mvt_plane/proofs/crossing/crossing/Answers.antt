@@ -64,7 +64,7 @@ returns-clause-on_first c =
     let first : Edge = record { a = c.args.a; b = c.args.b } in
     let second : Edge = record { a = c.args.c; b = c.args.d } in
     let known = weights first second c.cross_size-w.result c.cross_size-weight_b.result c.requires.first c.cross_size-w.ensures.value c.cross_size-weight_b.ensures.value c.cross_size-w.ensures.bound in
-    let same = mean_is first second c.cross_size-w.result c.cross_size-weight_b.result c.mean.result known c.mean.ensures in
+    let same = mean_is first second c.cross_size-w.result c.cross_size-weight_b.result c.mean.result known c.mean.ensures.value in
     subst (λ (point : RationalPoint). LiesOn point first) (sym same) (crossing_on_first first second c.requires.first)
 
 pub returns-clause-on_second : goal.returns-clause-on_second
@@ -72,7 +72,7 @@ returns-clause-on_second c =
     let first : Edge = record { a = c.args.a; b = c.args.b } in
     let second : Edge = record { a = c.args.c; b = c.args.d } in
     let known = weights first second c.cross_size-w.result c.cross_size-weight_b.result c.requires.first c.cross_size-w.ensures.value c.cross_size-weight_b.ensures.value c.cross_size-w.ensures.bound in
-    let same = mean_is first second c.cross_size-w.result c.cross_size-weight_b.result c.mean.result known c.mean.ensures in
+    let same = mean_is first second c.cross_size-w.result c.cross_size-weight_b.result c.mean.result known c.mean.ensures.value in
     subst (λ (point : RationalPoint). LiesOn point second) (sym same) (crossing_on_second first second c.requires.first c.requires.second)
 
 pub returns-clause-size : goal.returns-clause-size
@@ -80,5 +80,5 @@ returns-clause-size c =
     let first : Edge = record { a = c.args.a; b = c.args.b } in
     let second : Edge = record { a = c.args.c; b = c.args.d } in
     let known = weights first second c.cross_size-w.result c.cross_size-weight_b.result c.requires.first c.cross_size-w.ensures.value c.cross_size-weight_b.ensures.value c.cross_size-w.ensures.bound in
-    let same = mean_is first second c.cross_size-w.result c.cross_size-weight_b.result c.mean.result known c.mean.ensures in
+    let same = mean_is first second c.cross_size-w.result c.cross_size-weight_b.result c.mean.result known c.mean.ensures.value in
     ap (λ (point : RationalPoint). point.w) same ∙ crossing_size first second c.requires.first

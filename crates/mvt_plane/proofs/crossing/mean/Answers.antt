@@ -65,8 +65,8 @@ unwrap-requires c =
     let same = passed c.weighted_sum-x.result c.weighted_sum-y.result m n edge c.ranges.weight_a c.ranges.weight_b x y bounded in
     some_by_none c.new.result _ c.new.ensures.none (subst IsBounded (sym same) bounded)
 
-pub returns : goal.returns
-returns c =
+pub returns-clause-value : goal.returns-clause-value
+returns-clause-value c =
     let edge : Edge = record { a = c.args.a; b = c.args.b } in
     let m = c.args.weight_a in
     let n = c.args.weight_b in
