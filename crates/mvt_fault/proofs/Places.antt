@@ -181,10 +181,6 @@ same_place_or_meetings fault other same = by (told fault) (told other)
         let polygons : a.2 ≡ b.2 = cc in
         inr record { layer = b.0; feature = b.1; polygon = b.2; one = subst (λ (n : ℕ). IsMeetingIn n b.1 b.2 fault) layers (subst (λ (n : ℕ). IsMeetingIn a.0 n b.2 fault) features (subst (λ (n : ℕ). IsMeetingIn a.0 a.1 n fault) polygons a.3)); another = b.3 }
 
--- faults with one place that aren't meetings in one polygon are the same
-pub same_place : (fault other : Fault) → (AreMeetingsInOne fault other → ⊥) → place_of fault ≡ place_of other → fault ≡ other
-same_place fault other apart same = elim (same_place_or_meetings fault other same) [ inl equal ↦ equal | inr meetings ↦ absurd (apart meetings) ]
-
 -- meetings in one polygon have one place
 pub meetings_share_a_place : (fault other : Fault) → AreMeetingsInOne fault other → place_of fault ≡ place_of other
 meetings_share_a_place fault other both = ap place_of both.one.is ∙ sym (ap place_of both.another.is)

@@ -59,7 +59,7 @@ pub enum Fault {
         /// numbers end too early.
         index: usize,
     },
-    /// A ring of a feature can be none of a polygon (section 4.3.4.4).
+    /// A ring of a feature can't be a polygon's (section 4.3.4.4).
     Ring {
         /// The cause.
         code: RingCode,

@@ -1,11 +1,10 @@
 -- A walk over the fields of a whole message that looks at each message of one field number in turn, for as long as it
 -- finds nothing there.
-use Rattle.std.proofs.Common.{◌≡◌, ◌≢◌, ℕ, zero, suc, ◌+◌, ◌<◌, ◌≤◌, List, [], ◌∷◌, ◌++◌, length, Some, filter_map, slice_get, refl, sym, ◌∙◌, ap, subst, arith, length-append}
+use Rattle.std.proofs.Common.{◌≡◌, ◌≢◌, ℕ, ◌+◌, ◌<◌, ◌≤◌, List, [], ◌∷◌, ◌++◌, length, Some, filter_map, slice_get, refl, sym, ◌∙◌, ap, subst, arith, length-append}
 use Rattle.std.proofs.lemmas.List.Elements.{filter_map-append}
 use Rattle.mvt_wire.specs.Field.{Entry}
 use Rattle.mvt_wire.specs.Message.{IsMessage}
 use Rattle.mvt_wire.specs.Scope.{contents_of, Span, span_of, spans_of}
-use Rattle.mvt_wire.specs.Tile.{Each}
 use Rattle.mvt_wire.specs.Walk.{Walk, IsOver, GivesField}
 use Rattle.mvt_tile.specs.First.{AreClean}
 use Rattle.mvt_tile.proofs.Filters.{contents_of-append, picked-push, picked-other}
@@ -99,19 +98,3 @@ module _ (Clean : ℕ → Span → Type 0) (field_number : ℕ) (message : List 
     pub CleanWalk-over : IsOver old new → (whole : List Entry) → IsMessage message from whole → AreClean Clean (spans_of field_number whole)
     CleanWalk-over over whole is_whole =
         subst (λ (entries : List Entry). AreClean Clean (spans_of field_number entries)) (IsWalking-over message from old new so_far.entries whole so_far.walking over is_whole) so_far.clean
-
--- what belongs to a stretch stands at the same place in its list
-pub each_there : {A B : Type 0} (R : A → B → Type 0) (xs : List A) (ys : List B) (i : ℕ) (x : A) → Each R xs ys → slice_get xs i ≡ Some x → (y : B) × (slice_get ys i ≡ Some y) × R x y
-each_there R [] [] i x each here = absurd (cc)
-each_there R [] (y ∷ ys) i x each here = absurd each
-each_there R (first ∷ xs) [] i x each here = absurd each
-each_there R (first ∷ xs) (y ∷ ys) zero x each here = let same : first ≡ x = cc in (y, refl, subst (λ (member : _). R member y) same each.0)
-each_there R (first ∷ xs) (y ∷ ys) (suc i) x each here = each_there R xs ys i x each.1 here
-
--- and the other way round
-pub each_here : {A B : Type 0} (R : A → B → Type 0) (xs : List A) (ys : List B) (i : ℕ) (y : B) → Each R xs ys → slice_get ys i ≡ Some y → (x : A) × (slice_get xs i ≡ Some x) × R x y
-each_here R [] [] i y each there = absurd (cc)
-each_here R [] (other ∷ ys) i y each there = absurd each
-each_here R (x ∷ xs) [] i y each there = absurd each
-each_here R (x ∷ xs) (other ∷ ys) zero y each there = let same : other ≡ y = cc in (x, refl, subst (λ (member : _). R x member) same each.0)
-each_here R (x ∷ xs) (other ∷ ys) (suc i) y each there = each_here R xs ys i y each.1 there

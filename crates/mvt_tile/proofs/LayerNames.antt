@@ -9,8 +9,9 @@ use Rattle.mvt_wire.specs.Rules.{OtherVersion, SameName}
 use Rattle.mvt_wire.specs.Tile.{LayerRecord, TileRecord}
 use Rattle.mvt_fault.specs.Place.{place_of, ComesFirst, IsLeast}
 use Rattle.mvt_fault.specs.Truth.{IsFaultOfLayers}
+use Rattle.mvt_fault.specs.Truth as faults
 use Rattle.mvt_fault.specs.declared.fault.Fault.{Fault}
-use Rattle.mvt_fault.specs.declared.fault.Fault.TheVariants.{Wire, Version, Name, Tag, Command, Ring, Meeting, Outside, HoleInHole}
+use Rattle.mvt_fault.specs.declared.fault.Fault.TheVariants.{Version, Name}
 use Rattle.mvt_fault.proofs.Places.{ComesFirst-reflexive}
 use Rattle.mvt_tile.specs.PassedLayers.{passed, ordinal_of, PassesLayers, IsNextLayer}
 use Rattle.mvt_tile.specs.declared.rules.layer_rules.LayerRules.{LayerRules}
@@ -55,52 +56,38 @@ module _ (rules : LayerRules) (tile : TileRecord) (passes : PassesLayers rules t
 
   -- where all layers were passed, there is no fault
   pub PassesLayers-all : length tile.layers ≤ passed rules → (fault : Fault) → ¬ IsFaultOfLayers tile fault
-  PassesLayers-all all (Wire code scope at field) holds = holds
-  PassesLayers-all all (Version layer) holds =
+  PassesLayers-all all fault (faults.version layer holds) =
       let behind = behind_version layer holds in
       let within = slice_get_within tile.layers layer holds.whose holds.there in
       absurd (omega arith)
-  PassesLayers-all all (Name first second) holds =
+  PassesLayers-all all fault (faults.name first second holds) =
       let behind = behind_name first second holds in
       let within = slice_get_within tile.layers second holds.other holds.other_there in
       absurd (omega arith)
-  PassesLayers-all all (Tag code layer feature index) holds = holds
-  PassesLayers-all all (Command command_code in_layer in_feature index) holds = holds
-  PassesLayers-all all (Ring ring_code its_layer its_feature ring) holds = holds
-  PassesLayers-all all (Meeting its_layer its_feature polygon one_edge other_edge x y w) holds = holds
-  PassesLayers-all all (Outside its_layer its_feature polygon ring vertex) holds = holds
-  PassesLayers-all all (HoleInHole its_layer its_feature polygon ring vertex other_hole) holds = holds
 
   module _ (version : ℕ) (name : List ℕ) (next : IsNextLayer rules tile version name) where
     -- another version of the next layer is the first fault
     pub IsLeast-version : version ≢ 2 → IsLeast (IsFaultOfLayers tile) (Version (passed rules))
     IsLeast-version other = record {
-      holds = record { whose = next.whose; there = next.there; other = λ is. other (next.of_version ∙ is) };
+      holds = faults.version (passed rules) (record { whose = next.whose; there = next.there; other = λ is. other (next.of_version ∙ is) });
       least = least;
     }
       where
         least : (fault : Fault) → IsFaultOfLayers tile fault → ComesFirst (place_of (Version (passed rules))) (place_of fault)
-        least (Wire code scope at field) holds = absurd holds
-        least (Version layer) holds = by_layer (passed rules) layer version_numbers version_numbers (behind_version layer holds) (λ same. ComesFirst-reflexive version_numbers)
-        least (Name first second) holds = by_layer (passed rules) second version_numbers (name_numbers first) (behind_name first second holds) (λ same. inl (omega arith))
-        least (Tag code layer feature index) holds = absurd holds
-        least (Command command_code in_layer in_feature index) holds = absurd holds
-        least (Ring ring_code its_layer its_feature ring) holds = absurd holds
-        least (Meeting its_layer its_feature polygon one_edge other_edge x y w) holds = absurd holds
-        least (Outside its_layer its_feature polygon ring vertex) holds = absurd holds
-        least (HoleInHole its_layer its_feature polygon ring vertex other_hole) holds = absurd holds
+        least fault (faults.version layer holds) = by_layer (passed rules) layer version_numbers version_numbers (behind_version layer holds) (λ same. ComesFirst-reflexive version_numbers)
+        least fault (faults.name first second holds) = by_layer (passed rules) second version_numbers (name_numbers first) (behind_name first second holds) (λ same. inl (omega arith))
 
     -- and so is its name, where that was kept, with the layer that it was kept of
     pub IsLeast-name : (first : ℕ) → version ≡ 2 → ordinal_of rules name ≡ Some first → IsLeast (IsFaultOfLayers tile) (Name first (passed rules))
     IsLeast-name first own stood = record {
-      holds = let kept = passes.kept name first stood in record {
+      holds = let kept = passes.kept name first stood in faults.name first (passed rules) (record {
         earlier = kept.0;
         whose = kept.1;
         there = kept.2;
         other = next.whose;
         other_there = next.there;
         same = kept.3 ∙ next.of_name;
-      };
+      });
       least = least;
     }
       where
@@ -109,22 +96,15 @@ module _ (rules : LayerRules) (tile : TileRecord) (passes : PassesLayers rules t
         is_next layer whose same there = let both : Some next.whose ≡ Some whose = sym next.there ∙ ap (slice_get tile.layers) same ∙ there in cc
 
         least : (fault : Fault) → IsFaultOfLayers tile fault → ComesFirst (place_of (Name first (passed rules))) (place_of fault)
-        least (Wire code scope at field) holds = absurd holds
-        least (Version layer) holds = by_layer (passed rules) layer (name_numbers first) version_numbers (behind_version layer holds)
+        least fault (faults.version layer holds) = by_layer (passed rules) layer (name_numbers first) version_numbers (behind_version layer holds)
             (λ same. absurd (holds.other (sym (ap (λ (whose : LayerRecord). whose.version) (is_next layer holds.whose same holds.there)) ∙ sym next.of_version ∙ own)))
-        least (Name earlier second) holds = by_layer (passed rules) second (name_numbers first) (name_numbers earlier) (behind_name earlier second holds) (λ same.
+        least fault (faults.name earlier second holds) = by_layer (passed rules) second (name_numbers first) (name_numbers earlier) (behind_name earlier second holds) (λ same.
             let before : earlier < second = holds.earlier in
             let named : holds.whose.name ≡ name =
             holds.same ∙ sym (ap (λ (whose : LayerRecord). whose.name) (is_next second holds.other same holds.other_there)) ∙ sym next.of_name in
             let both : Some first ≡ Some earlier = sym stood ∙ ap (ordinal_of rules) (sym named) ∙ (passes.keeps earlier holds.whose (omega arith) holds.there).1 in
             let one : first ≡ earlier = cc in
             inr (refl, inr (one, ComesFirst-reflexive (0 ∷ 0 ∷ 0 ∷ 0 ∷ 0 ∷ 0 ∷ []))))
-        least (Tag code layer feature index) holds = absurd holds
-        least (Command command_code in_layer in_feature index) holds = absurd holds
-        least (Ring ring_code its_layer its_feature ring) holds = absurd holds
-        least (Meeting its_layer its_feature polygon one_edge other_edge x y w) holds = absurd holds
-        least (Outside its_layer its_feature polygon ring vertex) holds = absurd holds
-        least (HoleInHole its_layer its_feature polygon ring vertex other_hole) holds = absurd holds
 
     -- else it is passed
     pub PassesLayers-more : (more : LayerRules) → version ≡ 2 → ordinal_of rules name ≡ None → passed more ≡ passed rules + 1

@@ -11,10 +11,10 @@ use Rattle.mvt_wire.specs.declared.schema.Message.TheVariants as messages
 use Rattle.mvt_wire.proofs.Messages.{one_list}
 use Rattle.mvt_fault.specs.Place.{ComesFirst, IsLeast, place_of}
 use Rattle.mvt_fault.specs.declared.fault.Fault.{Fault}
-use Rattle.mvt_fault.specs.declared.fault.Fault.TheVariants.{Wire, Version, Name, Tag, Command, Ring, Meeting, Outside, HoleInHole}
+use Rattle.mvt_fault.specs.declared.fault.Fault.TheVariants.{Wire}
 use Rattle.mvt_tile.specs.Embedded.{HasFault, HasNone, HasFirst}
 use Rattle.mvt_tile.specs.First.{AreClean, IsFirst}
-use Rattle.mvt_tile.specs.LayerFault.{FaultInLayer, IsLayerFault}
+use Rattle.mvt_tile.specs.LayerFault.{FaultInLayer, IsLayerFault, wire}
 use Rattle.mvt_tile.specs.Least.{cause_place, IsLeastCause}
 
 -- a cause as the fault of a message
@@ -73,18 +73,10 @@ module _ (bytes : List ℕ) (outer : Span) (layer : ℕ) where
       within_layer layer other (0 ∷ 0 ∷ cause_place cause) (2 ∷ feature ∷ cause_place fault) holds.0 (inl (omega arith))
 
   pub IsLeast-own : (cause : WireCause) → IsLeastCause (HasFault messages.Layer bytes outer) cause → IsLeast (IsLayerFault bytes outer layer) (fault_in (Layer layer) cause)
-  IsLeast-own cause least = record { holds = (refl, least.holds); least = behind }
+  IsLeast-own cause least = record { holds = wire cause.code (Layer layer) cause.at cause.field (refl, least.holds); least = behind }
     where
       behind : (fault : Fault) → IsLayerFault bytes outer layer fault → ComesFirst (place_of (fault_in (Layer layer) cause)) (place_of fault)
-      behind (Wire code scope at field) holds = behind_own cause least scope (cause_at code at field) holds
-      behind (Version some_layer) holds = absurd holds
-      behind (Name some other_one) holds = absurd holds
-      behind (Tag tag_code some_layer some_feature index) holds = absurd holds
-      behind (Command command_code in_layer in_feature index) holds = absurd holds
-      behind (Ring ring_code its_layer its_feature ring) holds = absurd holds
-      behind (Meeting its_layer its_feature polygon one_edge other_edge x y w) holds = absurd holds
-      behind (Outside its_layer its_feature polygon ring vertex) holds = absurd holds
-      behind (HoleInHole its_layer its_feature polygon ring vertex other_hole) holds = absurd holds
+      behind fault (wire code scope at field holds) = behind_own cause least scope (cause_at code at field) holds
 
   -- else that of a value
   behind_value : (entries : List Entry) (ordinal : ℕ) (cause : WireCause) → IsMessageAt bytes outer entries → ((own : WireCause) → ¬ HasFault messages.Layer bytes outer own)
@@ -100,18 +92,10 @@ module _ (bytes : List ℕ) (outer : Span) (layer : ℕ) where
   pub IsLeast-value : (entries : List Entry) (ordinal : ℕ) (cause : WireCause) → IsMessageAt bytes outer entries → ((own : WireCause) → ¬ HasFault messages.Layer bytes outer own)
       → IsFirst (HasNone messages.Value bytes) (HasFirst messages.Value bytes (ordinal, cause)) (spans_of 4 entries)
       → IsLeast (IsLayerFault bytes outer layer) (fault_in (Value layer ordinal) cause)
-  IsLeast-value entries ordinal cause whole none first = record { holds = (refl, part_here messages.Value bytes outer entries 4 ordinal cause whole first); least = behind }
+  IsLeast-value entries ordinal cause whole none first = record { holds = wire cause.code (Value layer ordinal) cause.at cause.field (refl, part_here messages.Value bytes outer entries 4 ordinal cause whole first); least = behind }
     where
       behind : (fault : Fault) → IsLayerFault bytes outer layer fault → ComesFirst (place_of (fault_in (Value layer ordinal) cause)) (place_of fault)
-      behind (Wire code scope at field) holds = behind_value entries ordinal cause whole none first scope (cause_at code at field) holds
-      behind (Version some_layer) holds = absurd holds
-      behind (Name some other_one) holds = absurd holds
-      behind (Tag tag_code some_layer some_feature index) holds = absurd holds
-      behind (Command command_code in_layer in_feature index) holds = absurd holds
-      behind (Ring ring_code its_layer its_feature ring) holds = absurd holds
-      behind (Meeting its_layer its_feature polygon one_edge other_edge x y w) holds = absurd holds
-      behind (Outside its_layer its_feature polygon ring vertex) holds = absurd holds
-      behind (HoleInHole its_layer its_feature polygon ring vertex other_hole) holds = absurd holds
+      behind fault (wire code scope at field holds) = behind_value entries ordinal cause whole none first scope (cause_at code at field) holds
 
   -- else that of a feature
   behind_feature : (entries : List Entry) (ordinal : ℕ) (cause : WireCause) → IsMessageAt bytes outer entries → ((own : WireCause) → ¬ HasFault messages.Layer bytes outer own)
@@ -129,18 +113,10 @@ module _ (bytes : List ℕ) (outer : Span) (layer : ℕ) where
       → AreClean (HasNone messages.Value bytes) (spans_of 4 entries)
       → IsFirst (HasNone messages.Feature bytes) (HasFirst messages.Feature bytes (ordinal, cause)) (spans_of 2 entries)
       → IsLeast (IsLayerFault bytes outer layer) (fault_in (Feature layer ordinal) cause)
-  IsLeast-feature entries ordinal cause whole none values first = record { holds = (refl, part_here messages.Feature bytes outer entries 2 ordinal cause whole first); least = behind }
+  IsLeast-feature entries ordinal cause whole none values first = record { holds = wire cause.code (Feature layer ordinal) cause.at cause.field (refl, part_here messages.Feature bytes outer entries 2 ordinal cause whole first); least = behind }
     where
       behind : (fault : Fault) → IsLayerFault bytes outer layer fault → ComesFirst (place_of (fault_in (Feature layer ordinal) cause)) (place_of fault)
-      behind (Wire code scope at field) holds = behind_feature entries ordinal cause whole none values first scope (cause_at code at field) holds
-      behind (Version some_layer) holds = absurd holds
-      behind (Name some other_one) holds = absurd holds
-      behind (Tag tag_code some_layer some_feature index) holds = absurd holds
-      behind (Command command_code in_layer in_feature index) holds = absurd holds
-      behind (Ring ring_code its_layer its_feature ring) holds = absurd holds
-      behind (Meeting its_layer its_feature polygon one_edge other_edge x y w) holds = absurd holds
-      behind (Outside its_layer its_feature polygon ring vertex) holds = absurd holds
-      behind (HoleInHole its_layer its_feature polygon ring vertex other_hole) holds = absurd holds
+      behind fault (wire code scope at field holds) = behind_feature entries ordinal cause whole none values first scope (cause_at code at field) holds
 
   -- else there is none
   none_in : (entries : List Entry) → IsMessageAt bytes outer entries → ((own : WireCause) → ¬ HasFault messages.Layer bytes outer own)
@@ -154,12 +130,4 @@ module _ (bytes : List ℕ) (outer : Span) (layer : ℕ) where
   pub IsLayerFault-none : (entries : List Entry) → IsMessageAt bytes outer entries → ((own : WireCause) → ¬ HasFault messages.Layer bytes outer own)
       → AreClean (HasNone messages.Value bytes) (spans_of 4 entries) → AreClean (HasNone messages.Feature bytes) (spans_of 2 entries)
       → (fault : Fault) → ¬ IsLayerFault bytes outer layer fault
-  IsLayerFault-none entries whole none values features (Wire code scope at field) holds = none_in entries whole none values features scope (cause_at code at field) holds
-  IsLayerFault-none entries whole none values features (Version some_layer) holds = absurd holds
-  IsLayerFault-none entries whole none values features (Name some other_one) holds = absurd holds
-  IsLayerFault-none entries whole none values features (Tag tag_code some_layer some_feature index) holds = absurd holds
-  IsLayerFault-none entries whole none values features (Command command_code in_layer in_feature index) holds = absurd holds
-  IsLayerFault-none entries whole none values features (Ring ring_code its_layer its_feature ring) holds = absurd holds
-  IsLayerFault-none entries whole none values features (Meeting its_layer its_feature polygon one_edge other_edge x y w) holds = absurd holds
-  IsLayerFault-none entries whole none values features (Outside its_layer its_feature polygon ring vertex) holds = absurd holds
-  IsLayerFault-none entries whole none values features (HoleInHole its_layer its_feature polygon ring vertex other_hole) holds = absurd holds
+  IsLayerFault-none entries whole none values features fault (wire code scope at field holds) = none_in entries whole none values features scope (cause_at code at field) holds

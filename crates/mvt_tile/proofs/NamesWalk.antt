@@ -5,6 +5,7 @@ use Rattle.mvt_wire.specs.Field.{Entry}
 use Rattle.mvt_wire.specs.Scope.{contents_of, Span, span_of, spans_of}
 use Rattle.mvt_wire.specs.Tile.{LayerRecord, IsLayer, TileRecord, IsTile, Each}
 use Rattle.mvt_wire.specs.Walk.{Walk, IsOver, GivesField}
+use Rattle.mvt_wire.proofs.Members.{same_length}
 use Rattle.mvt_tile.specs.PassedLayers.{passed, PassesLayers, IsNextLayer}
 use Rattle.mvt_tile.specs.RuleFaults.{IsSummary}
 use Rattle.mvt_tile.specs.declared.rules.layer_rules.LayerRules.{LayerRules}
@@ -19,13 +20,6 @@ Each-place R [] rest [] x each = absurd each
 Each-place R [] rest (y ∷ ys) x each = (y, refl, each.0)
 Each-place R (first ∷ xs) rest [] x each = absurd each
 Each-place R (first ∷ xs) rest (y ∷ ys) x each = Each-place R xs rest ys x each.1
-
--- two lists whose members belong together have one length
-Each-length : {A B : Type 0} (R : A → B → Type 0) (xs : List A) (ys : List B) → Each R xs ys → length ys ≡ length xs
-Each-length R [] [] each = refl
-Each-length R [] (y ∷ ys) each = absurd each
-Each-length R (x ∷ xs) [] each = absurd each
-Each-length R (x ∷ xs) (y ∷ ys) each = let rest = Each-length R xs ys each.1 in omega arith
 
 -- the layers in the fields so far were passed
 pub record IsPassingLayers (bytes : List ℕ) (walk : Walk) (rules : LayerRules) : Type 0 where
@@ -81,5 +75,5 @@ module _ (bytes : List ℕ) (old new : Walk) (rules : LayerRules) (so_far : IsPa
   pub IsPassingLayers-all : (tile : TileRecord) → IsTile bytes tile → IsOver old new → length tile.layers ≤ passed rules
   IsPassingLayers-all tile is_tile over =
       let all = IsWalking-over (take (length bytes) bytes) 0 old new so_far.entries is_tile.entries so_far.walked over is_tile.whole in
-      let size = Each-length (IsLayer bytes) (spans_of 3 is_tile.entries) tile.layers is_tile.layers in
+      let size = same_length (IsLayer bytes) (spans_of 3 is_tile.entries) tile.layers is_tile.layers in
       omega (arith, so_far.count, size, ap (λ (entries : List Entry). length (spans_of 3 entries)) all)

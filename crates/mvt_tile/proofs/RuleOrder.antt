@@ -1,62 +1,68 @@
 -- Of the faults of a tile's bytes, those of layers come first and those of features behind them; there are no others.
-use Rattle.std.proofs.Common.{◌≡◌, ℕ, inl, inr, List, ◌∷◌, Option, Some, None, IfSome, IfNone, refl, sym, subst, arith}
+use Rattle.std.proofs.Common.{◌≡◌, ℕ, ◌⊎◌, inl, inr, List, ◌∷◌, Option, Some, None, IfSome, IfNone, refl, sym, subst, arith}
 use Rattle.mvt_wire.specs.Tile.{TileRecord, IsTile}
 use Rattle.mvt_fault.specs.Place.{ComesFirst, IsLeast, place_of}
-use Rattle.mvt_fault.specs.Truth.{IsFaultOfLayers}
+use Rattle.mvt_fault.specs.Truth.{BreaksRule, IsFaultOfLayers, OneFeatureHas, version, name}
 use Rattle.mvt_fault.specs.declared.fault.Fault.{Fault}
-use Rattle.mvt_fault.specs.declared.fault.Fault.TheVariants.{Wire, Version, Name, Tag, Command, Ring, Meeting, Outside, HoleInHole}
-use Rattle.mvt_tile.specs.FeatureRules.{IsFaultInFeatures}
-use Rattle.mvt_tile.specs.RuleFaults.{BreaksAnyRule}
-use Rattle.mvt_tile.proofs.FeatureFaults.{Breaks, AreBehindTags, features_begin}
+use Rattle.mvt_tile.specs.FeatureRules.{Breaks, Keeps, IsFaultOfFeature, AllSound}
+use Rattle.mvt_tile.specs.RuleFaults.{BreaksAnyRule, KeepsRules}
+use Rattle.mvt_tile.proofs.FeatureFaults.{AreBehindTags, features_begin}
 
+-- the place of a fault of layers begins as those of all layers do
 layers_begin : (tile : TileRecord) (fault : Fault) → IsFaultOfLayers tile fault → (rest : List ℕ) × (place_of fault ≡ 1 ∷ rest)
-layers_begin tile (Wire code scope at field) holds = absurd holds
-layers_begin tile (Version layer) holds = (_, refl)
-layers_begin tile (Name first second) holds = (_, refl)
-layers_begin tile (Tag code layer feature index) holds = absurd holds
-layers_begin tile (Command command_code in_layer in_feature index) holds = absurd holds
-layers_begin tile (Ring ring_code its_layer its_feature ring) holds = absurd holds
-layers_begin tile (Meeting its_layer its_feature polygon one_edge other_edge x y w) holds = absurd holds
-layers_begin tile (Outside its_layer its_feature polygon ring vertex) holds = absurd holds
-layers_begin tile (HoleInHole its_layer its_feature polygon ring vertex other_hole) holds = absurd holds
+layers_begin tile fault (version layer holds) = (_, refl)
+layers_begin tile fault (name first second holds) = (_, refl)
 
 module _ (IsBroken : Breaks) (behind_tags : AreBehindTags IsBroken) where
   -- so a fault of layers comes before one of features
-  layers_first : (tile : TileRecord) (fault other : Fault) → IsFaultOfLayers tile fault → IsFaultInFeatures IsBroken tile other → ComesFirst (place_of fault) (place_of other)
+  layers_first : (tile : TileRecord) (fault other : Fault) → IsFaultOfLayers tile fault → OneFeatureHas (IsFaultOfFeature IsBroken) tile other → ComesFirst (place_of fault) (place_of other)
   layers_first tile fault other of_layers of_features =
       let first = layers_begin tile fault of_layers in
       let second = features_begin IsBroken behind_tags tile other of_features in
       let ordered : ComesFirst (1 ∷ first.0) (2 ∷ second.0) = inl (omega arith) in
       subst (λ (place : List ℕ). ComesFirst place (place_of other)) (sym first.1) (subst (ComesFirst (1 ∷ first.0)) (sym second.1) ordered)
 
+  -- each fault of a tile is one of its layers or one of its features
+  by_part : (tile : TileRecord) (fault : Fault) → BreaksAnyRule IsBroken tile fault → IsFaultOfLayers tile fault ⊎ OneFeatureHas (IsFaultOfFeature IsBroken) tile fault
+  by_part tile fault (inl (inl of_layers)) = inl of_layers
+  by_part tile fault (inl (inr of_tags)) =
+      inr (record { layer = of_tags.layer; feature = of_tags.feature; whose = of_tags.whose; it = of_tags.it; there = of_tags.there; broken = inl of_tags.broken })
+  by_part tile fault (inr of_rule) =
+      inr (record { layer = of_rule.layer; feature = of_rule.feature; whose = of_rule.whose; it = of_rule.it; there = of_rule.there; broken = inr of_rule.broken })
+
+  -- and the other way round
+  of_feature : (tile : TileRecord) (fault : Fault) (holds : OneFeatureHas (IsFaultOfFeature IsBroken) tile fault) → BreaksAnyRule IsBroken tile fault
+  of_feature tile fault holds = elim holds.broken [
+    | inl of_tags ↦ inl (inr (record { layer = holds.layer; feature = holds.feature; whose = holds.whose; it = holds.it; there = holds.there; broken = of_tags }))
+    | inr of_rule ↦ inr (record { layer = holds.layer; feature = holds.feature; whose = holds.whose; it = holds.it; there = holds.there; broken = of_rule })
+  ]
+
   module _ (tile : TileRecord) where
     least_of_layers : (fault : Fault) → IsLeast (IsFaultOfLayers tile) fault → IsLeast (BreaksAnyRule IsBroken tile) fault
     least_of_layers fault first = record {
       holds = inl (inl first.holds);
-      least = λ other holds. elim holds [
-        | inl between ↦ elim between [
-          | inl of_layers ↦ first.least other of_layers
-          | inr of_tags ↦ layers_first tile fault other first.holds (inl of_tags)
-        ]
-        | inr of_rule ↦ layers_first tile fault other first.holds (inr of_rule)
+      least = λ other holds. elim (by_part tile other holds) [
+        | inl in_layers ↦ first.least other in_layers
+        | inr in_features ↦ layers_first tile fault other first.holds in_features
       ];
     }
 
-    of_features : (fault : Fault) → IsFaultInFeatures IsBroken tile fault → BreaksAnyRule IsBroken tile fault
-    of_features fault (inl of_tags) = inl (inr of_tags)
-    of_features fault (inr of_rule) = inr of_rule
-
-    least_of_features : ((fault : Fault) → ¬ IsFaultOfLayers tile fault) → (fault : Fault) → IsLeast (IsFaultInFeatures IsBroken tile) fault → IsLeast (BreaksAnyRule IsBroken tile) fault
+    least_of_features : ((fault : Fault) → ¬ IsFaultOfLayers tile fault) → (fault : Fault) → IsLeast (OneFeatureHas (IsFaultOfFeature IsBroken) tile) fault → IsLeast (BreaksAnyRule IsBroken tile) fault
     least_of_features none fault first = record {
-      holds = of_features fault first.holds;
-      least = λ other holds. elim holds [
-        | inl between ↦ elim between [
-          | inl of_layers ↦ absurd (none other of_layers)
-          | inr of_tags ↦ first.least other (inl of_tags)
-        ]
-        | inr of_rule ↦ first.least other (inr of_rule)
+      holds = of_feature tile fault first.holds;
+      least = λ other holds. elim (by_part tile other holds) [
+        | inl in_layers ↦ absurd (none other in_layers)
+        | inr in_features ↦ first.least other in_features
       ];
     }
+
+    -- where the layers have no fault and the features are sound, the tile keeps the rules
+    all_kept : (IsKept : Keeps) → ((fault : Fault) → ¬ IsFaultOfLayers tile fault) → AllSound IsBroken IsKept tile → KeepsRules IsKept tile
+    all_kept IsKept none sound = record { parts = parts; features = λ layer feature layer_record feature_record there. (sound layer feature layer_record feature_record there).kept }
+      where
+        parts : (fault : Fault) → ¬ BreaksRule tile fault
+        parts fault (inl of_layers) = none fault of_layers
+        parts fault (inr of_tags) = (sound of_tags.layer of_tags.feature of_tags.whose of_tags.it of_tags.there).faultless fault (inl of_tags.broken)
 
   -- the fault is the first of all that the tile's record has
   abbrev IsFirstBroken : List ℕ → Fault → Type 0
@@ -76,14 +82,11 @@ module _ (IsBroken : Breaks) (behind_tags : AreBehindTags IsBroken) where
       no_layers : (tile : TileRecord) → IsTile bytes tile → (fault : Fault) → ¬ IsFaultOfLayers tile fault
       no_layers = subst (λ (answer : Option Fault). IfNone answer ((tile : TileRecord) → IsTile bytes tile → (fault : Fault) → ¬ IsFaultOfLayers tile fault)) is_none none
 
-      pub no_rule_broken : (found : Option Fault) → IfNone found ((tile : TileRecord) → IsTile bytes tile → (fault : Fault) → ¬ IsFaultInFeatures IsBroken tile fault)
-          → IfNone found ((tile : TileRecord) → IsTile bytes tile → (fault : Fault) → ¬ BreaksAnyRule IsBroken tile fault)
-      no_rule_broken (Some fault) in_features = tt
-      no_rule_broken None in_features = λ tile is fault holds. elim holds [
-        | inl between ↦ elim between [ inl in_layers ↦ no_layers tile is fault in_layers | inr of_tags ↦ in_features tile is fault (inl of_tags) ]
-        | inr of_rule ↦ in_features tile is fault (inr of_rule)
-      ]
+      pub no_rule_broken : (IsKept : Keeps) (found : Option Fault) → IfNone found ((tile : TileRecord) → IsTile bytes tile → AllSound IsBroken IsKept tile)
+          → IfNone found ((tile : TileRecord) → IsTile bytes tile → KeepsRules IsKept tile)
+      no_rule_broken IsKept (Some fault) sound = tt
+      no_rule_broken IsKept None sound = λ tile whole. all_kept tile IsKept (no_layers tile whole) (sound tile whole)
 
-      pub features_fault : (found : Option Fault) → IfSome found (λ (first : Fault). (tile : TileRecord) → IsTile bytes tile → IsLeast (IsFaultInFeatures IsBroken tile) first) → IfSome found (IsFirstBroken bytes)
+      pub features_fault : (found : Option Fault) → IfSome found (λ (first : Fault). (tile : TileRecord) → IsTile bytes tile → IsLeast (OneFeatureHas (IsFaultOfFeature IsBroken) tile) first) → IfSome found (IsFirstBroken bytes)
       features_fault None first = tt
       features_fault (Some fault) first = λ tile whole. least_of_features tile (no_layers tile whole) fault (first tile whole)

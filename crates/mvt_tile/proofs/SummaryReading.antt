@@ -5,9 +5,10 @@ use Rattle.std.proofs.lemmas.List.Filters.{length-filter_both}
 use Rattle.mvt_wire.specs.Field.{Content, varint, eight_bytes, delimited, four_bytes, Entry, wire_type_of}
 use Rattle.mvt_wire.specs.Message.{FieldList}
 use Rattle.mvt_wire.specs.Scope.{contents_of, Span, span_of, spans_of}
-use Rattle.mvt_wire.specs.Tile.{number_in, numbers_of, bytes_in, texts_of, Each, LayerRecord, IsLayer}
+use Rattle.mvt_wire.specs.Tile.{number_in, numbers_of, bytes_in, texts_of, LayerRecord, IsLayer}
 use Rattle.mvt_wire.specs.Walk.{Walk, GivesField}
 use Rattle.mvt_wire.proofs.Entries.{field_extent}
+use Rattle.mvt_wire.proofs.Members.{same_length}
 use Rattle.mvt_tile.specs.Reading.{TellsSummary, last_of}
 use Rattle.mvt_tile.specs.RuleFaults.{IsSummary}
 use Rattle.mvt_tile.specs.declared.rules.summary.LayerSummary.{LayerSummary}
@@ -118,13 +119,6 @@ few_counted bytes from to old new entries entry summary so_far given tells =
     let values = few_of_list span_of 4 entries in
     (omega (arith, tells.keys), omega (arith, tells.values))
 
--- two lists whose members belong together have one length
-Each-length : {A B : Type 0} (related : A → B → Type 0) (xs : List A) (ys : List B) → Each related xs ys → length xs ≡ length ys
-Each-length related [] [] each = refl
-Each-length related [] (y ∷ ys) each = absurd each
-Each-length related (x ∷ xs) [] each = absurd each
-Each-length related (x ∷ xs) (y ∷ ys) each = omega (arith, Each-length related xs ys each.1)
-
 -- what all fields tell is the summary of the layer that stands there
 pub IsSummary-from_told : (bytes : List ℕ) (span : Span) (layer : LayerRecord) (told : LayerSummary) (is : IsLayer bytes span layer)
     → TellsSummary is.entries told → IsSummary told layer
@@ -132,5 +126,5 @@ IsSummary-from_told bytes span layer told is tells = record {
   version = tells.version ∙ ap (last_of 0) is.version;
   name = tells.name ∙ ap (last_of []) is.name;
   keys = tells.keys ∙ ap length is.keys;
-  values = tells.values ∙ Each-length _ (spans_of 4 is.entries) layer.values is.values;
+  values = tells.values ∙ same_length _ (spans_of 4 is.entries) layer.values is.values;
 }

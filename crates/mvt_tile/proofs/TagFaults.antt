@@ -4,9 +4,9 @@ use Rattle.std.proofs.lemmas.Bool.{cases_order, or_cases, or_left, or_right, eqb
 use Rattle.std.proofs.lemmas.Option.{slice_get_within, slice_get_read, slice_get-map}
 use Rattle.mvt_fault.specs.Code.{tag_code}
 use Rattle.mvt_fault.specs.Place.{place_of, ComesFirst, IsLeast}
-use Rattle.mvt_fault.specs.Truth.{TagsBreak, IsFaultOfTags}
+use Rattle.mvt_fault.specs.Truth.{TagsBreak, IsFaultOfTags, tag}
 use Rattle.mvt_fault.specs.declared.fault.Fault.{Fault}
-use Rattle.mvt_fault.specs.declared.fault.Fault.TheVariants.{Wire, Version, Name, Tag, Command, Ring, Meeting, Outside, HoleInHole}
+use Rattle.mvt_fault.specs.declared.fault.Fault.TheVariants.{Tag}
 use Rattle.mvt_fault.specs.declared.tag.TagCode.{TagCode}
 use Rattle.mvt_fault.specs.declared.tag.TagCode.TheVariants.{OddLength, NoKey, NoValue, Repeated}
 use Rattle.mvt_wire.specs.Rules.{OddTags, IsKeyAt, NoSuchKey, NoSuchValue}
@@ -238,20 +238,11 @@ index_first code other index at (inr same) = inr (same.0, head_first (tag_code c
 module _ (whose : LayerRecord) (it : FeatureRecord) (layer feature : ℕ) (code : TagCode) (index : ℕ) (first : IsFirstTagFault (length whose.keys) (length whose.values) it.tags code index) where
   -- no fault of the feature's tags has a lesser place than their first
   comes_first : (other : Fault) → IsFaultOfTags whose it layer feature other → ComesFirst (place_of (Tag code layer feature index)) (place_of other)
-  comes_first (Wire other scope at field) broken = absurd broken
-  comes_first (Version other) broken = absurd broken
-  comes_first (Name one other) broken = absurd broken
-  comes_first (Tag other in_layer in_feature at) broken =
-      inr (refl, inr (sym broken.0, inr (sym broken.1, inr (refl, index_first code other index at (first.first other at broken.2)))))
-  comes_first (Command command_code in_layer in_feature index) broken = absurd broken
-  comes_first (Ring ring_code its_layer its_feature ring) broken = absurd broken
-  comes_first (Meeting its_layer its_feature polygon one_edge other_edge x y w) broken = absurd broken
-  comes_first (Outside its_layer its_feature polygon ring vertex) broken = absurd broken
-  comes_first (HoleInHole its_layer its_feature polygon ring vertex other_hole) broken = absurd broken
+  comes_first fault (tag other at broken) = inr (refl, inr (refl, inr (refl, inr (refl, index_first code other index at (first.first other at broken)))))
 
   -- the first fault of a feature's tags, told with its layer and its feature, is the one with the least place
   pub IsLeast-first : IsLeast (IsFaultOfTags whose it layer feature) (Tag code layer feature index)
-  IsLeast-first = record { holds = (refl, refl, first.broken); least = comes_first }
+  IsLeast-first = record { holds = tag code index first.broken; least = comes_first }
 
 -- a record's feature shows the tags that the record has
 pub feature_tags : (features : List Feature) (feature : ℕ) (shown : Feature) (it : FeatureRecord) → feature < length features → shown ≡ get_or features feature shown

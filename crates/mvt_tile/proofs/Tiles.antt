@@ -11,12 +11,12 @@ use Rattle.mvt_wire.specs.declared.scope.Scope.TheVariants.{Tile, Layer, Value, 
 use Rattle.mvt_wire.specs.declared.schema.Message.TheVariants as messages
 use Rattle.mvt_wire.proofs.Tiles.{tile_or_fault}
 use Rattle.mvt_fault.specs.Place.{ComesFirst, IsLeast, place_of}
-use Rattle.mvt_fault.specs.Truth.{IsWireFault}
+use Rattle.mvt_fault.specs.Truth.{IsWireFault, wire}
 use Rattle.mvt_fault.specs.declared.fault.Fault.{Fault}
-use Rattle.mvt_fault.specs.declared.fault.Fault.TheVariants.{Wire, Version, Name, Tag, Command, Ring, Meeting, Outside, HoleInHole}
 use Rattle.mvt_tile.specs.Embedded.{HasFault}
 use Rattle.mvt_tile.specs.First.{IsFirst, FindsFirst}
 use Rattle.mvt_tile.specs.LayerFault.{FaultInLayer, IsLayerFault}
+use Rattle.mvt_tile.specs.LayerFault as layer_faults
 use Rattle.mvt_tile.specs.LayerScan.{IsFaultless, IsFirstOf}
 use Rattle.mvt_tile.specs.Least.{cause_place, IsLeastCause}
 use Rattle.mvt_tile.proofs.Layers.{fault_in, part_among}
@@ -40,10 +40,10 @@ abbrev OwnOrIn : List ℕ → Scope → WireCause → Type 0
 OwnOrIn bytes scope cause = ((scope ≡ Tile) × HasFault messages.Tile bytes (whole_span bytes) cause) ⊎ InSomeLayer bytes scope cause
 
 own_or_in : (bytes : List ℕ) (scope : Scope) (cause : WireCause) → WireFault bytes scope cause → OwnOrIn bytes scope cause
-own_or_in bytes Tile cause wire = inl (refl, subst (λ (span : Span). HasFault messages.Tile bytes span cause) wire.there wire.fault)
-own_or_in bytes (Layer layer) cause wire = inr (record { layer = layer; span = wire.span; part = wire.there; fault = (refl, wire.fault) })
-own_or_in bytes (Value layer value) cause wire = inr (record { layer = layer; span = wire.there.0; part = wire.there.1; fault = (refl, (wire.span, wire.there.2, wire.fault)) })
-own_or_in bytes (Feature layer feature) cause wire = inr (record { layer = layer; span = wire.there.0; part = wire.there.1; fault = (refl, (wire.span, wire.there.2, wire.fault)) })
+own_or_in bytes Tile cause holds = inl (refl, subst (λ (span : Span). HasFault messages.Tile bytes span cause) holds.there holds.fault)
+own_or_in bytes (Layer layer) cause holds = inr (record { layer = layer; span = holds.span; part = holds.there; fault = (refl, holds.fault) })
+own_or_in bytes (Value layer value) cause holds = inr (record { layer = layer; span = holds.there.0; part = holds.there.1; fault = (refl, (holds.span, holds.there.2, holds.fault)) })
+own_or_in bytes (Feature layer feature) cause holds = inr (record { layer = layer; span = holds.there.0; part = holds.there.1; fault = (refl, (holds.span, holds.there.2, holds.fault)) })
 
 -- and the other way round
 layer_part : (bytes : List ℕ) (ordinal layer : ℕ) (span : Span) → layer ≡ ordinal → IsPart bytes (whole_span bytes) 3 ordinal span → IsPart bytes (whole_span bytes) 3 layer span
@@ -55,16 +55,8 @@ in_layer bytes ordinal span (Layer layer) cause part fault = record { span = spa
 in_layer bytes ordinal span (Value layer value) cause part fault = record { span = fault.1.0; there = (span, layer_part bytes ordinal layer span fault.0 part, fault.1.1); fault = fault.1.2 }
 in_layer bytes ordinal span (Feature layer feature) cause part fault = record { span = fault.1.0; there = (span, layer_part bytes ordinal layer span fault.0 part, fault.1.1); fault = fault.1.2 }
 
-pub IsWireFault-in : (bytes : List ℕ) (ordinal : ℕ) (span : Span) (fault : Fault) → IsPart bytes (whole_span bytes) 3 ordinal span → IsLayerFault bytes span ordinal fault → IsWireFault bytes fault
-IsWireFault-in bytes ordinal span (Wire code scope at field) part fault = in_layer bytes ordinal span scope (cause_at code at field) part fault
-IsWireFault-in bytes ordinal span (Version some_layer) part fault = absurd fault
-IsWireFault-in bytes ordinal span (Name some other_one) part fault = absurd fault
-IsWireFault-in bytes ordinal span (Tag tag_code some_layer some_feature index) part fault = absurd fault
-IsWireFault-in bytes ordinal span (Command command_code in_layer in_feature index) part fault = absurd fault
-IsWireFault-in bytes ordinal span (Ring ring_code its_layer its_feature ring) part fault = absurd fault
-IsWireFault-in bytes ordinal span (Meeting its_layer its_feature polygon one_edge other_edge x y w) part fault = absurd fault
-IsWireFault-in bytes ordinal span (Outside its_layer its_feature polygon ring vertex) part fault = absurd fault
-IsWireFault-in bytes ordinal span (HoleInHole its_layer its_feature polygon ring vertex other_hole) part fault = absurd fault
+IsWireFault-in : (bytes : List ℕ) (ordinal : ℕ) (span : Span) (fault : Fault) → IsPart bytes (whole_span bytes) 3 ordinal span → IsLayerFault bytes span ordinal fault → IsWireFault bytes fault
+IsWireFault-in bytes ordinal span fault part (layer_faults.wire code scope at field holds) = wire code scope at field (in_layer bytes ordinal span scope (cause_at code at field) part holds)
 
 -- the place of a fault in a layer begins with the layer's ordinal
 abbrev IsBehind : ℕ → List ℕ → Type 0
@@ -77,15 +69,7 @@ place_in_layer bytes span ordinal (Value layer value) cause fault = (1 ∷ value
 place_in_layer bytes span ordinal (Feature layer feature) cause fault = (2 ∷ feature ∷ cause_place cause, ap (λ (l : ℕ). 0 ∷ 1 ∷ l ∷ 2 ∷ feature ∷ cause_place cause) fault.0)
 
 fault_place : (bytes : List ℕ) (span : Span) (ordinal : ℕ) (fault : Fault) → IsLayerFault bytes span ordinal fault → IsBehind ordinal (place_of fault)
-fault_place bytes span ordinal (Wire code scope at field) fault = place_in_layer bytes span ordinal scope (cause_at code at field) fault
-fault_place bytes span ordinal (Version some_layer) fault = absurd fault
-fault_place bytes span ordinal (Name some other_one) fault = absurd fault
-fault_place bytes span ordinal (Tag tag_code some_layer some_feature index) fault = absurd fault
-fault_place bytes span ordinal (Command command_code in_layer in_feature index) fault = absurd fault
-fault_place bytes span ordinal (Ring ring_code its_layer its_feature ring) fault = absurd fault
-fault_place bytes span ordinal (Meeting its_layer its_feature polygon one_edge other_edge x y w) fault = absurd fault
-fault_place bytes span ordinal (Outside its_layer its_feature polygon ring vertex) fault = absurd fault
-fault_place bytes span ordinal (HoleInHole its_layer its_feature polygon ring vertex other_hole) fault = absurd fault
+fault_place bytes span ordinal fault (layer_faults.wire code scope at field holds) = place_in_layer bytes span ordinal scope (cause_at code at field) holds
 
 -- so a fault in a layer comes before one in a later layer
 earlier_layer : (ordinal other : ℕ) (place behind : List ℕ) → IsBehind ordinal place → IsBehind other behind → ordinal < other → ComesFirst place behind
@@ -96,32 +80,24 @@ earlier_layer ordinal other place behind first second less =
 -- a fault of the tile's own fields comes before those in its layers
 behind_own : (bytes : List ℕ) (cause : WireCause) → IsLeastCause (HasFault messages.Tile bytes (whole_span bytes)) cause → (scope : Scope) (fault : WireCause) → WireFault bytes scope fault
     → ComesFirst (place_of (fault_in Tile cause)) (place_of (fault_in scope fault))
-behind_own bytes cause least Tile fault wire =
-    inr (refl, inr (refl, inr (refl, inr (refl, inr (refl, least.least fault (subst (λ (span : Span). HasFault messages.Tile bytes span fault) wire.there wire.fault))))))
-behind_own bytes cause least (Layer layer) fault wire = inr (refl, inl (omega arith))
-behind_own bytes cause least (Value layer value) fault wire = inr (refl, inl (omega arith))
-behind_own bytes cause least (Feature layer feature) fault wire = inr (refl, inl (omega arith))
+behind_own bytes cause least Tile fault holds =
+    inr (refl, inr (refl, inr (refl, inr (refl, inr (refl, least.least fault (subst (λ (span : Span). HasFault messages.Tile bytes span fault) holds.there holds.fault))))))
+behind_own bytes cause least (Layer layer) fault holds = inr (refl, inl (omega arith))
+behind_own bytes cause least (Value layer value) fault holds = inr (refl, inl (omega arith))
+behind_own bytes cause least (Feature layer feature) fault holds = inr (refl, inl (omega arith))
 
 pub IsLeast-tile : (bytes : List ℕ) (cause : WireCause) → IsLeastCause (HasFault messages.Tile bytes (whole_span bytes)) cause → IsLeast (IsWireFault bytes) (fault_in Tile cause)
-IsLeast-tile bytes cause least = record { holds = record { span = whole_span bytes; there = refl; fault = least.holds }; least = behind }
+IsLeast-tile bytes cause least = record { holds = wire cause.code Tile cause.at cause.field (record { span = whole_span bytes; there = refl; fault = least.holds }); least = behind }
   where
     behind : (fault : Fault) → IsWireFault bytes fault → ComesFirst (place_of (fault_in Tile cause)) (place_of fault)
-    behind (Wire code scope at field) wire = behind_own bytes cause least scope (cause_at code at field) wire
-    behind (Version some_layer) wire = absurd wire
-    behind (Name some other_one) wire = absurd wire
-    behind (Tag tag_code some_layer some_feature index) wire = absurd wire
-    behind (Command command_code in_layer in_feature index) wire = absurd wire
-    behind (Ring ring_code its_layer its_feature ring) wire = absurd wire
-    behind (Meeting its_layer its_feature polygon one_edge other_edge x y w) wire = absurd wire
-    behind (Outside its_layer its_feature polygon ring vertex) wire = absurd wire
-    behind (HoleInHole its_layer its_feature polygon ring vertex other_hole) wire = absurd wire
+    behind fault (wire code scope at field holds) = behind_own bytes cause least scope (cause_at code at field) holds
 
 module _ (bytes : List ℕ) (entries : List Entry) (whole : IsMessageAt bytes (whole_span bytes) entries) (none : (cause : WireCause) → ¬ HasFault messages.Tile bytes (whole_span bytes) cause) where
   -- where no layer has a fault either, there is none
   pub WireFault-none : (count : ℕ) → FindsFirst (IsFaultless bytes) (IsFirstOf bytes) (spans_of 3 entries) count None → (scope : Scope) (cause : WireCause) → ¬ WireFault bytes scope cause
-  WireFault-none count finds scope cause wire = elim (own_or_in bytes scope cause wire) [
+  WireFault-none count finds scope cause holds = elim (own_or_in bytes scope cause holds) [
     | inl own ↦ none cause own.1
-    | inr inside ↦ finds.1 inside.layer inside.span (part_among bytes (whole_span bytes) entries 3 inside.layer inside.span whole inside.part) (fault_in scope cause) inside.fault
+    | inr inside ↦ finds.1 inside.layer inside.span (part_among bytes (whole_span bytes) entries 3 inside.layer inside.span whole inside.part) (fault_in scope cause) (layer_faults.wire cause.code scope cause.at cause.field inside.fault)
   ]
 
   -- the first fault of the first layer that has one comes before those of the others
@@ -145,21 +121,13 @@ module _ (bytes : List ℕ) (entries : List Entry) (whole : IsMessageAt bytes (w
         ]
 
     behind_all : (scope : Scope) (cause : WireCause) → WireFault bytes scope cause → ComesFirst (place_of first) (place_of (fault_in scope cause))
-    behind_all scope cause wire = elim (own_or_in bytes scope cause wire) [
+    behind_all scope cause holds = elim (own_or_in bytes scope cause holds) [
       | inl own ↦ absurd (none cause own.1)
-      | inr inside ↦ behind_first (fault_in scope cause) inside.layer inside.span inside.part inside.fault
+      | inr inside ↦ behind_first (fault_in scope cause) inside.layer inside.span inside.part (layer_faults.wire cause.code scope cause.at cause.field inside.fault)
     ]
 
     pub IsLeast-layer : IsLeast (IsWireFault bytes) first
     IsLeast-layer = record { holds = IsWireFault-in bytes finds.ordinal finds.span first first_part finds.found.holds; least = behind }
       where
         behind : (fault : Fault) → IsWireFault bytes fault → ComesFirst (place_of first) (place_of fault)
-        behind (Wire code scope at field) wire = behind_all scope (cause_at code at field) wire
-        behind (Version some_layer) wire = absurd wire
-        behind (Name some other_one) wire = absurd wire
-        behind (Tag tag_code some_layer some_feature index) wire = absurd wire
-        behind (Command command_code in_layer in_feature index) wire = absurd wire
-        behind (Ring ring_code its_layer its_feature ring) wire = absurd wire
-        behind (Meeting its_layer its_feature polygon one_edge other_edge x y w) wire = absurd wire
-        behind (Outside its_layer its_feature polygon ring vertex) wire = absurd wire
-        behind (HoleInHole its_layer its_feature polygon ring vertex other_hole) wire = absurd wire
+        behind fault (wire code scope at field holds) = behind_all scope (cause_at code at field) holds

@@ -3,11 +3,12 @@ use Rattle.std.specs.Prelude.{◌≡◌, ℕ, List}
 use Rattle.mvt_wire.specs.Field.{cause_at}
 use Rattle.mvt_wire.specs.Scope.{Span, IsPart}
 use Rattle.mvt_wire.specs.declared.cause.WireCause.{WireCause}
+use Rattle.mvt_wire.specs.declared.cause.WireCode.{WireCode}
 use Rattle.mvt_wire.specs.declared.scope.Scope.{Scope}
 use Rattle.mvt_wire.specs.declared.scope.Scope.TheVariants.{Tile, Layer, Value, Feature}
 use Rattle.mvt_wire.specs.declared.schema.Message.TheVariants as messages
 use Rattle.mvt_fault.specs.declared.fault.Fault.{Fault}
-use Rattle.mvt_fault.specs.declared.fault.Fault.TheVariants.{Wire, Version, Name, Tag, Command, Ring, Meeting, Outside, HoleInHole}
+use Rattle.mvt_fault.specs.declared.fault.Fault.TheVariants.{Wire}
 use Rattle.mvt_tile.specs.Embedded.{HasFault}
 
 -- the bytes from one place up to another
@@ -24,13 +25,6 @@ FaultInLayer bytes span ordinal (Feature layer feature) cause =
     (layer ≡ ordinal) × ((inner : Span) × IsPart bytes span 2 feature inner × HasFault messages.Feature bytes inner cause)
 
 -- the fault is one of that layer, or of a message in it
-abbrev pub IsLayerFault : List ℕ → Span → ℕ → Fault → Type 0
-IsLayerFault bytes span ordinal (Wire code scope at field) = FaultInLayer bytes span ordinal scope (cause_at code at field)
-IsLayerFault bytes span ordinal (Version layer) = ⊥
-IsLayerFault bytes span ordinal (Name first second) = ⊥
-IsLayerFault bytes span ordinal (Tag code layer feature index) = ⊥
-IsLayerFault bytes span ordinal (Command command_code in_layer in_feature index) = ⊥
-IsLayerFault bytes span ordinal (Ring ring_code its_layer its_feature ring) = ⊥
-IsLayerFault bytes span ordinal (Meeting its_layer its_feature polygon one_edge other_edge x y w) = ⊥
-IsLayerFault bytes span ordinal (Outside its_layer its_feature polygon ring vertex) = ⊥
-IsLayerFault bytes span ordinal (HoleInHole its_layer its_feature polygon ring vertex other_hole) = ⊥
+pub data IsLayerFault (bytes : List ℕ) (span : Span) (ordinal : ℕ) : Fault → Type 0 where
+  wire : (code : WireCode) (scope : Scope) (at field : ℕ) → FaultInLayer bytes span ordinal scope (cause_at code at field)
+      → IsLayerFault bytes span ordinal (Wire code scope at field)

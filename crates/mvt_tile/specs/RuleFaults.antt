@@ -1,11 +1,12 @@
 -- The first fault of the rules between a tile's parts, and what is kept of a layer to look for it.
 use Rattle.std.specs.Prelude.{◌≡◌, ℕ, ◌<◌, ◌≤◌, ◌⊎◌, List, ◌∷◌, length}
 use Rattle.mvt_fault.specs.Code.{tag_code}
-use Rattle.mvt_fault.specs.Truth.{BreaksRule, TagsBreak}
+use Rattle.mvt_fault.specs.Truth.{BreaksRule, OneFeatureHas, TagsBreak}
 use Rattle.mvt_fault.specs.declared.fault.Fault.{Fault}
 use Rattle.mvt_fault.specs.declared.tag.TagCode.{TagCode}
 use Rattle.mvt_wire.specs.Rules.{IsFeatureOf}
 use Rattle.mvt_wire.specs.Tile.{FeatureRecord, LayerRecord, TileRecord}
+use Rattle.mvt_tile.specs.FeatureRules.{Breaks, Keeps}
 use Rattle.mvt_tile.specs.declared.rules.summary.LayerSummary.{LayerSummary}
 
 -- what the layer has, as far as the rules ask for it
@@ -25,15 +26,11 @@ pub record IsFirstTagFault (keys values : ℕ) (tags : List ℕ) (code : TagCode
 abbrev pub IsBehindTags : ℕ → ℕ → List ℕ → Type 0
 IsBehindTags layer feature place = (part : ℕ) × (rest : List ℕ) × (1 ≤ part) × (place ≡ 2 ∷ layer ∷ feature ∷ part ∷ rest)
 
--- one of the tile's features has this fault of a further rule
-pub record BreaksFeatureRule (IsBroken : FeatureRecord → ℕ → ℕ → Fault → Type 0) (tile : TileRecord) (fault : Fault) : Type 0 where
-  pub layer : ℕ
-  pub feature : ℕ
-  pub whose : LayerRecord
-  pub it : FeatureRecord
-  pub there : IsFeatureOf tile layer feature whose it
-  pub broken : IsBroken it layer feature fault
-
 -- the tile's record breaks a rule between its parts, or a further one on its features
-abbrev pub BreaksAnyRule : (FeatureRecord → ℕ → ℕ → Fault → Type 0) → TileRecord → Fault → Type 0
-BreaksAnyRule IsBroken tile fault = BreaksRule tile fault ⊎ BreaksFeatureRule IsBroken tile fault
+abbrev pub BreaksAnyRule : Breaks → TileRecord → Fault → Type 0
+BreaksAnyRule IsBroken tile fault = BreaksRule tile fault ⊎ OneFeatureHas (λ whose. IsBroken) tile fault
+
+-- the tile's record keeps the rules between its parts, and each of its features keeps a further one
+pub record KeepsRules (IsKept : Keeps) (tile : TileRecord) : Type 0 where
+  pub parts : (fault : Fault) → ¬ BreaksRule tile fault
+  pub features : (layer feature : ℕ) (whose : LayerRecord) (it : FeatureRecord) → IsFeatureOf tile layer feature whose it → IsKept it

@@ -4,7 +4,7 @@ ghost use Rattle.std.specs.Prelude.{ℕ, IfOk, IfNone, IfSome};
 ghost use Rattle.mvt_fault.specs.Place.{IsLeast, place_of};
 ghost use Rattle.mvt_fault.specs.declared.fault.Fault.{Fault};
 ghost use Rattle.mvt_wire.specs.Tile.{FeatureRecord, TileRecord, IsTile};
-ghost use Rattle.mvt_tile.specs.RuleFaults.{IsBehindTags, BreaksAnyRule};
+ghost use Rattle.mvt_tile.specs.RuleFaults.{IsBehindTags, BreaksAnyRule, KeepsRules};
 
 mod features;
 mod key_set;
@@ -34,15 +34,14 @@ pub use tags::check_tags;
 pub fn rule_fault<R: FeatureRule>(
     alloc: Global,
     bytes: &[u8],
-    rule: &R,
+    rule: &mut R,
 ) -> Result<Option<Fault>, AllocError>
     requires tile { (tile : TileRecord) × IsTile bytes.now tile }
-    requires behind_tags { (it : FeatureRecord) (layer ordinal : ℕ) (fault : Fault) → R.IsBroken rule.now it layer ordinal fault
-        → IsBehindTags layer ordinal (place_of fault) }
-    ensures none { IfOk result (λ found. IfNone found ((tile : TileRecord) → IsTile bytes.now tile
-        → (fault : Fault) → ¬ BreaksAnyRule (R.IsBroken rule.now) tile fault)) }
+    requires behind_tags { (feature_record : FeatureRecord) (layer_index feature_index : ℕ) (fault : Fault)
+        → R.IsBroken feature_record layer_index feature_index fault → IsBehindTags layer_index feature_index (place_of fault) }
+    ensures none { IfOk result (λ found. IfNone found ((tile : TileRecord) → IsTile bytes.now tile → KeepsRules R.IsKept tile)) }
     ensures least { IfOk result (λ found. IfSome found (λ fault. (tile : TileRecord) → IsTile bytes.now tile
-        → IsLeast (BreaksAnyRule (R.IsBroken rule.now) tile) fault)) }
+        → IsLeast (BreaksAnyRule R.IsBroken tile) fault)) }
 {
     match first_layer_fault(alloc, bytes)? {
         Some(fault) => Ok(Some(fault)),

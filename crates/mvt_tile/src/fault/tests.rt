@@ -1,5 +1,5 @@
 use crate::wire_fault;
-use mvt_fault::{Fault, Scope};
+use mvt_fault::{Fault, Scope, code};
 use mvt_wire::WireCode;
 
 fn wire(code: WireCode, scope: Scope, at: usize, field: u32) -> Option<Fault> {
@@ -13,7 +13,7 @@ fn wire(code: WireCode, scope: Scope, at: usize, field: u32) -> Option<Fault> {
 
 #[test]
 fn whole_tiles(rt: HostRuntime) {
-    let tiles: [&[u8]; 10] = [
+    let tiles: [&[u8]; 9] = [
         &[],
         // one point; packed, single, both
         &[
@@ -33,14 +33,12 @@ fn whole_tiles(rt: HostRuntime) {
             0x1a, 0x0f, 0x78, 0x82, 0x00, 0x0a, 0x01, 0x61, 0x12, 0x07, 0x18, 0x01, 0x22, 0x03,
             0x09, 0x32, 0x22,
         ],
-        // a field that a layer doesn't know
+        // a field that no message knows, with a key of two bytes
         &[0x1a, 0x08, 0x78, 0x02, 0x0a, 0x01, 0x61, 0x80, 0x01, 0x05],
         // no number in a packed geometry
         &[
             0x1a, 0x0b, 0x78, 0x02, 0x0a, 0x01, 0x61, 0x12, 0x04, 0x18, 0x00, 0x22, 0x00,
         ],
-        // a field that a tile doesn't know
-        &[0x08, 0x05],
         // a layer with a key, a value and an extent, its version last
         &[
             0x1a, 0x1f, 0x0a, 0x01, 0x61, 0x12, 0x0d, 0x08, 0x07, 0x12, 0x02, 0x00, 0x00, 0x18,
@@ -56,6 +54,37 @@ fn whole_tiles(rt: HostRuntime) {
     for bytes in tiles {
         assert_eq!(rt; wire_fault(bytes), None, "at {bytes:?}");
     }
+}
+
+// Varints in fields whose numbers the message doesn't know: 1 in a tile, 6 in a layer, 8 in a value
+// and 5 in a feature.
+#[test]
+fn unknown_fields(rt: HostRuntime) {
+    let tiles: [&[u8]; 4] = [
+        &[0x08, 0x05],
+        &[0x1a, 0x07, 0x78, 0x02, 0x0a, 0x01, 0x61, 0x30, 0x05],
+        &[
+            0x1a, 0x0b, 0x78, 0x02, 0x0a, 0x01, 0x61, 0x22, 0x04, 0x38, 0x01, 0x40, 0x05,
+        ],
+        &[
+            0x1a, 0x10, 0x78, 0x02, 0x0a, 0x01, 0x61, 0x12, 0x09, 0x18, 0x01, 0x22, 0x03, 0x09,
+            0x32, 0x22, 0x28, 0x05,
+        ],
+    ];
+    for bytes in tiles {
+        assert_eq!(rt; wire_fault(bytes), None, "at {bytes:?}");
+    }
+}
+
+// The text of a value that isn't UTF-8.
+#[test]
+fn value_of_no_text(rt: HostRuntime) {
+    let bytes = [
+        0x1a, 0x0a, 0x78, 0x02, 0x0a, 0x01, 0x61, 0x22, 0x03, 0x0a, 0x01, 0xff,
+    ];
+    let fault = wire_fault(&bytes);
+    assert_eq!(rt; fault, wire(WireCode::NotUtf8, Scope::Value(0, 0), 9, 1));
+    assert!(rt; matches!(fault, Some(fault) if code(&fault) == 110));
 }
 
 #[test]

@@ -1,4 +1,4 @@
-ghost use Rattle.std.specs.Prelude.{◌≡◌, Some};
+ghost use Rattle.std.specs.Prelude.{◌≡◌, ◌≢◌, Some};
 ghost use Rattle.mvt_fault.specs.declared.command.CommandCode.{CommandCode};
 ghost use Rattle.mvt_fault.specs.declared.fault.Fault.{Fault};
 
@@ -9,21 +9,28 @@ use mvt_fault::{CommandCode, Fault, TagCode};
 use std::alloc::{AllocError, Global};
 use std::process::Abort;
 
-/// A rule that is broken by a feature of unknown type, at the first number of its geometry.
-struct TypesAreKnown;
+/// A rule that is broken by a feature of unknown type, at the first number of its geometry. It counts the
+/// features that it is asked of.
+#[derive(Drop)]
+struct TypesAreKnown {
+    asked: usize,
+}
 
 impl FeatureRule for TypesAreKnown {
-    ghost IsBroken = { λ _ it layer feature fault. (it.kind ≡ 0) × (fault ≡ Fault.Command CommandCode.OtherCommand layer feature 0) };
+    ghost IsBroken = { λ it layer feature fault. (it.kind ≡ 0) × (fault ≡ Fault.Command CommandCode.OtherCommand layer feature 0) };
+
+    ghost IsKept = { λ it. it.kind ≢ 0 };
 
     fn fault(
-        &self,
+        &mut self,
         _alloc: Global,
         feature: &Feature,
-        layer: usize,
-        ordinal: usize,
+        layer_index: usize,
+        feature_index: usize,
     ) -> Result<Option<Fault>, AllocError> {
+        self.asked = self.asked.saturating_add(1);
         match feature.kind {
-            Kind::Unknown => Ok(command(layer, ordinal)),
+            Kind::Unknown => Ok(command(layer_index, feature_index)),
             Kind::Point | Kind::LineString | Kind::Polygon => Ok(None),
         }
     }
@@ -40,16 +47,34 @@ fn command(layer: usize, feature: usize) -> Option<Fault>
     })
 }
 
+/// The first fault of bytes that are a tile, by its rules and that further one.
+fn first_fault(
+    rt: &impl Abort,
+    alloc: Global,
+    bytes: &[u8],
+    rule: &mut TypesAreKnown,
+) -> Option<Fault> {
+    match wire_fault(bytes) {
+        Some(other) => {
+            assert!(rt; false, "{other:?} at {bytes:?}");
+            None
+        }
+        None => match rule_fault(alloc, bytes, rule) {
+            Ok(found) => found,
+            Err(_refused) => {
+                assert!(rt; false, "no memory at {bytes:?}");
+                None
+            }
+        },
+    }
+}
+
 /// That all bytes are tiles, and that this is the first fault of each by its rules and that further one.
 fn expect_faults(rt: &impl Abort, alloc: Global, cases: &[(&[u8], Option<Fault>)]) {
+    let mut rule = TypesAreKnown { asked: 0 };
     for (bytes, fault) in cases {
-        match wire_fault(bytes) {
-            Some(other) => assert!(rt; false, "{other:?} at {bytes:?}"),
-            None => match rule_fault(alloc, bytes, &TypesAreKnown) {
-                Ok(found) => assert_eq!(rt; found, *fault, "at {bytes:?}"),
-                Err(_refused) => assert!(rt; false, "no memory at {bytes:?}"),
-            },
-        }
+        let found = first_fault(rt, alloc, bytes, &mut rule);
+        assert_eq!(rt; found, *fault, "at {bytes:?}");
     }
 }
 
@@ -273,4 +298,19 @@ fn further_rule_behind_tags(rt: HostRuntime) {
         ),
     ];
     expect_faults(&rt, rt.alloc(), &cases);
+}
+
+// One rule serves the features of all layers, and keeps what it noted: two layers, the first with one point and
+// the second with two.
+#[test]
+fn one_rule_for_all_features(rt: HostRuntime) {
+    let bytes = [
+        0x1a, 0x0e, 0x78, 0x02, 0x0a, 0x01, 0x61, 0x12, 0x07, 0x18, 0x01, 0x22, 0x03, 0x09, 0x32,
+        0x22, 0x1a, 0x17, 0x78, 0x02, 0x0a, 0x01, 0x62, 0x12, 0x07, 0x18, 0x01, 0x22, 0x03, 0x09,
+        0x32, 0x22, 0x12, 0x07, 0x18, 0x01, 0x22, 0x03, 0x09, 0x32, 0x22,
+    ];
+    let mut rule = TypesAreKnown { asked: 0 };
+    let found = first_fault(&rt, rt.alloc(), &bytes, &mut rule);
+    assert_eq!(rt; found, None);
+    assert_eq!(rt; rule.asked, 3);
 }

@@ -28,7 +28,7 @@ fn first_feature(bytes: &[u8], from: usize, to: usize) -> Option<(usize, usize)>
 // Features of one layer each, read into one record: of each nothing is left in the next.
 #[test]
 fn features_one_after_another(rt: HostRuntime) {
-    let rows: [(&[u8], Option<u64>, &[u32], Kind, &[u32]); 3] = [
+    let rows: [(&[u8], Option<u64>, &[u32], Kind, &[u32]); 4] = [
         // tags of two packed, then one single, then one single of two bytes; the type and the geometry between
         // them; an id of seven
         (
@@ -49,6 +49,17 @@ fn features_one_after_another(rt: HostRuntime) {
             ],
             None,
             &[1, 300, 4294967295],
+            Kind::Point,
+            &[9, 50, 34],
+        ),
+        // an id of 2^32: it has 64 bits
+        (
+            &[
+                0x1a, 0x14, 0x12, 0x0d, 0x08, 0x80, 0x80, 0x80, 0x80, 0x10, 0x18, 0x01, 0x22, 0x03,
+                0x09, 0x32, 0x22, 0x78, 0x02, 0x0a, 0x01, 0x61,
+            ],
+            Some(4_294_967_296),
+            &[],
             Kind::Point,
             &[9, 50, 34],
         ),

@@ -14,7 +14,7 @@ use Rattle.mvt_tile.proofs.rules.features.fault_in_layer.Goals as goal
 
 pub walk-init : goal.walk-init
 walk-init over c =
-    CleanWalk-nothing (IsGoodFeature (over.R.FeatureRule.IsBroken c.args.rule.now) c.args.bytes.now c.summarize-summary.result c.args.layer) 2 (take c.args.to c.args.bytes.now) c.args.from c.new-fields.result c.new-fields.ensures
+    CleanWalk-nothing (IsGoodFeature over.R.FeatureRule.IsBroken over.R.FeatureRule.IsKept c.args.bytes.now c.summarize-summary.result c.args.layer_index) 2 (take c.args.to c.args.bytes.now) c.args.from c.new-fields.result c.new-fields.ensures
 
 pub next_whole-requires : goal.next_whole-requires
 next_whole-requires over c = λ cause left defect.
@@ -54,10 +54,10 @@ returns-in-Some-found-clause-least over c = λ whose is.
     let bytes = c.args.bytes.now in
     let summary = c.summarize-summary.result in
     let span : Span = record { from = c.stretch_of-start.result.0; to = c.stretch_of-start.result.1 } in
-    let next = CleanWalk-next (IsGoodFeature (over.R.FeatureRule.IsBroken c.args.rule.now) bytes summary c.args.layer) 2 (take c.args.to bytes) c.args.from c.walk.fields c.next_whole.new.fields c.walk.ordinal c.walk.invariant
+    let next = CleanWalk-next (IsGoodFeature over.R.FeatureRule.IsBroken over.R.FeatureRule.IsKept bytes summary c.args.layer_index) 2 (take c.args.to bytes) c.args.from c.walk.fields c.next_whole.new.fields c.walk.feature_index c.walk.invariant
     (entry_of c.in-Some.field) c.in-Some.ensures.field c.if-field-eq-FEATURES.true span c.stretch_of-start.ensures is.entries is.whole in
-    first_in_layer (over.R.FeatureRule.IsBroken c.args.rule.now) c.requires.behind_tags bytes _ whose is c.args.layer summary (c.summarize-summary.ensures whose is) c.walk.ordinal span c.in-Some-found.fault next
-    (first_of_feature (over.R.FeatureRule.IsBroken c.args.rule.now) bytes summary c.args.layer c.walk.ordinal span (feature_of c.read_feature_into.new.feature) c.in_ok-read_feature_into.ensures
+    first_in_layer over.R.FeatureRule.IsBroken c.requires.behind_tags over.R.FeatureRule.IsKept bytes _ whose is c.args.layer_index summary (c.summarize-summary.ensures whose is) c.walk.feature_index span c.in-Some-found.fault next
+    (first_of_feature over.R.FeatureRule.IsBroken bytes summary c.args.layer_index c.walk.feature_index span (feature_of c.read_feature_into.new.feature) c.in_ok-read_feature_into.ensures
     c.in_ok-found.found c.in-Some-found.fault c.in-Some-found.is c.in_ok-found.ensures.least)
 
 pub walk-preserved-then-field-eq-FEATURES : goal.walk-preserved-then-field-eq-FEATURES
@@ -65,18 +65,18 @@ walk-preserved-then-field-eq-FEATURES over c =
     let bytes = c.args.bytes.now in
     let summary = c.summarize-summary.result in
     let span : Span = record { from = c.stretch_of-start.result.0; to = c.stretch_of-start.result.1 } in
-    CleanWalk-more (IsGoodFeature (over.R.FeatureRule.IsBroken c.args.rule.now) bytes summary c.args.layer) 2 (take c.args.to bytes) c.args.from c.walk.fields c.next_whole.new.fields c.walk.ordinal c.walk.invariant
+    CleanWalk-more (IsGoodFeature over.R.FeatureRule.IsBroken over.R.FeatureRule.IsKept bytes summary c.args.layer_index) 2 (take c.args.to bytes) c.args.from c.walk.fields c.next_whole.new.fields c.walk.feature_index c.walk.invariant
     (entry_of c.in-Some.field) c.in-Some.ensures.field c.if-field-eq-FEATURES.true span c.stretch_of-start.ensures
-    (good_feature (over.R.FeatureRule.IsBroken c.args.rule.now) bytes summary c.args.layer c.walk.ordinal span (feature_of c.read_feature_into.new.feature) c.in_ok-read_feature_into.ensures c.in_ok-found.found c.in_default-found.is c.in_ok-found.ensures.none)
+    (good_feature over.R.FeatureRule.IsBroken bytes summary c.args.layer_index c.walk.feature_index span (feature_of c.read_feature_into.new.feature) c.in_ok-read_feature_into.ensures c.in_ok-found.found over.R.FeatureRule.IsKept c.in_default-found.is c.in_ok-found.ensures.none)
 
 pub walk-preserved : goal.walk-preserved
 walk-preserved over c =
-    CleanWalk-other (IsGoodFeature (over.R.FeatureRule.IsBroken c.args.rule.now) c.args.bytes.now c.summarize-summary.result c.args.layer) 2 (take c.args.to c.args.bytes.now) c.args.from c.walk.fields c.next_whole.new.fields c.walk.ordinal c.walk.invariant
+    CleanWalk-other (IsGoodFeature over.R.FeatureRule.IsBroken over.R.FeatureRule.IsKept c.args.bytes.now c.summarize-summary.result c.args.layer_index) 2 (take c.args.to c.args.bytes.now) c.args.from c.walk.fields c.next_whole.new.fields c.walk.feature_index c.walk.invariant
     (entry_of c.in-Some.field) c.in-Some.ensures.field c.if-field-eq-FEATURES.false
 
 pub returns-clause-none : goal.returns-clause-none
-returns-clause-none over c = λ whose is fault.
+returns-clause-none over c = λ whose is.
     let bytes = c.args.bytes.now in
     let summary = c.summarize-summary.result in
-    good_layer (over.R.FeatureRule.IsBroken c.args.rule.now) c.requires.behind_tags bytes _ whose is c.args.layer summary (c.summarize-summary.ensures whose is)
-    (CleanWalk-over (IsGoodFeature (over.R.FeatureRule.IsBroken c.args.rule.now) bytes summary c.args.layer) 2 (take c.args.to bytes) c.args.from c.walk.fields c.next_whole.new.fields c.walk.ordinal c.walk.invariant c.in_default.ensures.over is.entries is.whole) fault
+    good_layer over.R.FeatureRule.IsBroken c.requires.behind_tags over.R.FeatureRule.IsKept bytes _ whose is c.args.layer_index summary (c.summarize-summary.ensures whose is)
+    (CleanWalk-over (IsGoodFeature over.R.FeatureRule.IsBroken over.R.FeatureRule.IsKept bytes summary c.args.layer_index) 2 (take c.args.to bytes) c.args.from c.walk.fields c.next_whole.new.fields c.walk.feature_index c.walk.invariant c.in_default.ensures.over is.entries is.whole)

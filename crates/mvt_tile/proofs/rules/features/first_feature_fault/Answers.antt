@@ -13,7 +13,7 @@ use Rattle.mvt_tile.proofs.FeatureFaults.{IsGoodLayer, IsFirstInLayer, first_in_
 use Rattle.mvt_tile.proofs.rules.features.first_feature_fault.Goals as goal
 
 pub walk-init : goal.walk-init
-walk-init over c = CleanWalk-nothing (IsGoodLayer (over.R.FeatureRule.IsBroken c.args.rule.now) c.args.bytes.now) 3 (take (length c.args.bytes.now) c.args.bytes.now) 0 c.new-fields.result c.new-fields.ensures
+walk-init over c = CleanWalk-nothing (IsGoodLayer over.R.FeatureRule.IsBroken over.R.FeatureRule.IsKept c.args.bytes.now) 3 (take (length c.args.bytes.now) c.args.bytes.now) 0 c.new-fields.result c.new-fields.ensures
 
 pub next_whole-requires : goal.next_whole-requires
 next_whole-requires over c = λ cause left defect.
@@ -56,27 +56,27 @@ pub returns-in-Some-found-clause-least : goal.returns-in-Some-found-clause-least
 returns-in-Some-found-clause-least over c = λ tile is.
     let bytes = c.args.bytes.now in
     let span : Span = record { from = c.stretch_of-from.result.0; to = c.stretch_of-from.result.1 } in
-    let next = CleanWalk-next (IsGoodLayer (over.R.FeatureRule.IsBroken c.args.rule.now) bytes) 3 (take (length bytes) bytes) 0 c.walk.fields c.next_whole.new.fields c.walk.layer c.walk.invariant
+    let next = CleanWalk-next (IsGoodLayer over.R.FeatureRule.IsBroken over.R.FeatureRule.IsKept bytes) 3 (take (length bytes) bytes) 0 c.walk.fields c.next_whole.new.fields c.walk.layer_index c.walk.invariant
     (entry_of c.in-Some.field) c.in-Some.ensures.field c.if-field-eq-LAYERS.true span c.stretch_of-from.ensures is.entries is.whole in
-    first_in_tile (over.R.FeatureRule.IsBroken c.args.rule.now) c.requires.behind_tags bytes tile is c.walk.layer span c.in-Some-found.fault next
-    (subst (λ (found : Option Fault). IfSome found (λ fault. IsFirstInLayer (over.R.FeatureRule.IsBroken c.args.rule.now) bytes fault c.walk.layer span)) c.in-Some-found.is c.in_ok-found.ensures.least)
+    first_in_tile over.R.FeatureRule.IsBroken c.requires.behind_tags over.R.FeatureRule.IsKept bytes tile is c.walk.layer_index span c.in-Some-found.fault next
+    (subst (λ (found : Option Fault). IfSome found (λ fault. IsFirstInLayer over.R.FeatureRule.IsBroken bytes fault c.walk.layer_index span)) c.in-Some-found.is c.in_ok-found.ensures.least)
 
 pub walk-preserved-then-field-eq-LAYERS : goal.walk-preserved-then-field-eq-LAYERS
 walk-preserved-then-field-eq-LAYERS over c =
     let bytes = c.args.bytes.now in
     let span : Span = record { from = c.stretch_of-from.result.0; to = c.stretch_of-from.result.1 } in
-    CleanWalk-more (IsGoodLayer (over.R.FeatureRule.IsBroken c.args.rule.now) bytes) 3 (take (length bytes) bytes) 0 c.walk.fields c.next_whole.new.fields c.walk.layer c.walk.invariant
+    CleanWalk-more (IsGoodLayer over.R.FeatureRule.IsBroken over.R.FeatureRule.IsKept bytes) 3 (take (length bytes) bytes) 0 c.walk.fields c.next_whole.new.fields c.walk.layer_index c.walk.invariant
     (entry_of c.in-Some.field) c.in-Some.ensures.field c.if-field-eq-LAYERS.true span c.stretch_of-from.ensures
-    (subst (λ (found : Option Fault). IfNone found (IsGoodLayer (over.R.FeatureRule.IsBroken c.args.rule.now) bytes c.walk.layer span)) c.in_default-found.is c.in_ok-found.ensures.none)
+    (subst (λ (found : Option Fault). IfNone found (IsGoodLayer over.R.FeatureRule.IsBroken over.R.FeatureRule.IsKept bytes c.walk.layer_index span)) c.in_default-found.is c.in_ok-found.ensures.none)
 
 pub walk-preserved : goal.walk-preserved
 walk-preserved over c =
     let bytes = c.args.bytes.now in
-    CleanWalk-other (IsGoodLayer (over.R.FeatureRule.IsBroken c.args.rule.now) bytes) 3 (take (length bytes) bytes) 0 c.walk.fields c.next_whole.new.fields c.walk.layer c.walk.invariant
+    CleanWalk-other (IsGoodLayer over.R.FeatureRule.IsBroken over.R.FeatureRule.IsKept bytes) 3 (take (length bytes) bytes) 0 c.walk.fields c.next_whole.new.fields c.walk.layer_index c.walk.invariant
     (entry_of c.in-Some.field) c.in-Some.ensures.field c.if-field-eq-LAYERS.false
 
 pub returns-clause-none : goal.returns-clause-none
-returns-clause-none over c = λ tile is fault.
+returns-clause-none over c = λ tile is.
     let bytes = c.args.bytes.now in
-    good_tile (over.R.FeatureRule.IsBroken c.args.rule.now) c.requires.behind_tags bytes tile is
-    (CleanWalk-over (IsGoodLayer (over.R.FeatureRule.IsBroken c.args.rule.now) bytes) 3 (take (length bytes) bytes) 0 c.walk.fields c.next_whole.new.fields c.walk.layer c.walk.invariant c.in_default.ensures.over is.entries is.whole) fault
+    good_tile over.R.FeatureRule.IsBroken c.requires.behind_tags over.R.FeatureRule.IsKept bytes tile is
+    (CleanWalk-over (IsGoodLayer over.R.FeatureRule.IsBroken over.R.FeatureRule.IsKept bytes) 3 (take (length bytes) bytes) 0 c.walk.fields c.next_whole.new.fields c.walk.layer_index c.walk.invariant c.in_default.ensures.over is.entries is.whole)
