@@ -2,7 +2,7 @@
 use Rattle.std.proofs.Common.{◌≡◌, ℕ, zero, suc, ◌+◌, ◌/◌, ◌<◌, ◌≤◌, List, [], ◌∷◌, ◌++◌, length, drop, get_or, ap, sym, ◌∙◌, subst, refl, append_assoc, append-nil, arith}
 use Rattle.mvt_plane.specs.Figure.{steps, cursor, command_integer, AreSteps}
 use Rattle.mvt_plane.specs.Position.{Position}
-use Rattle.mvt_draw.specs.Course.{Course, IsStepAhead, IsRunAhead}
+use Rattle.mvt_plane.specs.Course.{Course, IsStepAhead, IsRunAhead}
 
 -- A step
 
@@ -16,7 +16,19 @@ two_at (suc at) (n ∷ numbers) x y rest stands =
     let there = two_at at numbers x y rest stands in
     let within : at + 2 ≤ length numbers = there.3 in (there.0, there.1, there.2, omega arith)
 
+-- the number at a place, and those behind it
+one_at : (at : ℕ) (numbers : List ℕ) (n : ℕ) (rest : List ℕ) → drop at numbers ≡ n ∷ rest → (get_or numbers at 0 ≡ n) × (drop (suc at) numbers ≡ rest)
+one_at zero numbers n rest stands = (ap (λ (it : List ℕ). get_or it 0 0) stands, ap (λ (it : List ℕ). drop 1 it) stands)
+one_at (suc at) [] n rest stands = cc
+one_at (suc at) (m ∷ numbers) n rest stands = one_at at numbers n rest stands
+
 -- the same, with places as sums
+pub one_ahead : (at : ℕ) (numbers : List ℕ) (n : ℕ) (rest : List ℕ) → drop at numbers ≡ n ∷ rest → (get_or numbers at 0 ≡ n) × (drop (at + 1) numbers ≡ rest)
+one_ahead at numbers n rest stands =
+    let there = one_at at numbers n rest stands in
+    let one : at + 1 ≡ suc at = omega arith in (there.0, ap (λ (place : ℕ). drop place numbers) one ∙ there.1)
+
+-- two numbers, with places as sums
 pub two_ahead : (at : ℕ) (numbers : List ℕ) (x y : ℕ) (rest : List ℕ) → drop at numbers ≡ x ∷ y ∷ rest
     → (get_or numbers at 0 ≡ x) × (get_or numbers (at + 1) 0 ≡ y) × (drop (at + 2) numbers ≡ rest) × (at + 2 ≤ length numbers)
 two_ahead at numbers x y rest stands =
@@ -56,12 +68,6 @@ IsAmidRun-start before start now count positions rest run counted behind =
       end = refl;
       whole = refl;
     })
-
--- while one is left, a step is ahead
-pub step_ahead : (now : Course) (ahead : List Position) (rest : List ℕ) → AreSteps now.here ahead → now.left ≡ steps now.here ahead ++ rest → 0 < length ahead
-    → (to : Position) × (more : List ℕ) × IsStepAhead now to more
-step_ahead now [] rest able stands some = absurd (omega arith)
-step_ahead now (to ∷ ahead) rest able stands some = (to, steps to ahead ++ rest, record { able = able.0; stands = stands })
 
 -- behind it, one more is drawn
 pub IsAmidRun-more : (before : List Position) (start : Course) (positions : List Position) (rest : List ℕ) (drawn : List Position) (now new : Course) (to : Position) (left : ℕ)

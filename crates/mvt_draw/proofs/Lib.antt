@@ -1,9 +1,9 @@
-pub mod Readers
 pub mod ToldFaults
 pub mod Courses
-pub mod FigurePaths
+pub mod Drawers
 pub mod Parameters
 pub mod Paths
+pub mod RingRoom
 pub mod SpellingFaults
 pub mod SpellingFigures
 pub mod SpellingPaths

@@ -1,5 +1,7 @@
 -- What the parameters of a step tell of coordinates.
-use Rattle.std.proofs.Common.{◌≡◌, ℤ, pos, negsuc, ap, arith}
+use Rattle.std.proofs.Common.{◌≡◌, ℕ, ℤ, pos, negsuc, ap, sym, ◌∙◌, arith}
+use Rattle.mvt_plane.proofs.Parameters.{unzigzag-zigzag}
+use Rattle.mvt_plane.specs.Drawing.{unzigzag}
 use Rattle.mvt_plane.specs.Figure as plane
 use Rattle.mvt_plane.specs.Position.{Position}
 use Rattle.mvt_wire.specs.Number as wire
@@ -14,3 +16,8 @@ same_sign_form (negsuc m) (negsuc n) same = ap negsuc (omega arith)
 -- the position with these coordinates
 pub same_position : (to : Position) (x y : ℤ) → x ≡ to.x → y ≡ to.y → record { x = x; y = y } ≡ to
 same_position to x y same_x same_y = λ i. record { x = same_x i; y = same_y i }
+
+-- the number that a parameter stands for, in the words of mvt_wire
+pub unzigzag_wire : (z : ℤ) (n : ℕ) → wire.zigzag z ≡ n → z ≡ unzigzag n
+unzigzag_wire (pos k) n same = sym (unzigzag-zigzag (pos k)) ∙ ap unzigzag same
+unzigzag_wire (negsuc k) n same = sym (unzigzag-zigzag (negsuc k)) ∙ ap unzigzag same

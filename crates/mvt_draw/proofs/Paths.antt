@@ -1,75 +1,9 @@
 -- How a pen gets on with the lines or rings of a figure.
 use Rattle.std.proofs.Common.{◌≡◌, ℕ, ◌<◌, cond, Bool, true, false, List, [], ◌∷◌, ◌++◌, length, drop, ap, sym, ◌∙◌, subst, refl, append_assoc, append-nil, length-append, arith}
-use Rattle.mvt_plane.specs.Figure.{steps, path, paths, cursor, command_integer, move_to, line_to, IsPath}
+use Rattle.mvt_plane.specs.Figure.{cursor}
 use Rattle.mvt_plane.specs.Position.{Position}
-use Rattle.mvt_draw.specs.Course.{Course, IsRunAhead, IsPathAhead, ArePathsAhead, ending_of}
-
--- A path
-
--- a path is a run of one step, and one of the further steps
-pub record AreTwoRuns (course : Course) (part : List Position) (rest : List ℕ) : Type 0 where
-  pub first : Position
-  pub more : List Position
-  pub whole : first ∷ more ≡ part
-  pub between : Course
-  pub behind : between ≡ record { here = first; left = between.left }
-  pub one : IsRunAhead course (first ∷ []) between.left
-  pub further : IsRunAhead between more rest
-
--- each path is
-pub two_runs : (course : Course) (part : List Position) (rest : List ℕ) → IsPathAhead course part rest → AreTwoRuns course part rest
-two_runs course part rest ahead = from part ahead.able ahead.stands
-  where
-    from : (part : List Position) → IsPath ahead.least course.here part → course.left ≡ path course.here part ++ rest → AreTwoRuns course part rest
-    from [] able stands = absurd able
-    from (first ∷ more) able stands =
-        record {
-          first = first;
-          more = more;
-          whole = refl;
-          between = record { here = first; left = command_integer line_to (length more) ∷ (steps first more ++ rest) };
-          behind = refl;
-          one = record { id = move_to; is_id = omega arith; able = (able.0, tt); stands = stands };
-          further = record { id = line_to; is_id = omega arith; able = able.1; stands = refl };
-        }
-
--- All paths
-
--- the first of the paths ahead, and those behind it
-pub record IsNextPath (course : Course) (closed : Bool) (parts : List (List Position)) : Type 0 where
-  pub part : List Position
-  pub more : List (List Position)
-  pub whole : part ∷ more ≡ parts
-  pub left : List ℕ
-  pub first : IsPathAhead course part (ending_of closed ++ left)
-  pub further : ArePathsAhead (record { here = cursor course.here part; left = left }) closed more
-
--- while numbers are left, a path is ahead
-pub next_path : (course : Course) (closed : Bool) (parts : List (List Position)) → ArePathsAhead course closed parts → 0 < length course.left → IsNextPath course closed parts
-next_path course closed [] ahead some = absurd (omega (arith, ap (length {A = ℕ}) ahead.stands))
-next_path course closed (part ∷ more) ahead some =
-    record {
-      part = part;
-      more = more;
-      whole = refl;
-      left = paths (ending_of closed) (cursor course.here part) more;
-      first = record { least = ahead.least; able = ahead.able.0; stands = ahead.stands };
-      further = record { least = ahead.least; able = ahead.able.1; stands = refl };
-    }
-
--- where no number is left, none is
-pub no_path : (course : Course) (closed : Bool) (parts : List (List Position)) → ArePathsAhead course closed parts → length course.left ≡ 0 → parts ≡ []
-no_path course closed [] ahead none = refl
-no_path course closed ([] ∷ more) ahead none = absurd ahead.able.0
-no_path course closed ((first ∷ further) ∷ more) ahead none = absurd (omega (arith, ap (length {A = ℕ}) ahead.stands))
-
--- a path has numbers
-pub path_takes : (course : Course) (part : List Position) (rest : List ℕ) → IsPathAhead course part rest → length rest < length course.left
-path_takes course part rest ahead = from part ahead.able ahead.stands
-  where
-    from : (part : List Position) → IsPath ahead.least course.here part → course.left ≡ path course.here part ++ rest → length rest < length course.left
-    from [] able stands = absurd able
-    from (first ∷ more) able stands = omega (arith, ap (length {A = ℕ}) stands, length-append (steps first more) rest)
+use Rattle.mvt_plane.specs.Course.{Course, IsPathAhead, ArePathsAhead, ending_of, IsNextPath}
+use Rattle.mvt_plane.proofs.Courses.{next_path, no_path, path_takes}
 
 -- so many numbers end a path
 abbrev pub ending_length : Bool → ℕ
@@ -101,25 +35,33 @@ pub record DrawsPath (closed : Bool) (points : List Position) (now behind new : 
   pub ended : new ≡ record { here = behind.here; left = drop (ending_length closed) behind.left }
 
 -- where the pen is then
-pub DrawsPath-behind : (closed : Bool) (points : List Position) (now behind new : Course) (parts : List (List Position)) → DrawsPath closed points now behind new
-    → (next : IsNextPath now closed parts) → new ≡ record { here = cursor now.here next.part; left = next.left }
-DrawsPath-behind closed points now behind new parts draws next =
+pub DrawsPath-behind : (closed : Bool) (points : List Position) (now behind new : Course) → DrawsPath closed points now behind new
+    → (part : List Position) (rest : List ℕ) → IsPathAhead now part (ending_of closed ++ rest) → new ≡ record { here = cursor now.here part; left = rest }
+DrawsPath-behind closed points now behind new draws part rest ahead =
     draws.ended
-    ∙ (ap (λ (it : Course). record { here = it.here; left = drop (ending_length closed) it.left }) (draws.told next.part (ending_of closed ++ next.left) next.first).1
-    ∙ ap (λ (it : List ℕ). record { here = cursor now.here next.part; left = it }) (behind_ending closed next.left))
+    ∙ (ap (λ (it : Course). record { here = it.here; left = drop (ending_length closed) it.left }) (draws.told part (ending_of closed ++ rest) ahead).1
+    ∙ ap (λ (it : List ℕ). record { here = cursor now.here part; left = it }) (behind_ending closed rest))
 
--- one more is drawn then
+-- whichever of them is next, one more is drawn behind it
+pub IsAmidPaths-next : (closed : Bool) (parts drawn after : List (List Position)) (now new : Course) → IsAmidPaths closed parts drawn now → 0 < length now.left
+    → ((part : List Position) (rest : List ℕ) → IsPathAhead now part (ending_of closed ++ rest) → (after ≡ drawn ++ part ∷ []) × (new ≡ record { here = cursor now.here part; left = rest }))
+    → IsAmidPaths closed parts after new
+IsAmidPaths-next closed parts drawn after now new amid some told =
+    let next = next_path now closed amid.ahead amid.left some in
+    let there = told next.part next.left next.first in
+    record {
+      ahead = next.more;
+      left = subst (λ (it : Course). ArePathsAhead it closed next.more) (sym there.1) next.further;
+      whole = ap (λ (it : List (List Position)). it ++ next.more) there.0 ∙ (append_assoc drawn (next.part ∷ []) next.more
+          ∙ (ap (λ (it : List (List Position)). drawn ++ it) next.whole ∙ amid.whole));
+    }
+
+-- so it is where a path was drawn
 pub IsAmidPaths-more : (closed : Bool) (parts drawn : List (List Position)) (points : List Position) (now behind new : Course) → IsAmidPaths closed parts drawn now
     → 0 < length now.left → DrawsPath closed points now behind new → IsAmidPaths closed parts (drawn ++ points ∷ []) new
 IsAmidPaths-more closed parts drawn points now behind new amid some draws =
-    let next = next_path now closed amid.ahead amid.left some in
-    let told = draws.told next.part (ending_of closed ++ next.left) next.first in
-    record {
-      ahead = next.more;
-      left = subst (λ (it : Course). ArePathsAhead it closed next.more) (sym (DrawsPath-behind closed points now behind new amid.ahead draws next)) next.further;
-      whole = append_assoc drawn (points ∷ []) next.more ∙ (ap (λ (it : List Position). drawn ++ it ∷ next.more) told.0
-          ∙ (ap (λ (it : List (List Position)). drawn ++ it) next.whole ∙ amid.whole));
-    }
+    IsAmidPaths-next closed parts drawn (drawn ++ points ∷ []) now new amid some
+    (λ part rest ahead. (ap (λ (it : List Position). drawn ++ it ∷ []) (draws.told part (ending_of closed ++ rest) ahead).0, DrawsPath-behind closed points now behind new draws part rest ahead))
 
 -- and fewer numbers are left
 pub DrawsPath-fewer : (closed : Bool) (parts drawn : List (List Position)) (points : List Position) (now behind new : Course) → IsAmidPaths closed parts drawn now
@@ -127,7 +69,7 @@ pub DrawsPath-fewer : (closed : Bool) (parts drawn : List (List Position)) (poin
 DrawsPath-fewer closed parts drawn points now behind new amid some draws =
     let next = next_path now closed amid.ahead amid.left some in
     let fewer : length (ending_of closed ++ next.left) < length now.left = path_takes now next.part (ending_of closed ++ next.left) next.first in
-    let left : length new.left ≡ length next.left = ap (λ (it : Course). length it.left) (DrawsPath-behind closed points now behind new amid.ahead draws next) in
+    let left : length new.left ≡ length next.left = ap (λ (it : Course). length it.left) (DrawsPath-behind closed points now behind new draws next.part next.left next.first) in
     omega (arith, length-append (ending_of closed) next.left)
 
 -- with no number left, all are drawn

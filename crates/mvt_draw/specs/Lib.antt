@@ -1,6 +1,2 @@
-pub use Rattle.mvt_plane.specs.Figure
-pub use Rattle.mvt_plane.specs.CommandFault
-pub mod Commands
-pub mod Course
+pub mod Cursor
 pub mod Geometry
-pub mod Truth

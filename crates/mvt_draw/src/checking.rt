@@ -1,16 +1,18 @@
 ghost use Rattle.std.specs.Prelude.{◌≡◌, ◌<◌, ◌≤◌, ℕ, Bool, true, false, IfErr, IfNone, IfOk, IfSome, length};
-ghost use Rattle.mvt_draw.specs.Commands.{position_of, IsAt, IsFaulty, IsWhole, path_type};
+ghost use Rattle.mvt_plane.specs.Reading.{StandsAt, IsFaulty, IsWhole, path_type};
+ghost use Rattle.mvt_draw.specs.Cursor.{position_of};
 ghost use Rattle.mvt_draw.specs.Geometry.{IsCommandFault};
 ghost use Rattle.mvt_plane.specs.Geometry.{HasFigure};
+ghost use Rattle.mvt_fault.specs.Code.{command_code};
 ghost use Rattle.mvt_fault.specs.declared.command.CommandCode.{CommandCode};
-ghost use Rattle.mvt_plane.specs.Drawing.{least, path_command};
+ghost use Rattle.mvt_plane.specs.Drawing.{path_command};
 ghost use Rattle.mvt_plane.specs.Figure.{point};
 ghost use Rattle.mvt_tile.specs.View.{kind_number};
 
 #[cfg(test)]
 mod tests;
 
-use crate::commands::{CLOSE_PATH, Cursor, GREATEST_COUNT, LINE_TO, MOVE_TO, command, step, steps};
+use crate::commands::{CLOSE_PATH, Cursor, GREATEST_COUNT, MOVE_TO, command, path_start, steps};
 use mvt_fault::CommandCode;
 use mvt_tile::Kind;
 
@@ -33,7 +35,7 @@ pub fn command_fault(kind: Kind, numbers: &[u32]) -> Option<(CommandCode, usize)
 /// Reads the numbers as points (section 4.3.4.2).
 fn read_points(numbers: &[u32]) -> Result<(), (CommandCode, usize)>
     ensures whole { IfOk result (λ _. IsWhole point numbers.now) }
-    ensures fault { IfErr result (λ it. IsFaulty point numbers.now it.0 it.1) }
+    ensures fault { IfErr result (λ it. IsFaulty point numbers.now (command_code it.0) it.1) }
 {
     let count = command(numbers, 0, MOVE_TO, 1, GREATEST_COUNT)?;
     steps(numbers, 1, count, Cursor { x: 0, y: 0 }, false)?;
@@ -47,7 +49,7 @@ fn read_points(numbers: &[u32]) -> Result<(), (CommandCode, usize)>
 /// Reads the numbers as lines, or as rings, which are closed (sections 4.3.4.3 and 4.3.4.4).
 fn read_paths(numbers: &[u32], closed: bool) -> Result<(), (CommandCode, usize)>
     ensures whole { IfOk result (λ _. IsWhole (path_type closed) numbers.now) }
-    ensures fault { IfErr result (λ it. IsFaulty (path_type closed) numbers.now it.0 it.1) }
+    ensures fault { IfErr result (λ it. IsFaulty (path_type closed) numbers.now (command_code it.0) it.1) }
 {
     let (mut at, mut cursor) = read_path(numbers, 0, Cursor { x: 0, y: 0 }, closed)?;
     'paths: while at < numbers.len() {
@@ -56,7 +58,8 @@ fn read_paths(numbers: &[u32], closed: bool) -> Result<(), (CommandCode, usize)>
     Ok(())
 }
 
-/// Reads one line or ring from a place on: where the next one begins, and where its first step does.
+/// Reads the line or ring whose numbers begin at this place. It answers the place behind them and the cursor
+/// there.
 fn read_path(
     numbers: &[u32],
     start: usize,
@@ -64,21 +67,12 @@ fn read_path(
     closed: bool,
 ) -> Result<(usize, Cursor), (CommandCode, usize)>
     ensures forward { IfOk result (λ it. (start < it.0) × (it.0 ≤ length numbers.now)) }
-    ensures goes { IfOk result (λ it. (drawn : Bool) → IsAt (path_type closed) numbers.now start (path_command drawn (position_of from))
-        → IsAt (path_type closed) numbers.now it.0 (path_command true (position_of it.1))) }
+    ensures goes { IfOk result (λ it. (drawn : Bool) → StandsAt (path_type closed) numbers.now start (path_command drawn (position_of from))
+        → StandsAt (path_type closed) numbers.now it.0 (path_command true (position_of it.1))) }
     ensures fault { IfErr result (λ it. (drawn : Bool) → (start ≡ length numbers.now → drawn ≡ false)
-        → IsAt (path_type closed) numbers.now start (path_command drawn (position_of from)) → IsFaulty (path_type closed) numbers.now it.0 it.1) }
+        → StandsAt (path_type closed) numbers.now start (path_command drawn (position_of from)) → IsFaulty (path_type closed) numbers.now (command_code it.0) it.1) }
 {
-    command(numbers, start, MOVE_TO, 1, 1)?;
-    let mut first = from;
-    step(numbers, start + 1, &mut first, false)?;
-    let count = command(
-        numbers,
-        start + 3,
-        LINE_TO,
-        fewest_behind(closed),
-        GREATEST_COUNT,
-    )?;
+    let (first, count) = path_start(numbers, start, from, closed)?;
     let last = steps(numbers, start + 4, count, first, true)?;
     let end = start + 4 + 2 * count as usize;
     if closed {
@@ -86,11 +80,4 @@ fn read_path(
         return Ok((end + 1, last));
     }
     Ok((end, last))
-}
-
-/// How many positions at least are behind the first one of a line or ring.
-fn fewest_behind(closed: bool) -> u32
-    ensures { result ≡ least (path_type closed) }
-{
-    if closed { 2 } else { 1 }
 }

@@ -1,9 +1,13 @@
 //! The commands of a geometry, read number by number from a list (Mapbox Vector Tile Specification 2.1,
 //! section 4.3). Each reader begins at a place in the list. An error is the cause and the place of the
 //! first number that isn't allowed.
-ghost use Rattle.std.specs.Prelude.{◌≡◌, ◌+◌, ◌*◌, ◌<◌, ◌≤◌, ℕ, IfErr, IfOk, length, slice_index, ◌+ℤ◌};
-ghost use Rattle.mvt_draw.specs.Commands.{position_of, IsAt, IsFaulty, AsksCommand, AsksCoordinate, is_line, with_left};
-ghost use Rattle.mvt_plane.specs.Drawing.{Leg, State, MayEnd, IsMove, unzigzag, behind, step_x, next};
+ghost use Rattle.std.specs.Prelude.{◌≡◌, ◌+◌, ◌*◌, ◌<◌, ◌≤◌, ◌∷◌, ℕ, Bool, true, false, IfErr, IfOk, List, OnOk, length, slice_index, ◌+ℤ◌};
+ghost use Rattle.mvt_plane.specs.Reading.{StandsAt, IsFaulty, AsksCommand, AsksCoordinate, is_line, path_type, with_left};
+ghost use Rattle.mvt_plane.specs.Position.{Position, IsPosition};
+ghost use Rattle.mvt_draw.specs.Cursor.{position_of};
+ghost use Rattle.mvt_fault.specs.Code.{command_code};
+ghost use Rattle.mvt_plane.specs.Course.{AreStepsAhead, IsPathAhead, IsStepAhead, course_at};
+ghost use Rattle.mvt_plane.specs.Drawing.{Leg, State, MayEnd, IsMove, unzigzag, behind, least, path_command, step_x, next};
 ghost use Rattle.mvt_plane.specs.Figure.{GeometryType, command_integer};
 
 use mvt_fault::CommandCode;
@@ -43,10 +47,11 @@ pub(crate) fn command(
 ) -> Result<u32, (CommandCode, usize)>
     ensures within { IfOk result (λ _. at < length numbers.now) }
     ensures count { IfOk result (λ count. (fewest ≤ count) × (count ≤ most)) }
+    ensures number { IfOk result (λ count. slice_index numbers.now at ≡ command_integer id count) }
     ensures goes { IfOk result (λ count. (geometry_type : GeometryType) (state : State) → AsksCommand geometry_type state id fewest most
-        → IsAt geometry_type numbers.now at state → IsAt geometry_type numbers.now (at + 1) (next geometry_type state (command_integer id count))) }
+        → StandsAt geometry_type numbers.now at state → StandsAt geometry_type numbers.now (at + 1) (next geometry_type state (command_integer id count))) }
     ensures fault { IfErr result (λ it. (geometry_type : GeometryType) (state : State) → AsksCommand geometry_type state id fewest most
-        → (at ≡ length numbers.now → ¬ MayEnd state) → IsAt geometry_type numbers.now at state → IsFaulty geometry_type numbers.now it.0 it.1) }
+        → (at ≡ length numbers.now → ¬ MayEnd state) → StandsAt geometry_type numbers.now at state → IsFaulty geometry_type numbers.now (command_code it.0) it.1) }
 {
     if at >= numbers.len() {
         return Err((CommandCode::Unfinished, at));
@@ -69,7 +74,7 @@ fn coordinate(numbers: &[u32], at: usize, from: i32) -> Result<i32, (CommandCode
     ensures allowed { IfOk result (λ _. IsMove from (slice_index numbers.now at)) }
     ensures value { IfOk result (λ to. to ≡ from +ℤ unzigzag (slice_index numbers.now at)) }
     ensures fault { IfErr result (λ it. (geometry_type : GeometryType) (state : State) → AsksCoordinate state from
-        → IsAt geometry_type numbers.now at state → IsFaulty geometry_type numbers.now it.0 it.1) }
+        → StandsAt geometry_type numbers.now at state → IsFaulty geometry_type numbers.now (command_code it.0) it.1) }
 {
     if at >= numbers.len() {
         return Err((CommandCode::Unfinished, at));
@@ -95,9 +100,12 @@ pub(crate) fn step(
 ) -> Result<(), (CommandCode, usize)>
     ensures within { IfOk result (λ _. at + 1 < length numbers.now) }
     ensures goes { IfOk result (λ _. (geometry_type : GeometryType) (leg : Leg) → is_line leg ≡ line
-        → IsAt geometry_type numbers.now at (step_x leg (position_of cursor.old)) → IsAt geometry_type numbers.now (at + 2) (behind geometry_type leg (position_of cursor.new))) }
+        → StandsAt geometry_type numbers.now at (step_x leg (position_of cursor.old)) → StandsAt geometry_type numbers.now (at + 2) (behind geometry_type leg (position_of cursor.new))) }
     ensures fault { IfErr result (λ it. (geometry_type : GeometryType) (leg : Leg) → is_line leg ≡ line
-        → IsAt geometry_type numbers.now at (step_x leg (position_of cursor.old)) → IsFaulty geometry_type numbers.now it.0 it.1) }
+        → StandsAt geometry_type numbers.now at (step_x leg (position_of cursor.old)) → IsFaulty geometry_type numbers.now (command_code it.0) it.1) }
+    ensures inside { OnOk result (IsPosition (position_of cursor.new)) }
+    ensures drawn { OnOk result ((to : Position) (rest : List ℕ) → IsStepAhead (course_at numbers.now at (position_of cursor.old)) to rest
+        → course_at numbers.now (at + 2) (position_of cursor.new) ≡ record { here = to; left = rest }) }
 {
     let x = coordinate(numbers, at, cursor.x)?;
     let y = coordinate(numbers, at + 1, cursor.y)?;
@@ -110,6 +118,38 @@ pub(crate) fn step(
     Ok(())
 }
 
+/// Reads a line or ring from a place on, up to its further positions: where its first position is, and how
+/// many further ones there are. The first step to these begins four numbers behind the place.
+pub(crate) fn path_start(
+    numbers: &[u32],
+    start: usize,
+    from: Cursor,
+    closed: bool,
+) -> Result<(Cursor, u32), (CommandCode, usize)>
+    ensures within { IfOk result (λ _. start + 4 ≤ length numbers.now) }
+    ensures inside { IfOk result (λ it. IsPosition (position_of it.0)) }
+    ensures goes { IfOk result (λ it. (drawn : Bool) → StandsAt (path_type closed) numbers.now start (path_command drawn (position_of from))
+        → StandsAt (path_type closed) numbers.now (start + 4) (with_left (path_type closed) true it.1 (position_of it.0))) }
+    ensures drawn { IfOk result (λ it. (part : List Position) (rest : List ℕ) → IsPathAhead (course_at numbers.now start (position_of from)) part rest
+        → (further : List Position) × (position_of it.0 ∷ further ≡ part) × AreStepsAhead (course_at numbers.now (start + 4) (position_of it.0)) it.1 further rest) }
+    ensures fault { IfErr result (λ it. (drawn : Bool) → (start ≡ length numbers.now → drawn ≡ false)
+        → StandsAt (path_type closed) numbers.now start (path_command drawn (position_of from)) → IsFaulty (path_type closed) numbers.now (command_code it.0) it.1) }
+{
+    command(numbers, start, MOVE_TO, 1, 1)?;
+    let mut first = from;
+    step(numbers, start + 1, &mut first, false)?;
+    let fewest = fewest_further(closed);
+    let count = command(numbers, start + 3, LINE_TO, fewest, GREATEST_COUNT)?;
+    Ok((first, count))
+}
+
+/// How many positions at least are behind the first one of a line or ring.
+fn fewest_further(closed: bool) -> u32
+    ensures { result ≡ least (path_type closed) }
+{
+    if closed { 2 } else { 1 }
+}
+
 /// Where so many steps lead that begin at a place.
 pub(crate) fn steps(
     numbers: &[u32],
@@ -120,10 +160,10 @@ pub(crate) fn steps(
 ) -> Result<Cursor, (CommandCode, usize)>
     requires { start ≤ length numbers.now }
     ensures within { IfOk result (λ _. start + 2 * count ≤ length numbers.now) }
-    ensures goes { IfOk result (λ to. (geometry_type : GeometryType) → IsAt geometry_type numbers.now start (with_left geometry_type line count (position_of from))
-        → IsAt geometry_type numbers.now (start + 2 * count) (with_left geometry_type line 0 (position_of to))) }
-    ensures fault { IfErr result (λ it. (geometry_type : GeometryType) → IsAt geometry_type numbers.now start (with_left geometry_type line count (position_of from))
-        → IsFaulty geometry_type numbers.now it.0 it.1) }
+    ensures goes { IfOk result (λ to. (geometry_type : GeometryType) → StandsAt geometry_type numbers.now start (with_left geometry_type line count (position_of from))
+        → StandsAt geometry_type numbers.now (start + 2 * count) (with_left geometry_type line 0 (position_of to))) }
+    ensures fault { IfErr result (λ it. (geometry_type : GeometryType) → StandsAt geometry_type numbers.now start (with_left geometry_type line count (position_of from))
+        → IsFaulty geometry_type numbers.now (command_code it.0) it.1) }
 {
     let mut cursor = from;
     let mut at = start;

@@ -2,7 +2,7 @@ ghost use Rattle.std.specs.Prelude.{◌≡◌, ℕ, ◌++◌, List, [], map, IfE
 ghost use Rattle.mvt_plane.specs.Figure.{cursor};
 ghost use Rattle.mvt_plane.specs.Position.{Position, origin};
 ghost use Rattle.mvt_tile.specs.View.{kind_number};
-ghost use Rattle.mvt_draw.specs.Course.{IsRunAhead, IsPathAhead, ArePathsAhead};
+ghost use Rattle.mvt_plane.specs.Course.{IsRunAhead, IsPathAhead, ArePathsAhead};
 ghost use Rattle.mvt_draw.specs.Geometry.{IsDrawn, IsDrawFault};
 ghost use Rattle.mvt_plane.specs.Geometry.{HasFigure};
 
@@ -16,7 +16,7 @@ use mvt_fault::CommandCode;
 use mvt_plane::Point;
 use mvt_tile::Kind;
 use pen::Pen;
-use std::alloc::{AllocError, Global};
+use std::alloc::{AllocError, AllocFailed, Global};
 
 /// Why a geometry wasn't drawn.
 #[derive(Clone, Copy, Debug, PartialEq, Eq)]
@@ -30,6 +30,26 @@ pub enum DrawFault {
     },
     /// Memory was refused.
     Memory,
+}
+
+impl From<(CommandCode, usize)> for DrawFault {
+    ghost use Rattle.mvt_draw.specs.declared.drawing.DrawFault.{DrawFault};
+
+    ghost from_gives = { λ it fault. fault ≡ DrawFault.Command it.0 it.1 };
+
+    fn from((code, index): (CommandCode, usize)) -> DrawFault {
+        DrawFault::Command { code, index }
+    }
+}
+
+impl<T: Drop> From<AllocFailed<T>> for DrawFault {
+    ghost use Rattle.mvt_draw.specs.declared.drawing.DrawFault.{DrawFault};
+
+    ghost from_gives = { λ _ fault. fault ≡ DrawFault.Memory };
+
+    fn from(_refused: AllocFailed<T>) -> DrawFault {
+        DrawFault::Memory
+    }
 }
 
 /// The figure that the numbers of a geometry draw, by its kind (Mapbox Vector Tile Specification 2.1,

@@ -6,9 +6,11 @@ mod checking;
 mod commands;
 mod drawing;
 mod figure;
+mod ring_buffer;
 mod spelling;
 
 pub use checking::command_fault;
 pub use drawing::{DrawFault, draw};
 pub use figure::Figure;
+pub use ring_buffer::RingBuffer;
 pub use spelling::{SpellFault, spell};

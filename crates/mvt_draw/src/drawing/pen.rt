@@ -18,7 +18,7 @@ pub(crate) struct Pen<'a> {
 
 impl<'a> Model for Pen<'a> {
     ghost use Rattle.std.specs.Prelude.{◌≤◌, length, drop};
-    ghost use Rattle.mvt_draw.specs.Course.{Course};
+    ghost use Rattle.mvt_plane.specs.Course.{Course};
 
     ghost Value = { Course };
 
@@ -30,7 +30,7 @@ impl<'a> Model for Pen<'a> {
 impl<'a> Pen<'a> {
     ghost use Rattle.std.specs.Prelude.{◌≡◌, ℕ, ◌/◌, ◌<◌, ◌==◌, List, length, drop, slice_index};
     ghost use Rattle.mvt_plane.specs.Position.{Position, origin};
-    ghost use Rattle.mvt_draw.specs.Course.{IsStepAhead};
+    ghost use Rattle.mvt_plane.specs.Course.{IsStepAhead};
 
     /// In front of all the numbers, at (0, 0).
     pub(crate) fn new(numbers: &'a [u32]) -> Self

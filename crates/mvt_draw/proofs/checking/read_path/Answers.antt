@@ -1,126 +1,42 @@
-use Rattle.std.proofs.Common.{◌≡◌, ◌+◌, ◌*◌, ◌≤◌, ℕ, true≢false, refl, sym, ◌∙◌, subst, arith}
+use Rattle.std.proofs.Common.{◌+◌, ◌*◌, subst}
 use Rattle.std.proofs.lemmas.Result.{err_from_is_err_and}
-use Rattle.mvt_plane.specs.Drawing.{State, path_command, line_command, close_command, to_first, next}
-use Rattle.mvt_plane.specs.Figure.{line_to, command_integer}
-use Rattle.mvt_draw.specs.Commands.{IsAt, AsksCommand, of_path, of_line, of_close, greatest_count, position_of, path_type}
-use Rattle.mvt_draw.proofs.Readers.{one_behind, line_left, behind_line, behind_ring}
+use Rattle.mvt_plane.specs.Drawing.{State, close_command}
+use Rattle.mvt_plane.specs.Reading.{StandsAt, of_close, path_type}
+use Rattle.mvt_draw.specs.Cursor.{position_of}
+use Rattle.mvt_plane.proofs.Readers.{behind_line, behind_ring}
 use Rattle.mvt_draw.proofs.checking.read_path.Goals as goal
 
--- the places of a path's commands
-three : (start : ℕ) → start + 1 + 2 ≡ start + 3
-three start = omega arith
+pub returns-in_err-first-clause-fault : goal.returns-in_err-first-clause-fault
+returns-in_err-first-clause-fault c =
+    let p = err_from_is_err_and c.from_residual.result c.from_residual.ensures.1 in
+    rw (p.1, p.2) c.in_err-first.ensures.fault
 
-four : (start : ℕ) → start + 3 + 1 ≡ start + 4
-four start = omega arith
+pub returns-in_err-last-clause-fault : goal.returns-in_err-last-clause-fault
+returns-in_err-last-clause-fault c =
+    let p = err_from_is_err_and c.from_residual-in_err-last.result c.from_residual-in_err-last.ensures.1 in
+    rw (p.1, p.2) (λ drawn exists leads. c.in_err-last.ensures.fault (path_type c.args.closed) (c.in_ok-first.ensures.goes drawn leads))
 
 pub returns-in_err-command-clause-fault : goal.returns-in_err-command-clause-fault
 returns-in_err-command-clause-fault c =
     let kind = path_type c.args.closed in
-    let numbers = c.args.numbers.now in
-    let start = c.args.start in
-    let from = position_of c.args.from in
-    let p = err_from_is_err_and c.from_residual.result c.from_residual.ensures.1 in
+    let p = err_from_is_err_and c.from_residual-in_err-command.result c.from_residual-in_err-command.ensures.1 in
     rw (p.1, p.2) (λ drawn exists leads.
-    c.in_err-command.ensures.fault kind (path_command drawn from) (of_path drawn from) (λ end is_drawn. true≢false (sym is_drawn ∙ exists end)) leads)
-
-pub returns-in_err-step-clause-fault : goal.returns-in_err-step-clause-fault
-returns-in_err-step-clause-fault c =
-    let kind = path_type c.args.closed in
-    let numbers = c.args.numbers.now in
-    let start = c.args.start in
-    let from = position_of c.args.from in
-    let p = err_from_is_err_and c.from_residual-in_err-step.result c.from_residual-in_err-step.ensures.1 in
-    rw (p.1, p.2) (λ drawn exists leads.
-    let moving = c.in_ok-command.ensures.goes kind (path_command drawn from) (of_path drawn from) leads in
-    c.in_err-step.ensures.fault kind to_first refl moving)
-
-pub returns-in_err-count-clause-fault : goal.returns-in_err-count-clause-fault
-returns-in_err-count-clause-fault c =
-    let kind = path_type c.args.closed in
-    let numbers = c.args.numbers.now in
-    let start = c.args.start in
-    let from = position_of c.args.from in
-    let p = err_from_is_err_and c.from_residual-in_err-count.result c.from_residual-in_err-count.ensures.1 in
-    rw (p.1, p.2) (λ drawn exists leads.
-    let moving = c.in_ok-command.ensures.goes kind (path_command drawn from) (of_path drawn from) leads in
-    let first = position_of c.step.new.cursor in
-    let asks = subst (λ (fewest : ℕ). AsksCommand kind (line_command first) line_to fewest greatest_count) (sym c.fewest_behind.ensures) (of_line first) in
-    let drawing = subst (λ (i : ℕ). IsAt kind numbers i (line_command first)) (three start) (c.in_ok-step.ensures.goes kind to_first refl moving) in
-    c.in_err-count.ensures.fault kind (line_command first) asks (λ end may. may) drawing)
-
-pub returns-in_err-last-clause-fault : goal.returns-in_err-last-clause-fault
-returns-in_err-last-clause-fault c =
-    let kind = path_type c.args.closed in
-    let numbers = c.args.numbers.now in
-    let start = c.args.start in
-    let from = position_of c.args.from in
-    let p = err_from_is_err_and c.from_residual-in_err-last.result c.from_residual-in_err-last.ensures.1 in
-    rw (p.1, p.2) (λ drawn exists leads.
-    let moving = c.in_ok-command.ensures.goes kind (path_command drawn from) (of_path drawn from) leads in
-    let first = position_of c.step.new.cursor in
-    let asks = subst (λ (fewest : ℕ). AsksCommand kind (line_command first) line_to fewest greatest_count) (sym c.fewest_behind.ensures) (of_line first) in
-    let drawing = subst (λ (i : ℕ). IsAt kind numbers i (line_command first)) (three start) (c.in_ok-step.ensures.goes kind to_first refl moving) in
-    let some : 1 ≤ c.in_ok-count.count = omega (arith, c.in_ok-count.ensures.count, one_behind kind) in
-    let stepping = subst (λ (state : State). IsAt kind numbers (start + 4) state) (line_left kind first c.in_ok-count.count some)
-    (subst (λ (i : ℕ). IsAt kind numbers i (next kind (line_command first) (command_integer line_to c.in_ok-count.count))) (four start) (c.in_ok-count.ensures.goes kind (line_command first) asks drawing)) in
-    c.in_err-last.ensures.fault kind stepping)
-
-pub returns-in_err-command-2-clause-fault : goal.returns-in_err-command-2-clause-fault
-returns-in_err-command-2-clause-fault c =
-    let kind = path_type c.args.closed in
-    let numbers = c.args.numbers.now in
-    let start = c.args.start in
-    let from = position_of c.args.from in
-    let p = err_from_is_err_and c.from_residual-in_err-command-2.result c.from_residual-in_err-command-2.ensures.1 in
-    rw (p.1, p.2) (λ drawn exists leads.
-    let moving = c.in_ok-command.ensures.goes kind (path_command drawn from) (of_path drawn from) leads in
-    let first = position_of c.step.new.cursor in
-    let asks = subst (λ (fewest : ℕ). AsksCommand kind (line_command first) line_to fewest greatest_count) (sym c.fewest_behind.ensures) (of_line first) in
-    let drawing = subst (λ (i : ℕ). IsAt kind numbers i (line_command first)) (three start) (c.in_ok-step.ensures.goes kind to_first refl moving) in
-    let some : 1 ≤ c.in_ok-count.count = omega (arith, c.in_ok-count.ensures.count, one_behind kind) in
-    let stepping = subst (λ (state : State). IsAt kind numbers (start + 4) state) (line_left kind first c.in_ok-count.count some)
-    (subst (λ (i : ℕ). IsAt kind numbers i (next kind (line_command first) (command_integer line_to c.in_ok-count.count))) (four start) (c.in_ok-count.ensures.goes kind (line_command first) asks drawing)) in
     let last = position_of c.in_ok-last.last in
-    let end = start + 4 + 2 * c.in_ok-count.count in
-    let behind = c.in_ok-last.ensures.goes kind stepping in
-    c.in_err-command-2.ensures.fault kind (close_command last) (of_close last) (λ end may. may)
-    (subst (λ (state : State). IsAt kind numbers end state) (behind_ring c.args.closed last c.if-closed.true) behind))
+    let behind = c.in_ok-last.ensures.goes kind (c.in_ok-first.ensures.goes drawn leads) in
+    c.in_err-command.ensures.fault kind (close_command last) (of_close last) (λ end may. may)
+    (subst (λ (state : State). StandsAt kind c.args.numbers.now (c.args.start + 4 + 2 * c.in_ok-first.count) state) (behind_ring c.args.closed last c.if-closed.true) behind))
 
 pub returns-then-closed-clause-goes : goal.returns-then-closed-clause-goes
-returns-then-closed-clause-goes c =
+returns-then-closed-clause-goes c = λ drawn leads.
     let kind = path_type c.args.closed in
-    let numbers = c.args.numbers.now in
-    let start = c.args.start in
-    let from = position_of c.args.from in
-    λ drawn leads.
-    let moving = c.in_ok-command.ensures.goes kind (path_command drawn from) (of_path drawn from) leads in
-    let first = position_of c.step.new.cursor in
-    let asks = subst (λ (fewest : ℕ). AsksCommand kind (line_command first) line_to fewest greatest_count) (sym c.fewest_behind.ensures) (of_line first) in
-    let drawing = subst (λ (i : ℕ). IsAt kind numbers i (line_command first)) (three start) (c.in_ok-step.ensures.goes kind to_first refl moving) in
-    let some : 1 ≤ c.in_ok-count.count = omega (arith, c.in_ok-count.ensures.count, one_behind kind) in
-    let stepping = subst (λ (state : State). IsAt kind numbers (start + 4) state) (line_left kind first c.in_ok-count.count some)
-    (subst (λ (i : ℕ). IsAt kind numbers i (next kind (line_command first) (command_integer line_to c.in_ok-count.count))) (four start) (c.in_ok-count.ensures.goes kind (line_command first) asks drawing)) in
     let last = position_of c.in_ok-last.last in
-    let end = start + 4 + 2 * c.in_ok-count.count in
-    let behind = c.in_ok-last.ensures.goes kind stepping in
-    c.in_ok-command-2.ensures.goes kind (close_command last) (of_close last)
-    (subst (λ (state : State). IsAt kind numbers end state) (behind_ring c.args.closed last c.if-closed.true) behind)
+    let behind = c.in_ok-last.ensures.goes kind (c.in_ok-first.ensures.goes drawn leads) in
+    c.in_ok-command.ensures.goes kind (close_command last) (of_close last)
+    (subst (λ (state : State). StandsAt kind c.args.numbers.now (c.args.start + 4 + 2 * c.in_ok-first.count) state) (behind_ring c.args.closed last c.if-closed.true) behind)
 
 pub returns-clause-goes : goal.returns-clause-goes
-returns-clause-goes c =
+returns-clause-goes c = λ drawn leads.
     let kind = path_type c.args.closed in
-    let numbers = c.args.numbers.now in
-    let start = c.args.start in
-    let from = position_of c.args.from in
-    λ drawn leads.
-    let moving = c.in_ok-command.ensures.goes kind (path_command drawn from) (of_path drawn from) leads in
-    let first = position_of c.step.new.cursor in
-    let asks = subst (λ (fewest : ℕ). AsksCommand kind (line_command first) line_to fewest greatest_count) (sym c.fewest_behind.ensures) (of_line first) in
-    let drawing = subst (λ (i : ℕ). IsAt kind numbers i (line_command first)) (three start) (c.in_ok-step.ensures.goes kind to_first refl moving) in
-    let some : 1 ≤ c.in_ok-count.count = omega (arith, c.in_ok-count.ensures.count, one_behind kind) in
-    let stepping = subst (λ (state : State). IsAt kind numbers (start + 4) state) (line_left kind first c.in_ok-count.count some)
-    (subst (λ (i : ℕ). IsAt kind numbers i (next kind (line_command first) (command_integer line_to c.in_ok-count.count))) (four start) (c.in_ok-count.ensures.goes kind (line_command first) asks drawing)) in
     let last = position_of c.in_ok-last.last in
-    let end = start + 4 + 2 * c.in_ok-count.count in
-    let behind = c.in_ok-last.ensures.goes kind stepping in
-    subst (λ (state : State). IsAt kind numbers end state) (behind_line c.args.closed last c.if-closed.false) behind
+    let behind = c.in_ok-last.ensures.goes kind (c.in_ok-first.ensures.goes drawn leads) in
+    subst (λ (state : State). StandsAt kind c.args.numbers.now (c.args.start + 4 + 2 * c.in_ok-first.count) state) (behind_line c.args.closed last c.if-closed.false) behind

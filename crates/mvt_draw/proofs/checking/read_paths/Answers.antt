@@ -1,7 +1,8 @@
 use Rattle.std.proofs.Common.{true, refl}
 use Rattle.mvt_plane.specs.Drawing.{start, path_command}
-use Rattle.mvt_draw.specs.Commands.{path_type, position_of}
-use Rattle.mvt_draw.proofs.Readers.{whole_there}
+use Rattle.mvt_plane.specs.Reading.{path_type}
+use Rattle.mvt_draw.specs.Cursor.{position_of}
+use Rattle.mvt_plane.proofs.Readers.{whole_there}
 use Rattle.mvt_draw.proofs.checking.read_paths.Goals as goal
 
 pub returns-clause-whole : goal.returns-clause-whole

@@ -1,7 +1,8 @@
 use Rattle.std.proofs.Common.{◌≡◌, get_or, arith}
 use Rattle.std.proofs.lemmas.Int.{ints}
 use Rattle.mvt_plane.specs.Drawing.{start, unzigzag}
-use Rattle.mvt_draw.proofs.Readers.{unfinished_coordinate, greatest_there, outside_there, unzigzag_wire, is_parameter}
+use Rattle.mvt_plane.proofs.Readers.{unfinished_coordinate, greatest_there, outside_there, is_parameter}
+use Rattle.mvt_draw.proofs.Parameters.{unzigzag_wire}
 use Rattle.mvt_draw.proofs.commands.coordinate.Goals as goal
 use Rattle.mvt_draw.proofs.commands.coordinate.Goals.{then-to-via-then-to, then-to-via-else-to+then-to-gt-GREATEST_COORDINATE}
 

@@ -3,8 +3,10 @@ use Rattle.std.proofs.lemmas.Int.{ints, to_z-of_z}
 use Rattle.std.proofs.lemmas.Result.{err_from_is_err_and}
 use Rattle.mvt_plane.specs.Drawing.{start, step_x, step_y, unzigzag, IsMove}
 use Rattle.mvt_plane.specs.Position.{Position}
-use Rattle.mvt_draw.specs.Commands.{AsksCoordinate, position_of, of_x, of_y}
-use Rattle.mvt_draw.proofs.Readers.{leads_on, step_leads, no_step_there, zero_parameter, goes_elsewhere}
+use Rattle.mvt_plane.specs.Reading.{AsksCoordinate, of_x, of_y}
+use Rattle.mvt_draw.specs.Cursor.{position_of}
+use Rattle.mvt_plane.proofs.Readers.{leads_on, step_leads, no_step_there, zero_parameter}
+use Rattle.mvt_draw.proofs.Drawers.{step_drawn}
 use Rattle.mvt_draw.proofs.commands.step.Goals as goal
 use Rattle.mvt_draw.proofs.commands.step.Goals.{else-line-via-then-line+then-x-cursor+else-y-cursor, else-line-via-then-line+else-x-cursor, else-line-via-else-line}
 
@@ -86,9 +88,25 @@ returns-clause-goes c = λ geometry_type leg line leads.
     let inside_x = move_x.there in
     let inside_y = move_y.there in
     step_leads geometry_type (start geometry_type) c.args.numbers.now c.args.at leg (position_of c.args.cursor.now) _ leads c.in_ok-y.ensures.within move_x move_y
-    (goes_elsewhere leg at_x at_y (λ is none_x none_y. elim c.else-line.branch [
+    (λ is none_x none_y. elim c.else-line.branch [
       | else-line-via-then-line+then-x-cursor+else-y-cursor w ↦ w.if-y-cursor.false (ap (of_z w32) (there_y ∙ stays c.args.cursor.now.y at_y none_y))
       | else-line-via-then-line+else-x-cursor w ↦ w.if-x-cursor.false (ap (of_z w32) (there_x ∙ stays c.args.cursor.now.x at_x none_x))
       | else-line-via-else-line w ↦ true≢false (sym is ∙ line ∙ w.if-line.false)
-    ]))
+    ])
     (same_position _ _ _ _ (omega (arith, ints)) (omega (arith, ints)))
+
+pub returns-clause-drawn : goal.returns-clause-drawn
+returns-clause-drawn c = λ to rest ahead.
+    let fits_x : SFits w32 c.args.cursor.now.x = search rules in
+    let fits_y : SFits w32 c.args.cursor.now.y = search rules in
+    let same_x = to_z-of_z w32 c.args.cursor.now.x fits_x in
+    let same_y = to_z-of_z w32 c.args.cursor.now.y fits_y in
+    let at_x = get_or c.args.numbers.now c.args.at 0 in
+    let at_y = get_or c.args.numbers.now (c.args.at + 1) 0 in
+    let move_x = moves c.args.cursor.now.x at_x same_x c.in_ok-x.ensures.allowed in
+    let move_y = moves c.args.cursor.now.y at_y same_y c.in_ok-y.ensures.allowed in
+    let there_x = leads_to c.args.cursor.now.x c.in_ok-x.x at_x same_x c.in_ok-x.ensures.value in
+    let there_y = leads_to c.args.cursor.now.y c.in_ok-y.y at_y same_y c.in_ok-y.ensures.value in
+    let inside_x = move_x.there in
+    let inside_y = move_y.there in
+    step_drawn c.args.numbers.now c.args.at (position_of c.args.cursor.now) _ to rest ahead (omega (arith, ints)) (omega (arith, ints))

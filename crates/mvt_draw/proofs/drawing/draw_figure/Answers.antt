@@ -3,7 +3,7 @@ use Rattle.mvt_plane.specs.Figure.{point, line_string, polygon, points, lines, r
 use Rattle.mvt_plane.specs.Position.{Position}
 use Rattle.mvt_tile.specs.View.{kind_number}
 use Rattle.mvt_draw.specs.Geometry.{drawn}
-use Rattle.mvt_draw.proofs.FigurePaths.{points_run, lines_ahead, rings_ahead}
+use Rattle.mvt_plane.proofs.FigurePaths.{points_run, lines_ahead, rings_ahead}
 use Rattle.mvt_draw.proofs.drawing.draw_figure.Goals as goal
 
 pub draw_points-requires : goal.draw_points-requires

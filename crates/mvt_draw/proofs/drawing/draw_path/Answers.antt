@@ -1,8 +1,8 @@
 use Rattle.std.proofs.Common.{List, [], ◌∷◌, ◌++◌, ap, sym, ◌∙◌, subst}
 use Rattle.mvt_plane.specs.Figure.{cursor}
 use Rattle.mvt_plane.specs.Position.{Position}
-use Rattle.mvt_draw.specs.Course.{Course, IsRunAhead}
-use Rattle.mvt_draw.proofs.Paths.{two_runs}
+use Rattle.mvt_plane.specs.Course.{Course, IsRunAhead}
+use Rattle.mvt_plane.proofs.Courses.{two_runs}
 use Rattle.mvt_draw.proofs.drawing.draw_path.Goals as goal
 
 pub push_run-requires : goal.push_run-requires

@@ -2,8 +2,9 @@ use Rattle.std.proofs.Common.{◌≡◌, ◌<◌, List, [], ◌∷◌, ◌++◌,
 use Rattle.std.proofs.lemmas.Bool.Decides.{nat_tests}
 use Rattle.std.proofs.lemmas.List.{map-append}
 use Rattle.mvt_plane.specs.Position.{Position}
-use Rattle.mvt_draw.specs.Course.{Course, ArePathsAhead, ending_of}
-use Rattle.mvt_draw.proofs.Paths.{next_path, ending_ahead, ending_length, IsAmidPaths, IsAmidPaths-more, IsAmidPaths-over, DrawsPath, DrawsPath-fewer}
+use Rattle.mvt_plane.specs.Course.{Course, ArePathsAhead, ending_of}
+use Rattle.mvt_plane.proofs.Courses.{next_path}
+use Rattle.mvt_draw.proofs.Paths.{ending_ahead, ending_length, IsAmidPaths, IsAmidPaths-more, IsAmidPaths-over, DrawsPath, DrawsPath-fewer}
 use Rattle.mvt_draw.proofs.drawing.draw_paths.Goals as goal
 
 pub walk-init : goal.walk-init

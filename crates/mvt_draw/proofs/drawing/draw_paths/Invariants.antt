@@ -1,6 +1,6 @@
 use Rattle.std.proofs.Common.{List, length, map}
 use Rattle.mvt_plane.specs.Position.{Position, origin}
-use Rattle.mvt_draw.specs.Course.{ArePathsAhead}
+use Rattle.mvt_plane.specs.Course.{ArePathsAhead}
 use Rattle.mvt_draw.proofs.Paths.{IsAmidPaths}
 use Rattle.mvt_draw.proofs.drawing.draw_paths.Given as goal
 

@@ -1,6 +1,6 @@
 use Rattle.std.proofs.Common.{[], ◌++◌, List, ap, sym, ◌∙◌, subst}
 use Rattle.mvt_plane.specs.Position.{Position}
-use Rattle.mvt_draw.specs.Course.{Course, IsRunAhead}
+use Rattle.mvt_plane.specs.Course.{Course, IsRunAhead}
 use Rattle.mvt_draw.proofs.drawing.draw_points.Goals as goal
 
 pub returns : goal.returns

@@ -1,6 +1,7 @@
 use Rattle.std.proofs.Common.{◌≡◌, ◌+◌, ◌-◌, ◌<◌, List, length, sym, subst, ℕ, arith}
 use Rattle.mvt_plane.specs.Position.{Position}
-use Rattle.mvt_draw.proofs.Courses.{IsAmidRun, IsAmidRun-start, IsAmidRun-more, IsAmidRun-over, step_ahead}
+use Rattle.mvt_plane.proofs.Courses.{step_ahead}
+use Rattle.mvt_draw.proofs.Courses.{IsAmidRun, IsAmidRun-start, IsAmidRun-more, IsAmidRun-over}
 use Rattle.mvt_draw.proofs.drawing.push_run.Goals as goal
 
 pub walk-init : goal.walk-init

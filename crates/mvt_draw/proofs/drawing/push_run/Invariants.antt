@@ -1,6 +1,6 @@
 use Rattle.std.proofs.Common.{ℕ, ◌-◌, List}
 use Rattle.mvt_plane.specs.Position.{Position}
-use Rattle.mvt_draw.specs.Course.{IsRunAhead}
+use Rattle.mvt_plane.specs.Course.{IsRunAhead}
 use Rattle.mvt_draw.proofs.Courses.{IsAmidRun}
 use Rattle.mvt_draw.proofs.drawing.push_run.Given as goal
 

@@ -1,6 +1,6 @@
 use Rattle.std.proofs.Common.{◌-ℤ◌, sym, subst}
 use Rattle.mvt_plane.specs.Figure.{zigzag}
-use Rattle.mvt_draw.specs.Course.{Course, IsStepAhead}
+use Rattle.mvt_plane.specs.Course.{Course, IsStepAhead}
 use Rattle.mvt_draw.proofs.Courses.{two_ahead}
 use Rattle.mvt_draw.proofs.drawing.pen.Pen.step.Goals as goal
 

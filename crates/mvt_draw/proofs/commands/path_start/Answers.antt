@@ -1,0 +1,70 @@
+use Rattle.std.proofs.Common.{◌≡◌, ◌+◌, ◌≤◌, ℕ, true≢false, refl, sym, ◌∙◌, subst, arith}
+use Rattle.std.proofs.lemmas.Result.{err_from_is_err_and}
+use Rattle.mvt_plane.specs.Drawing.{State, path_command, line_command, to_first, next}
+use Rattle.mvt_plane.specs.Figure.{line_to, command_integer}
+use Rattle.mvt_plane.specs.Reading.{StandsAt, AsksCommand, of_path, of_line, greatest_count, path_type}
+use Rattle.mvt_draw.specs.Cursor.{position_of}
+use Rattle.mvt_plane.proofs.Readers.{one_behind, line_left}
+use Rattle.mvt_draw.proofs.Drawers.{path_started}
+use Rattle.mvt_draw.proofs.commands.path_start.Goals as goal
+
+-- the places of a path's commands
+three : (start : ℕ) → start + 1 + 2 ≡ start + 3
+three start = omega arith
+
+four : (start : ℕ) → start + 3 + 1 ≡ start + 4
+four start = omega arith
+
+pub returns-in_err-command-clause-fault : goal.returns-in_err-command-clause-fault
+returns-in_err-command-clause-fault c =
+    let kind = path_type c.args.closed in
+    let numbers = c.args.numbers.now in
+    let start = c.args.start in
+    let from = position_of c.args.from in
+    let p = err_from_is_err_and c.from_residual.result c.from_residual.ensures.1 in
+    rw (p.1, p.2) (λ drawn exists leads.
+    c.in_err-command.ensures.fault kind (path_command drawn from) (of_path drawn from) (λ end is_drawn. true≢false (sym is_drawn ∙ exists end)) leads)
+
+pub returns-in_err-step-clause-fault : goal.returns-in_err-step-clause-fault
+returns-in_err-step-clause-fault c =
+    let kind = path_type c.args.closed in
+    let numbers = c.args.numbers.now in
+    let start = c.args.start in
+    let from = position_of c.args.from in
+    let p = err_from_is_err_and c.from_residual-in_err-step.result c.from_residual-in_err-step.ensures.1 in
+    rw (p.1, p.2) (λ drawn exists leads.
+    let moving = c.in_ok-command.ensures.goes kind (path_command drawn from) (of_path drawn from) leads in
+    c.in_err-step.ensures.fault kind to_first refl moving)
+
+pub returns-in_err-count-clause-fault : goal.returns-in_err-count-clause-fault
+returns-in_err-count-clause-fault c =
+    let kind = path_type c.args.closed in
+    let numbers = c.args.numbers.now in
+    let start = c.args.start in
+    let from = position_of c.args.from in
+    let p = err_from_is_err_and c.from_residual-in_err-count.result c.from_residual-in_err-count.ensures.1 in
+    rw (p.1, p.2) (λ drawn exists leads.
+    let moving = c.in_ok-command.ensures.goes kind (path_command drawn from) (of_path drawn from) leads in
+    let first = position_of c.step.new.cursor in
+    let asks = subst (λ (fewest : ℕ). AsksCommand kind (line_command first) line_to fewest greatest_count) (sym c.fewest_further-fewest.ensures) (of_line first) in
+    let drawing = subst (λ (i : ℕ). StandsAt kind numbers i (line_command first)) (three start) (c.in_ok-step.ensures.goes kind to_first refl moving) in
+    c.in_err-count.ensures.fault kind (line_command first) asks (λ end may. may) drawing)
+
+pub returns-clause-goes : goal.returns-clause-goes
+returns-clause-goes c =
+    let kind = path_type c.args.closed in
+    let numbers = c.args.numbers.now in
+    let start = c.args.start in
+    let from = position_of c.args.from in
+    λ drawn leads.
+    let moving = c.in_ok-command.ensures.goes kind (path_command drawn from) (of_path drawn from) leads in
+    let first = position_of c.step.new.cursor in
+    let asks = subst (λ (fewest : ℕ). AsksCommand kind (line_command first) line_to fewest greatest_count) (sym c.fewest_further-fewest.ensures) (of_line first) in
+    let drawing = subst (λ (i : ℕ). StandsAt kind numbers i (line_command first)) (three start) (c.in_ok-step.ensures.goes kind to_first refl moving) in
+    let some : 1 ≤ c.in_ok-count.count = omega (arith, c.in_ok-count.ensures.count, one_behind kind) in
+    subst (λ (state : State). StandsAt kind numbers (start + 4) state) (line_left kind first c.in_ok-count.count some)
+    (subst (λ (i : ℕ). StandsAt kind numbers i (next kind (line_command first) (command_integer line_to c.in_ok-count.count))) (four start) (c.in_ok-count.ensures.goes kind (line_command first) asks drawing))
+
+pub returns-clause-drawn : goal.returns-clause-drawn
+returns-clause-drawn c = λ part rest ahead.
+    path_started c.args.numbers.now c.args.start c.in_ok-count.count (position_of c.args.from) (position_of c.step.new.cursor) part rest ahead c.in_ok-step.ensures.drawn c.in_ok-count.ensures.number

@@ -1,0 +1,33 @@
+use Rattle.std.proofs.Common.{◌≡◌, ◌+◌, ◌-◌, ◌∷◌, [], ◌++◌, ℕ, List, true, ap, sym, ◌∙◌, subst, arith}
+use Rattle.mvt_plane.proofs.Readers.{first_left}
+use Rattle.mvt_plane.specs.Course.{Course, course_at}
+use Rattle.mvt_plane.specs.Figure.{polygon}
+use Rattle.mvt_plane.specs.Position.{Position}
+use Rattle.mvt_plane.specs.Reading.{StandsAt}
+use Rattle.mvt_draw.specs.Cursor.{position_of}
+use Rattle.mvt_draw.proofs.Courses.{IsAmidRun, IsAmidRun-more}
+use Rattle.mvt_draw.proofs.ring_buffer.push_steps.Goals as goal
+
+pub steps-preserved : goal.steps-preserved
+steps-preserved c = record {
+  place = omega arith;
+  within = omega (arith, c.in_ok-step.ensures.within);
+  goes = λ leads.
+      let first = first_left polygon true c.steps.left (position_of c.steps.cursor) (omega arith) in
+      subst (λ state. StandsAt polygon c.args.numbers.now (c.steps.at + 2) state) (first.3 (position_of c.step.new.cursor))
+      (c.in_ok-step.ensures.goes polygon first.0 first.1
+      (subst (λ state. StandsAt polygon c.args.numbers.now c.steps.at state) first.2 (c.steps.invariant.goes leads)));
+  drawn = λ positions rest ahead.
+      let before = c.args.points.now.items in
+      let start = course_at c.args.numbers.now c.args.start (position_of c.args.from) in
+      let now = course_at c.args.numbers.now c.steps.at (position_of c.steps.cursor) in
+      let new = course_at c.args.numbers.now (c.steps.at + 2) (position_of c.step.new.cursor) in
+      let to = position_of c.step.new.cursor in
+      let left = c.steps.left - 1 in
+      let fewer : c.steps.left ≡ left + 1 = omega arith in
+      let pushed = c.in_ok-push.ensures.items ∙ ap (λ (it : Position). c.steps.points.items ++ it ∷ []) c.point.ensures in
+      subst (λ (it : List Position). IsAmidRun before start positions rest it new left) (sym pushed)
+      (IsAmidRun-more before start positions rest c.steps.points.items now new to left
+      (subst (λ (it : ℕ). IsAmidRun before start positions rest c.steps.points.items now it) fewer (c.steps.invariant.drawn positions rest ahead))
+      (λ goal more step. let told = c.in_ok-step.ensures.drawn goal more step in (ap (λ (it : Course). it.here) told, told)));
+}
