@@ -1,0 +1,9 @@
+pub mod EdgeNumbers
+pub mod EdgeWalks
+pub mod NestFaults
+pub mod PairMeetings
+pub mod PassedEdges
+pub mod PolygonList
+pub mod RingFaults
+pub mod RingsThere
+pub mod SharedVertices

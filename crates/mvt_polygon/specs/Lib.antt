@@ -1,0 +1,5 @@
+pub mod Edges
+pub mod Meeting
+pub mod Nesting
+pub mod Polygons
+pub mod Rings

@@ -1,0 +1,36 @@
+-- The rings that lists of vertices show, and what is answered of faults of their own (Mapbox Vector Tile Specification 2.1,
+-- section 4.3.4.4).
+use Rattle.std.specs.Prelude.{◌≡◌, ◌≢◌, ◌-◌, ◌<◌, ◌≤◌, ◌⊎◌, ℕ, List, length, map, slice_get, Some, Vec}
+use Rattle.std.specs.declared.alloc.Global.{Global}
+use Rattle.mvt_fault.specs.Code.{ring_code}
+use Rattle.mvt_plane.specs.Position.{Position}
+use Rattle.mvt_plane.specs.Ring.{next_round, BreaksRings}
+use Rattle.mvt_fault.specs.declared.ring.RingCode.{RingCode}
+use Rattle.mvt_polygon.specs.declared.rings.RingFault.{RingFault}
+
+-- the rings of these lists of vertices
+abbrev pub rings_of : List (Vec Position Global) → List (List Position)
+rings_of rings = map (λ ring. ring.items) rings
+
+-- the last vertex of a ring is at the position of its first one
+pub record IsClosed (vertices : List Position) : Type 0 where
+  pub position : Position
+  pub first : slice_get vertices 0 ≡ Some position
+  pub last : slice_get vertices (length vertices - 1) ≡ Some position
+
+-- of all faults that one of the rings has of its own the first, by the code
+pub record IsLeastCode (rings : List (List Position)) (ring : ℕ) (code : RingCode) : Type 0 where
+  pub broken : BreaksRings rings (ring_code code) ring
+  pub least : (other : ℕ) → BreaksRings rings other ring → ring_code code ≤ other
+
+-- of all faults that rings have of their own the first: by the ring's number, and then by the code
+pub record IsFirstRingFault (rings : List (List Position)) (fault : RingFault) : Type 0 where
+  pub broken : BreaksRings rings (ring_code fault.code) fault.ring
+  pub first : (code ring : ℕ) → BreaksRings rings code ring
+      → (fault.ring < ring) ⊎ ((fault.ring ≡ ring) × (ring_code fault.code ≤ code))
+
+-- each ring has three vertices or more, and none is at the position of the next one
+pub record AreProperRings (rings : List (List Position)) : Type 0 where
+  pub several : (number : ℕ) (ring : List Position) → slice_get rings number ≡ Some ring → 3 ≤ length ring
+  pub apart : (number vertex : ℕ) (ring : List Position) (position next : Position) → slice_get rings number ≡ Some ring
+      → slice_get ring vertex ≡ Some position → slice_get ring (next_round (length ring) vertex) ≡ Some next → position ≢ next

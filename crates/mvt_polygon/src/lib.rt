@@ -1,0 +1,14 @@
+//! Rings and polygons: rings with a fault of their own, which rings make up which polygon, edges that meet
+//! wrongly, and holes that aren't where they should be (Mapbox Vector Tile Specification 2.1, section 4.3.4.4).
+#![tactic(auto)]
+
+mod edges;
+mod meeting;
+mod nesting;
+mod polygons;
+mod rings;
+
+pub use meeting::{Meeting, find_meeting};
+pub use nesting::{NestFault, check_nesting};
+pub use polygons::{groups, polygon_end};
+pub use rings::{RingFault, check_rings};

@@ -1,0 +1,224 @@
+ghost use Rattle.std.specs.Prelude.{◌≡◌, ◌≢◌, ◌≤◌, ℕ, IsTrue, length, slice_get, Some};
+ghost use Rattle.mvt_plane.specs.Position.{Position};
+ghost use Rattle.mvt_plane.specs.Ring.{next_round};
+ghost use Rattle.mvt_polygon.specs.Rings.{rings_of, AreProperRings};
+
+use super::{Meeting, find_meeting};
+use crate::edges::edge_of;
+use mvt_plane::{Count, Point};
+use std::alloc::{AllocError, Global};
+use std::process::Abort;
+
+/// Rings through these coordinates.
+fn rings_at(
+    rt: &impl Abort,
+    alloc: Global,
+    coordinates: &[&[(i32, i32)]],
+) -> Result<Vec<Vec<Point>>, AllocError> {
+    let mut rings = Vec::new(alloc);
+    for ring in coordinates {
+        let mut points = Vec::new(alloc);
+        for &(x, y) in *ring {
+            points.push(Point::new(x, y).expect(rt, "a position"))?;
+        }
+        rings.push(points)?;
+    }
+    Ok(rings)
+}
+
+/// Whether a ring has three vertices or more, none at the position of the next one.
+fn is_drawn(ring: &[Point]) -> bool
+    ensures several { IsTrue result → 3 ≤ length ring.now }
+    ensures apart { IsTrue result → (vertex : ℕ) (position next : Position) → slice_get ring.now vertex ≡ Some position
+        → slice_get ring.now (next_round (length ring.now) vertex) ≡ Some next → position ≢ next }
+{
+    if ring.len() < 3 {
+        return false;
+    }
+    for vertex in 0..ring.len() {
+        let edge = edge_of(ring, vertex);
+        if edge.a == edge.b {
+            return false;
+        }
+    }
+    true
+}
+
+/// Whether all rings are such.
+fn are_drawn(rings: &[Vec<Point>]) -> bool
+    ensures { IsTrue result → AreProperRings (rings_of rings.now) }
+{
+    for ring in rings {
+        if !is_drawn(ring) {
+            return false;
+        }
+    }
+    true
+}
+
+/// The meeting that is found in rings through these coordinates.
+fn meeting_at(rt: &impl Abort, alloc: Global, coordinates: &[&[(i32, i32)]]) -> Option<Meeting> {
+    let mut count = Count::new();
+    match rings_at(rt, alloc, coordinates) {
+        Ok(rings) => {
+            assert!(rt; are_drawn(&rings), "{rings:?}");
+            match find_meeting(alloc, &rings, &mut count) {
+                Ok(found) => found,
+                Err(refused) => {
+                    assert!(rt; false, "{refused:?}");
+                    None
+                }
+            }
+        }
+        Err(refused) => {
+            assert!(rt; false, "{refused:?}");
+            None
+        }
+    }
+}
+
+/// That one of these pairs of edges is found, each by ring and edge, with this point.
+fn expect_meeting(
+    rt: &impl Abort,
+    alloc: Global,
+    coordinates: &[&[(i32, i32)]],
+    pairs: &[((usize, usize), (usize, usize))],
+    point: (i128, i128, i128),
+) {
+    match meeting_at(rt, alloc, coordinates) {
+        Some(meeting) => {
+            let Meeting { point: at, .. } = meeting;
+            let first = (meeting.first_ring, meeting.first_edge);
+            let second = (meeting.second_ring, meeting.second_edge);
+            assert!(rt; pairs.contains(&(first, second)), "{meeting:?}");
+            assert_eq!(rt; (at.x(), at.y(), at.w()), point, "{coordinates:?}");
+        }
+        None => assert!(rt; false, "nothing found in {coordinates:?}"),
+    }
+}
+
+// The polygon of Mapbox Vector Tile Specification 2.1, section 4.3.5.5.
+#[test]
+fn no_meeting(rt: HostRuntime) {
+    assert_eq!(&rt;
+        meeting_at(&rt, rt.alloc(), &[&[(3, 6), (8, 12), (20, 34)]]),
+        None
+    );
+}
+
+// Edges that cross, in one ring and beside a hole.
+#[test]
+fn crossings(rt: HostRuntime) {
+    let alloc = rt.alloc();
+    let pair = [((0, 0), (0, 2))];
+    let crossed = [(0, 8), (10, 0), (10, 10), (0, 0)];
+    expect_meeting(&rt, alloc, &[&crossed], &pair, (800, 800, 180));
+    let (least, greatest) = (-1_073_741_824, 1_073_741_823);
+    let wide = [
+        (least, greatest - 1),
+        (greatest, least),
+        (greatest, greatest),
+        (least, least),
+    ];
+    let xy = -6_917_529_020_124_889_090;
+    expect_meeting(
+        &rt,
+        alloc,
+        &[&wide],
+        &pair,
+        (xy, xy, 9_223_372_026_117_357_571),
+    );
+    let behind_hole = [(0, 80), (100, 0), (100, 100), (20, 10)];
+    let hole = [(10, 60), (30, 50), (30, 45)];
+    expect_meeting(
+        &rt,
+        alloc,
+        &[&behind_hole, &hole],
+        &pair,
+        (740_000, 640_000, 15_400),
+    );
+    // all vertices of the hole are inside the exterior
+    let notched = [
+        (0, 0),
+        (30, 0),
+        (30, 30),
+        (20, 30),
+        (20, 10),
+        (10, 10),
+        (10, 30),
+        (0, 30),
+    ];
+    let across = [(5, 20), (25, 20), (15, 5)];
+    assert!(&rt; meeting_at(&rt, alloc, &[&notched, &across]).is_some());
+}
+
+// Edges that touch: a vertex on an edge, a vertex of a hole on an edge, two vertices at one position.
+#[test]
+fn touches(rt: HostRuntime) {
+    let alloc = rt.alloc();
+    let vertex_on_edge = [(0, 0), (10, 0), (10, 10), (10, 5)];
+    let pairs = [((0, 1), (0, 2)), ((0, 1), (0, 3))];
+    expect_meeting(&rt, alloc, &[&vertex_on_edge], &pairs, (10, 5, 1));
+    let square = [(0, 0), (10, 0), (10, 10), (0, 10)];
+    let hole = [(0, 5), (3, 7), (3, 3)];
+    let pairs = [((0, 3), (1, 0)), ((0, 3), (1, 2))];
+    expect_meeting(&rt, alloc, &[&square, &hole], &pairs, (0, 5, 1));
+    let pinched = [(0, 0), (10, 0), (5, 5), (10, 10), (0, 10), (5, 5)];
+    let pairs = [
+        ((0, 1), (0, 4)),
+        ((0, 1), (0, 5)),
+        ((0, 2), (0, 4)),
+        ((0, 2), (0, 5)),
+    ];
+    expect_meeting(&rt, alloc, &[&pinched], &pairs, (5, 5, 1));
+}
+
+// Edges on one line: neighbours of which one goes back, and the edges of two equal rings.
+#[test]
+fn overlaps(rt: HostRuntime) {
+    let alloc = rt.alloc();
+    let pairs = [((0, 0), (0, 1)), ((0, 0), (0, 2))];
+    expect_meeting(&rt, alloc, &[&[(0, 0), (10, 0), (5, 0)]], &pairs, (5, 0, 1));
+    let triangle = [(3, 6), (8, 12), (20, 34)];
+    assert!(&rt; meeting_at(&rt, alloc, &[&triangle, &triangle]).is_some());
+}
+
+/// A ring of 316 vertices like two combs, one above the other, with this vertex on the upper comb's 21st
+/// tooth.
+fn combs(alloc: Global, moved: (i32, i32)) -> Result<Vec<(i32, i32)>, AllocError> {
+    let mut ring = Vec::new(alloc);
+    for tooth in 0..40_u8 {
+        let x = 4 * i32::from(tooth);
+        ring.push((x, -20))?;
+        ring.push((x + 2, -20))?;
+        if tooth < 39 {
+            ring.push((x + 2, -10))?;
+            ring.push((x + 4, -10))?;
+        }
+    }
+    for tooth in (0..40_u8).rev() {
+        let x = 4 * i32::from(tooth);
+        ring.push((x + 2, 20))?;
+        ring.push(if tooth == 20 { moved } else { (x, 20) })?;
+        if tooth > 0 {
+            ring.push((x, 10))?;
+            ring.push((x - 2, 10))?;
+        }
+    }
+    Ok(ring)
+}
+
+// Many edges above each other, and the same with a vertex moved across an edge.
+#[test]
+fn two_combs(rt: HostRuntime) {
+    let alloc = rt.alloc();
+    for (moved, meets) in [((80, 20), false), ((77, 15), true)] {
+        match combs(alloc, moved) {
+            Ok(ring) => {
+                assert_eq!(&rt; ring.len(), 316);
+                assert_eq!(&rt; meeting_at(&rt, alloc, &[&ring]).is_some(), meets);
+            }
+            Err(refused) => assert!(&rt; false, "{refused:?}"),
+        }
+    }
+}
