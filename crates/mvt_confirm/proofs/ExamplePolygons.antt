@@ -1,12 +1,12 @@
 -- The polygons of known rings.
-use Rattle.std.proofs.Common.{rules, ◌≡◌, ℕ, suc, ◌<◌, ◌≤◌, inl, inr, List, [], ◌∷◌, length, refl, subst, arith}
+use Rattle.std.proofs.Common.{rules, ◌≡◌, ℕ, suc, ◌<◌, ◌≤◌, ◌⊎◌, inl, inr, List, [], ◌∷◌, length, refl, subst, arith}
 use Rattle.std.proofs.lemmas.Bool.{cases_lt}
 use Rattle.std.proofs.lemmas.Int.{ints}
 use Rattle.std.proofs.lemmas.Option.{slice_get_within}
 use Rattle.mvt_plane.proofs.ExampleRings.{polygon_with_two_holes}
 use Rattle.mvt_plane.proofs.SamePolygons.{one_polygon}
 use Rattle.mvt_plane.specs.Examples.{rings_from, square, crossed, triangle, touching_hole, hole_beside, hole_in_hole}
-use Rattle.mvt_plane.specs.Polygon.{IsExterior, NoExterior, IsExteriorOf, first, next, PolygonRings, IsPolygon}
+use Rattle.mvt_plane.specs.Polygon.{IsExterior, NoExterior, IsExteriorOf, first, next, PolygonRings, IsPolygon, IsRingOf}
 use Rattle.mvt_plane.specs.Position.{Position}
 use Rattle.mvt_confirm.specs.PolygonFault.{IsPolygonOf}
 
@@ -61,6 +61,22 @@ no_other_polygon rings polygon it whole other =
     one_polygon rings it.exterior polygon 0 it (rings_from 0 (length rings)) other
     (record { from = omega arith; before = other.further }) whole (record { from = omega arith; before = within })
 
+-- behind two polygons of all rings neither
+pub one_of_two : (rings : List (List Position)) (middle polygon : ℕ) (it : PolygonRings) → IsPolygon rings 0 (rings_from 0 middle) → IsPolygon rings 1 (rings_from middle (length rings))
+    → IsPolygon rings polygon it → (it ≡ rings_from 0 middle) ⊎ (it ≡ rings_from middle (length rings))
+one_of_two rings middle polygon it before behind other = elim (cases_lt it.exterior middle) [
+  | inl here ↦ inl (same 0 (rings_from 0 middle) before (record { from = omega arith; before = here }))
+  | inr there ↦ inr (same 1 (rings_from middle (length rings)) behind (record { from = there; before = within }))
+]
+  where
+    within : it.exterior < length rings
+    within = exterior_within rings polygon it.exterior other.begins
+
+    same : (number : ℕ) (its : PolygonRings) → IsPolygon rings number its → IsRingOf its it.exterior → it ≡ its
+    same number its there has =
+        let both = one_polygon rings it.exterior polygon number it its other (record { from = omega arith; before = other.further }) there has in
+        both.1
+
 -- Known rings
 
 -- the standard's ring is an exterior
@@ -68,6 +84,23 @@ pub triangle_polygon : IsPolygonOf (triangle ∷ []) 0 (rings_from 0 1)
 triangle_polygon = record {
   sound = search rules;
   there = first_to_last (triangle ∷ []) (omega arith) (record { ring = triangle; there = refl; positive = omega (arith, ints) }) (none_of_none (triangle ∷ []) 1);
+}
+
+-- so is the first of two squares
+pub first_square : IsPolygon (square ∷ square ∷ []) 0 (rings_from 0 1)
+first_square = record {
+  begins = first 0 (record { ring = square; there = refl; positive = omega (arith, ints) }) (none_of_none (square ∷ square ∷ []) 0);
+  further = omega arith;
+  holes = none_of_none (square ∷ square ∷ []) 1;
+  ends = inr (record { ring = square; there = refl; positive = omega (arith, ints) });
+}
+
+-- the other of the two
+pub second_square : IsPolygonOf (square ∷ square ∷ []) 1 (rings_from 1 2)
+second_square = record {
+  sound = search rules;
+  there = second_to_last (square ∷ square ∷ []) (omega arith) (record { ring = square; there = refl; positive = omega (arith, ints) })
+      (record { ring = square; there = refl; positive = omega (arith, ints) }) (none_of_none (square ∷ square ∷ []) 2);
 }
 
 -- so is the one that crosses itself

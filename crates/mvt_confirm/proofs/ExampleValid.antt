@@ -1,14 +1,13 @@
 -- Known rings that are those of valid polygons, and others that aren't.
 use Rattle.std.proofs.Common.{rules, ◌≡◌, ℕ, zero, suc, ◌<◌, List, [], ◌∷◌, slice_get, Some, refl, sym, subst, arith}
 use Rattle.std.proofs.lemmas.Int.{ints}
-use Rattle.mvt_fault.specs.declared.ring.RingCode.TheVariants.{NoArea}
 use Rattle.mvt_plane.proofs.ExampleRings.{has_no_area}
 use Rattle.mvt_plane.proofs.RingEdges.{meets_either_way}
 use Rattle.mvt_plane.specs.Examples.{at, fraction, edge_number, rings_from, square, crossed, triangle, hole_beside, hole_in_hole, flat}
 use Rattle.mvt_plane.specs.Meeting.{EdgeNumber, IsEdgeOf, Follows, forward, MeetsWrongly}
 use Rattle.mvt_plane.specs.Position.{Position}
 use Rattle.mvt_plane.specs.RationalPoint.{RationalPoint, IsAt, LiesOn}
-use Rattle.mvt_plane.specs.Ring.{edges}
+use Rattle.mvt_plane.specs.Ring.{edges, no_area}
 use Rattle.mvt_plane.specs.declared.edge.Edge.{Edge}
 use Rattle.mvt_confirm.proofs.ExampleFaults.{crossing_shown, vertex_outside, vertex_in_hole}
 use Rattle.mvt_confirm.proofs.ExamplePolygons.{no_other_polygon, triangle_polygon}
@@ -116,4 +115,4 @@ in_hole_invalid = in_hole_is_invalid hole_in_hole 0 2 0 1 vertex_in_hole
 
 -- a ring without area
 pub flat_invalid : ¬ AreValidRings (square ∷ flat ∷ [])
-flat_invalid = ring_is_invalid NoArea (square ∷ flat ∷ []) 1 has_no_area
+flat_invalid = ring_is_invalid (square ∷ flat ∷ []) 502 1 (no_area refl has_no_area)

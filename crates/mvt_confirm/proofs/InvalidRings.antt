@@ -1,23 +1,21 @@
 -- Rings of which something wrong is true aren't those of valid polygons.
 use Rattle.std.proofs.Common.{ℕ, List}
-use Rattle.mvt_fault.specs.declared.ring.RingCode.{RingCode}
-use Rattle.mvt_fault.specs.declared.ring.RingCode.TheVariants.{EndsAtItsBeginning, NoArea, BeginsWithHole}
 use Rattle.mvt_fault.specs.declared.ring.RingEdge.{RingEdge}
 use Rattle.mvt_plane.specs.Position.{Position}
 use Rattle.mvt_plane.specs.RationalPoint.{RationalPoint}
-use Rattle.mvt_plane.specs.Ring.{ArePolygonRings}
-use Rattle.mvt_confirm.specs.PolygonFault.{RingBreaks, number_of, IsMeeting, IsVertexOutside, IsVertexInHole}
+use Rattle.mvt_plane.specs.Ring.{BreaksRings, ends_at_its_beginning, no_area, begins_with_hole, ArePolygonRings}
+use Rattle.mvt_confirm.specs.PolygonFault.{number_of, IsMeeting, IsVertexOutside, IsVertexInHole}
 use Rattle.mvt_confirm.specs.Valid.{AreValidRings}
 
 -- a ring has a fault of its own
-pub not_sound : (code : RingCode) (rings : List (List Position)) (ring : ℕ) → RingBreaks code rings ring → ¬ ArePolygonRings rings
-not_sound EndsAtItsBeginning rings ring broken sound = sound.open_ends ring broken
-not_sound NoArea rings ring broken sound = sound.areas ring broken
-not_sound BeginsWithHole rings ring broken sound = sound.exterior_first ring broken
+pub not_sound : (rings : List (List Position)) (code ring : ℕ) → BreaksRings rings code ring → ¬ ArePolygonRings rings
+not_sound rings code ring (ends_at_its_beginning is broken) sound = sound.open_ends ring broken
+not_sound rings code ring (no_area is broken) sound = sound.areas ring broken
+not_sound rings code ring (begins_with_hole is broken) sound = sound.exterior_first ring broken
 
 -- so the rings are invalid
-pub ring_is_invalid : (code : RingCode) (rings : List (List Position)) (ring : ℕ) → RingBreaks code rings ring → ¬ AreValidRings rings
-ring_is_invalid code rings ring broken valid = not_sound code rings ring broken valid.sound
+pub ring_is_invalid : (rings : List (List Position)) (code ring : ℕ) → BreaksRings rings code ring → ¬ AreValidRings rings
+ring_is_invalid rings code ring broken valid = not_sound rings code ring broken valid.sound
 
 -- two edges of a polygon meet
 pub meeting_is_invalid : (rings : List (List Position)) (polygon : ℕ) (first second : RingEdge) (point : RationalPoint) → IsMeeting rings polygon first second point → ¬ AreValidRings rings

@@ -7,8 +7,8 @@ use Rattle.mvt_plane.specs.Position.{Position}
 use Rattle.mvt_wire.proofs.Tiles.{one_tile}
 use Rattle.mvt_wire.specs.Rules.{IsFeatureOf}
 use Rattle.mvt_wire.specs.Tile.{FeatureRecord, LayerRecord, TileRecord, IsTile}
-use Rattle.mvt_confirm.specs.Feature.{IsFeatureIn, HasRingsIn}
-use Rattle.mvt_confirm.specs.Shows.{OfTile}
+use Rattle.mvt_confirm.specs.Feature.{IsFeatureIn, OfRings}
+use Rattle.mvt_confirm.specs.Shows.{OfTile, OfFeature}
 
 -- what is true of the tile that bytes are
 pub of_this_tile : (bytes : List ℕ) (tile : TileRecord) (Holds : TileRecord → Type 0) → IsTile bytes tile → OfTile bytes Holds → Holds tile
@@ -21,7 +21,7 @@ feature_of_this_tile bytes tile layer feature whose it is there =
     subst (λ (t : TileRecord). IsFeatureOf t layer feature whose it) (one_tile bytes there.tile tile there.is is) there.there
 
 -- a tile has one feature of these ordinals
-one_feature_of : (tile : TileRecord) (layer feature : ℕ) (whose other : LayerRecord) (it its : FeatureRecord)
+pub one_feature_of : (tile : TileRecord) (layer feature : ℕ) (whose other : LayerRecord) (it its : FeatureRecord)
     → IsFeatureOf tile layer feature whose it → IsFeatureOf tile layer feature other its → (whose ≡ other) × (it ≡ its)
 one_feature_of tile layer feature whose other it its first second =
     let same : whose ≡ other = cc (first.in_tile, second.in_tile) in
@@ -34,16 +34,15 @@ one_feature bytes layer feature whose other it its first second =
     one_feature_of second.tile layer feature whose other it its
     (feature_of_this_tile bytes second.tile layer feature whose it second.is first) second.there
 
--- a geometry has one list of rings
-one_list : (kind : ℕ) (numbers : List ℕ) (first second : List (List Position)) → HasRings kind numbers first → HasRings kind numbers second → first ≡ second
-one_list kind numbers first second its others =
-    let same : rings first ≡ rings second = one_figure polygon numbers (rings first) (rings second) its.spelled others.spelled in
+-- a feature has one list of rings
+pub one_list_of_rings : (it : FeatureRecord) (first second : List (List Position)) → HasRings it.kind it.geometry first → HasRings it.kind it.geometry second → first ≡ second
+one_list_of_rings it first second its others =
+    let same : rings first ≡ rings second = one_figure polygon it.geometry (rings first) (rings second) its.spelled others.spelled in
     cc same
 
--- and so has a feature of the bytes
-pub one_list_of_rings : (bytes : List ℕ) (layer feature : ℕ) (first second : List (List Position))
-    → HasRingsIn bytes layer feature first → HasRingsIn bytes layer feature second → first ≡ second
-one_list_of_rings bytes layer feature first second its others =
-    let same = one_feature bytes layer feature its.whose others.whose its.it others.it its.there others.there in
-    one_list others.it.kind others.it.geometry first second
-    (subst (λ (it : FeatureRecord). HasRings it.kind it.geometry first) same.1 its.spelled) others.spelled
+-- so what is true of the rings of a feature of the bytes is true of one list
+pub same_rings : (bytes : List ℕ) (layer feature : ℕ) (First Second : List (List Position) → Type 0)
+    → (one : OfFeature bytes layer feature (λ whose it. OfRings it First)) → (other : OfFeature bytes layer feature (λ whose it. OfRings it Second)) → one.3.0 ≡ other.3.0
+same_rings bytes layer feature First Second one other =
+    let same = one_feature bytes layer feature one.0 other.0 one.1 other.1 one.2 other.2 in
+    one_list_of_rings other.1 one.3.0 other.3.0 (subst (λ (it : FeatureRecord). HasRings it.kind it.geometry one.3.0) same.1 one.3.1) other.3.1

@@ -11,9 +11,6 @@ pub record IsFeatureIn (bytes : List ℕ) (layer feature : ℕ) (whose : LayerRe
   pub is : IsTile bytes tile
   pub there : IsFeatureOf tile layer feature whose it
 
--- the feature of these ordinals is of the type of polygons, and its geometry is the spelling of these rings
-pub record HasRingsIn (bytes : List ℕ) (layer feature : ℕ) (rings : List (List Position)) : Type 0 where
-  pub whose : LayerRecord
-  pub it : FeatureRecord
-  pub there : IsFeatureIn bytes layer feature whose it
-  pub spelled : HasRings it.kind it.geometry rings
+-- the feature is of the type of polygons, its geometry is the spelling of rings, and this of them is true
+abbrev pub OfRings : FeatureRecord → (List (List Position) → Type 0) → Type 0
+OfRings it Holds = (rings : List (List Position)) × HasRings it.kind it.geometry rings × Holds rings

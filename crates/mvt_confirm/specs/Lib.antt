@@ -1,5 +1,13 @@
+pub mod Commands
+pub mod Corners
+pub mod EdgeTests
 pub mod Feature
 pub mod Geometry
+pub mod Packed
 pub mod PolygonFault
+pub mod Rings
 pub mod Shows
+pub mod Stretch
+pub mod Tags
 pub mod Valid
+pub mod Walking

@@ -25,12 +25,16 @@ pub record AreValidRings (rings : List (List Position)) : Type 0 where
   pub sound : ArePolygonRings rings
   pub polygons : (polygon : ℕ) (it : PolygonRings) → IsPolygon rings polygon it → IsValidPolygon rings it
 
--- the feature of a layer has good tags; its geometry is the spelling of a figure of its type, if that is known; and if that
--- is rings, they are those of valid polygons
-pub record IsValidFeature (whose : LayerRecord) (it : FeatureRecord) : Type 0 where
-  pub tags : (code : TagCode) (index : ℕ) → ¬ TagsBreak code (length whose.keys) (length whose.values) it.tags index
+-- the numbers of the geometry spell a figure of its type, if that is known; and if that is rings, they are those of valid
+-- polygons
+pub record IsValidGeometry (it : FeatureRecord) : Type 0 where
   pub figure : HasFigure it.kind it.geometry
   pub polygons : (rings : List (List Position)) → HasRings it.kind it.geometry rings → AreValidRings rings
+
+-- the feature of a layer has good tags and a valid geometry
+pub record IsValidFeature (whose : LayerRecord) (it : FeatureRecord) : Type 0 where
+  pub tags : (code : TagCode) (index : ℕ) → ¬ TagsBreak code (length whose.keys) (length whose.values) it.tags index
+  pub geometry : IsValidGeometry it
 
 -- all layers have version 2 and names of their own, and all features are valid
 pub record IsValidTile (tile : TileRecord) : Type 0 where

@@ -2,33 +2,40 @@
 //! nothing.
 
 ghost use Rattle.std.specs.Prelude.{◌≡◌, ◌≢◌, ◌↔◌, ◌⊎◌, ℕ, List, ℤ};
-ghost use Rattle.mvt_confirm.specs.Feature.{IsFeatureIn, HasRingsIn};
-ghost use Rattle.mvt_confirm.specs.Geometry.{BreaksGeometryRule, HasValidGeometry};
+ghost use Rattle.mvt_confirm.specs.Feature.{IsFeatureIn};
+ghost use Rattle.mvt_confirm.specs.Geometry.{IsFaultOfGeometry};
 ghost use Rattle.mvt_confirm.specs.Shows.{Shows};
-ghost use Rattle.mvt_confirm.specs.Valid.{Valid};
-ghost use Rattle.mvt_fault.specs.Truth.{IsWireFault, BreaksRule};
+ghost use Rattle.mvt_confirm.specs.Valid.{IsValidGeometry, Valid};
+ghost use Rattle.mvt_fault.specs.Truth.{IsWireFault, OneFeatureHas, BreaksRule};
 ghost use Rattle.mvt_fault.specs.declared.fault.Fault.{Fault};
 ghost use Rattle.mvt_fault.specs.declared.fault.Fault.TheVariants.{Wire, Ring, Meeting, Outside, HoleInHole};
 ghost use Rattle.mvt_fault.specs.declared.ring.RingCode.{RingCode};
 ghost use Rattle.mvt_fault.specs.declared.ring.RingEdge.{RingEdge};
+ghost use Rattle.mvt_plane.specs.Geometry.{HasRings};
 ghost use Rattle.mvt_plane.specs.Position.{Position};
+ghost use Rattle.mvt_wire.specs.Rules.{IsFeatureOf};
 ghost use Rattle.mvt_wire.specs.Tile.{FeatureRecord, LayerRecord, TileRecord, IsTile};
 ghost use Rattle.mvt_wire.specs.declared.cause.WireCode.{WireCode};
 ghost use Rattle.mvt_wire.specs.declared.scope.Scope.{Scope};
 
 pub mod examples;
 
-/// Bytes have at most one feature of the same ordinals, and that has at most one list of rings.
+/// Bytes have at most one feature of the same ordinals, and a feature has at most one list of rings.
 pub fn one_feature()
     ensures feature { (bytes : List ℕ) (layer feature : ℕ) (whose other : LayerRecord) (it its : FeatureRecord) →
         IsFeatureIn bytes layer feature whose it → IsFeatureIn bytes layer feature other its → (whose ≡ other) × (it ≡ its) }
-    ensures rings { (bytes : List ℕ) (layer feature : ℕ) (first second : List (List Position)) →
-        HasRingsIn bytes layer feature first → HasRingsIn bytes layer feature second → first ≡ second }
+    ensures rings { (it : FeatureRecord) (first second : List (List Position)) →
+        HasRings it.kind it.geometry first → HasRings it.kind it.geometry second → first ≡ second }
 {}
 
 /// No fault is true of a valid tile.
 pub fn shown_is_invalid()
     ensures { (bytes : List ℕ) (fault : Fault) → Shows bytes fault → ¬ Valid bytes }
+{}
+
+/// Bytes of which no fault is true are valid.
+pub fn unshown_is_valid()
+    ensures { (bytes : List ℕ) → ((fault : Fault) → ¬ Shows bytes fault) → Valid bytes }
 {}
 
 /// Where a wire fault is true, no other fault is but wire faults: bytes with one are no tile.
@@ -54,12 +61,17 @@ pub fn one_order_of_edges()
         ¬ Shows bytes (Meeting layer feature other_polygon second first other_x other_y other_w) }
 {}
 
-/// The two edges of a meeting are in one polygon: they aren't a meeting of another one.
+/// A meeting's two edges are both in its polygon: two meetings whose first edges are in one ring, or whose
+/// second edges are, have one polygon.
 pub fn one_polygon_of_meeting()
-    ensures { (bytes : List ℕ) (layer feature polygon other : ℕ) (first second its_first its_second : RingEdge) (x y w its_x its_y its_w : ℤ) →
+    ensures by_first { (bytes : List ℕ) (layer feature polygon other : ℕ) (first second its_first its_second : RingEdge) (x y w its_x its_y its_w : ℤ) →
         Shows bytes (Meeting layer feature polygon first second x y w) →
         Shows bytes (Meeting layer feature other its_first its_second its_x its_y its_w) →
         first.ring ≡ its_first.ring → polygon ≡ other }
+    ensures by_second { (bytes : List ℕ) (layer feature polygon other : ℕ) (first second its_first its_second : RingEdge) (x y w its_x its_y its_w : ℤ) →
+        Shows bytes (Meeting layer feature polygon first second x y w) →
+        Shows bytes (Meeting layer feature other its_first its_second its_x its_y its_w) →
+        second.ring ≡ its_second.ring → polygon ≡ other }
 {}
 
 /// A hole whose vertex is shown to be inside another isn't that other one.
@@ -72,11 +84,12 @@ pub fn another_hole()
 /// between its parts and those of its features' geometries.
 pub fn shown_by_parts()
     ensures { (bytes : List ℕ) (fault : Fault) → Shows bytes fault ↔
-        (IsWireFault bytes fault ⊎ ((tile : TileRecord) × IsTile bytes tile × (BreaksRule tile fault ⊎ BreaksGeometryRule tile fault))) }
+        (IsWireFault bytes fault ⊎ ((tile : TileRecord) × IsTile bytes tile × (BreaksRule tile fault ⊎ OneFeatureHas (λ layer_record. IsFaultOfGeometry) tile fault))) }
 {}
 
 /// Valid bytes are a tile that breaks no rule between its parts and whose features have valid geometries.
 pub fn valid_by_parts()
     ensures { (bytes : List ℕ) → Valid bytes ↔
-        ((tile : TileRecord) × IsTile bytes tile × ((fault : Fault) → ¬ BreaksRule tile fault) × HasValidGeometry tile) }
+        ((tile : TileRecord) × IsTile bytes tile × ((fault : Fault) → ¬ BreaksRule tile fault) ×
+        ((layer feature : ℕ) (whose : LayerRecord) (it : FeatureRecord) → IsFeatureOf tile layer feature whose it → IsValidGeometry it)) }
 {}

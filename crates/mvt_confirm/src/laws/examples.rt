@@ -2,11 +2,11 @@
 //! would make false.
 
 ghost use Rattle.std.specs.Prelude.{ℕ, [], ◌∷◌, ◌+◌, ◌*◌, ◌^◌, pos};
-ghost use Rattle.mvt_confirm.specs.PolygonFault.{RingBreaks, IsMeeting, IsVertexOutside, IsVertexInHole};
+ghost use Rattle.mvt_confirm.specs.PolygonFault.{IsMeeting, IsVertexOutside, IsVertexInHole};
 ghost use Rattle.mvt_confirm.specs.Valid.{AreValidRings};
-ghost use Rattle.mvt_fault.specs.declared.ring.RingCode.TheVariants.{EndsAtItsBeginning, NoArea, BeginsWithHole};
 ghost use Rattle.mvt_plane.specs.Examples.{at, fraction, square, two_polygons, crossed, triangle, touching_hole, hole_beside, hole_in_hole, closed_twice, flat};
 ghost use Rattle.mvt_plane.specs.RationalPoint.{RationalPoint};
+ghost use Rattle.mvt_plane.specs.Ring.{BreaksRings};
 
 /// A crossing is a meeting by any numbers of its point that are in range, in the order of its edges, and
 /// in its polygon.
@@ -53,16 +53,19 @@ pub fn a_second_polygon()
 
 /// Rings with faults of their own.
 pub fn wrong_rings()
-    ensures closed_twice { RingBreaks EndsAtItsBeginning (closed_twice ∷ []) 0 }
-    ensures no_area { RingBreaks NoArea (flat ∷ []) 0 }
-    ensures hole_first { RingBreaks BeginsWithHole (hole_beside ∷ []) 0 }
-    ensures standard { (ring : ℕ) → ¬ RingBreaks NoArea two_polygons ring }
+    ensures closed_twice { BreaksRings (closed_twice ∷ []) 501 0 }
+    ensures no_area { BreaksRings (flat ∷ []) 502 0 }
+    ensures hole_first { BreaksRings (hole_beside ∷ []) 503 0 }
+    ensures standard { (ring : ℕ) → ¬ BreaksRings two_polygons 502 ring }
 {}
 
-/// The standard's own ring is that of a valid polygon; a ring that crosses itself isn't, nor is one with a
-/// hole beside it.
+/// The standard's own rings are those of valid polygons, one of which has a hole; so is one ring twice, as
+/// two polygons may be in one place. A ring that crosses itself isn't, nor is one with a hole beside it, nor
+/// one with a hole in a hole, nor one without area.
 pub fn valid_rings()
     ensures standard { AreValidRings (triangle ∷ []) }
+    ensures with_hole { AreValidRings two_polygons }
+    ensures twice { AreValidRings (square ∷ square ∷ []) }
     ensures crossed { ¬ AreValidRings (crossed ∷ []) }
     ensures beside { ¬ AreValidRings (square ∷ hole_beside ∷ []) }
     ensures in_hole { ¬ AreValidRings hole_in_hole }

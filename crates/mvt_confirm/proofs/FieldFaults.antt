@@ -1,0 +1,165 @@
+-- The faults of a message's fields, one field behind others.
+use Rattle.std.proofs.Common.{◌≡◌, ◌≢◌, ℕ, ◌↔◌, nat_lt, IsTrue, Bool, true, false, ◌⊎◌, inl, inr, List, [], ◌∷◌, ◌++◌, Some, refl, sym, ◌∙◌, ap, subst, arith, append_assoc}
+use Rattle.std.proofs.lemmas.Bool.{lt-ltb}
+use Rattle.mvt_wire.specs.Field.{Entry}
+use Rattle.mvt_wire.specs.Message.{IsMessage}
+use Rattle.mvt_wire.specs.Schema.{rule_of}
+use Rattle.mvt_wire.specs.Walk.{Walk, IsOver, GivesField, FindsDefect}
+use Rattle.mvt_wire.specs.WireFault.{count_of, stands_in, EntryFault, other_type, again, no_text, out_of_range, packed, FieldFault}
+use Rattle.mvt_wire.specs.declared.cause.WireCause.{WireCause}
+use Rattle.mvt_wire.specs.declared.schema.FieldRule.{FieldRule}
+use Rattle.mvt_wire.specs.declared.schema.Message.{Message}
+use Rattle.mvt_wire.proofs.Messages.{one_list, whole_or_defect}
+use Rattle.mvt_confirm.proofs.FieldCounts.{of_number-own, of_number-other}
+use Rattle.mvt_confirm.proofs.PackedWalk.{fault_ahead}
+use Rattle.mvt_confirm.proofs.Walking.{IsWalking, IsWalking-more, IsWalking-defect, IsWalking-whole}
+
+-- a fault of a field names its number
+pub names_field : (rule : FieldRule) (stood : Bool) (entry : Entry) (cause : WireCause) → EntryFault rule stood entry cause → cause.field ≡ entry.number
+names_field rule stood entry cause (other_type other is) = ap (λ (c : WireCause). c.field) is
+names_field rule stood entry cause (again singular stands is) = ap (λ (c : WireCause). c.field) is
+names_field rule stood entry cause (no_text from part shape content not is) = ap (λ (c : WireCause). c.field) is
+names_field rule stood entry cause (out_of_range value at content over is) = ap (λ (c : WireCause). c.field) is
+names_field rule stood entry cause (packed from part shape content fault) = (fault_ahead from part entry.number cause fault).0
+
+-- the number of the last field stands
+pub stands_in-own : (field_number : ℕ) (entries : List Entry) (entry : Entry) → entry.number ≡ field_number → stands_in field_number (entries ++ entry ∷ []) ≡ true
+stands_in-own field_number entries entry own =
+    let more = of_number-own field_number entries entry own in
+    lt-ltb 0 (count_of field_number (entries ++ entry ∷ [])) (omega arith)
+
+-- another number stands where it stood before
+pub stands_in-other : (field_number : ℕ) (entries : List Entry) (entry : Entry) → entry.number ≢ field_number → stands_in field_number (entries ++ entry ∷ []) ≡ stands_in field_number entries
+stands_in-other field_number entries entry other =
+    ap (nat_lt 0) (of_number-other field_number entries entry other)
+
+-- a list with one more at its end, parted: at the last one, or before it
+abbrev pub PartsLast : List Entry → List Entry → Entry → Entry → Type 0
+PartsLast entries before last entry = ((before ≡ entries) × (entry ≡ last)) ⊎ ((rest : List Entry) × (entries ≡ before ++ entry ∷ rest))
+
+part_last : (entries before : List Entry) (last entry : Entry) (after : List Entry) → entries ++ last ∷ [] ≡ before ++ entry ∷ after → PartsLast entries before last entry
+part_last [] [] last entry after is = inl (refl, (cc))
+part_last [] (b ∷ []) last entry after is = absurd (cc)
+part_last [] (b ∷ c ∷ before) last entry after is = absurd (cc)
+part_last (e ∷ entries) [] last entry after is = inr (entries, (cc))
+part_last (e ∷ entries) (b ∷ before) last entry after is =
+    let head : e ≡ b = cc in
+    let tail : entries ++ last ∷ [] ≡ before ++ entry ∷ after = cc in
+    elim (part_last entries before last entry after tail) [
+      | inl both ↦ let front : before ≡ entries = both.0 in inl ((cc), both.1)
+      | inr inner ↦ let middle : entries ≡ before ++ entry ∷ inner.0 = inner.1 in inr (inner.0, (cc))
+    ]
+
+-- a fault of the last field
+abbrev pub LastFault : Message → List Entry → Entry → WireCause → Type 0
+LastFault message entries last cause = (rule : FieldRule) × (rule_of message last.number ≡ Some rule) × EntryFault rule (stands_in last.number entries) last cause
+
+-- a fault of the fields is one of those before the last, or of the last
+fault_parted : (message : Message) (entries : List Entry) (last : Entry) (cause : WireCause) → FieldFault message (entries ++ last ∷ []) cause → FieldFault message entries cause ⊎ LastFault message entries last cause
+fault_parted message entries last cause fault = elim (part_last entries fault.before last fault.entry fault.after fault.split) [
+  | inr inner ↦ inl (record { before = fault.before; entry = fault.entry; after = inner.0; split = inner.1; rule = fault.rule; known = fault.known; fault = fault.fault })
+  | inl both ↦ inr (
+    fault.rule,
+    subst (λ (e : Entry). rule_of message e.number ≡ Some fault.rule) both.1 fault.known,
+    subst (λ (e : Entry). EntryFault fault.rule (stands_in e.number entries) e cause) both.1
+        (subst (λ (before : List Entry). EntryFault fault.rule (stands_in fault.entry.number before) fault.entry cause) both.0 fault.fault),
+  )
+]
+
+fault_kept : (message : Message) (entries : List Entry) (last : Entry) (cause : WireCause) → FieldFault message entries cause → FieldFault message (entries ++ last ∷ []) cause
+fault_kept message entries last cause fault = record {
+  before = fault.before;
+  entry = fault.entry;
+  after = fault.after ++ last ∷ [];
+  split = ap (λ (list : List Entry). list ++ last ∷ []) fault.split ∙ append_assoc fault.before (fault.entry ∷ fault.after) (last ∷ []);
+  rule = fault.rule;
+  known = fault.known;
+  fault = fault.fault;
+}
+
+module _ (bytes : List ℕ) (from : ℕ) (message : Message) (cause : WireCause) where
+  -- whether the fault is one of the fields that were passed
+  pub record IsLooking (walk : Walk) (stood found : Bool) : Type 0 where
+    pub entries : List Entry
+    pub walked : IsWalking bytes from walk entries
+    pub stands : stood ≡ stands_in cause.field entries
+    pub same : IsTrue found ↔ FieldFault message entries cause
+
+  -- a field of another number has not this fault
+  pub IsLooking-other : (old new : Walk) (stood found : Bool) (entry : Entry) → IsLooking old stood found → GivesField old new entry → entry.number ≢ cause.field → IsLooking new stood found
+  IsLooking-other old new stood found entry so_far given other = record {
+    entries = so_far.entries ++ entry ∷ [];
+    walked = IsWalking-more bytes from old new so_far.entries entry so_far.walked given;
+    stands = so_far.stands ∙ sym (stands_in-other cause.field so_far.entries entry other);
+    same = (
+      λ here. fault_kept message so_far.entries entry cause (so_far.same.0 here),
+      λ fault. elim (fault_parted message so_far.entries entry cause fault) [
+        | inl earlier ↦ so_far.same.1 earlier
+        | inr own ↦ absurd (other (sym (names_field own.0 (stands_in entry.number so_far.entries) entry cause own.2)))
+      ],
+    );
+  }
+
+  module _ (old new : Walk) (stood found : Bool) (entry : Entry) (so_far : IsLooking old stood found) (given : GivesField old new entry) (own : entry.number ≡ cause.field)
+      (rule : FieldRule) (known : rule_of message cause.field ≡ Some rule) where
+    -- whether the field stood before it
+    before : stood ≡ stands_in entry.number so_far.entries
+    before = so_far.stands ∙ ap (λ (n : ℕ). stands_in n so_far.entries) (sym own)
+
+    its_rule : rule_of message entry.number ≡ Some rule
+    its_rule = ap (rule_of message) own ∙ known
+
+    last_fault : LastFault message so_far.entries entry cause → EntryFault rule stood entry cause
+    last_fault last =
+        let both : Some last.0 ≡ Some rule = sym last.1 ∙ its_rule in
+        let same : last.0 ≡ rule = cc in
+        subst (λ (b : Bool). EntryFault rule b entry cause) (sym before) (subst (λ (r : FieldRule). EntryFault r (stands_in entry.number so_far.entries) entry cause) same last.2)
+
+    new_fault : EntryFault rule stood entry cause → FieldFault message (so_far.entries ++ entry ∷ []) cause
+    new_fault fault =
+        record { before = so_far.entries; entry = entry; after = []; split = refl; rule = rule; known = its_rule; fault = subst (λ (b : Bool). EntryFault rule b entry cause) before fault }
+
+    -- the fault was found before, or is one of the field of its number
+    pub IsLooking-own : (now : Bool) → (IsTrue now ↔ (IsTrue found ⊎ EntryFault rule stood entry cause)) → IsLooking new true now
+    IsLooking-own now tells = record {
+      entries = so_far.entries ++ entry ∷ [];
+      walked = IsWalking-more bytes from old new so_far.entries entry so_far.walked given;
+      stands = sym (stands_in-own cause.field so_far.entries entry own);
+      same = (
+        λ here. elim (tells.0 here) [
+          | inl earlier ↦ fault_kept message so_far.entries entry cause (so_far.same.0 earlier)
+          | inr fault ↦ new_fault fault
+        ],
+        λ fault. tells.1 (elim (fault_parted message so_far.entries entry cause fault) [
+          | inl earlier ↦ inl (so_far.same.1 earlier)
+          | inr last ↦ inr (last_fault last)
+        ]),
+      );
+    }
+
+    -- it was found before, or it is asked of this field
+    pub IsLooking-still : found ≡ true → IsLooking new true found
+    IsLooking-still here = IsLooking-own found (λ so. inl so, λ either. here)
+
+    pub IsLooking-asked : (now : Bool) → found ≡ false → (IsTrue now ↔ EntryFault rule stood entry cause) → IsLooking new true now
+    IsLooking-asked now not tells = IsLooking-own now (
+      λ so. inr (tells.0 so),
+      λ either. elim either [ inl earlier ↦ let both : false ≡ true = sym not ∙ earlier in absurd (cc) | inr fault ↦ tells.1 fault ],
+    )
+
+  -- a message with a defect isn't whole
+  pub IsLooking-defect : (old new : Walk) (stood found test : Bool) (defect : WireCause) → IsLooking old stood found → FindsDefect old new defect → test ≡ false
+      → IsTrue test ↔ ((entries : List Entry) × IsMessage bytes from entries × FieldFault message entries cause)
+  IsLooking-defect old new stood found test defect so_far finds is = (
+    λ so. let both : false ≡ true = sym is ∙ so in absurd (cc),
+    λ there. absurd (whole_or_defect bytes from there.0 defect there.1 (IsWalking-defect bytes from old new so_far.entries defect so_far.walked finds)),
+  )
+
+  -- the whole message was passed
+  pub IsLooking-over : (old new : Walk) (stood found : Bool) → IsLooking old stood found → IsOver old new
+      → IsTrue found ↔ ((entries : List Entry) × IsMessage bytes from entries × FieldFault message entries cause)
+  IsLooking-over old new stood found so_far over =
+      let whole = IsWalking-whole bytes from old new so_far.entries so_far.walked over in (
+        λ here. (so_far.entries, whole, so_far.same.0 here),
+        λ there. so_far.same.1 (subst (λ (entries : List Entry). FieldFault message entries cause) (one_list bytes from there.0 so_far.entries there.1 whole) there.2),
+      )

@@ -1,0 +1,130 @@
+-- Where two edges of a polygon meet wrongly, at whatever rational point, there is a meeting that a fault can tell.
+use Rattle.std.proofs.Common.{◌≡◌, ◌≢◌, ℕ, ◌<◌, ◌⊎◌, inl, inr, List, length, Option, Some, None, sym, ap, ap₂, subst}
+use Rattle.std.proofs.lemmas.Bool.{cases_order}
+use Rattle.std.proofs.lemmas.Option.{none-some, same_Some}
+use Rattle.mvt_fault.specs.declared.ring.RingEdge.{RingEdge}
+use Rattle.mvt_plane.proofs.CommonPoints.{named_is_common}
+use Rattle.mvt_plane.proofs.NamedPoints.{named_is_bounded}
+use Rattle.mvt_plane.proofs.NamedWhereCommon.{common_is_named}
+use Rattle.mvt_plane.proofs.RingEdges.{ends_of_edge, meets_either_way}
+use Rattle.mvt_plane.proofs.RingEdges.{one_shared_vertex}
+use Rattle.mvt_plane.proofs.SpelledRings.{three_vertices, vertices_in_range}
+use Rattle.mvt_plane.specs.CommonPoint.{IsCommon}
+use Rattle.mvt_plane.specs.Geometry.{HasRings}
+use Rattle.mvt_plane.specs.Meeting.{EdgeNumber, ComesBefore, IsEdgeOf, IsShared, MeetsWrongly}
+use Rattle.mvt_plane.specs.Polygon.{PolygonRings, IsRingOf}
+use Rattle.mvt_plane.specs.Position.{Position, IsPosition}
+use Rattle.mvt_plane.specs.RationalPoint.{RationalPoint, IsAt, IsBounded}
+use Rattle.mvt_plane.specs.Ring.{next_round}
+use Rattle.mvt_plane.specs.declared.edge.Edge.{Edge}
+use Rattle.mvt_confirm.specs.PolygonFault.{IsPolygonOf, IsMeeting}
+
+-- both ends of an edge of spelled rings are in range
+edge_in_range : (kind : ℕ) (numbers : List ℕ) (parts : List (List Position)) (number : EdgeNumber) (edge : Edge) → HasRings kind numbers parts → IsEdgeOf parts number edge → IsPosition edge.a × IsPosition edge.b
+edge_in_range kind numbers parts number edge has it =
+    let ends = ends_of_edge it.ring number.edge edge it.here in (
+      vertices_in_range parts numbers number.ring number.edge it.ring edge.a has.spelled it.there ends.0,
+      vertices_in_range parts numbers number.ring (next_round (length it.ring) number.edge) it.ring edge.b has.spelled it.there ends.1,
+    )
+
+-- two edges meet wrongly at a point in range
+record MeetInRange (parts : List (List Position)) (first second : EdgeNumber) : Type 0 where
+  pub point : RationalPoint
+  pub bounded : IsBounded point
+  pub meets : MeetsWrongly parts first second point
+
+-- so they do at the point that is named, if they share no other vertex than the one that it is to avoid
+at_named_point : (kind : ℕ) (numbers : List ℕ) (parts : List (List Position)) (first second : EdgeNumber) (shared : Option Position) (point : RationalPoint) → HasRings kind numbers parts
+    → (meets : MeetsWrongly parts first second point) → IsCommon shared meets.one meets.other point
+    → ((vertex : Position) → IsShared parts first second vertex → shared ≡ Some vertex) → MeetInRange parts first second
+at_named_point kind numbers parts first second shared point has meets common only =
+    let named = common_is_named shared meets.one meets.other point common in
+    let there : IsCommon shared meets.one meets.other named.0 = named_is_common shared meets.one meets.other named.0 named.1 in
+    let one = edge_in_range kind numbers parts first meets.one has meets.one_there in
+    let other = edge_in_range kind numbers parts second meets.other has meets.other_there in
+    record {
+      point = named.0;
+      bounded = named_is_bounded shared meets.one meets.other named.0 one.0 one.1 other.0 other.1 named.1;
+      meets = record {
+        different = meets.different;
+        one = meets.one;
+        one_there = meets.one_there;
+        other = meets.other;
+        other_there = meets.other_there;
+        on_one = there.on_first;
+        on_other = there.on_second;
+        forbidden = λ vertex is_shared. there.apart vertex (only vertex is_shared);
+      };
+    }
+
+-- so neighbours that meet wrongly at all do so in range
+neighbours_in_range : (kind : ℕ) (numbers : List ℕ) (parts : List (List Position)) (first second : EdgeNumber) (vertex : Position) (point : RationalPoint) → HasRings kind numbers parts
+    → MeetsWrongly parts first second point → IsShared parts first second vertex → MeetInRange parts first second
+neighbours_in_range kind numbers parts first second vertex point has meets shared =
+    at_named_point kind numbers parts first second (Some vertex) point has meets
+    (record { on_first = meets.on_one; on_second = meets.on_other; apart = λ other same. subst (λ (v : Position). ¬ IsAt point v) (same_Some vertex other same) (meets.forbidden vertex shared) })
+    (λ other other_shared. ap Some (one_shared_vertex parts first second meets.one_there.ring vertex other meets.one_there.there several shared other_shared))
+  where
+    several : 2 < length meets.one_there.ring
+    several = three_vertices parts numbers first.ring meets.one_there.ring has.spelled meets.one_there.there
+
+-- and so do other edges
+others_in_range : (kind : ℕ) (numbers : List ℕ) (parts : List (List Position)) (first second : EdgeNumber) (point : RationalPoint) → HasRings kind numbers parts
+    → MeetsWrongly parts first second point → ((vertex : Position) → ¬ IsShared parts first second vertex) → MeetInRange parts first second
+others_in_range kind numbers parts first second point has meets none =
+    at_named_point kind numbers parts first second None point has meets
+    (record { on_first = meets.on_one; on_second = meets.on_other; apart = λ vertex same. absurd (none-some vertex same) })
+    (λ vertex shared. absurd (none vertex shared))
+
+-- so it can't be that two edges don't, whether they are neighbours or not
+not_in_range : (kind : ℕ) (numbers : List ℕ) (parts : List (List Position)) (first second : EdgeNumber) (point : RationalPoint) → HasRings kind numbers parts
+    → MeetsWrongly parts first second point → ¬ MeetInRange parts first second → ⊥
+not_in_range kind numbers parts first second point has meets none =
+    none (others_in_range kind numbers parts first second point has meets
+    (λ vertex shared. none (neighbours_in_range kind numbers parts first second vertex point has meets shared)))
+
+-- Two edges in order
+
+-- two different edges come before each other one way or the other
+in_order : (first second : EdgeNumber) → first ≢ second → ComesBefore first second ⊎ ComesBefore second first
+in_order first second different = by_ring (cases_order first.ring second.ring)
+  where
+    by_edge : first.ring ≡ second.ring → (first.edge ≡ second.edge) ⊎ ((first.edge < second.edge) ⊎ (second.edge < first.edge)) → ComesBefore first second ⊎ ComesBefore second first
+    by_edge ring (inl edge) = absurd (different (ap₂ (λ (r e : ℕ). record { ring = r; edge = e }) ring edge))
+    by_edge ring (inr (inl before)) = inl (inr (ring, before))
+    by_edge ring (inr (inr behind)) = inr (inr (sym ring, behind))
+
+    by_ring : (first.ring ≡ second.ring) ⊎ ((first.ring < second.ring) ⊎ (second.ring < first.ring)) → ComesBefore first second ⊎ ComesBefore second first
+    by_ring (inl ring) = by_edge ring (cases_order first.edge second.edge)
+    by_ring (inr (inl before)) = inl (inl before)
+    by_ring (inr (inr behind)) = inr (inl behind)
+
+-- the edge of these numbers, as a fault tells it
+abbrev told : EdgeNumber → RingEdge
+told number = record { ring = number.ring; edge = number.edge }
+
+-- edges of a polygon, in order, that have no meeting don't meet wrongly
+none_in_order : (kind : ℕ) (numbers : List ℕ) (parts : List (List Position)) (polygon : ℕ) (it : PolygonRings) (first second : EdgeNumber) (point : RationalPoint) → HasRings kind numbers parts → IsPolygonOf parts polygon it
+    → ((one other : RingEdge) (at : RationalPoint) → ¬ IsMeeting parts polygon one other at)
+    → IsRingOf it first.ring → IsRingOf it second.ring → ComesBefore first second → ¬ MeetsWrongly parts first second point
+none_in_order kind numbers parts polygon it first second point has of none first_in second_in before meets =
+    not_in_range kind numbers parts first second point has meets
+    (λ found. none (told first) (told second) found.point (record {
+      it = it;
+      of = of;
+      first_in = first_in;
+      second_in = second_in;
+      in_order = before;
+      bounded = found.bounded;
+      meets = found.meets;
+    }))
+
+-- so none of its edges do
+pub none_meets : (kind : ℕ) (numbers : List ℕ) (parts : List (List Position)) (polygon : ℕ) (it : PolygonRings) (first second : EdgeNumber) (point : RationalPoint) → HasRings kind numbers parts → IsPolygonOf parts polygon it
+    → ((one other : RingEdge) (at : RationalPoint) → ¬ IsMeeting parts polygon one other at)
+    → IsRingOf it first.ring → IsRingOf it second.ring → ¬ MeetsWrongly parts first second point
+none_meets kind numbers parts polygon it first second point has of none first_in second_in meets = elim (in_order first second meets.different) [
+  | inl before ↦ none_in_order kind numbers parts polygon it first second point has of none first_in second_in before meets
+  | inr behind ↦
+      none_in_order kind numbers parts polygon it second first point has of none second_in first_in behind (meets_either_way parts first second point meets)
+]

@@ -1,0 +1,5 @@
+use Rattle.mvt_confirm.proofs.Unshown.{unshown_is_valid}
+use Rattle.mvt_confirm.proofs.laws.unshown_is_valid.Goals as goal
+
+pub returns : goal.returns
+returns c = unshown_is_valid

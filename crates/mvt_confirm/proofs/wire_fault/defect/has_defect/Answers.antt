@@ -1,0 +1,23 @@
+use Rattle.std.proofs.Common.{[], ◌∷◌, ◌++◌, take}
+use Rattle.std.proofs.lemmas.Result.{IfErr-at_err, IfOk-at_ok}
+use Rattle.mvt_wire.specs.Field.{entry_of}
+use Rattle.mvt_confirm.proofs.Walking.{IsWalking-more, IsWalking-its_defect, IsWalking-no_defect}
+use Rattle.mvt_confirm.proofs.wire_fault.defect.has_defect.Goals as goal
+
+pub returns-in-Err : goal.returns-in-Err
+returns-in-Err c =
+    IsWalking-its_defect (take c.args.stretch.to c.args.bytes.now) c.args.stretch.from c.walk.fields c.next_field.new.self c.walk.invariant.0 c.in-Err.defect c.args.cause c.is_same.result
+    c.walk.invariant.1 (IfErr-at_err _ c.in-Err.is c.in-Some.ensures.defect) c.is_same.ensures
+
+pub walk-preserved : goal.walk-preserved
+walk-preserved c =
+    let so_far = c.walk.invariant in
+    let entry = entry_of c.in_default-item.field-0 in (
+      so_far.0 ++ entry ∷ [],
+      IsWalking-more (take c.args.stretch.to c.args.bytes.now) c.args.stretch.from c.walk.fields c.next_field.new.self so_far.0 entry so_far.1
+          (IfOk-at_ok _ c.in_default-item.is c.in-Some.ensures.field),
+    )
+
+pub returns : goal.returns
+returns c =
+    IsWalking-no_defect (take c.args.stretch.to c.args.bytes.now) c.args.stretch.from c.walk.fields c.next_field.new.self c.walk.invariant.0 c.args.cause c.walk.invariant.1 c.in_default.ensures.over

@@ -1,0 +1,76 @@
+//! Whether a message keeps its schema (Mapbox Vector Tile Specification 2.1, section 4).
+ghost use Rattle.std.specs.Prelude.{◌≡◌, ◌↔◌, ◌≤◌, List, ◌∷◌, length, take, All, IsTrue, IfSome, IfNone};
+ghost use Rattle.mvt_wire.specs.Field.{Entry, entry_of};
+ghost use Rattle.mvt_wire.specs.Schema.{rules_of};
+ghost use Rattle.mvt_wire.specs.Tile.{KeepsSchema};
+ghost use Rattle.mvt_wire.specs.WireFault.{count_known};
+ghost use Rattle.mvt_wire.specs.declared.schema.Message.TheVariants as messages;
+ghost use Rattle.mvt_confirm.specs.Walking.{HoldsFields, KeepsRule, HasOneKnownAfter};
+
+use crate::tile::rule::keeps_rule;
+use mvt_wire::{Field, Fields, Message};
+
+/// Whether the bytes from one offset up to another are a whole message that keeps its schema. The
+/// messages in it aren't looked into.
+pub(crate) fn keeps_schema(message: Message, bytes: &[u8], from: usize, to: usize) -> bool
+    requires forward { from ≤ to }
+    requires within { to ≤ length bytes.now }
+    ensures { IsTrue result ↔ HoldsFields (take to bytes.now) from (KeepsSchema message) }
+{
+    keeps_rules(message, bytes, from, to) && is_one_if_value(message, bytes, from, to)
+}
+
+/// Whether the bytes, where they are to be a value, are a whole message that has just one of the
+/// fields that a value knows (section 4.4).
+fn is_one_if_value(message: Message, bytes: &[u8], from: usize, to: usize) -> bool
+    requires forward { from ≤ to }
+    requires within { to ≤ length bytes.now }
+    ensures { IsTrue result ↔ (message ≡ messages.Value → HoldsFields (take to bytes.now) from (λ entries. count_known messages.Value entries ≡ 1)) }
+{
+    message != Message::Value || has_one_known(bytes, from, to)
+}
+
+/// Whether the message keeps each rule of its schema.
+fn keeps_rules(message: Message, bytes: &[u8], from: usize, to: usize) -> bool
+    requires forward { from ≤ to }
+    requires within { to ≤ length bytes.now }
+    ensures { IsTrue result ↔ All (λ rule. HoldsFields (take to bytes.now) from (KeepsRule rule)) (rules_of message) }
+{
+    for &rule in message.rules() {
+        if !keeps_rule(rule, bytes, from, to) {
+            return false;
+        }
+    }
+    true
+}
+
+/// Whether a whole message has just one of the fields that a value knows (section 4.4).
+fn has_one_known(bytes: &[u8], from: usize, to: usize) -> bool
+    requires forward { from ≤ to }
+    requires within { to ≤ length bytes.now }
+    ensures { IsTrue result ↔ HoldsFields (take to bytes.now) from (λ entries. count_known messages.Value entries ≡ 1) }
+{
+    let mut fields = Fields::new(bytes, from, to);
+    let mut known = false;
+    'walk: while let Some(item) = fields.next_field() {
+        let Ok(field) = item else {
+            return false;
+        };
+        let Some(stood) = pass(known, &field) else {
+            return false;
+        };
+        known = stood;
+    }
+    known
+}
+
+/// Whether a known field has stood once the next field is passed, or None where that is the second.
+fn pass(known: bool, field: &Field<'_>) -> Option<bool>
+    ensures kept { IfSome result (λ stood. (rest : List Entry) → HasOneKnownAfter stood rest ↔ HasOneKnownAfter known (entry_of field.now ∷ rest)) }
+    ensures broken { IfNone result ((rest : List Entry) → ¬ HasOneKnownAfter known (entry_of field.now ∷ rest)) }
+{
+    if Message::Value.rule(field.number).is_none() {
+        return Some(known);
+    }
+    if known { None } else { Some(true) }
+}

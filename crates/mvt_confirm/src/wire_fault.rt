@@ -1,0 +1,60 @@
+//! Whether a wire fault is true of bytes (Mapbox Vector Tile Specification 2.1, section 4).
+ghost use Rattle.std.specs.Prelude.{◌≡◌, ◌≤◌, ◌↔◌, length, take, IsTrue};
+ghost use Rattle.mvt_wire.specs.Field.{cause_at};
+ghost use Rattle.mvt_wire.specs.Scope.{message_of};
+ghost use Rattle.mvt_wire.specs.WireFault.{WireFault, MessageFault};
+
+mod defect;
+mod end;
+mod field;
+mod packed;
+#[cfg(test)]
+mod tests;
+
+use crate::stretch::{Stretch, stretch_of};
+use defect::has_defect;
+use end::has_end_fault;
+use field::has_field_fault;
+use mvt_wire::{Message, Scope, WireCause, WireCode};
+
+/// Whether the message of a scope has the wire fault of a code, at an offset, about a field number;
+/// each message round it has to be whole. On a fault that isn't true of the bytes, however it was
+/// made up, the answer is false.
+pub(crate) fn has_wire_fault(
+    bytes: &[u8],
+    code: WireCode,
+    scope: &Scope,
+    at: usize,
+    field: u32,
+) -> bool
+    ensures { IsTrue result ↔ WireFault bytes.now scope.now (cause_at code at field) }
+{
+    let Some(stretch) = stretch_of(bytes, scope) else {
+        return false;
+    };
+    let cause = WireCause { code, at, field };
+    has_message_fault(bytes, stretch, message_in(scope), cause)
+}
+
+/// Whether the message in a stretch has a fault.
+fn has_message_fault(bytes: &[u8], stretch: Stretch, message: Message, cause: WireCause) -> bool
+    requires forward { stretch.from ≤ stretch.to }
+    requires within { stretch.to ≤ length bytes.now }
+    ensures { IsTrue result ↔ MessageFault message (take stretch.to bytes.now) stretch.from cause }
+{
+    has_defect(bytes, stretch, cause)
+        || has_field_fault(bytes, stretch, message, cause)
+        || has_end_fault(bytes, stretch, message, cause)
+}
+
+/// Which message a scope is.
+fn message_in(scope: &Scope) -> Message
+    ensures { result ≡ message_of scope.now }
+{
+    match scope {
+        Scope::Tile => Message::Tile,
+        Scope::Layer(_) => Message::Layer,
+        Scope::Value(..) => Message::Value,
+        Scope::Feature(..) => Message::Feature,
+    }
+}
