@@ -1,7 +1,12 @@
+pub mod DrawnRings
 pub mod EngineLemmas
+pub mod FeatureGeometries
 pub mod FieldsAnswers
-pub mod Geometries
-pub mod KnownFaults
+pub mod FirstFaults
 pub mod Listing
-pub mod SmallNumbers
+pub mod PolygonFaults
+pub mod PolygonParts
+pub mod PolygonPlaces
+pub mod PolygonWalk
+pub mod ValidGeometries
 pub mod Verdicts

@@ -8,6 +8,6 @@ pub mod Engine
 pub mod FaultLine
 pub mod Fields
 pub mod FieldsLine
+pub mod Polygons
 pub mod Tally
-pub mod Truth
 pub mod Verdict

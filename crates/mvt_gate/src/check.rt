@@ -14,8 +14,10 @@ use std::io::{Read, Write};
 /// Reads a whole tile, of at most 67,108,864 bytes, and writes the line of its verdict, with one LF:
 /// `{"ok":true}` for a tile by the Mapbox Vector Tile Specification 2.1, section 4, whose layers have
 /// version 2 and different names (section 4.1), whose tags are pairs of a key and a value of their
-/// layer, no key twice in a feature (section 4.4), and whose geometry draws a figure of the feature's
-/// type where that is known (section 4.3); or else the JSON text of its first fault. An error other than
+/// layer, no key twice in a feature (section 4.4), whose geometry draws a figure of the feature's
+/// type where that is known (section 4.3), and whose rings are those of polygons of which no two edges
+/// cross or touch and whose holes are inside their exterior and not inside each other (section 4.3.4.4;
+/// `judge` says it whole); or else the JSON text of its first fault. An error other than
 /// `Memory` comes only where a device is to blame, as its counts show.
 pub fn check_stream<R: Read, W: Write>(
     alloc: Global,

@@ -1,7 +1,17 @@
-//! A device for tests: a reader and a writer over memory that misbehaves as it is told.
+//! A device for tests: a reader and a writer over memory that misbehaves as it is told. And bytes for it.
 use std::alloc::Global;
 use std::io;
 use std::io::{ErrorKind, Read, Write};
+use std::test::Fail;
+
+/// The bytes that a text spells in hexadecimal.
+pub fn bytes_of(rt: &HostRuntime, text: &str) -> Result<Vec<u8>, Fail> {
+    let mut bytes = Vec::new(rt.alloc());
+    for digits in text.split_whitespace() {
+        bytes.push(u8::from_str_radix(digits, 16)?)?;
+    }
+    Ok(bytes)
+}
 
 /// How a device behaves. Its calls are numbered from 1, flushes among them.
 #[derive(Clone, Copy)]

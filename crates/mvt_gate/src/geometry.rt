@@ -1,33 +1,94 @@
 //! The rule on the geometry of features.
-ghost use Rattle.mvt_draw.specs.Truth.{IsFaultOfCommands};
+ghost use Rattle.std.specs.Prelude.{◌≡◌, IfOk, IfNone, IfSome};
+ghost use Rattle.mvt_confirm.specs.Geometry.{IsFaultOfGeometry};
+ghost use Rattle.mvt_confirm.specs.Valid.{IsValidGeometry};
+ghost use Rattle.mvt_fault.specs.Place.{IsLeast};
+ghost use Rattle.mvt_plane.specs.Geometry.{HasFigure};
+ghost use Rattle.mvt_tile.specs.View.{feature_of, kind_number};
 
-use mvt_draw::command_fault;
+use crate::polygons::rings_fault;
+use mvt_draw::{DrawFault, RingBuffer, command_fault};
 use mvt_fault::Fault;
-use mvt_tile::{Feature, FeatureRule};
+use mvt_plane::Count;
+use mvt_tile::{Feature, FeatureRule, Kind};
 use std::alloc::{AllocError, Global};
 
-/// That the commands of a feature of a known type draw a figure of it (Mapbox Vector Tile Specification
-/// 2.1, section 4.3).
-pub(crate) struct GeometryRule;
+/// That the geometry of a feature of a known type draws a figure of it (Mapbox Vector Tile Specification
+/// 2.1, section 4.3), and rings those of valid polygons (section 4.3.4.4). It serves one feature after
+/// another.
+#[derive(Drop)]
+pub(crate) struct GeometryRule {
+    /// Room for the rings of one feature.
+    rings: RingBuffer,
+    /// What the search for meetings counts of its work.
+    count: Count,
+}
+
+impl GeometryRule {
+    /// A rule that has served no feature. It takes no memory.
+    pub(crate) fn new(alloc: Global) -> GeometryRule {
+        GeometryRule {
+            rings: RingBuffer::new(alloc),
+            count: Count::new(),
+        }
+    }
+
+    /// The first fault of the geometry of a feature of the type of polygons, or None where it is valid. The
+    /// only error is that memory was refused.
+    fn fault_of_polygons(
+        &mut self,
+        alloc: Global,
+        feature: &Feature,
+        layer: usize,
+        ordinal: usize,
+    ) -> Result<Option<Fault>, AllocError>
+        requires { feature.now.kind ≡ Kind.Polygon }
+        ensures kept { IfOk result (λ found. IfNone found (IsValidGeometry (feature_of feature.now))) }
+        ensures least { IfOk result (λ found. IfSome found (IsLeast (IsFaultOfGeometry (feature_of feature.now) layer ordinal))) }
+    {
+        match self.rings.draw(alloc, &feature.geometry) {
+            Ok(()) => rings_fault(alloc, self.rings.rings(), &mut self.count, layer, ordinal),
+            Err(DrawFault::Command { code, index }) => Ok(Some(Fault::Command {
+                code,
+                layer,
+                feature: ordinal,
+                index,
+            })),
+            Err(DrawFault::Memory) => Err(AllocError),
+        }
+    }
+}
 
 impl FeatureRule for GeometryRule {
-    ghost IsBroken = { λ _. IsFaultOfCommands };
+    ghost IsBroken = { IsFaultOfGeometry };
+
+    ghost IsKept = { IsValidGeometry };
 
     fn fault(
-        &self,
-        _alloc: Global,
+        &mut self,
+        alloc: Global,
         feature: &Feature,
         layer: usize,
         ordinal: usize,
     ) -> Result<Option<Fault>, AllocError> {
-        let Some((code, index)) = command_fault(feature.kind, &feature.geometry) else {
-            return Ok(None);
-        };
-        Ok(Some(Fault::Command {
-            code,
-            layer,
-            feature: ordinal,
-            index,
-        }))
+        match feature.kind {
+            Kind::Polygon => self.fault_of_polygons(alloc, feature, layer, ordinal),
+            _ => Ok(fault_of_commands(feature, layer, ordinal)),
+        }
     }
+}
+
+/// The fault of a feature's commands, or None where they draw a figure of its type, or its type is unknown.
+/// It takes no memory.
+fn fault_of_commands(feature: &Feature, layer: usize, ordinal: usize) -> Option<Fault>
+    ensures figure { IfNone result (HasFigure (kind_number feature.now.kind) feature.now.geometry.items) }
+    ensures least { IfSome result (IsLeast (IsFaultOfGeometry (feature_of feature.now) layer ordinal)) }
+{
+    let (code, index) = command_fault(feature.kind, &feature.geometry)?;
+    Some(Fault::Command {
+        code,
+        layer,
+        feature: ordinal,
+        index,
+    })
 }

@@ -8,6 +8,7 @@ mod engine;
 mod fields;
 mod geometry;
 pub mod laws;
+mod polygons;
 mod tally;
 mod verdict;
 

@@ -1,0 +1,53 @@
+-- The geometry of a feature's record, by the numbers that its readers were given.
+use Rattle.std.proofs.Common.{◌≡◌, ℕ, List, Option, Some, None, Result, Ok, Err, IfOk, IfNone, sym, ap, subst}
+use Rattle.mvt_confirm.specs.Geometry.{IsFaultOfGeometry}
+use Rattle.mvt_confirm.specs.Valid.{AreValidRings, IsValidGeometry}
+use Rattle.mvt_draw.specs.Geometry.{IsCommandFault}
+use Rattle.mvt_fault.specs.Place.{IsLeast}
+use Rattle.mvt_fault.specs.declared.command.CommandCode.{CommandCode}
+use Rattle.mvt_fault.specs.declared.fault.Fault.{Fault}
+use Rattle.mvt_fault.specs.declared.fault.Fault.TheVariants.{Command}
+use Rattle.mvt_plane.specs.Geometry.{HasRings}
+use Rattle.mvt_plane.specs.Position.{Position}
+use Rattle.mvt_tile.specs.View.{feature_of, kind_number}
+use Rattle.mvt_tile.specs.declared.record.Feature.{Feature}
+use Rattle.mvt_tile.specs.declared.record.Kind.TheVariants.{Polygon}
+use Rattle.mvt_gate.proofs.FirstFaults.{command_is_least}
+use Rattle.mvt_gate.proofs.ValidGeometries.{valid_of_rings, no_fault_of_valid}
+
+-- what is known where nothing is found
+abbrev WhereNone : {E : Type 0} → Result (Option Fault) E → Type 0 → Type 0
+WhereNone found Holds = IfOk found (λ it. IfNone it Holds)
+
+-- and what follows from it
+where_none : {E : Type 0} (First Second : Type 0) (found : Result (Option Fault) E) → (First → Second) → WhereNone found First → WhereNone found Second
+where_none First Second (Ok None) so known = so known
+where_none First Second (Ok (Some fault)) so known = tt
+where_none First Second (Err refused) so known = tt
+
+-- the rings of a feature of the type of polygons
+rings_of_feature : (feature : Feature) (numbers : List ℕ) (parts drawn : List (List Position)) → feature.kind ≡ Polygon → numbers ≡ feature.geometry.items → parts ≡ drawn → HasRings 3 numbers drawn
+    → HasRings (feature_of feature).kind (feature_of feature).geometry parts
+rings_of_feature feature numbers parts drawn kind same all has =
+    subst (λ (n : ℕ). HasRings n feature.geometry.items parts) (sym (ap kind_number kind))
+    (subst (λ (ns : List ℕ). HasRings 3 ns parts) same (subst (λ (its : List (List Position)). HasRings 3 numbers its) (sym all) has))
+
+-- where its rings are those of valid polygons, its geometry is valid
+pub valid_by_rings : {E : Type 0} (found : Result (Option Fault) E) (feature : Feature) (numbers : List ℕ) (parts drawn : List (List Position)) → feature.kind ≡ Polygon → numbers ≡ feature.geometry.items → parts ≡ drawn
+    → HasRings 3 numbers drawn → WhereNone found (AreValidRings parts) → WhereNone found (IsValidGeometry (feature_of feature))
+valid_by_rings found feature numbers parts drawn kind same all has =
+    where_none (AreValidRings parts) (IsValidGeometry (feature_of feature)) found (valid_of_rings (feature_of feature) parts (rings_of_feature feature numbers parts drawn kind same all has))
+
+-- a valid geometry has no fault
+pub faultless_by_valid : {E : Type 0} (found : Result (Option Fault) E) (feature : Feature) (layer ordinal : ℕ) → WhereNone found (IsValidGeometry (feature_of feature))
+    → WhereNone found ((fault : Fault) → ¬ IsFaultOfGeometry (feature_of feature) layer ordinal fault)
+faultless_by_valid found feature layer ordinal =
+    where_none (IsValidGeometry (feature_of feature)) ((fault : Fault) → ¬ IsFaultOfGeometry (feature_of feature) layer ordinal fault) found
+    (λ valid fault. no_fault_of_valid (feature_of feature) layer ordinal fault valid)
+
+-- a fault of the commands is the first of the feature's geometry
+pub least_by_commands : (feature : Feature) (kind : ℕ) (numbers : List ℕ) (code : CommandCode) (index layer ordinal : ℕ) → kind ≡ kind_number feature.kind → numbers ≡ feature.geometry.items → IsCommandFault kind numbers code index
+    → IsLeast (IsFaultOfGeometry (feature_of feature) layer ordinal) (Command code layer ordinal index)
+least_by_commands feature kind numbers code index layer ordinal type_is same bad =
+    command_is_least (feature_of feature) layer ordinal code index
+    (subst (λ (n : ℕ). IsCommandFault n feature.geometry.items code index) type_is (subst (λ (ns : List ℕ). IsCommandFault kind ns code index) same bad))

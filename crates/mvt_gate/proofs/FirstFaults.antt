@@ -1,0 +1,121 @@
+-- Of the faults of one feature's geometry, the first: a fault of its commands, or of its rings.
+use Rattle.std.proofs.Common.{◌≡◌, ℕ, ◌<◌, ◌≤◌, ◌⊎◌, inl, inr, List, [], ◌∷◌, refl, sym, ◌∙◌, subst, arith}
+use Rattle.std.proofs.lemmas.Bool.{cases_lt}
+use Rattle.mvt_confirm.specs.Feature.{OfRings}
+use Rattle.mvt_confirm.specs.Geometry.{IsFaultOfGeometry, command, ring, meeting, outside, hole_in_hole}
+use Rattle.mvt_fault.proofs.Places.{ComesFirst-reflexive}
+use Rattle.mvt_fault.specs.Code.{command_code, ring_code}
+use Rattle.mvt_fault.specs.Place.{place_of, ComesFirst, IsLeast}
+use Rattle.mvt_fault.specs.declared.command.CommandCode.{CommandCode}
+use Rattle.mvt_fault.specs.declared.fault.Fault.{Fault}
+use Rattle.mvt_fault.specs.declared.fault.Fault.TheVariants.{Command, Ring}
+use Rattle.mvt_plane.proofs.CommandFaults.{one_command_fault}
+use Rattle.mvt_plane.proofs.Spellings.{one_figure}
+use Rattle.mvt_plane.specs.CommandFault.{HasCommandFault}
+use Rattle.mvt_plane.specs.Figure.{GeometryType, point, line_string, polygon, rings}
+use Rattle.mvt_plane.specs.Geometry.{type_number, BreaksCommands, HasRings}
+use Rattle.mvt_plane.specs.Position.{Position}
+use Rattle.mvt_plane.specs.Ring.{BreaksRings}
+use Rattle.mvt_polygon.specs.Rings.{IsFirstRingFault}
+use Rattle.mvt_polygon.specs.declared.rings.RingFault.{RingFault}
+use Rattle.mvt_wire.specs.Tile.{FeatureRecord}
+
+-- A feature and its rings
+
+-- a number names one geometry type
+pub one_type : (geometry_type other : GeometryType) → type_number geometry_type ≡ type_number other → geometry_type ≡ other
+one_type point point same = refl
+one_type point line_string same = absurd (omega arith)
+one_type point polygon same = absurd (omega arith)
+one_type line_string point same = absurd (omega arith)
+one_type line_string line_string same = refl
+one_type line_string polygon same = absurd (omega arith)
+one_type polygon point same = absurd (omega arith)
+one_type polygon line_string same = absurd (omega arith)
+one_type polygon polygon same = refl
+
+-- a feature has one list of rings
+pub one_rings : (it : FeatureRecord) (parts other : List (List Position)) → HasRings it.kind it.geometry parts → HasRings it.kind it.geometry other → parts ≡ other
+one_rings it parts other has its =
+    let same : rings parts ≡ rings other = one_figure polygon it.geometry (rings parts) (rings other) has.spelled its.spelled in
+    cc
+
+-- what is true of its rings is true of these
+pub of_these : (it : FeatureRecord) (parts : List (List Position)) (Holds : List (List Position) → Type 0) → HasRings it.kind it.geometry parts → OfRings it Holds → Holds parts
+of_these it parts Holds has of = subst Holds (one_rings it of.0 parts of.1 has) of.2
+
+-- a feature that has rings has no fault of commands
+pub no_command_fault : (it : FeatureRecord) (parts : List (List Position)) (code index : ℕ) → HasRings it.kind it.geometry parts → ¬ BreaksCommands it.kind it.geometry code index
+no_command_fault it parts code index has bad =
+    let same : bad.0 ≡ polygon = one_type bad.0 polygon (sym bad.1 ∙ has.typed) in
+    let fault : HasCommandFault polygon it.geometry code index = subst (λ (geometry_type : GeometryType). HasCommandFault geometry_type it.geometry code index) same bad.2 in
+    fault.unspelled (rings parts) has.spelled
+
+-- Commands
+
+-- numbers have one command fault
+one_fault : (kind : ℕ) (numbers : List ℕ) (code other index place : ℕ) → BreaksCommands kind numbers code index → BreaksCommands kind numbers other place → (code ≡ other) × (index ≡ place)
+one_fault kind numbers code other index place bad its =
+    let same : its.0 ≡ bad.0 = one_type its.0 bad.0 (sym its.1 ∙ bad.1) in
+    one_command_fault bad.0 numbers code other index place bad.2
+    (subst (λ (geometry_type : GeometryType). HasCommandFault geometry_type numbers other place) same its.2)
+
+-- so it comes before all that a feature may have beside it
+before_commands : (it : FeatureRecord) (layer feature : ℕ) (code : CommandCode) (index : ℕ) (other : Fault) → BreaksCommands it.kind it.geometry (command_code code) index → IsFaultOfGeometry it layer feature other
+    → ComesFirst (place_of (Command code layer feature index)) (place_of other)
+before_commands it layer feature code index other bad (command its_code place its) =
+    let same = one_fault it.kind it.geometry (command_code code) (command_code its_code) index place bad its in
+    inr (refl, inr (refl, inr (refl, inr (refl, inr (same.1, inr (same.0, ComesFirst-reflexive (0 ∷ 0 ∷ 0 ∷ 0 ∷ [])))))))
+before_commands it layer feature code index other bad (ring its_code number of) = inr (refl, inr (refl, inr (refl, inl (omega arith))))
+before_commands it layer feature code index other bad (meeting number first second x y w of) = inr (refl, inr (refl, inr (refl, inl (omega arith))))
+before_commands it layer feature code index other bad (outside number hole vertex of) = inr (refl, inr (refl, inr (refl, inl (omega arith))))
+before_commands it layer feature code index other bad (hole_in_hole number hole vertex another of) = inr (refl, inr (refl, inr (refl, inl (omega arith))))
+
+-- a fault of commands is the first of its feature's geometry
+pub command_is_least : (it : FeatureRecord) (layer feature : ℕ) (code : CommandCode) (index : ℕ) → BreaksCommands it.kind it.geometry (command_code code) index
+    → IsLeast (IsFaultOfGeometry it layer feature) (Command code layer feature index)
+command_is_least it layer feature code index bad = record {
+  holds = command code index bad;
+  least = λ other broken. before_commands it layer feature code index other bad broken;
+}
+
+-- Rings
+
+-- by ring, and then by code
+by_ring : (number code place other : ℕ) → (number < place) ⊎ ((number ≡ place) × (code ≤ other)) → ComesFirst (number ∷ code ∷ 0 ∷ 0 ∷ 0 ∷ 0 ∷ []) (place ∷ other ∷ 0 ∷ 0 ∷ 0 ∷ 0 ∷ [])
+by_ring number code place other (inl less) = inl less
+by_ring number code place other (inr same) = elim (cases_lt code other) [
+  | inl less ↦ inr (same.0, inl less)
+  | inr more ↦ inr (same.0, inr (omega arith, ComesFirst-reflexive (0 ∷ 0 ∷ 0 ∷ 0 ∷ [])))
+]
+
+-- the first ring with a fault of its own comes before all that a feature has beside it
+before_rings : (it : FeatureRecord) (layer feature : ℕ) (parts : List (List Position)) (found : RingFault) (other : Fault) → HasRings it.kind it.geometry parts → IsFirstRingFault parts found → IsFaultOfGeometry it layer feature other
+    → ComesFirst (place_of (Ring found.code layer feature found.ring)) (place_of other)
+before_rings it layer feature parts found other has least (command its_code place its) = absurd (no_command_fault it parts (command_code its_code) place has its)
+before_rings it layer feature parts found other has least (ring its_code number of) =
+    inr (
+      refl,
+      inr (
+        refl,
+        inr (
+          refl,
+          inr (
+            refl,
+            by_ring found.ring (ring_code found.code) number (ring_code its_code)
+                (least.first (ring_code its_code) number (of_these it parts (λ those. BreaksRings those (ring_code its_code) number) has of)),
+          ),
+        ),
+      ),
+    )
+before_rings it layer feature parts found other has least (meeting number first second x y w of) = inr (refl, inr (refl, inr (refl, inl (omega arith))))
+before_rings it layer feature parts found other has least (outside number hole vertex of) = inr (refl, inr (refl, inr (refl, inl (omega arith))))
+before_rings it layer feature parts found other has least (hole_in_hole number hole vertex another of) = inr (refl, inr (refl, inr (refl, inl (omega arith))))
+
+-- it is the first fault of the feature's geometry
+pub ring_is_least : (it : FeatureRecord) (layer feature : ℕ) (parts : List (List Position)) (found : RingFault) → HasRings it.kind it.geometry parts → IsFirstRingFault parts found
+    → IsLeast (IsFaultOfGeometry it layer feature) (Ring found.code layer feature found.ring)
+ring_is_least it layer feature parts found has least = record {
+  holds = ring found.code found.ring (parts, has, least.broken);
+  least = λ other broken. before_rings it layer feature parts found other has least broken;
+}

@@ -1,0 +1,163 @@
+-- Of the faults of one feature's polygons, the first.
+use Rattle.std.proofs.Common.{◌≡◌, ℕ, ◌<◌, ◌≤◌, inl, inr, List, [], ◌∷◌, ℤ, refl, sym, subst, arith}
+use Rattle.std.proofs.lemmas.Bool.{cases_lt}
+use Rattle.mvt_confirm.specs.Geometry.{IsFaultOfGeometry, command, ring, meeting, outside, hole_in_hole}
+use Rattle.mvt_confirm.specs.PolygonFault.{number_of, IsPolygonOf, IsMeeting, IsVertexOutside, IsVertexInHole}
+use Rattle.mvt_confirm.specs.Valid.{IsValidPolygon}
+use Rattle.mvt_fault.proofs.Places.{ComesFirst-reflexive}
+use Rattle.mvt_fault.specs.Code.{command_code, ring_code}
+use Rattle.mvt_fault.specs.Place.{place_of, ComesFirst}
+use Rattle.mvt_fault.specs.declared.fault.Fault.{Fault}
+use Rattle.mvt_fault.specs.declared.fault.Fault.TheVariants.{Meeting, Outside, HoleInHole}
+use Rattle.mvt_fault.specs.declared.ring.RingEdge.{RingEdge}
+use Rattle.mvt_plane.proofs.SamePolygons.{same_polygon}
+use Rattle.mvt_plane.specs.Geometry.{HasRings}
+use Rattle.mvt_plane.specs.Nesting.{IsOutside, IsInHole}
+use Rattle.mvt_plane.specs.Polygon.{PolygonRings, IsPolygon, IsRingOf}
+use Rattle.mvt_plane.specs.Position.{Position}
+use Rattle.mvt_plane.specs.RationalPoint.{RationalPoint}
+use Rattle.mvt_plane.specs.Ring.{BreaksRings, ends_at_its_beginning, no_area, begins_with_hole, ArePolygonRings}
+use Rattle.mvt_wire.specs.Tile.{FeatureRecord}
+use Rattle.mvt_gate.proofs.FirstFaults.{of_these, no_command_fault}
+use Rattle.mvt_gate.specs.Polygons.{AreApart, IsFirstOfRings, AreValidBefore}
+
+-- Faults that there are none of
+
+-- rings of polygons have no fault of their own
+pub no_ring_fault : (parts : List (List Position)) (code number : ℕ) → ArePolygonRings parts → ¬ BreaksRings parts code number
+no_ring_fault parts code number sound (ends_at_its_beginning is ends) = sound.open_ends number ends
+no_ring_fault parts code number sound (no_area is none) = sound.areas number none
+no_ring_fault parts code number sound (begins_with_hole is begins) = sound.exterior_first number begins
+
+-- where no edges of a polygon meet wrongly, it has no meeting
+no_meeting : (parts : List (List Position)) (polygon : ℕ) (its : PolygonRings) (first second : RingEdge) (point : RationalPoint) → IsPolygon parts polygon its → AreApart parts its → ¬ IsMeeting parts polygon first second point
+no_meeting parts polygon its first second point there apart meets =
+    let same : meets.it ≡ its = same_polygon parts polygon meets.it its meets.of.there there in
+    apart (number_of first) (number_of second) point
+    (subst (λ (it : PolygonRings). IsRingOf it first.ring) same meets.first_in)
+    (subst (λ (it : PolygonRings). IsRingOf it second.ring) same meets.second_in)
+    meets.meets
+
+-- a vertex outside is one outside this polygon
+vertex_outside : (parts : List (List Position)) (polygon hole vertex : ℕ) (its : PolygonRings) → IsPolygon parts polygon its → IsVertexOutside parts polygon hole vertex → IsOutside parts its hole vertex
+vertex_outside parts polygon hole vertex its there of =
+    let same : of.it ≡ its = same_polygon parts polygon of.it its of.of.there there in
+    subst (λ (it : PolygonRings). IsOutside parts it hole vertex) same of.outside
+
+-- and one in a hole is in one of this polygon
+vertex_in_hole : (parts : List (List Position)) (polygon hole vertex other : ℕ) (its : PolygonRings) → IsPolygon parts polygon its → IsVertexInHole parts polygon hole vertex other → IsInHole parts its hole vertex other
+vertex_in_hole parts polygon hole vertex other its there of =
+    let same : of.it ≡ its = same_polygon parts polygon of.it its of.of.there there in
+    subst (λ (it : PolygonRings). IsInHole parts it hole vertex other) same of.inside
+
+-- a valid polygon has none of these faults
+pub no_meeting_of_valid : (parts : List (List Position)) (polygon : ℕ) (its : PolygonRings) (first second : RingEdge) (point : RationalPoint) → IsPolygon parts polygon its → IsValidPolygon parts its → ¬ IsMeeting parts polygon first second point
+no_meeting_of_valid parts polygon its first second point there valid = no_meeting parts polygon its first second point there valid.apart
+
+pub no_outside_of_valid : (parts : List (List Position)) (polygon hole vertex : ℕ) (its : PolygonRings) → IsPolygon parts polygon its → IsValidPolygon parts its → ¬ IsVertexOutside parts polygon hole vertex
+no_outside_of_valid parts polygon hole vertex its there valid of = valid.enclosed hole vertex (vertex_outside parts polygon hole vertex its there of)
+
+pub no_hole_of_valid : (parts : List (List Position)) (polygon hole vertex other : ℕ) (its : PolygonRings) → IsPolygon parts polygon its → IsValidPolygon parts its → ¬ IsVertexInHole parts polygon hole vertex other
+no_hole_of_valid parts polygon hole vertex other its there valid of = valid.side_by_side hole vertex other (vertex_in_hole parts polygon hole vertex other its there of)
+
+-- where the polygons before this one are valid, each fault is of this one or a later one
+at_least : (number polygon : ℕ) → (number < polygon → ⊥) → polygon ≤ number
+at_least number polygon none = elim (cases_lt number polygon) [ inl less ↦ absurd (none less) | inr most ↦ most ]
+
+meeting_at_least : (parts : List (List Position)) (polygon number : ℕ) (first second : RingEdge) (point : RationalPoint) → AreValidBefore parts polygon → IsMeeting parts number first second point → polygon ≤ number
+meeting_at_least parts polygon number first second point valid meets =
+    at_least number polygon (λ less. no_meeting_of_valid parts number meets.it first second point meets.of.there (valid number meets.it less meets.of.there) meets)
+
+outside_at_least : (parts : List (List Position)) (polygon number hole vertex : ℕ) → AreValidBefore parts polygon → IsVertexOutside parts number hole vertex → polygon ≤ number
+outside_at_least parts polygon number hole vertex valid of =
+    at_least number polygon (λ less. no_outside_of_valid parts number hole vertex of.it of.of.there (valid number of.it less of.of.there) of)
+
+hole_at_least : (parts : List (List Position)) (polygon number hole vertex other : ℕ) → AreValidBefore parts polygon → IsVertexInHole parts number hole vertex other → polygon ≤ number
+hole_at_least parts polygon number hole vertex other valid of =
+    at_least number polygon (λ less. no_hole_of_valid parts number hole vertex other of.it of.of.there (valid number of.it less of.of.there) of)
+
+-- Places
+
+-- the order by a polygon's number, and then by what is behind it
+by_polygon : (layer feature polygon number : ℕ) (xs ys : List ℕ) → polygon ≤ number → (polygon ≡ number → ComesFirst xs ys)
+    → ComesFirst (2 ∷ layer ∷ feature ∷ 3 ∷ polygon ∷ xs) (2 ∷ layer ∷ feature ∷ 3 ∷ number ∷ ys)
+by_polygon layer feature polygon number xs ys most behind = elim (cases_lt polygon number) [
+  | inl less ↦ inr (refl, inr (refl, inr (refl, inr (refl, inl less))))
+  | inr more ↦ let same : polygon ≡ number = omega arith in inr (refl, inr (refl, inr (refl, inr (refl, inr (same, behind same)))))
+]
+
+-- Meetings
+
+-- the place of a meeting, without what all features' places begin with
+abbrev no_more : List ℕ
+no_more = 0 ∷ 0 ∷ 0 ∷ 0 ∷ 0 ∷ []
+
+-- a meeting in the first polygon that isn't valid comes before all that its feature has beside it
+before_meeting : (it : FeatureRecord) (layer feature : ℕ) (parts : List (List Position)) (polygon : ℕ) (other : Fault) → HasRings it.kind it.geometry parts → ArePolygonRings parts → AreValidBefore parts polygon
+    → IsFaultOfGeometry it layer feature other → ComesFirst (2 ∷ layer ∷ feature ∷ 3 ∷ polygon ∷ no_more) (place_of other)
+before_meeting it layer feature parts polygon other has sound valid (command code index bad) = absurd (no_command_fault it parts (command_code code) index has bad)
+before_meeting it layer feature parts polygon other has sound valid (ring code number of) =
+    absurd (no_ring_fault parts (ring_code code) number sound (of_these it parts (λ those. BreaksRings those (ring_code code) number) has of))
+before_meeting it layer feature parts polygon other has sound valid (meeting number first second x y w of) =
+    by_polygon layer feature polygon number no_more no_more
+    (meeting_at_least parts polygon number first second _ valid (of_these it parts (λ those. IsMeeting those number first second (record { x = x; y = y; w = w })) has of))
+    (λ same. ComesFirst-reflexive no_more)
+before_meeting it layer feature parts polygon other has sound valid (outside number hole vertex of) =
+    by_polygon layer feature polygon number no_more (1 ∷ hole ∷ vertex ∷ 505 ∷ 0 ∷ [])
+    (outside_at_least parts polygon number hole vertex valid (of_these it parts (λ those. IsVertexOutside those number hole vertex) has of))
+    (λ same. inl (omega arith))
+before_meeting it layer feature parts polygon other has sound valid (hole_in_hole number hole vertex another of) =
+    by_polygon layer feature polygon number no_more (1 ∷ hole ∷ vertex ∷ 506 ∷ another ∷ [])
+    (hole_at_least parts polygon number hole vertex another valid (of_these it parts (λ those. IsVertexInHole those number hole vertex another) has of))
+    (λ same. inl (omega arith))
+
+-- so it is the first fault of the feature's geometry
+pub meeting_is_least : (parts : List (List Position)) (layer feature polygon : ℕ) (first second : RingEdge) (x y w : ℤ) → AreValidBefore parts polygon → IsMeeting parts polygon first second (record { x = x; y = y; w = w })
+    → IsFirstOfRings parts layer feature (Meeting layer feature polygon first second x y w)
+meeting_is_least parts layer feature polygon first second x y w valid meets it has = record {
+  holds = meeting polygon first second x y w (parts, has, meets);
+  least = λ other broken. before_meeting it layer feature parts polygon other has meets.of.sound valid broken;
+}
+
+-- Holes
+
+-- no vertex that isn't where it should be comes before a place
+pub record IsFirstHole (parts : List (List Position)) (its : PolygonRings) (place : List ℕ) : Type 0 where
+  pub outside : (hole vertex : ℕ) → IsOutside parts its hole vertex → ComesFirst place (hole ∷ vertex ∷ 505 ∷ 0 ∷ [])
+  pub in_hole : (hole vertex other : ℕ) → IsInHole parts its hole vertex other → ComesFirst place (hole ∷ vertex ∷ 506 ∷ other ∷ [])
+
+-- the first such vertex of the first polygon that isn't valid comes before all that its feature has beside it
+before_hole : (it : FeatureRecord) (layer feature : ℕ) (parts : List (List Position)) (polygon : ℕ) (its : PolygonRings) (place : List ℕ) (other : Fault) → HasRings it.kind it.geometry parts → IsPolygonOf parts polygon its
+    → AreValidBefore parts polygon → AreApart parts its → IsFirstHole parts its place → IsFaultOfGeometry it layer feature other → ComesFirst (2 ∷ layer ∷ feature ∷ 3 ∷ polygon ∷ 1 ∷ place) (place_of other)
+before_hole it layer feature parts polygon its place other has of_it valid apart least (command code index bad) = absurd (no_command_fault it parts (command_code code) index has bad)
+before_hole it layer feature parts polygon its place other has of_it valid apart least (ring code number of) =
+    absurd (no_ring_fault parts (ring_code code) number of_it.sound (of_these it parts (λ those. BreaksRings those (ring_code code) number) has of))
+before_hole it layer feature parts polygon its place other has of_it valid apart least (meeting number first second x y w of) =
+    let point : RationalPoint = record { x = x; y = y; w = w } in
+    let meets : IsMeeting parts number first second point = of_these it parts (λ those. IsMeeting those number first second point) has of in
+    by_polygon layer feature polygon number (1 ∷ place) no_more (meeting_at_least parts polygon number first second point valid meets)
+    (λ same. absurd (no_meeting parts polygon its first second point of_it.there apart (subst (λ (n : ℕ). IsMeeting parts n first second point) (sym same) meets)))
+before_hole it layer feature parts polygon its place other has of_it valid apart least (outside number hole vertex of) =
+    let its_vertex : IsVertexOutside parts number hole vertex = of_these it parts (λ those. IsVertexOutside those number hole vertex) has of in
+    by_polygon layer feature polygon number (1 ∷ place) (1 ∷ hole ∷ vertex ∷ 505 ∷ 0 ∷ []) (outside_at_least parts polygon number hole vertex valid its_vertex)
+    (λ same. inr (refl, least.outside hole vertex (vertex_outside parts polygon hole vertex its of_it.there (subst (λ (n : ℕ). IsVertexOutside parts n hole vertex) (sym same) its_vertex))))
+before_hole it layer feature parts polygon its place other has of_it valid apart least (hole_in_hole number hole vertex another of) =
+    let its_vertex : IsVertexInHole parts number hole vertex another = of_these it parts (λ those. IsVertexInHole those number hole vertex another) has of in
+    by_polygon layer feature polygon number (1 ∷ place) (1 ∷ hole ∷ vertex ∷ 506 ∷ another ∷ []) (hole_at_least parts polygon number hole vertex another valid its_vertex)
+    (λ same. inr (refl, least.in_hole hole vertex another (vertex_in_hole parts polygon hole vertex another its of_it.there (subst (λ (n : ℕ). IsVertexInHole parts n hole vertex another) (sym same) its_vertex))))
+
+-- so it is the first fault of the feature's geometry: outside the exterior
+pub outside_is_least : (parts : List (List Position)) (layer feature polygon hole vertex : ℕ) (its : PolygonRings) → IsPolygonOf parts polygon its → AreValidBefore parts polygon → AreApart parts its
+    → IsOutside parts its hole vertex → IsFirstHole parts its (hole ∷ vertex ∷ 505 ∷ 0 ∷ []) → IsFirstOfRings parts layer feature (Outside layer feature polygon hole vertex)
+outside_is_least parts layer feature polygon hole vertex its of_it valid apart wrong least it has = record {
+  holds = outside polygon hole vertex (parts, has, record { it = its; of = of_it; outside = wrong });
+  least = λ other broken. before_hole it layer feature parts polygon its (hole ∷ vertex ∷ 505 ∷ 0 ∷ []) other has of_it valid apart least broken;
+}
+
+-- or inside another hole
+pub in_hole_is_least : (parts : List (List Position)) (layer feature polygon hole vertex another : ℕ) (its : PolygonRings) → IsPolygonOf parts polygon its → AreValidBefore parts polygon → AreApart parts its
+    → IsInHole parts its hole vertex another → IsFirstHole parts its (hole ∷ vertex ∷ 506 ∷ another ∷ []) → IsFirstOfRings parts layer feature (HoleInHole layer feature polygon hole vertex another)
+in_hole_is_least parts layer feature polygon hole vertex another its of_it valid apart wrong least it has = record {
+  holds = hole_in_hole polygon hole vertex another (parts, has, record { it = its; of = of_it; inside = wrong });
+  least = λ other broken. before_hole it layer feature parts polygon its (hole ∷ vertex ∷ 506 ∷ another ∷ []) other has of_it valid apart least broken;
+}

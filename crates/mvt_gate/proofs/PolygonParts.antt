@@ -1,0 +1,200 @@
+-- What is found in the rings of one polygon, said of all rings of its feature.
+use Rattle.std.proofs.Common.{◌≡◌, ℕ, ◌+◌, ◌-◌, ◌<◌, ◌≤◌, inl, inr, List, [], ◌∷◌, length, slice_get, Some, sym, ◌∙◌, ap, subst, arith}
+use Rattle.std.proofs.lemmas.Bool.{cases_lt}
+use Rattle.std.proofs.lemmas.Option.{slice_get_within}
+use Rattle.mvt_confirm.specs.PolygonFault.{IsPolygonOf, IsMeeting}
+use Rattle.mvt_confirm.specs.Valid.{IsValidPolygon}
+use Rattle.mvt_fault.specs.Place.{ComesFirst}
+use Rattle.mvt_plane.proofs.PartsOfRings.{ring_of_part, count_of_part, number_in_part, meeting_in_part, outside_in_part, in_hole_in_part}
+use Rattle.mvt_plane.specs.Meeting.{EdgeNumber, ComesBefore, MeetsWrongly}
+use Rattle.mvt_plane.specs.Nesting.{IsOutside, IsInHole}
+use Rattle.mvt_plane.specs.Part.{part_of, within_part, in_whole}
+use Rattle.mvt_plane.specs.Polygon.{PolygonRings, IsRingOf, IsHoleOf}
+use Rattle.mvt_plane.specs.Position.{Position}
+use Rattle.mvt_plane.specs.RationalPoint.{RationalPoint}
+use Rattle.mvt_polygon.specs.Meeting.{first_of, second_of, IsMeetingOf}
+use Rattle.mvt_polygon.specs.Nesting.{one_polygon, IsNestFault, outside, in_hole, IsFirstNestFault}
+use Rattle.mvt_polygon.specs.Rings.{AreProperRings}
+use Rattle.mvt_polygon.specs.declared.meeting.Meeting.{Meeting}
+use Rattle.mvt_polygon.specs.declared.nesting.NestFault.{NestFault}
+use Rattle.mvt_polygon.specs.declared.nesting.NestFault.TheVariants.{Outside, InHole}
+use Rattle.mvt_gate.proofs.PolygonFaults.{IsFirstHole}
+use Rattle.mvt_gate.specs.Polygons.{AreApart}
+
+-- Rings
+
+-- a ring of the part is one of its feature's
+ring_of_whole : (parts : List (List Position)) (its : PolygonRings) (number : ℕ) (ring : List Position) → its.after ≤ length parts → slice_get (part_of parts its) number ≡ Some ring
+    → (number < its.after - its.exterior) × (slice_get parts (its.exterior + number) ≡ Some ring)
+ring_of_whole parts its number ring within there =
+    let count = count_of_part parts its within in
+    let less : number < length (part_of parts its) = slice_get_within (part_of parts its) number ring there in
+    let below : number < its.after - its.exterior = omega arith in
+    (below, sym (ring_of_part parts its number below) ∙ there)
+
+-- the rings of the part are drawn where all are
+pub part_is_drawn : (parts : List (List Position)) (its : PolygonRings) → its.after ≤ length parts → AreProperRings parts → AreProperRings (part_of parts its)
+part_is_drawn parts its within drawn = record {
+  several = λ number ring there. drawn.several (its.exterior + number) ring (ring_of_whole parts its number ring within there).1;
+  apart = λ number vertex ring position next there. drawn.apart (its.exterior + number) vertex ring position next (ring_of_whole parts its number ring within there).1;
+}
+
+-- a ring of the polygon by its number in the part
+hole_in_part : (its : PolygonRings) (ring : ℕ) → IsHoleOf its ring → (own : ℕ) × (ring ≡ its.exterior + own)
+hole_in_part its ring hole =
+    let behind = hole.behind in
+    (ring - its.exterior, omega arith)
+
+-- the part by its length
+whole_part : (parts : List (List Position)) (its : PolygonRings) → its.after ≤ length parts → one_polygon (part_of parts its) ≡ within_part its
+whole_part parts its within = ap (λ (count : ℕ). record { exterior = 0; after = count }) (count_of_part parts its within)
+
+-- Meetings
+
+-- the order of edges in the part
+in_order : (from : ℕ) (first second : EdgeNumber) → ComesBefore first second → ComesBefore (in_whole from first) (in_whole from second)
+in_order from first second (inl less) = inl (omega arith)
+in_order from first second (inr same) = inr (ap (λ ring. from + ring) same.0, same.1)
+
+-- the rings of a meeting in the part
+pub meeting_within : (parts : List (List Position)) (its : PolygonRings) (found : Meeting) → its.after ≤ length parts → IsMeetingOf (part_of parts its) found
+    → (its.exterior + found.first_ring < its.after) × (its.exterior + found.second_ring < its.after)
+meeting_within parts its found within meets =
+    let first_below : found.first_ring < its.after - its.exterior = (ring_of_whole parts its found.first_ring meets.one_there.ring within meets.one_there.there).0 in
+    let second_below : found.second_ring < its.after - its.exterior = (ring_of_whole parts its found.second_ring meets.other_there.ring within meets.other_there.there).0 in
+    (omega arith, omega arith)
+
+-- a meeting in the part
+pub meeting_in_whole : (parts : List (List Position)) (polygon : ℕ) (its : PolygonRings) (found : Meeting) → its.after ≤ length parts → IsPolygonOf parts polygon its → IsMeetingOf (part_of parts its) found
+    → IsMeeting parts polygon (record { ring = its.exterior + found.first_ring; edge = found.first_edge }) (record { ring = its.exterior + found.second_ring; edge = found.second_edge }) found.point
+meeting_in_whole parts polygon its found within of_it meets =
+    let first_below : found.first_ring < its.after - its.exterior = (ring_of_whole parts its found.first_ring meets.one_there.ring within meets.one_there.there).0 in
+    let second_below : found.second_ring < its.after - its.exterior = (ring_of_whole parts its found.second_ring meets.other_there.ring within meets.other_there.there).0 in
+    record {
+      it = its;
+      of = of_it;
+      first_in = record { from = omega arith; before = omega arith };
+      second_in = record { from = omega arith; before = omega arith };
+      in_order = in_order its.exterior (first_of found) (second_of found) meets.in_order;
+      bounded = meets.bounded;
+      meets = (meeting_in_part parts its (first_of found) (second_of found) found.point first_below second_below).0 meets.meets;
+    }
+
+-- an edge of the polygon, by its numbers in the part
+edge_in_part : (its : PolygonRings) (number : EdgeNumber) → IsRingOf its number.ring → (own : EdgeNumber) × (own.ring < its.after - its.exterior) × (number ≡ in_whole its.exterior own)
+edge_in_part its number of_it =
+    let own = number_in_part its number.ring of_it in
+    (record { ring = own.0; edge = number.edge }, own.1, ap (λ (ring : ℕ). record { ring = ring; edge = number.edge }) own.2)
+
+-- where no edges of the part meet wrongly, none of the polygon do
+pub apart_in_whole : (parts : List (List Position)) (its : PolygonRings) → ((first second : EdgeNumber) (point : RationalPoint) → ¬ MeetsWrongly (part_of parts its) first second point) → AreApart parts its
+apart_in_whole parts its none first second point first_in second_in meets =
+    let own = edge_in_part its first first_in in
+    let other = edge_in_part its second second_in in
+    none own.0 other.0 point ((meeting_in_part parts its own.0 other.0 point own.1 other.1).1
+    (subst (λ (number : EdgeNumber). MeetsWrongly parts (in_whole its.exterior own.0) number point) other.2
+    (subst (λ (number : EdgeNumber). MeetsWrongly parts number second point) own.2 meets)))
+
+-- Holes
+
+-- a vertex outside, by its numbers in the part
+outside_of_part : (parts : List (List Position)) (its : PolygonRings) (ring vertex : ℕ) → its.after ≤ length parts → IsOutside parts its (its.exterior + ring) vertex → IsNestFault (part_of parts its) (Outside ring vertex)
+outside_of_part parts its ring vertex within wrong =
+    outside ring vertex (subst (λ (it : PolygonRings). IsOutside (part_of parts its) it ring vertex) (sym (whole_part parts its within)) ((outside_in_part parts its ring vertex).1 wrong))
+
+-- and one inside another hole
+in_hole_of_part : (parts : List (List Position)) (its : PolygonRings) (ring vertex other : ℕ) → its.after ≤ length parts → IsInHole parts its (its.exterior + ring) vertex (its.exterior + other) → IsNestFault (part_of parts its) (InHole ring vertex other)
+in_hole_of_part parts its ring vertex other within wrong =
+    in_hole ring vertex other (subst (λ (it : PolygonRings). IsInHole (part_of parts its) it ring vertex other) (sym (whole_part parts its within)) ((in_hole_in_part parts its ring vertex other).1 wrong))
+
+-- the other way round
+pub outside_in_whole : (parts : List (List Position)) (its : PolygonRings) (ring vertex : ℕ) → its.after ≤ length parts → IsNestFault (part_of parts its) (Outside ring vertex) → IsOutside parts its (its.exterior + ring) vertex
+outside_in_whole parts its _ _ within (outside ring vertex wrong) =
+    (outside_in_part parts its ring vertex).0 (subst (λ (it : PolygonRings). IsOutside (part_of parts its) it ring vertex) (whole_part parts its within) wrong)
+
+pub in_hole_in_whole : (parts : List (List Position)) (its : PolygonRings) (ring vertex other : ℕ) → its.after ≤ length parts → IsNestFault (part_of parts its) (InHole ring vertex other) → IsInHole parts its (its.exterior + ring) vertex (its.exterior + other)
+in_hole_in_whole parts its _ _ _ within (in_hole ring vertex other wrong) =
+    (in_hole_in_part parts its ring vertex other).0 (subst (λ (it : PolygonRings). IsInHole (part_of parts its) it ring vertex other) (whole_part parts its within) wrong)
+
+-- the number of a hole that a vertex is in
+own_other : (parts : List (List Position)) (its : PolygonRings) (ring vertex other : ℕ) → IsInHole parts its ring vertex other
+    → (own : ℕ) × (its_other : ℕ) × (ring ≡ its.exterior + own) × (other ≡ its.exterior + its_other)
+own_other parts its ring vertex other wrong =
+    let own = hole_in_part its ring wrong.hole in
+    let its_other = hole_in_part its other wrong.other_hole in
+    (own.0, its_other.0, own.1, its_other.1)
+
+-- where the part has no such vertex, the polygon has none
+pub enclosed_in_whole : (parts : List (List Position)) (its : PolygonRings) → its.after ≤ length parts → AreApart parts its → ((fault : NestFault) → ¬ IsNestFault (part_of parts its) fault) → IsValidPolygon parts its
+enclosed_in_whole parts its within apart none = record {
+  apart = apart;
+  enclosed = λ ring vertex wrong.
+      let own = hole_in_part its ring wrong.hole in
+      none (Outside own.0 vertex) (outside_of_part parts its own.0 vertex within (subst (λ (n : ℕ). IsOutside parts its n vertex) own.1 wrong));
+  side_by_side = λ ring vertex other wrong.
+      let own = own_other parts its ring vertex other wrong in
+      none (InHole own.0 vertex own.1) (in_hole_of_part parts its own.0 vertex own.1 within
+      (subst (λ (n : ℕ). IsInHole parts its n vertex (its.exterior + own.1)) own.2 (subst (IsInHole parts its ring vertex) own.3 wrong)));
+}
+
+-- the last number of a place
+last_of_place : (other another last its_last : ℕ) → (other ≤ another → last ≤ its_last) → ComesFirst (other ∷ []) (another ∷ []) → ComesFirst (last ∷ []) (its_last ∷ [])
+last_of_place other another last its_last most first = elim (cases_lt last its_last) [
+  | inl less ↦ inl less
+  | inr above ↦
+      let before : other ≤ another = elim first [ inl less ↦ omega arith | inr same ↦ let e = same.0 in omega arith ] in
+      let at_most : last ≤ its_last = most before in
+      inr (omega arith, tt)
+]
+
+-- with a code before it
+code_and_last : (code other its_code another last its_last : ℕ) → (code ≡ its_code → other ≤ another → last ≤ its_last) → ComesFirst (code ∷ other ∷ []) (its_code ∷ another ∷ [])
+    → ComesFirst (code ∷ last ∷ []) (its_code ∷ its_last ∷ [])
+code_and_last code other its_code another last its_last most (inl less) = inl less
+code_and_last code other its_code another last its_last most (inr same) = inr (same.0, last_of_place other another last its_last (most same.0) same.1)
+
+-- the order of places in the part is that in the whole
+shifted : (from ring vertex code other number place its_code another last its_last : ℕ) → (code ≡ its_code → other ≤ another → last ≤ its_last) → ComesFirst (ring ∷ vertex ∷ code ∷ other ∷ []) (number ∷ place ∷ its_code ∷ another ∷ [])
+    → ComesFirst ((from + ring) ∷ vertex ∷ code ∷ last ∷ []) ((from + number) ∷ place ∷ its_code ∷ its_last ∷ [])
+shifted from ring vertex code other number place its_code another last its_last most (inl less) = inl (omega arith)
+shifted from ring vertex code other number place its_code another last its_last most (inr same) = inr (
+  ap (λ n. from + n) same.0,
+  elim same.1 [
+    | inl less ↦ inl less
+    | inr at ↦ inr (at.0, code_and_last code other its_code another last its_last most at.1)
+  ],
+)
+
+-- the first vertex outside is the first of the polygon
+pub outside_is_first : (parts : List (List Position)) (its : PolygonRings) (ring vertex : ℕ) → its.after ≤ length parts → IsFirstNestFault (part_of parts its) (Outside ring vertex) → IsFirstHole parts its ((its.exterior + ring) ∷ vertex ∷ 505 ∷ 0 ∷ [])
+outside_is_first parts its ring vertex within least = record {
+  outside = λ hole place wrong.
+      let own = hole_in_part its hole wrong.hole in
+      let behind = least.first (Outside own.0 place) (outside_of_part parts its own.0 place within (subst (λ (n : ℕ). IsOutside parts its n place) own.1 wrong)) in
+      subst (λ (n : ℕ). ComesFirst ((its.exterior + ring) ∷ vertex ∷ 505 ∷ 0 ∷ []) (n ∷ place ∷ 505 ∷ 0 ∷ [])) (sym own.1)
+      (shifted its.exterior ring vertex 505 0 own.0 place 505 0 0 0 (λ codes most. omega arith) behind);
+  in_hole = λ hole place other wrong.
+      let own = own_other parts its hole place other wrong in
+      let at : IsInHole parts its (its.exterior + own.0) place (its.exterior + own.1) = subst (λ (n : ℕ). IsInHole parts its n place (its.exterior + own.1)) own.2 (subst (IsInHole parts its hole place) own.3 wrong) in
+      let behind = least.first (InHole own.0 place own.1) (in_hole_of_part parts its own.0 place own.1 within at) in
+      subst (λ (n : ℕ). ComesFirst ((its.exterior + ring) ∷ vertex ∷ 505 ∷ 0 ∷ []) (n ∷ place ∷ 506 ∷ other ∷ [])) (sym own.2)
+      (shifted its.exterior ring vertex 505 0 own.0 place 506 own.1 0 other (λ codes most. absurd (omega arith)) behind);
+}
+
+-- so is the first inside another hole
+pub in_hole_is_first : (parts : List (List Position)) (its : PolygonRings) (ring vertex another : ℕ) → its.after ≤ length parts → IsFirstNestFault (part_of parts its) (InHole ring vertex another)
+    → IsFirstHole parts its ((its.exterior + ring) ∷ vertex ∷ 506 ∷ (its.exterior + another) ∷ [])
+in_hole_is_first parts its ring vertex another within least = record {
+  outside = λ hole place wrong.
+      let own = hole_in_part its hole wrong.hole in
+      let behind = least.first (Outside own.0 place) (outside_of_part parts its own.0 place within (subst (λ (n : ℕ). IsOutside parts its n place) own.1 wrong)) in
+      subst (λ (n : ℕ). ComesFirst ((its.exterior + ring) ∷ vertex ∷ 506 ∷ (its.exterior + another) ∷ []) (n ∷ place ∷ 505 ∷ 0 ∷ [])) (sym own.1)
+      (shifted its.exterior ring vertex 506 another own.0 place 505 0 (its.exterior + another) 0 (λ codes most. absurd (omega arith)) behind);
+  in_hole = λ hole place other wrong.
+      let own = own_other parts its hole place other wrong in
+      let at : IsInHole parts its (its.exterior + own.0) place (its.exterior + own.1) = subst (λ (n : ℕ). IsInHole parts its n place (its.exterior + own.1)) own.2 (subst (IsInHole parts its hole place) own.3 wrong) in
+      let behind = least.first (InHole own.0 place own.1) (in_hole_of_part parts its own.0 place own.1 within at) in
+      let last : other ≡ its.exterior + own.1 = own.3 in
+      subst (λ (n : ℕ). ComesFirst ((its.exterior + ring) ∷ vertex ∷ 506 ∷ (its.exterior + another) ∷ []) (n ∷ place ∷ 506 ∷ other ∷ [])) (sym own.2)
+      (shifted its.exterior ring vertex 506 another own.0 place 506 own.1 (its.exterior + another) other (λ codes most. omega arith) behind);
+}

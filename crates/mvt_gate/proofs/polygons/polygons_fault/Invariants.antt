@@ -1,0 +1,10 @@
+use Rattle.std.proofs.Common.{◌-◌, length}
+use Rattle.mvt_polygon.specs.Rings.{rings_of}
+use Rattle.mvt_gate.proofs.PolygonWalk.{HasPassed}
+use Rattle.mvt_gate.proofs.polygons.polygons_fault.Given as goal
+
+abbrev pub invariant-polygons : goal.invariant-polygons
+invariant-polygons l = HasPassed (rings_of l.rings) l.polygon l.exterior
+
+abbrev pub decreases-polygons : goal.decreases-polygons
+decreases-polygons l = length l.rings - l.exterior

@@ -1,0 +1,61 @@
+-- What is known of the rings of one feature while its polygons are looked at one after another (Mapbox Vector Tile
+-- Specification 2.1, section 4.3.4.4).
+use Rattle.std.specs.Prelude.{ℕ, ◌+◌, ◌<◌, List}
+use Rattle.mvt_confirm.specs.Geometry.{IsFaultOfGeometry}
+use Rattle.mvt_confirm.specs.Valid.{IsValidPolygon}
+use Rattle.mvt_fault.specs.Place.{IsLeast}
+use Rattle.mvt_fault.specs.declared.fault.Fault.{Fault}
+use Rattle.mvt_fault.specs.declared.fault.Fault.TheVariants as faults
+use Rattle.mvt_plane.specs.Geometry.{HasRings}
+use Rattle.mvt_plane.specs.Meeting.{EdgeNumber, MeetsWrongly}
+use Rattle.mvt_plane.specs.Polygon.{IsRingOf, PolygonRings, IsPolygon}
+use Rattle.mvt_plane.specs.Position.{Position}
+use Rattle.mvt_plane.specs.RationalPoint.{RationalPoint}
+use Rattle.mvt_polygon.specs.declared.meeting.Meeting.{Meeting}
+use Rattle.mvt_polygon.specs.declared.nesting.NestFault.{NestFault}
+use Rattle.mvt_polygon.specs.declared.nesting.NestFault.TheVariants as nest_faults
+use Rattle.mvt_wire.specs.Tile.{FeatureRecord}
+use Rattle.mvt_gate.specs.declared.polygons.PolygonPlace.{PolygonPlace}
+
+-- of a feature that has these rings, and these ordinals, the fault is the first of its geometry
+abbrev pub IsFirstOfRings : List (List Position) → ℕ → ℕ → Fault → Type 0
+IsFirstOfRings rings layer feature fault =
+    (it : FeatureRecord) → HasRings it.kind it.geometry rings → IsLeast (IsFaultOfGeometry it layer feature) fault
+
+-- the polygons before that of this number are valid
+abbrev pub AreValidBefore : List (List Position) → ℕ → Type 0
+AreValidBefore rings polygon = (earlier : ℕ) (it : PolygonRings) → earlier < polygon → IsPolygon rings earlier it → IsValidPolygon rings it
+
+-- One polygon
+
+-- its rings, by their numbers in the feature
+abbrev pub rings_at : PolygonPlace → PolygonRings
+rings_at place = record { exterior = place.exterior; after = place.after }
+
+-- a ring's number in the feature, of one by its number in the polygon, is one of the polygon's rings
+abbrev pub IsRingWithin : PolygonPlace → ℕ → Type 0
+IsRingWithin place ring = place.exterior + ring < place.after
+
+-- no edges of these rings meet wrongly
+abbrev pub AreApart : List (List Position) → PolygonRings → Type 0
+AreApart rings it = (first second : EdgeNumber) (point : RationalPoint) → IsRingOf it first.ring → IsRingOf it second.ring
+    → ¬ MeetsWrongly rings first second point
+
+-- the fault of a meeting, with the numbers that the rings have in the feature
+abbrev pub fault_of_meeting : PolygonPlace → Meeting → Fault
+fault_of_meeting place meeting =
+    faults.Meeting place.layer place.feature place.polygon
+    (record { ring = place.exterior + meeting.first_ring; edge = meeting.first_edge })
+    (record { ring = place.exterior + meeting.second_ring; edge = meeting.second_edge })
+    meeting.point.x meeting.point.y meeting.point.w
+
+-- the fault of a hole, with those numbers
+abbrev pub fault_of_hole : PolygonPlace → NestFault → Fault
+fault_of_hole place (nest_faults.Outside ring vertex) = faults.Outside place.layer place.feature place.polygon (place.exterior + ring) vertex
+fault_of_hole place (nest_faults.InHole ring vertex other) =
+    faults.HoleInHole place.layer place.feature place.polygon (place.exterior + ring) vertex (place.exterior + other)
+
+-- the rings that such a fault names are the polygon's
+abbrev pub AreWithin : PolygonPlace → NestFault → Type 0
+AreWithin place (nest_faults.Outside ring vertex) = IsRingWithin place ring
+AreWithin place (nest_faults.InHole ring vertex other) = IsRingWithin place ring × IsRingWithin place other

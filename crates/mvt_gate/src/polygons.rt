@@ -1,0 +1,197 @@
+//! The first fault of the rings of one feature, and of its polygons one after another (Mapbox Vector Tile
+//! Specification 2.1, section 4.3.4.4).
+ghost use Rattle.std.specs.Prelude.{◌≡◌, ℕ, ◌≤◌, List, length, IfOk, IfNone, IfSome};
+ghost use Rattle.mvt_confirm.specs.PolygonFault.{IsPolygonOf};
+ghost use Rattle.mvt_confirm.specs.Valid.{AreValidRings, IsValidPolygon};
+ghost use Rattle.mvt_plane.specs.Geometry.{HasRings};
+ghost use Rattle.mvt_plane.specs.Ring.{ArePolygonRings};
+ghost use Rattle.mvt_polygon.specs.Rings.{rings_of, AreProperRings};
+ghost use Rattle.mvt_gate.specs.Polygons.{AreApart, IsFirstOfRings, AreValidBefore, AreWithin, IsRingWithin, fault_of_hole, fault_of_meeting, rings_at};
+
+use mvt_fault::{Fault, RingEdge};
+use mvt_plane::{Count, Point};
+use mvt_polygon::{Meeting, NestFault, check_nesting, check_rings, find_meeting, polygon_end};
+use std::alloc::{AllocError, Global};
+
+/// The first fault of the rings that the geometry of a feature draws, or None where they are those of valid
+/// polygons: faults that rings have of their own come first, and then those of the polygons, one polygon
+/// after another. `layer` and `feature` are the ordinals of the layer in its tile and of the feature in its
+/// layer, for the fault to tell. The only error is that memory was refused.
+pub(crate) fn rings_fault(
+    alloc: Global,
+    rings: &[Vec<Point>],
+    count: &mut Count,
+    layer: usize,
+    feature: usize,
+) -> Result<Option<Fault>, AllocError>
+    requires { (numbers : List ℕ) × HasRings 3 numbers (rings_of rings.now) }
+    ensures valid { IfOk result (λ found. IfNone found (AreValidRings (rings_of rings.now))) }
+    ensures least { IfOk result (λ found. IfSome found (IsFirstOfRings (rings_of rings.now) layer feature)) }
+{
+    match check_rings(rings) {
+        Some(fault) => Ok(Some(Fault::Ring {
+            code: fault.code,
+            layer,
+            feature,
+            ring: fault.ring,
+        })),
+        None => polygons_fault(alloc, rings, count, layer, feature),
+    }
+}
+
+/// The first fault of the polygons of a feature, one after another, or None where all of them are valid. No
+/// ring has a fault of its own.
+fn polygons_fault(
+    alloc: Global,
+    rings: &[Vec<Point>],
+    count: &mut Count,
+    layer: usize,
+    feature: usize,
+) -> Result<Option<Fault>, AllocError>
+    requires sound { ArePolygonRings (rings_of rings.now) }
+    requires drawn { AreProperRings (rings_of rings.now) }
+    ensures valid { IfOk result (λ found. IfNone found (AreValidRings (rings_of rings.now))) }
+    ensures least { IfOk result (λ found. IfSome found (IsFirstOfRings (rings_of rings.now) layer feature)) }
+{
+    let mut polygon = 0;
+    let mut exterior = 0;
+    'polygons: while exterior < rings.len() {
+        let place = PolygonPlace {
+            layer,
+            feature,
+            polygon,
+            exterior,
+            after: polygon_end(rings, exterior),
+        };
+        if let Some(fault) = polygon_fault(alloc, rings, count, place)? {
+            return Ok(Some(fault));
+        }
+        exterior = place.after;
+        polygon += 1;
+    }
+    Ok(None)
+}
+
+/// Where a polygon is: the ordinals that its faults tell, and its rings.
+#[derive(Clone, Copy)]
+struct PolygonPlace {
+    /// The ordinal of the layer in the tile.
+    layer: usize,
+    /// The ordinal of the feature in its layer.
+    feature: usize,
+    /// The ordinal of the polygon in the feature.
+    polygon: usize,
+    /// The ordinal of its exterior among the feature's rings. Its holes are the rings behind it.
+    exterior: usize,
+    /// The ordinal behind that of its last ring.
+    after: usize,
+}
+
+/// The first fault of one polygon of a feature, or None where it is valid: edges that meet wrongly, and then
+/// the holes. The polygons before it are valid.
+fn polygon_fault(
+    alloc: Global,
+    rings: &[Vec<Point>],
+    count: &mut Count,
+    place: PolygonPlace,
+) -> Result<Option<Fault>, AllocError>
+    requires polygon { IsPolygonOf (rings_of rings.now) place.polygon (rings_at place) }
+    requires within { place.after ≤ length rings.now }
+    requires drawn { AreProperRings (rings_of rings.now) }
+    requires before { AreValidBefore (rings_of rings.now) place.polygon }
+    ensures valid { IfOk result (λ found. IfNone found (IsValidPolygon (rings_of rings.now) (rings_at place))) }
+    ensures least { IfOk result (λ found. IfSome found (IsFirstOfRings (rings_of rings.now) place.layer place.feature)) }
+{
+    match meeting_fault(alloc, rings, count, place)? {
+        Some(fault) => Ok(Some(fault)),
+        None => Ok(hole_fault(rings, place)),
+    }
+}
+
+/// The fault of two edges of the polygon that meet wrongly, or None where there are no such edges.
+fn meeting_fault(
+    alloc: Global,
+    rings: &[Vec<Point>],
+    count: &mut Count,
+    place: PolygonPlace,
+) -> Result<Option<Fault>, AllocError>
+    requires polygon { IsPolygonOf (rings_of rings.now) place.polygon (rings_at place) }
+    requires within { place.after ≤ length rings.now }
+    requires drawn { AreProperRings (rings_of rings.now) }
+    requires before { AreValidBefore (rings_of rings.now) place.polygon }
+    ensures apart { IfOk result (λ found. IfNone found (AreApart (rings_of rings.now) (rings_at place))) }
+    ensures least { IfOk result (λ found. IfSome found (IsFirstOfRings (rings_of rings.now) place.layer place.feature)) }
+{
+    match find_meeting(alloc, &rings[place.exterior..place.after], count)? {
+        Some(meeting) => Ok(Some(tell_meeting(place, meeting))),
+        None => Ok(None),
+    }
+}
+
+/// The first fault of the holes of the polygon, or None where all of them are where they should be. No two
+/// of its edges meet wrongly.
+fn hole_fault(rings: &[Vec<Point>], place: PolygonPlace) -> Option<Fault>
+    requires polygon { IsPolygonOf (rings_of rings.now) place.polygon (rings_at place) }
+    requires within { place.after ≤ length rings.now }
+    requires before { AreValidBefore (rings_of rings.now) place.polygon }
+    requires apart { AreApart (rings_of rings.now) (rings_at place) }
+    ensures valid { IfNone result (IsValidPolygon (rings_of rings.now) (rings_at place)) }
+    ensures least { IfSome result (IsFirstOfRings (rings_of rings.now) place.layer place.feature) }
+{
+    match check_nesting(&rings[place.exterior..place.after]) {
+        Some(fault) => Some(tell_hole(place, fault)),
+        None => None,
+    }
+}
+
+/// The fault of a meeting that was found among the rings of the polygon alone.
+fn tell_meeting(place: PolygonPlace, meeting: Meeting) -> Fault
+    requires first { IsRingWithin place meeting.first_ring }
+    requires second { IsRingWithin place meeting.second_ring }
+    ensures { result ≡ fault_of_meeting place meeting }
+{
+    Fault::Meeting {
+        layer: place.layer,
+        feature: place.feature,
+        polygon: place.polygon,
+        first: RingEdge {
+            ring: place.exterior + meeting.first_ring,
+            edge: meeting.first_edge,
+        },
+        second: RingEdge {
+            ring: place.exterior + meeting.second_ring,
+            edge: meeting.second_edge,
+        },
+        x: meeting.point.x(),
+        y: meeting.point.y(),
+        w: meeting.point.w(),
+    }
+}
+
+/// The fault of a hole that was found among the rings of the polygon alone.
+fn tell_hole(place: PolygonPlace, fault: NestFault) -> Fault
+    requires { AreWithin place fault }
+    ensures { result ≡ fault_of_hole place fault }
+{
+    match fault {
+        NestFault::Outside { ring, vertex } => Fault::Outside {
+            layer: place.layer,
+            feature: place.feature,
+            polygon: place.polygon,
+            ring: place.exterior + ring,
+            vertex,
+        },
+        NestFault::InHole {
+            ring,
+            vertex,
+            other,
+        } => Fault::HoleInHole {
+            layer: place.layer,
+            feature: place.feature,
+            polygon: place.polygon,
+            ring: place.exterior + ring,
+            vertex,
+            other: place.exterior + other,
+        },
+    }
+}
