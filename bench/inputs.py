@@ -1,5 +1,8 @@
 #!/usr/bin/env python3
-"""Writes the inputs of bench/run into a folder: inputs.py FOLDER. Each run writes the same bytes."""
+"""Writes the inputs of bench/run and bench/polygons into a folder, all or those named: inputs.py FOLDER [NAME..].
+
+Each run writes the same bytes.
+"""
 import functools
 import itertools
 import os
@@ -131,16 +134,16 @@ def many_features(size):
     return b"".join(layers)
 
 
-# Few long geometries
+# Long lines, and polygons
 
 CHAIN = 40_000
 BAND = 1000
 
 
-def chain(dice):
+def chain(dice, count):
     """Steps to the right, most of them of one byte a number, that keep within a band and end at its middle."""
     found, y = [], 0
-    for _ in range(CHAIN - 1):
+    for _ in range(count - 1):
         # (what takes one byte is below 64)
         [(across, up)] = steps(dice, 1, 60 if dice.between(1, 4) < 4 else 200)
         up = up if abs(y + up) <= BAND else -up
@@ -149,19 +152,25 @@ def chain(dice):
     return [*found, (1, -y)]
 
 
-def long_geometries(size):
-    """Four lines and four polygons of one length. A polygon goes right in one band and comes back in another, and so
-    no two of its edges meet."""
-    there = chain(Dice(2))
-    right, left = packed(parameters(there)), packed(parameters((-across, up) for across, up in there))
-    half = size // 16 // len(right)
-    count = 2 * half * CHAIN
-    start = packed([command(MOVE_TO, 1), 0, 0])
-    line = start + packed([command(LINE_TO, count)]) + right * half * 2
-    to_other_band = packed(parameters([(0, 4 * BAND)]))
-    ring = start + packed([command(LINE_TO, count + 1)]) + right * half + to_other_band + left * half
-    ring += packed([command(CLOSE_PATH, 1)])
-    return layer("coastlines", [feature(LINESTRING, line)] * 4) + layer("land", [feature(POLYGON, ring)] * 4)
+def long_lines(size):
+    """Eight lines of one length."""
+    right = packed(parameters(chain(Dice(2), CHAIN)))
+    repeats = size // 8 // len(right)
+    line = packed([command(MOVE_TO, 1), 0, 0, command(LINE_TO, repeats * CHAIN)]) + right * repeats
+    return layer("coastlines", [feature(LINESTRING, line)] * 8)
+
+
+def polygons(size, vertices):
+    """As many polygons of one ring, a feature each. A ring goes right in one band and comes back in another, and so no
+    two of its edges meet."""
+    dice, features = Dice(3), []
+    while size > 0:
+        there = chain(dice, vertices // 2 - 1)
+        moves = [*there, (0, 4 * BAND), *((-across, up) for across, up in there)]
+        ring = [command(MOVE_TO, 1), 0, 0, command(LINE_TO, len(moves)), *parameters(moves), command(CLOSE_PATH, 1)]
+        features.append(feature(POLYGON, packed(ring)))
+        size -= len(features[-1])
+    return layer("land", features)
 
 
 # The same small field again and again
@@ -283,8 +292,10 @@ INPUTS = {
     "one_payload_64_mib": lambda: one_payload(b"", NO_MESSAGE, 64 * MIB),
     "small_layers_8_mib": lambda: b"".join(smallest_layers(8 * MIB)),
     "many_features_20_mb": lambda: many_features(20_000_000),
-    "long_geometries_20_mb": lambda: long_geometries(20_000_000),
+    "long_lines_20_mb": lambda: long_lines(20_000_000),
 }
+for vertices in (10, 100, 1000):
+    INPUTS[f"polygons_of_{vertices}"] = lambda count=vertices: polygons(MIB, count)
 # (64 MiB are the greatest input that the program takes)
 for mib in (16, 32, 64):
     INPUTS |= {
@@ -303,6 +314,6 @@ for mib in (16, 32, 64):
 
 folder = sys.argv[1]
 os.makedirs(folder, exist_ok=True)
-for name, made in INPUTS.items():
+for name in sys.argv[2:] or INPUTS:
     with open(f"{folder}/{name}", "wb") as it:
-        it.write(made())
+        it.write(INPUTS[name]())

@@ -4,7 +4,8 @@
 usage: measure.py COMMAND PEER FILE.. [--tiles FOLDER]
 
 COMMAND and PEER are one word each, with the words of the command in it. Each file is a row of its own; the tiles of
-the folder, NAME.mvt, are one row, the total of a run over each.
+the folder, NAME.mvt, are one row, the total of a run over each. A file has no fault, so its run ends with status 0; a
+tile may have one, which is an answer too and has status 1.
 """
 import argparse
 import glob
@@ -33,11 +34,11 @@ def start(words, file):
     return os.waitstatus_to_exitcode(status), used.ru_maxrss
 
 
-def seconds(words, files):
-    """The whole time of the processes, from the start of each to its end, and whether all of them ended with status 0."""
+def seconds(words, files, greatest):
+    """The whole time of the processes, from the start of each to its end, and whether no status is above the greatest."""
     is_well, before = True, time.perf_counter()
     for file in files:
-        is_well = start(words, file)[0] == 0 and is_well
+        is_well = 0 <= start(words, file)[0] <= greatest and is_well
     return time.perf_counter() - before, is_well
 
 
@@ -56,18 +57,19 @@ def peak(words, files):
         return max(kib) / 1024
 
 
-def measure(ours, peer, files):
-    """The median times of both, their peaks and the number of repetitions. The peer's are None where it refuses a file."""
+def measure(ours, peer, files, greatest):
+    """The median times of both, their peaks and the number of repetitions. The peer's are None where a status of it is
+    above the greatest."""
     # The runs for memory come first, and so bring the files into the cache.
     peaks, times = [peak(ours, files), peak(peer, files)], ([], [])
-    takes = seconds(peer, files)[1]
+    takes = seconds(peer, files, greatest)[1]
     spent = 0
     while len(times[0]) < FEWEST or (len(times[0]) < MOST and spent < SECONDS):
-        took, is_well = seconds(ours, files)
+        took, is_well = seconds(ours, files, greatest)
         if not is_well:
-            sys.exit(f"measure.py: {ours[0]} did not end with status 0 on {files[0]}{' or a later tile' if files[1:] else ''}")
+            sys.exit(f"measure.py: {ours[0]} ended with a status above {greatest} on {files[0]}{' or a later tile' if files[1:] else ''}")
         times[0].append(took)
-        times[1].append(seconds(peer, files)[0] if takes else 0)
+        times[1].append(seconds(peer, files, greatest)[0] if takes else 0)
         spent = sum(map(sum, times))
     medians = [statistics.median(it) for it in times]
     return (medians[0], medians[1] if takes else None, peaks[0], peaks[1] if takes else None, len(times[0]))
@@ -85,16 +87,16 @@ def main():
     reader.add_argument("--tiles")
     said = reader.parse_args()
     ours, peer = (os.path.basename(it[0]) for it in (said.command, said.peer))
-    rows = [(os.path.basename(it), [it]) for it in said.files]
+    rows = [(os.path.basename(it), [it], 0) for it in said.files]
     tiles = sorted(glob.glob(f"{said.tiles}/*.mvt")) if said.tiles else []
-    rows += [(f"{len(tiles)} real tiles, one run each", tiles)] * bool(tiles)
+    rows += [(f"{len(tiles)} real tiles, one run each", tiles, 1)] * bool(tiles)
     heads = ["Input", "Bytes", f"{ours}, s", f"{peer}, s", f"{ours} / {peer}"]
     heads += [f"{ours}, ms a MiB", f"{ours}, peak MiB", f"{peer}, peak MiB", "Runs"]
     print_row(heads)
     print_row(["---"] * len(heads))
-    for name, files in rows:
+    for name, files, greatest in rows:
         size = sum(map(os.path.getsize, files))
-        took, peer_took, used, peer_used, runs = measure(said.command, said.peer, files)
+        took, peer_took, used, peer_used, runs = measure(said.command, said.peer, files, greatest)
         # (over small files the time is that of starting processes)
         each = f"{1000 * took / (size / MIB):.2f}" if len(files) == 1 and size >= MIB else "-"
         cells = [name, f"{size:,}", f"{took:.3f}"]

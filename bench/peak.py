@@ -1,10 +1,13 @@
 #!/usr/bin/env python3
 """Runs a command, and then says how long it took and the most memory that it and all that it started held at one time.
 
-usage: peak.py COMMAND..
+usage: peak.py [--crates] COMMAND..
 
-The memory is sampled each second, so a shorter peak is missed. The status is the command's own.
+With --crates it also prints, for each crate that the command had checked, from which second to which second after its
+start this took: the proof, the tests and the must-fail edits. All of this is sampled each second, so a shorter peak is
+missed. The status is the command's own.
 """
+import argparse
 import ctypes
 import os
 import re
@@ -15,6 +18,8 @@ import time
 MIB = 1 << 20
 PAGE = os.sysconf("SC_PAGE_SIZE")
 BECOME_SUBREAPER = 36
+# what the gate does with a crate
+PARTS = ("proof", "tests", "edits")
 
 
 def text(path):
@@ -47,12 +52,41 @@ def shared_once(process, resident):
     return int(found[1]) * 1024 if found else resident
 
 
+def task(process):
+    """The crate that a process of the prover checks, and which of PARTS that is; None for another process."""
+    words = text(f"/proc/{process}/cmdline").split("\0")
+    if "--crate-name" not in words:
+        return None
+    try:
+        folder = os.path.basename(os.readlink(f"/proc/{process}/cwd"))
+    except OSError:
+        return None
+    # (`rt` checks each edit in a folder of that name)
+    part = "edits" if folder.startswith("rt-edit-") else "tests" if "--test" in words else "proof"
+    return words[words.index("--crate-name") + 1], part
+
+
+def print_crates(spans):
+    """Prints the first and the last second of each part of each crate."""
+    print(f"{'crate':<14}" + "".join(f"{it + ', s':>16}" for it in PARTS))
+    for crate in dict.fromkeys(crate for crate, _ in spans):
+        cells = [spans.get((crate, it)) for it in PARTS]
+        print(f"{crate:<14}" + "".join(f"{f'{it[0]:.0f} to {it[1]:.0f}' if it else '-':>16}" for it in cells))
+
+
+reader = argparse.ArgumentParser(usage="peak.py [--crates] COMMAND..")
+reader.add_argument("--crates", action="store_true")
+reader.add_argument("command", nargs=argparse.REMAINDER)
+said = reader.parse_args()
 # A process whose parent has ended then stays below this one.
 ctypes.CDLL(None).prctl(BECOME_SUBREAPER, 1, 0, 0, 0)
-before, most, most_resident = time.monotonic(), 0, 0
-command = subprocess.Popen(sys.argv[1:])
+before, most, most_resident, spans = time.monotonic(), 0, 0, {}
+command = subprocess.Popen(said.command)
 while True:
     resident = {process: pages * PAGE for process, pages in below(os.getpid()).items()}
+    now = time.monotonic() - before
+    for it in filter(None, map(task, resident)) if said.crates else ():
+        spans[it] = spans.get(it, (now, now))[0], now
     most_resident = max(most_resident, sum(resident.values()))
     most = max(most, sum(shared_once(*it) for it in resident.items()))
     try:
@@ -61,6 +95,8 @@ while True:
     except subprocess.TimeoutExpired:
         pass
 took = time.monotonic() - before
+if said.crates:
+    print_crates(spans)
 print(f"wall time: {took:.1f} s")
 print(f"peak memory, all processes together: {most / MIB:.0f} MiB, a shared page counted once ({most_resident / MIB:.0f} MiB as the sum of resident sets)")
 sys.exit(status if status >= 0 else 128 - status)

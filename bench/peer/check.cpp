@@ -206,15 +206,6 @@ void check_tile(pbf_reader tile) {
     require_different(names);
 }
 
-std::string read_whole(std::FILE* input) {
-    std::string bytes;
-    char buffer[1 << 16];
-    while (const std::size_t length = std::fread(buffer, 1, sizeof buffer, input)) {
-        bytes.append(buffer, length);
-    }
-    return bytes;
-}
-
 } // namespace
 
 int main(int count, char** words) {

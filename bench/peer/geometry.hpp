@@ -21,7 +21,7 @@ constexpr std::uint32_t greatest_count = greatest_uint32 >> 3;
 // coordinates lie from -2^30 to 2^30
 constexpr std::int64_t greatest_coordinate = std::int64_t{1} << 30;
 
-// The cursor of a geometry. No other position is kept.
+// The cursor of a geometry: the position that was drawn last.
 class Cursor {
 public:
     // Answers whether it moved.
@@ -29,6 +29,14 @@ public:
         const std::uint32_t across = step(x_, parameters.next());
         const std::uint32_t down = step(y_, parameters.next());
         return (across | down) != 0;
+    }
+
+    std::int64_t x() const {
+        return x_;
+    }
+
+    std::int64_t y() const {
+        return y_;
     }
 
 private:
@@ -112,9 +120,14 @@ public:
         ++fields_;
     }
 
-    void end_feature(std::uint64_t type) const {
+    // What was taken, joined.
+    Numbers numbers() const {
         require(fields_ > 0, "a feature lacks its geometry");
-        check_commands(Numbers{fields_ == 1 ? first_ : data_view{joined_}}, type);
+        return Numbers{fields_ == 1 ? first_ : data_view{joined_}};
+    }
+
+    void end_feature(std::uint64_t type) const {
+        check_commands(numbers(), type);
     }
 
 private:

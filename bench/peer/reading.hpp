@@ -5,9 +5,11 @@
 
 #include <cstddef>
 #include <cstdint>
+#include <cstdio>
 #include <cstring>
 #include <limits>
 #include <stdexcept>
+#include <string>
 
 namespace peer {
 
@@ -43,6 +45,15 @@ inline void require(bool holds, const char* fault) {
     if (!holds) {
         throw Fault{fault};
     }
+}
+
+inline std::string read_whole(std::FILE* input) {
+    std::string bytes;
+    char buffer[1 << 16];
+    while (const std::size_t length = std::fread(buffer, 1, sizeof buffer, input)) {
+        bytes.append(buffer, length);
+    }
+    return bytes;
 }
 
 // Of a varint's tenth byte protozero takes the lowest bit and drops the others, which are a fault here.

@@ -1,0 +1,200 @@
+// Says whether the polygons of one uncompressed vector tile are valid, by GEOS: polygons [FILE].
+//
+// Without FILE the tile comes from standard input. It writes {"ok":true} with status 0, or what is wrong with status 1;
+// status 2 says that it could not run. Rings become polygons as `mvtgate check` groups them. What is valid is up to
+// GEOS, by the rules of OGC Simple Features, which let rings touch in a point; nothing else of the tile is looked at.
+#include "geometry.hpp"
+#include "reading.hpp"
+
+#include <geos_c.h>
+
+#include <cstddef>
+#include <cstdint>
+#include <cstdio>
+#include <exception>
+#include <memory>
+#include <string>
+#include <vector>
+
+namespace {
+
+using namespace peer;
+
+class Geos {
+public:
+    Geos() : handle_{GEOS_init_r()} {}
+    ~Geos() {
+        GEOS_finish_r(handle_);
+    }
+    Geos(const Geos&) = delete;
+    Geos& operator=(const Geos&) = delete;
+
+    operator GEOSContextHandle_t() const {
+        return handle_;
+    }
+
+private:
+    GEOSContextHandle_t handle_;
+};
+
+struct Destroy {
+    GEOSContextHandle_t geos;
+
+    void operator()(GEOSGeometry* shape) const {
+        GEOSGeom_destroy_r(geos, shape);
+    }
+};
+
+using Shape = std::unique_ptr<GEOSGeometry, Destroy>;
+
+// x and y in turn, from the first vertex round to the first again
+using Ring = std::vector<double>;
+
+void push(Ring& ring, const Cursor& cursor) {
+    ring.push_back(static_cast<double>(cursor.x()));
+    ring.push_back(static_cast<double>(cursor.y()));
+}
+
+Ring draw_ring(Numbers& numbers, Cursor& cursor) {
+    Ring ring;
+    get_count(numbers, move_to, 1, 1);
+    cursor.take(numbers);
+    push(ring, cursor);
+    for (std::uint32_t left = get_count(numbers, line_to, 2, greatest_count); left > 0; --left) {
+        require(cursor.take(numbers), "a line goes nowhere");
+        push(ring, cursor);
+    }
+    get_count(numbers, close_path, 1, 1);
+    const double x = ring[0];
+    const double y = ring[1];
+    ring.push_back(x);
+    ring.push_back(y);
+    return ring;
+}
+
+// Twice the area, in whole numbers: a product has up to 61 bits, more than a double holds.
+__int128 doubled_area(const Ring& ring) {
+    __int128 area = 0;
+    for (std::size_t i = 0; i + 3 < ring.size(); i += 2) {
+        const auto at = [&](std::size_t j) { return static_cast<std::int64_t>(ring[i + j]); };
+        area += at(0) * at(3) - at(2) * at(1);
+    }
+    return area;
+}
+
+// The polygons of a feature, one at a time.
+class Polygons {
+public:
+    explicit Polygons(const Geos& geos) : geos_{geos} {}
+
+    void check(Numbers numbers) {
+        Cursor cursor;
+        do {
+            const Ring ring = draw_ring(numbers, cursor);
+            const __int128 area = doubled_area(ring);
+            require(area != 0, "a ring has no area");
+            if (area > 0) {
+                end_polygon();
+                exterior_ = shape(ring);
+            } else {
+                require(exterior_ != nullptr, "a feature begins with a hole");
+                holes_.push_back(shape(ring));
+            }
+        } while (!numbers.at_end());
+        end_polygon();
+    }
+
+private:
+    Shape own(GEOSGeometry* made) const {
+        require(made != nullptr, "GEOS makes no shape of a ring or a polygon");
+        return {made, Destroy{geos_}};
+    }
+
+    Shape shape(const Ring& ring) const {
+        const auto count = static_cast<unsigned>(ring.size() / 2);
+        return own(GEOSGeom_createLinearRing_r(geos_, GEOSCoordSeq_copyFromBuffer_r(geos_, ring.data(), count, 0, 0)));
+    }
+
+    void end_polygon() {
+        if (exterior_ == nullptr) {
+            return;
+        }
+        // (the polygon takes them over)
+        std::vector<GEOSGeometry*> holes;
+        for (Shape& hole : holes_) {
+            holes.push_back(hole.release());
+        }
+        holes_.clear();
+        const auto count = static_cast<unsigned>(holes.size());
+        const Shape polygon = own(GEOSGeom_createPolygon_r(geos_, exterior_.release(), holes.data(), count));
+        require(GEOSisValid_r(geos_, polygon.get()) == 1, "a polygon isn't valid");
+    }
+
+    const Geos& geos_;
+    Shape exterior_{nullptr, Destroy{geos_}};
+    std::vector<Shape> holes_;
+};
+
+void check_feature(pbf_reader feature, Geometry& geometry, const Geos& geos) {
+    std::uint64_t type = unknown;
+    geometry.begin_feature();
+    while (next(feature)) {
+        switch (feature.tag_and_type()) {
+            case varint(3):
+                type = get_number(feature, polygon);
+                break;
+            case delimited(4):
+                geometry.add(get_payload(feature));
+                break;
+            case varint(4):
+                geometry.add(get_varint(feature));
+                break;
+            default:
+                feature.skip();
+        }
+    }
+    if (type == polygon) {
+        Polygons{geos}.check(geometry.numbers());
+    }
+}
+
+void check_tile(pbf_reader tile, const Geos& geos) {
+    Geometry geometry;
+    while (next(tile)) {
+        if (tile.tag_and_type() != delimited(3)) {
+            tile.skip();
+            continue;
+        }
+        for (pbf_reader layer{get_payload(tile)}; next(layer);) {
+            if (layer.tag_and_type() == delimited(2)) {
+                check_feature(pbf_reader{get_payload(layer)}, geometry, geos);
+            } else {
+                layer.skip();
+            }
+        }
+    }
+}
+
+} // namespace
+
+int main(int count, char** words) {
+    std::FILE* const input = count > 1 ? std::fopen(words[1], "rb") : stdin;
+    if (input == nullptr) {
+        std::perror(words[1]);
+        return 2;
+    }
+    const std::string bytes = read_whole(input);
+    if (std::ferror(input) != 0) {
+        std::perror("cannot read the input");
+        return 2;
+    }
+    try {
+        const Geos geos;
+        check_tile(pbf_reader{bytes}, geos);
+    } catch (const std::exception& fault) {
+        std::printf("{\"fault\":\"%s\"}\n", fault.what());
+        return 1;
+    }
+    std::puts("{\"ok\":true}");
+    return 0;
+}
