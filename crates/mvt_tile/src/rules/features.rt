@@ -67,7 +67,7 @@ pub(crate) fn first_feature_fault<R: FeatureRule>(
             let (from, to) = stretch_of(field.body);
             let found = fault_in_layer(alloc, bytes, rule, layer_index, from, to, &mut feature)?;
             if let Some(fault) = found {
-                return Ok(Some(fault));
+                return Ok(Some(fault)); // of the first layer that has one
             }
             layer_index += 1;
         }
