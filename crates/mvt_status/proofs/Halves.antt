@@ -1,0 +1,96 @@
+-- A search for a split point, which halves the part of the list where it is.
+use Rattle.std.proofs.Common.{◌≡◌, ℕ, ◌+◌, ◌*◌, ◌<◌, ◌≤◌, Bool, true, false, true≢false, List, length, slice_index, slice_index_or, ap, refl, sym, ◌∙◌, subst, inl, inr, arith}
+use Rattle.std.proofs.lemmas.Bool.{cases_lt}
+use Rattle.std.proofs.lemmas.List.{get_or_read}
+use Rattle.mvt_plane.specs.Counted.{Counted}
+use Rattle.mvt_status.specs.Counts.{AddsAtMost, bits}
+use Rattle.mvt_status.specs.Split.{IsSplit}
+use Rattle.mvt_status.proofs.BinaryDigits.{digits_of_half}
+
+-- each split point is in a part of the list
+pub record SplitsWithin (answers : ℕ → Bool → Type 0) (edges : List ℕ) (from to : ℕ) : Type 0 where
+  pub within : to ≤ length edges
+  pub after : (point : ℕ) → IsSplit answers edges point → from ≤ point
+  pub before : (point : ℕ) → IsSplit answers edges point → point ≤ to
+
+-- what is read at a place of a list is its number there
+pub there : (items edges : List ℕ) (at edge : ℕ) → items ≡ edges → at < length edges → edge ≡ slice_index_or items at edge → edge ≡ slice_index edges at
+there items edges at edge same within is = subst (λ (read : List ℕ). edge ≡ slice_index read at) same (get_or_read items at edge (omega (arith, ap length same)) is 0)
+
+-- with as many probes to come as the part's length has digits, there are no more than the whole list's has
+pub record ProbesLeft (left all : ℕ) (before now : Counted) : Type 0 where
+  pub tests : now.tests ≡ before.tests
+  pub no_fewer : before.probes ≤ now.probes
+  pub probes : now.probes + bits left ≤ before.probes + bits all
+  pub visits : now.visits ≡ before.visits
+
+-- at first this is the whole list
+pub whole_part : (answers : ℕ → Bool → Type 0) (edges : List ℕ) (to : ℕ) → to ≡ length edges → SplitsWithin answers edges 0 to
+whole_part answers edges to whole = record {
+  within = omega arith;
+  after = λ point split. omega arith;
+  before = λ point split. omega (arith, split.within);
+}
+
+-- where the test is true, the split point is behind
+pub split_behind : (answers : ℕ → Bool → Type 0) (edges : List ℕ) (from to middle : ℕ) → SplitsWithin answers edges from to → middle < to
+    → (edge : ℕ) (answer : Bool) → edge ≡ slice_index edges middle → answers edge answer → answer ≡ true → SplitsWithin answers edges (middle + 1) to
+split_behind answers edges from to middle part below edge answer is answered holds = record {
+  within = part.within;
+  after = λ point split. elim (cases_lt middle point) [
+    | inl further ↦ omega arith
+    | inr no_further ↦
+        (let here = subst (λ (it : ℕ). answers it answer) is answered in
+        absurd (true≢false (sym holds ∙ split.rest middle no_further (omega (arith, part.within)) answer here)))
+  ];
+  before = part.before;
+}
+
+-- where it is false, it is not
+pub split_before : (answers : ℕ → Bool → Type 0) (edges : List ℕ) (from to middle : ℕ) → SplitsWithin answers edges from to → middle < to
+    → (edge : ℕ) (answer : Bool) → edge ≡ slice_index edges middle → answers edge answer → answer ≡ false → SplitsWithin answers edges from middle
+split_before answers edges from to middle part below edge answer is answered fails = record {
+  within = omega (arith, part.within);
+  after = part.after;
+  before = λ point split. elim (cases_lt middle point) [
+    | inl further ↦
+        (let here = subst (λ (it : ℕ). answers it answer) is answered in
+        absurd (true≢false (sym (split.front middle further answer here) ∙ fails)))
+    | inr no_further ↦ no_further
+  ];
+}
+
+-- a part of no length is a split point, where the list has one
+pub split_found : (answers : ℕ → Bool → Type 0) (edges : List ℕ) (from to point : ℕ) → SplitsWithin answers edges from to → to ≤ from
+    → IsSplit answers edges point → IsSplit answers edges from
+split_found answers edges from to point part none split =
+    let same : point ≡ from = omega (arith, part.after point split, part.before point split) in
+    subst (IsSplit answers edges) same split
+
+pub none_yet : (left all : ℕ) (before : Counted) → left ≡ all → ProbesLeft left all before before
+none_yet left all before same = record {
+  tests = refl;
+  no_fewer = omega arith;
+  probes = subst (λ (left : ℕ). before.probes + bits left ≤ before.probes + bits all) (sym same) (omega arith);
+  visits = refl;
+}
+
+-- with a probe more, half of the part is left
+pub probes_half : (left half all : ℕ) (before now after : Counted) → ProbesLeft left all before now → AddsAtMost 1 0 now after → 0 < left → half * 2 ≤ left
+    → ProbesLeft half all before after
+probes_half left half all before now after so_far more some no_more = record {
+  tests = more.tests ∙ so_far.tests;
+  no_fewer = omega (arith, so_far.no_fewer, more.no_fewer_probes);
+  probes = omega (arith, so_far.probes, more.probes_added, digits_of_half half left some no_more);
+  visits = omega (arith, more.no_fewer_visits, more.visits_added, so_far.visits);
+}
+
+-- the probes of a search that is done
+pub added : (left all : ℕ) (before now : Counted) → ProbesLeft left all before now → AddsAtMost (bits all) 0 before now
+added left all before now so_far = record {
+  tests = so_far.tests;
+  no_fewer_probes = so_far.no_fewer;
+  probes_added = omega (arith, so_far.probes);
+  no_fewer_visits = omega (arith, so_far.visits);
+  visits_added = omega (arith, so_far.visits);
+}

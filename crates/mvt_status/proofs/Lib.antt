@@ -1,0 +1,3 @@
+pub mod BinaryDigits
+pub mod Halves
+pub mod SplitPoints

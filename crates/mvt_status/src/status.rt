@@ -1,0 +1,46 @@
+ghost use Rattle.std.specs.Prelude.{◌≡◌, ℕ, ◌*◌, ◌<◌, ◌≤◌, List, All, if◌then◌else◌, insert, is_ok, length, remove, slice_index};
+ghost use Rattle.mvt_status.specs.Counts.{AddsAtMost, bits};
+ghost use Rattle.mvt_status.specs.Split.{IsSplit};
+
+use mvt_plane::Count;
+use std::alloc::AllocError;
+
+/// A list of numbers of edges, which a sweep keeps in their order along its line. `count` counts the work of each
+/// call. No call tests two edges for a common point, and only `split_point` compares edges with a position. A call
+/// visits at most twice as many nodes, and makes at most twice as many comparisons, as the length of the list at the
+/// call has binary digits (`bits`).
+pub trait Status {
+    ghost edges: { Self → List ℕ };
+
+    /// How many edges there are.
+    fn len(&self) -> usize
+        ensures { result ≡ length (edges self.now) };
+
+    /// The edge at a place in the list.
+    fn get(&self, at: usize, count: &mut Count) -> usize
+        requires { at < length (edges self.now) }
+        ensures value { result ≡ slice_index (edges self.now) at }
+        ensures counted { AddsAtMost 0 (2 * bits (length (edges self.now))) count.old count.new };
+
+    /// Puts an edge at a place, in front of the one that was there. The only error is that memory was refused, as it
+    /// is to a list that has as many edges as a `usize` can count. The list is then as it was.
+    fn insert(&mut self, at: usize, edge: usize, count: &mut Count) -> Result<(), AllocError>
+        requires { at ≤ length (edges self.old) }
+        ensures list { edges self.new ≡ (if is_ok result then insert (edges self.old) at edge else edges self.old) }
+        ensures counted { AddsAtMost 0 (2 * bits (length (edges self.old))) count.old count.new };
+
+    /// Takes the edge at a place out of the list.
+    fn remove(&mut self, at: usize, count: &mut Count) -> usize
+        requires { at < length (edges self.old) }
+        ensures value { result ≡ slice_index (edges self.old) at }
+        ensures list { edges self.new ≡ remove (edges self.old) at }
+        ensures counted { AddsAtMost 0 (2 * bits (length (edges self.old))) count.old count.new };
+
+    /// How many edges stand at the front of the list of which `below` is true, where it is false of all others.
+    /// Each call of `below` counts as a probe.
+    fn split_point<F: Fn(usize) -> bool>(&self, below: &F, count: &mut Count) -> usize
+        requires callable { All (F.pre below.now) (edges self.now) }
+        requires splits { (point : ℕ) × IsSplit (F.post below.now) (edges self.now) point }
+        ensures split { IsSplit (F.post below.now) (edges self.now) result }
+        ensures counted { AddsAtMost (2 * bits (length (edges self.now))) (2 * bits (length (edges self.now))) count.old count.new };
+}
