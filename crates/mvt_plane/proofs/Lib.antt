@@ -19,6 +19,8 @@ pub mod ExampleRings
 pub mod ExampleTriangle
 pub mod FigurePaths
 pub mod Figures
+pub mod GapPoints
+pub mod Gaps
 pub mod Geometries
 pub mod GoingOn
 pub mod InsideEdges

@@ -77,7 +77,7 @@ line_back a b c d x y w on_line =
 -- ---- between the ends in one coordinate
 
 -- a step (s, t) in direction (u, v) with u > 0 is short in t where it is so in s
-step_follows : (u v s t w : ℤ) → pos 0 <ℤ u → u *ℤ t ≡ v *ℤ s → pos 0 ≤ℤ s → s ≤ℤ (u *ℤ w) → IsBetween (pos 0) (v *ℤ w) t
+pub step_follows : (u v s t w : ℤ) → pos 0 <ℤ u → u *ℤ t ≡ v *ℤ s → pos 0 ≤ℤ s → s ≤ℤ (u *ℤ w) → IsBetween (pos 0) (v *ℤ w) t
 step_follows u v s t w sign on_line low high = by_sign (le_or_lt (pos 0) v)
   where
     rest : u *ℤ (v *ℤ w -ℤ t) ≡ v *ℤ (u *ℤ w -ℤ s)

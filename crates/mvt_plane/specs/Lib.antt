@@ -4,6 +4,7 @@ pub mod CommonPoint
 pub mod Counted
 pub mod Course
 pub mod Drawing
+pub mod EdgeOrder
 pub mod Examples
 pub mod Figure
 pub mod Geometry

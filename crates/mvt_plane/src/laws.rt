@@ -11,6 +11,7 @@ ghost use Rattle.mvt_plane.specs.Figure.{GeometryType, Figure, type_of, spelling
 pub mod courses;
 pub mod examples;
 pub mod names;
+pub mod order;
 pub mod points;
 pub mod reading;
 pub mod rings;

@@ -1,6 +1,7 @@
 ghost use Rattle.std.specs.Prelude.{◌≡◌, ◌^◌, ◌*ℤ◌};
 ghost use Rattle.mvt_plane.specs.Bound.{IsWithin};
 ghost use Rattle.mvt_plane.specs.Measure.{orientation, key_of};
+ghost use Rattle.mvt_plane.specs.Position.{IsPosition};
 ghost use Rattle.mvt_plane.specs.Ring.{doubled_area, edge_area};
 
 use crate::point::Point;
@@ -54,9 +55,10 @@ fn x_times_y(a: Point, b: Point) -> i64
 }
 
 /// The number by which a sweep meets positions: those of lesser x first, and of equal x those of lesser y.
-/// No two positions have one key.
+/// No two positions have one key, as coordinates are from -2^30 to 2^30.
 pub fn sweep_key(point: Point) -> i64
-    ensures { result ≡ key_of point }
+    ensures value { result ≡ key_of point }
+    ensures in_range { IsPosition point }
 {
     i64::from(point.x()) * (1 << 32) + i64::from(point.y())
 }

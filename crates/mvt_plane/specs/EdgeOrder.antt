@@ -1,0 +1,75 @@
+-- The order of edges along a line that goes over the plane. All positions of one key, with rational ones, are such a line:
+-- the key is 2^32 times x, plus y. Coordinates are from -2^30 to 2^30, so no edge lies along one of these lines, and an edge
+-- meets a line in one point at most.
+use Rattle.std.specs.Prelude.{◌≡◌, ◌≢◌, ◌^◌, ◌⊎◌, ℤ, pos, ◌+ℤ◌, ◌-ℤ◌, ◌*ℤ◌, ◌<ℤ◌, ◌≤ℤ◌, Option, Some}
+use Rattle.mvt_plane.specs.Measure.{key_of}
+use Rattle.mvt_plane.specs.Position.{Position}
+use Rattle.mvt_plane.specs.RationalPoint.{RationalPoint, LiesOn, IsAt}
+use Rattle.mvt_plane.specs.declared.edge.Edge.{Edge}
+
+-- Edges from their lesser key on
+
+-- an edge from its end of lesser key to the other
+pub record Segment : Type 0 where
+  pub low : Position
+  pub high : Position
+
+-- it has these ends
+abbrev pub segment : Position → Position → Segment
+segment low high = record { low = low; high = high }
+
+-- the edge that goes so
+abbrev pub edge_along : Segment → Edge
+edge_along it = record { a = it.low; b = it.high }
+
+-- the first end has the lesser key indeed
+abbrev pub IsRising : Segment → Type 0
+IsRising it = key_of it.low <ℤ key_of it.high
+
+-- the position is one of the two ends
+abbrev pub IsEndOf : Position → Segment → Type 0
+IsEndOf position it = (position ≡ it.low) ⊎ (position ≡ it.high)
+
+-- Where they are at a key. A key is a fraction: t stands for t / w.
+
+-- the key of a rational point, times its w
+abbrev pub key_at : RationalPoint → ℤ
+key_at point = point.x *ℤ pos (2 ^ 32) +ℤ point.y
+
+-- the edge has a point of this key
+pub record Reaches (t w : ℤ) (it : Segment) : Type 0 where
+  pub begun : (key_of it.low *ℤ w) ≤ℤ t
+  pub lasts : t ≤ℤ (key_of it.high *ℤ w)
+
+-- how far the edge goes, in keys
+abbrev pub reach : Segment → ℤ
+reach it = key_of it.high -ℤ key_of it.low
+
+-- the y of its point of this key, times its reach and w
+abbrev pub height : Segment → ℤ → ℤ → ℤ
+height it t w = it.low.y *ℤ reach it *ℤ w +ℤ (t -ℤ key_of it.low *ℤ w) *ℤ (it.high.y -ℤ it.low.y)
+
+-- how far the second edge is above the first, in y, at this key, times both reaches and w
+abbrev pub gap : Segment → Segment → ℤ → ℤ → ℤ
+gap first second t w = height second t w *ℤ reach first -ℤ height first t w *ℤ reach second
+
+-- how the gap grows with the key
+abbrev pub slope : Segment → Segment → ℤ
+slope first second = (second.high.y -ℤ second.low.y) *ℤ reach first -ℤ (first.high.y -ℤ first.low.y) *ℤ reach second
+
+-- The order
+
+-- right after this key the first edge is below the second
+abbrev pub IsAfter : ℤ → Segment → Segment → Type 0
+IsAfter key first second = (pos 0 <ℤ gap first second key (pos 1)) ⊎ ((gap first second key (pos 1) ≡ pos 0) × (pos 0 <ℤ slope first second))
+
+-- between two keys the first edge is below the second; at one of the keys they may be at one height
+pub record IsBelow (left right : ℤ) (first second : Segment) : Type 0 where
+  pub at_left : pos 0 ≤ℤ gap first second left (pos 1)
+  pub at_right : pos 0 ≤ℤ gap first second right (pos 1)
+  pub apart : pos 0 <ℤ (gap first second left (pos 1) +ℤ gap first second right (pos 1))
+
+-- what two edges have in common is the vertex that they share, if they share one, and nothing else
+abbrev pub MeetOnlyAt : Option Position → Segment → Segment → Type 0
+MeetOnlyAt shared first second = (point : RationalPoint) → LiesOn point (edge_along first) → LiesOn point (edge_along second)
+    → (vertex : Position) × (shared ≡ Some vertex) × IsAt point vertex
