@@ -1,5 +1,11 @@
+pub mod ChainParts
+pub mod CornerNumbers
+pub mod CornerOrders
+pub mod CornerPlans
+pub mod CornerReads
 pub mod EdgeNumbers
 pub mod EdgeWalks
+pub mod MeetingsTold
 pub mod NestFaults
 pub mod PairMeetings
 pub mod PassedEdges
@@ -7,3 +13,8 @@ pub mod PolygonList
 pub mod RingFaults
 pub mod RingsThere
 pub mod SharedVertices
+pub mod StatusPlaces
+pub mod SweepChanges
+pub mod SweepSides
+pub mod SweepSlabs
+pub mod SweepSteps

@@ -1,5 +1,9 @@
+pub mod Chain
+pub mod CornerOrder
+pub mod Corners
 pub mod Edges
 pub mod Meeting
 pub mod Nesting
 pub mod Polygons
 pub mod Rings
+pub mod Sweep

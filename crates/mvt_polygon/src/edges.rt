@@ -114,7 +114,7 @@ pub(crate) fn edge_of(ring: &[Point], number: usize) -> Edge
 }
 
 /// The number behind this one, going round: behind the last one comes 0.
-fn next_round(count: usize, number: usize) -> usize
+pub(crate) fn next_round(count: usize, number: usize) -> usize
     requires { number < count }
     ensures value { result ≡ next_round count number }
     ensures within { result < count }

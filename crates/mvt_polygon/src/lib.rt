@@ -7,6 +7,7 @@ mod meeting;
 mod nesting;
 mod polygons;
 mod rings;
+mod sweep;
 
 pub use meeting::{Meeting, find_meeting};
 pub use nesting::{NestFault, check_nesting};

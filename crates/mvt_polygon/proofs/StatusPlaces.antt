@@ -1,0 +1,215 @@
+-- The places of a status before and behind an edit, and what stands beside them.
+use Rattle.std.proofs.Common.{◌≡◌, ◌≢◌, ℕ, zero, suc, ◌-◌, ◌<◌, ◌≤◌, ◌⊎◌, inl, inr, List, [], ◌∷◌, ◌++◌, drop, insert, length, remove, slice_index, take, ℤ, ◌<ℤ◌, ◌≤ℤ◌, refl, sym, ap, subst, ◌∙◌, arith}
+use Rattle.std.proofs.lemmas.Int.{ints}
+use Rattle.std.proofs.lemmas.List.{length-take-le, length-drop, get_or-take}
+use Rattle.mvt_plane.specs.Measure.{key_of}
+use Rattle.mvt_plane.specs.Position.{Position}
+use Rattle.mvt_polygon.specs.Chain.{Has, Each, Head, Joined, Ordered}
+use Rattle.mvt_polygon.specs.Sweep.{Plan, IsPlan, Tested, IsSwept, IsEvent, BothBegin, PassesOn, BothEnd, IsCut}
+use Rattle.mvt_polygon.proofs.ChainParts.{each_has, each_by_has, has_left, has_right, has_either, has_place, ordered_parts, take_drop, insert_between, remove_behind, drop_first, joined_before}
+use Rattle.mvt_polygon.proofs.SweepSteps.{begin_step, pass_step, end_found, end_step}
+use Rattle.mvt_polygon.proofs.SweepSlabs.{event_back}
+
+-- Beside a place
+
+-- the first from a place on
+pub head_at : (R : ℕ → ℕ → Type 0) (edges : List ℕ) (at it above : ℕ) → at < length edges → above ≡ slice_index edges at → R it above → Head R it (drop at edges)
+head_at R edges at it above within is holds =
+    subst (λ (list : List ℕ). Head R it list) (sym (drop_first edges at within)) (subst (R it) is holds)
+
+-- the last before it
+pub joined_at : (R : ℕ → ℕ → Type 0) (edges back : List ℕ) (at below : ℕ) → 0 < at → at ≤ length edges → below ≡ slice_index edges (at - 1) → Head R below back → Joined R (take at edges) back
+joined_at R edges back at below some within is holds =
+    subst (λ (place : ℕ). Joined R (take place edges) back) (omega arith)
+    (joined_before R edges back (at - 1) (omega arith) (subst (λ (edge : ℕ). Head R edge back) is holds))
+
+-- behind all there is none
+drop_end : (edges : List ℕ) (at : ℕ) → length edges ≤ at → drop at edges ≡ []
+drop_end [] zero short = refl
+drop_end [] (suc at) short = refl
+drop_end (first ∷ rest) zero short = absurd (omega arith)
+drop_end (first ∷ rest) (suc at) short = drop_end rest at (omega arith)
+
+joined_none : (R : ℕ → ℕ → Type 0) (edges : List ℕ) → Joined R edges []
+joined_none R [] = tt
+joined_none R (last ∷ []) = tt
+joined_none R (first ∷ next ∷ rest) = joined_none R (next ∷ rest)
+
+-- so nothing is joined there
+pub joined_end : (R : ℕ → ℕ → Type 0) (edges : List ℕ) (at : ℕ) → length edges ≤ at → Joined R (take at edges) (drop at edges)
+joined_end R edges at short = subst (Joined R (take at edges)) (sym (drop_end edges at short)) (joined_none R (take at edges))
+
+-- both of them differ where all do
+pub apart_at : (edges : List ℕ) (at : ℕ) → 0 < at → at < length edges → Ordered (λ (one other : ℕ). one ≢ other) edges → slice_index edges (at - 1) ≢ slice_index edges at
+apart_at edges at some within differ =
+    let all = ordered_parts (λ (one other : ℕ). one ≢ other) (take at edges) (drop at edges) (subst (Ordered (λ (one other : ℕ). one ≢ other)) (take_drop edges at) differ) in
+    all.2 (slice_index edges (at - 1)) (slice_index edges at)
+    (subst (Has (take at edges)) (get_or-take at edges (at - 1) 0 (omega arith)) (has_place (take at edges) (at - 1) (omega (arith, length-take-le at edges (omega arith)))))
+    (subst (λ (list : List ℕ). Has list (slice_index edges at)) (sym (drop_first edges at within)) (inl refl))
+
+-- Edges of the status
+
+-- all are edges of the plan
+pub all_known : (plan : Plan) (key : ℤ) (edges : List ℕ) → IsSwept plan key edges → Each (λ (edge : ℕ). edge < plan.count) edges
+all_known plan key edges swept = each_by_has (λ (edge : ℕ). edge < plan.count) edges (λ it has. (swept.active it has).known)
+
+-- and none of them begins in the next vertex
+pub others_known : (plan : Plan) (key : ℤ) (vertex : Position) (edges fewer : List ℕ) (beginning : ℕ) → IsSwept plan key edges → key <ℤ key_of vertex → (plan.segment beginning).low ≡ vertex
+    → ((it : ℕ) → Has fewer it → Has edges it) → Each (λ (other : ℕ). (other < plan.count) × (other ≢ beginning)) fewer
+others_known plan key vertex edges fewer beginning swept later begins among =
+    each_by_has (λ (other : ℕ). (other < plan.count) × (other ≢ beginning)) fewer
+    (λ it has. ((swept.active it (among it has)).known, (λ same. early (subst (λ (edge : ℕ). key_of (plan.segment edge).low ≤ℤ key) same (swept.active it (among it has)).begun))))
+  where
+    early : key_of (plan.segment beginning).low ≤ℤ key → ⊥
+    early begun =
+        let there : key_of vertex ≤ℤ key = subst (λ (low : Position). key_of low ≤ℤ key) begins begun in
+        omega (arith, ints)
+
+-- Edits
+
+-- where the parts come together, the place is between them
+parts_at : (front back : List ℕ) (place : ℕ) → length front ≡ place → (take place (front ++ back) ≡ front) × (drop place (front ++ back) ≡ back)
+parts_at [] back zero same = (refl, refl)
+parts_at [] back (suc place) same = absurd (omega arith)
+parts_at (first ∷ front) back zero same = absurd (omega arith)
+parts_at (first ∷ front) back (suc place) same =
+    let rest = parts_at front back place (omega arith) in
+    (ap (λ (list : List ℕ). first ∷ list) rest.0, rest.1)
+
+-- it is one of theirs
+fits_front : (front back : List ℕ) (place : ℕ) → length front ≡ place → place ≤ length (front ++ back)
+fits_front [] back place long = omega arith
+fits_front (one ∷ front) back zero long = omega arith
+fits_front (one ∷ front) back (suc place) long = omega (arith, fits_front front back place (omega arith))
+
+-- with one more between them nothing is lost
+among : (front back : List ℕ) (it other : ℕ) → Has (front ++ back) other → Has (front ++ it ∷ back) other
+among front back it other has =
+    elim (has_either front back other has) [
+      | inl before ↦ has_left front (it ∷ back) other before
+      | inr behind ↦ has_right front (it ∷ back) other (inr behind)
+    ]
+
+-- without it those that differed still do
+differ_without : (front back : List ℕ) (it : ℕ) → Ordered (λ (one other : ℕ). one ≢ other) (front ++ it ∷ back) → Ordered (λ (one other : ℕ). one ≢ other) (front ++ back)
+differ_without [] back it differ = differ.1
+differ_without (first ∷ front) back it differ = (
+  each_by_has (λ (other : ℕ). first ≢ other) (front ++ back) (λ other has. each_has (λ (other : ℕ). first ≢ other) (front ++ it ∷ back) other differ.0 (among front back it other has)),
+  differ_without front back it differ.1,
+)
+
+-- one taken out at the place
+pub record TakesOut (edges fewer : List ℕ) (place it : ℕ) (back : List ℕ) : Type 0 where
+  pub within : place < length edges
+  pub front : take place fewer ≡ take place edges
+  pub rest : drop place fewer ≡ back
+  pub fits : place ≤ length fewer
+  pub among : (other : ℕ) → Has fewer other → Has edges other
+  pub differ : Ordered (λ (one other : ℕ). one ≢ other) edges → Ordered (λ (one other : ℕ). one ≢ other) fewer
+
+-- what is taken out is the first of the rest
+pub takes_out : (edges fewer : List ℕ) (place it : ℕ) (back : List ℕ) → place ≤ length edges → drop place edges ≡ it ∷ back → fewer ≡ remove edges place → TakesOut edges fewer place it back
+takes_out edges fewer place it back within first removed =
+    let front = take place edges in
+    let long : length front ≡ place = length-take-le place edges within in
+    let parted : edges ≡ front ++ it ∷ back = take_drop edges place ∙ ap (λ (list : List ℕ). front ++ list) first in
+    let is : fewer ≡ front ++ back =
+    removed ∙ ap (λ (list : List ℕ). remove list place) parted ∙ ap (λ (at : ℕ). remove (front ++ it ∷ back) at) (sym long) ∙ remove_behind front back it in
+    let parts = parts_at front back place long in
+    let more : 0 < length (drop place edges) = subst (λ (list : List ℕ). 0 < length list) (sym first) (omega arith) in
+    record {
+      within = omega (arith, length-drop place edges);
+      front = ap (take place) is ∙ parts.0;
+      rest = ap (drop place) is ∙ parts.1;
+      fits = subst (λ (list : List ℕ). place ≤ length list) (sym is) (fits_front front back place long);
+      among = λ other has. subst (λ (list : List ℕ). Has list other) (sym parted) (among front back it other (subst (λ (list : List ℕ). Has list other) is has));
+      differ = λ all. subst (Ordered (λ (one other : ℕ). one ≢ other)) (sym is) (differ_without front back it (subst (Ordered (λ (one other : ℕ). one ≢ other)) parted all));
+    }
+
+-- Steps
+
+-- an edge takes the place of the one that ends
+pub pass_over : (plan : Plan) (key : ℤ) (vertex : Position) (ending beginning place : ℕ) (edges fewer more back : List ℕ) → IsPlan plan → IsSwept plan key edges
+    → IsEvent plan key vertex ending beginning → PassesOn plan vertex ending beginning → IsCut plan vertex edges (take place edges) (drop place edges)
+    → drop place edges ≡ ending ∷ back → TakesOut edges fewer place ending back → Joined (Tested plan) (take place fewer) (beginning ∷ [])
+    → Head (Tested plan) beginning (drop place fewer) → more ≡ insert fewer place beginning → IsSwept plan (key_of vertex) more
+pass_over plan key vertex ending beginning place edges fewer more back is_plan swept event passes cut first out below above inserted =
+    let is : more ≡ take place edges ++ beginning ∷ back =
+    inserted ∙ insert_between fewer place beginning out.fits ∙ ap (λ (front : List ℕ). front ++ beginning ∷ drop place fewer) out.front
+    ∙ ap (λ (rest : List ℕ). take place edges ++ beginning ∷ rest) out.rest in
+    subst (IsSwept plan (key_of vertex)) (sym is)
+    (pass_step plan key vertex ending beginning edges (take place edges) back is_plan swept event passes (subst (IsCut plan vertex edges (take place edges)) first cut)
+    (subst (λ (front : List ℕ). Joined (Tested plan) front (beginning ∷ [])) out.front below) (subst (Head (Tested plan) beginning) out.rest above))
+
+-- two edges begin at the place
+pub begin_over : (plan : Plan) (key : ℤ) (vertex : Position) (lower upper place : ℕ) (edges more most : List ℕ) → IsPlan plan → IsSwept plan key edges → IsEvent plan key vertex lower upper
+    → BothBegin plan vertex lower upper → place ≤ length edges → IsCut plan vertex edges (take place edges) (drop place edges) → Tested plan lower upper
+    → Joined (Tested plan) (take place edges) (lower ∷ []) → Head (Tested plan) upper (drop place edges) → more ≡ insert edges place upper → most ≡ insert more place lower
+    → IsSwept plan (key_of vertex) most
+begin_over plan key vertex lower upper place edges more most is_plan swept event begins within cut tested below above one other =
+    let front = take place edges in
+    let back = drop place edges in
+    let long : length front ≡ place = length-take-le place edges within in
+    let first : more ≡ front ++ upper ∷ back = one ∙ insert_between edges place upper within in
+    let parts = parts_at front (upper ∷ back) place long in
+    let fits : place ≤ length more = subst (λ (list : List ℕ). place ≤ length list) (sym first) (fits_front front (upper ∷ back) place long) in
+    let is : most ≡ front ++ lower ∷ upper ∷ back =
+    other ∙ insert_between more place lower fits ∙ ap (λ (list : List ℕ). take place list ++ lower ∷ drop place list) first
+    ∙ ap (λ (list : List ℕ). list ++ lower ∷ drop place (front ++ upper ∷ back)) parts.0 ∙ ap (λ (list : List ℕ). front ++ lower ∷ list) parts.1 in
+    subst (IsSwept plan (key_of vertex)) (sym is) (begin_step plan key vertex lower upper edges front back is_plan swept event begins cut tested below above)
+
+-- two that were tested, of which the one is told in another way
+pub back_tested : (plan : Plan) (read first second : ℕ) → read ≡ first → Tested plan read second × Tested plan second read → Tested plan first second × Tested plan second first
+back_tested plan read first second same tested = subst (λ (edge : ℕ). Tested plan edge second × Tested plan second edge) same tested
+
+-- two edges begin, in one order or the other
+pub begin_in_order : (plan : Plan) (key : ℤ) (vertex : Position) (first second : ℕ) (pair : ℕ × ℕ) (place : ℕ) (edges more most : List ℕ) → IsPlan plan → IsSwept plan key edges
+    → IsEvent plan key vertex first second → (pair ≡ (first, second)) ⊎ (pair ≡ (second, first)) → BothBegin plan vertex pair.0 pair.1 → place ≤ length edges
+    → IsCut plan vertex edges (take place edges) (drop place edges) → Tested plan first second × Tested plan second first → Joined (Tested plan) (take place edges) (pair.0 ∷ [])
+    → Head (Tested plan) pair.1 (drop place edges) → more ≡ insert edges place pair.1 → most ≡ insert more place pair.0 → IsSwept plan (key_of vertex) most
+begin_in_order plan key vertex first second pair place edges more most is_plan swept event order begins within cut tested below above one other =
+    begin_over plan key vertex pair.0 pair.1 place edges more most is_plan swept told.0 begins within cut told.1 below above one other
+  where
+    told : IsEvent plan key vertex pair.0 pair.1 × Tested plan pair.0 pair.1
+    told = elim order [
+      | inl forward ↦ subst (λ (it : ℕ × ℕ). IsEvent plan key vertex it.0 it.1 × Tested plan it.0 it.1) (sym forward) (event, tested.0)
+      | inr backward ↦ subst (λ (it : ℕ × ℕ). IsEvent plan key vertex it.0 it.1 × Tested plan it.0 it.1) (sym backward) (event_back plan key vertex first second is_plan event, tested.1)
+    ]
+
+-- two edges that end, in the order in which they stand
+pub record EndsInOrder (plan : Plan) (key : ℤ) (vertex : Position) (rest : List ℕ) : Type 0 where
+  pub one : ℕ
+  pub other : ℕ
+  pub back : List ℕ
+  pub first : rest ≡ one ∷ other ∷ back
+  pub event : IsEvent plan key vertex one other
+  pub ends : BothEnd plan vertex one other
+
+-- are the first of those that aren't below the vertex
+pub ends_in_order : (plan : Plan) (key : ℤ) (vertex : Position) (first second : ℕ) (edges front rest : List ℕ) → IsPlan plan → IsSwept plan key edges → IsEvent plan key vertex first second
+    → BothEnd plan vertex first second → IsCut plan vertex edges front rest → EndsInOrder plan key vertex rest
+ends_in_order plan key vertex first second edges front rest is_plan swept event ends cut =
+    let found = end_found plan key vertex first second edges front rest is_plan swept event ends cut in
+    elim found.1 [
+      | inl forward ↦ record { one = first; other = second; back = found.0; first = forward; event = event; ends = ends }
+      | inr backward ↦
+          record {
+            one = second;
+            other = first;
+            back = found.0;
+            first = backward;
+            event = event_back plan key vertex first second is_plan event;
+            ends = record { first_ends = ends.second_ends; second_ends = ends.first_ends };
+          }
+    ]
+
+-- both are taken out
+pub end_over : (plan : Plan) (key : ℤ) (vertex : Position) (place : ℕ) (edges fewer fewest : List ℕ) → IsPlan plan → IsSwept plan key edges
+    → IsCut plan vertex edges (take place edges) (drop place edges) → (pair : EndsInOrder plan key vertex (drop place edges)) → TakesOut edges fewer place pair.one (pair.other ∷ pair.back)
+    → TakesOut fewer fewest place pair.other pair.back → Joined (Tested plan) (take place fewest) (drop place fewest) → IsSwept plan (key_of vertex) fewest
+end_over plan key vertex place edges fewer fewest is_plan swept cut pair out out' joined =
+    let front = out'.front ∙ out.front in
+    let is : fewest ≡ take place edges ++ pair.back = take_drop fewest place ∙ ap (λ (list : List ℕ). list ++ drop place fewest) front ∙ ap (λ (list : List ℕ). take place edges ++ list) out'.rest in
+    subst (IsSwept plan (key_of vertex)) (sym is)
+    (end_step plan key vertex pair.one pair.other edges (take place edges) pair.back is_plan swept pair.event pair.ends (subst (IsCut plan vertex edges (take place edges)) pair.first cut)
+    (subst (Joined (Tested plan) (take place edges)) out'.rest (subst (λ (list : List ℕ). Joined (Tested plan) list (drop place fewest)) front joined)))

@@ -1,0 +1,40 @@
+use Rattle.std.proofs.Common.{◌≡◌, ◌<◌, ◌+◌, ℕ, suc, take, length, refl, ◌∙◌, ap, subst, arith}
+use Rattle.std.proofs.lemmas.Option.{slice_get_read}
+use Rattle.mvt_plane.specs.Ring.{next_round}
+use Rattle.mvt_polygon.specs.Corners.{previous_round, vertex_count}
+use Rattle.mvt_polygon.specs.Rings.{rings_of}
+use Rattle.mvt_polygon.proofs.CornerNumbers.{AreFirst, first_more, first_of_whole, whole_of_first, count_step, corner_of_ring}
+use Rattle.mvt_polygon.proofs.RingsThere.{ring_there}
+use Rattle.mvt_polygon.proofs.sweep.corners.add_corners.Goals as goal
+
+pub loop-edge-init : goal.loop-edge-init
+loop-edge-init c =
+    let rings = rings_of c.args.rings.now in
+    let first = first_of_whole rings c.args.ring c.args.corners.now.items c.requires.before in
+    let many : vertex_count (take c.args.ring rings) ≡ c.len-before.result + 0 = omega (arith, first.count, c.len-before.ensures, c.args.corners.now.ok.0) in
+    subst (λ (n : ℕ). AreFirst rings n c.args.corners.now.items) many first
+
+pub loop-edge-preserved : goal.loop-edge-preserved
+loop-edge-preserved c =
+    let rings = rings_of c.args.rings.now in
+    let ring = c.index-rings-ring.result in
+    let there = ring_there c.args.rings.now c.args.ring ring c.requires.ring c.index-rings-ring.is in
+    let before : c.len-before.result ≡ vertex_count (take c.args.ring rings) = omega (arith, c.requires.before.count, c.len-before.ensures, c.args.corners.now.ok.0) in
+    let within : c.loop-edge.edge < length ring.items = omega (arith, c.loop-edge-test.true, c.len-edge-end.ensures, ring.ok.0) in
+    let here = slice_get_read ring.items (length ring.items) c.loop-edge.edge c.index.result.now refl within c.index.ensures in
+    let next = c.next_round.ensures.value ∙ ap (λ (n : ℕ). next_round n c.loop-edge.edge) (c.len.ensures ∙ ring.ok.0) in
+    let previous = c.previous_round.ensures.value ∙ ap (λ (n : ℕ). previous_round n c.loop-edge.edge) (c.len-in-loop-edge.ensures ∙ ring.ok.0) in
+    let is = corner_of_ring rings c.args.ring ring.items c.loop-edge.edge c.len-before.result c.next_round.result c.previous_round.result c.index.result.now there here before next previous in
+    let many : c.len-before.result + (c.loop-edge.edge + 1) ≡ c.len-before.result + c.loop-edge.edge + 1 = omega arith in
+    first_more rings (c.len-before.result + c.loop-edge.edge) (c.len-before.result + (c.loop-edge.edge + 1)) c.loop-edge.corners.items c.push.new.self.items _ c.loop-edge.invariant is many
+    c.in_ok-push.ensures.items
+
+pub returns : goal.returns
+returns c =
+    let rings = rings_of c.args.rings.now in
+    let ring = c.index-rings-ring.result in
+    let there = ring_there c.args.rings.now c.args.ring ring c.requires.ring c.index-rings-ring.is in
+    let before = c.requires.before.count in
+    let many : c.len-before.result + c.loop-edge.edge ≡ vertex_count (take (suc c.args.ring) rings) =
+    omega (arith, before, c.len-before.ensures, c.args.corners.now.ok.0, c.len-edge-end.ensures, ring.ok.0, c.loop-edge-test.false, c.loop-edge.auto.edge-end, count_step rings c.args.ring ring.items there) in
+    whole_of_first rings (suc c.args.ring) c.loop-edge.corners.items (subst (λ (n : ℕ). AreFirst rings n c.loop-edge.corners.items) many c.loop-edge.invariant)

@@ -1,0 +1,11 @@
+use Rattle.mvt_polygon.proofs.CornerPlans.{tested_both_ways, tested_back_and_forth}
+use Rattle.mvt_polygon.proofs.sweep.corners.meeting_at.Goals as goal
+
+pub returns-then-one-other-clause-none : goal.returns-then-one-other-clause-none
+returns-then-one-other-clause-none c =
+    tested_both_ways c.args.corners.now c.args.one c.args.other c.meeting_in_order.result c.requires.linked c.requires.one c.requires.other c.meeting_in_order.ensures.none
+
+pub returns-else-one-other-clause-none : goal.returns-else-one-other-clause-none
+returns-else-one-other-clause-none c =
+    tested_back_and_forth c.args.corners.now c.args.one c.args.other c.meeting_in_order-else-one-other.result c.requires.linked c.requires.one c.requires.other
+    c.meeting_in_order-else-one-other.ensures.none

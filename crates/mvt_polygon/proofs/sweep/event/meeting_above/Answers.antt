@@ -1,0 +1,12 @@
+use Rattle.std.proofs.Common.{arith}
+use Rattle.mvt_polygon.specs.Corners.{plan_of}
+use Rattle.mvt_polygon.specs.Sweep.{Tested}
+use Rattle.mvt_polygon.proofs.MeetingsTold.{none_map}
+use Rattle.mvt_polygon.proofs.StatusPlaces.{head_at}
+use Rattle.mvt_polygon.proofs.sweep.event.meeting_above.Goals as goal
+
+pub returns-clause-none : goal.returns-clause-none
+returns-clause-none g c =
+    none_map c.meeting_at.result
+    (λ tested. head_at (Tested (plan_of c.args.corners.now)) (g.S.Status.edges c.args.status.now) c.args.place c.args.edge c.get-above.result (omega arith) c.get-above.ensures.value tested.0)
+    c.meeting_at.ensures.none

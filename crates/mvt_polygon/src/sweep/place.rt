@@ -1,0 +1,52 @@
+//! The place of a corner among the edges that the line of a sweep meets.
+ghost use Rattle.std.specs.Prelude.{◌≡◌, ◌↔◌, ◌<◌, ◌≤◌, IsTrue, List, ℕ, drop, length, take};
+ghost use Rattle.mvt_polygon.specs.Chain.{Each};
+ghost use Rattle.mvt_polygon.specs.CornerOrder.{AddsTests};
+ghost use Rattle.mvt_polygon.specs.Corners.{AreInRange, AreLinked, plan_of, position_at};
+ghost use Rattle.mvt_polygon.specs.Sweep.{IsCut, IsUnder};
+
+use crate::sweep::corners::Corner;
+use mvt_plane::{Count, Point, orient, sweep_key};
+use mvt_status::Status;
+
+/// How many edges of the status are below a corner. They come before the others.
+pub(crate) fn place_of<S: Status>(
+    corners: &[Corner],
+    number: usize,
+    status: &S,
+    count: &mut Count,
+) -> usize
+    requires linked { AreLinked corners.now }
+    requires in_range { AreInRange corners.now }
+    requires number { number < length corners.now }
+    requires known { Each (λ edge. edge < length corners.now) (S.edges status.now) }
+    requires cut { (front : List ℕ) × (rest : List ℕ) × IsCut (plan_of corners.now) (position_at corners.now number) (S.edges status.now) front rest }
+    ensures within { result ≤ length (S.edges status.now) }
+    ensures cut { IsCut (plan_of corners.now) (position_at corners.now number) (S.edges status.now) (take result (S.edges status.now)) (drop result (S.edges status.now)) }
+    ensures counted { AddsTests 0 count.old count.new }
+{
+    let position = corners[number].position;
+    let below = |edge: usize| -> bool
+        requires linked { AreLinked corners.now }
+        requires in_range { AreInRange corners.now }
+        requires edge { edge < length corners.now }
+        ensures { IsTrue result ↔ IsUnder (plan_of corners.entry.now) position edge }
+    { is_below(corners, edge, position) };
+    status.split_point(&below, count)
+}
+
+/// Whether an edge is below a position.
+fn is_below(corners: &[Corner], edge: usize, position: Point) -> bool
+    requires linked { AreLinked corners.now }
+    requires in_range { AreInRange corners.now }
+    requires edge { edge < length corners.now }
+    ensures { IsTrue result ↔ IsUnder (plan_of corners.now) position edge }
+{
+    let corner = corners[edge];
+    let next = corners[corner.next].position;
+    if sweep_key(corner.position) < sweep_key(next) {
+        orient(corner.position, next, position) > 0
+    } else {
+        orient(next, corner.position, position) > 0
+    }
+}
