@@ -1,11 +1,14 @@
--- A fault is told by its object.
-use Rattle.std.proofs.Common.{◌≡◌, ℕ, ◌≤◌, ℤ, List, [], if◌then◌else◌, nat_lt, is_some, Some, option_and_then, unwrap_or, codes, lit≤, String, Global, string_bytes, refl, sym, ap, ◌∙◌}
+-- A fault is told by its object, or by a value that stands for it.
+use Rattle.std.proofs.Common.{◌≡◌, ℕ, ◌≤◌, ℤ, List, [], if◌then◌else◌, nat_lt, is_some, Some, option_and_then, unwrap_or, codes, lit≤, String, Global, string_bytes, false, refl, sym, ap, subst, ◌∙◌}
+use Rattle.std.specs.Fmt.{signed_decimal}
 use Rattle.std.specs.Str.Parse.{signed_digits_value}
 use Rattle.std.proofs.lemmas.Str.{IsUtf8-string_bytes}
-use Rattle.serde_json.specs.Data.{Data, depth, null}
+use Rattle.serde_json.specs.Data.{Data, depth, null, string}
 use Rattle.serde_json.specs.Find.{get, as_number, as_u64, as_str}
 use Rattle.serde_json.specs.Read.{read, max_depth}
-use Rattle.mvt_fault.specs.Text.{data_of, IsInRange, Reads}
+use Rattle.serde_json.specs.Written.{has_float}
+use Rattle.mvt_fault.specs.Reading.{StandsFor}
+use Rattle.mvt_fault.specs.Text.{data_of, edge_data, meeting_parts, IsInRange, Reads}
 use Rattle.mvt_wire.specs.declared.scope.Scope.{Scope}
 use Rattle.mvt_wire.specs.declared.scope.Scope.TheVariants.{Tile, Layer, Value, Feature}
 use Rattle.mvt_fault.specs.declared.fault.Fault.{Fault}
@@ -14,7 +17,7 @@ use Rattle.mvt_fault.specs.declared.tag.TagCode.TheVariants.{OddLength, NoKey, N
 use Rattle.mvt_fault.specs.declared.command.CommandCode.TheVariants.{OtherCommand, OtherCount, Unfinished, GreatestParameter, OutOfBounds, NoStep}
 use Rattle.mvt_fault.specs.declared.ring.RingEdge.{RingEdge}
 use Rattle.mvt_fault.proofs.Causes.{wire_code_at, wire_code_at-code_of, tag_code_at, command_code_at, ring_code_at, ring_code_at-ring_code}
-use Rattle.mvt_fault.proofs.SignedDecimals.{signed_digits_value-signed_decimal}
+use Rattle.mvt_fault.proofs.SignedDecimals.{Writes-signed_decimal, signed_decimal-Writes}
 
 -- the whole number at a key, or 0
 abbrev number_at : List ℕ → Data → ℕ
@@ -86,59 +89,101 @@ fault_in d =
     Version (number_at (codes "layer") d))))))
 
 -- the fault can be told from its object
-fault_in-data_of : (f : Fault) → IsInRange f → fault_in (data_of f) ≡ f
-fault_in-data_of (Wire code Tile at field) in_range = ap (λ c. Wire c Tile at field) (wire_code_at-code_of code)
-fault_in-data_of (Wire code (Layer layer) at field) in_range = ap (λ c. Wire c (Layer layer) at field) (wire_code_at-code_of code)
-fault_in-data_of (Wire code (Value layer value) at field) in_range = ap (λ c. Wire c (Value layer value) at field) (wire_code_at-code_of code)
-fault_in-data_of (Wire code (Feature layer feature) at field) in_range = ap (λ c. Wire c (Feature layer feature) at field) (wire_code_at-code_of code)
-fault_in-data_of (Version layer) in_range = refl
-fault_in-data_of (Name first second) in_range = refl
-fault_in-data_of (Tag OddLength layer feature index) in_range = refl
-fault_in-data_of (Tag NoKey layer feature index) in_range = refl
-fault_in-data_of (Tag NoValue layer feature index) in_range = refl
-fault_in-data_of (Tag Repeated layer feature index) in_range = refl
-fault_in-data_of (Command OtherCommand layer feature index) in_range = refl
-fault_in-data_of (Command OtherCount layer feature index) in_range = refl
-fault_in-data_of (Command Unfinished layer feature index) in_range = refl
-fault_in-data_of (Command GreatestParameter layer feature index) in_range = refl
-fault_in-data_of (Command OutOfBounds layer feature index) in_range = refl
-fault_in-data_of (Command NoStep layer feature index) in_range = refl
-fault_in-data_of (Ring code layer feature ring) in_range = ap (λ c. Ring c layer feature ring) (ring_code_at-ring_code code)
-fault_in-data_of (Meeting layer feature polygon first second x y w) in_range = λ i. Meeting layer feature polygon first second
-    (signed_digits_value-signed_decimal x in_range.0 i) (signed_digits_value-signed_decimal y in_range.1 i) (signed_digits_value-signed_decimal w in_range.2 i)
-fault_in-data_of (Outside layer feature polygon ring vertex) in_range = refl
-fault_in-data_of (HoleInHole layer feature polygon ring vertex other) in_range = refl
+fault_in-StandsFor : (f : Fault) (d : Data) → StandsFor f d → fault_in d ≡ f
+fault_in-StandsFor (Wire code Tile at field) d stands = ap fault_in stands ∙ ap (λ c. Wire c Tile at field) (wire_code_at-code_of code)
+fault_in-StandsFor (Wire code (Layer layer) at field) d stands = ap fault_in stands ∙ ap (λ c. Wire c (Layer layer) at field) (wire_code_at-code_of code)
+fault_in-StandsFor (Wire code (Value layer value) at field) d stands = ap fault_in stands ∙ ap (λ c. Wire c (Value layer value) at field) (wire_code_at-code_of code)
+fault_in-StandsFor (Wire code (Feature layer feature) at field) d stands = ap fault_in stands ∙ ap (λ c. Wire c (Feature layer feature) at field) (wire_code_at-code_of code)
+fault_in-StandsFor (Version layer) d stands = ap fault_in stands
+fault_in-StandsFor (Name first second) d stands = ap fault_in stands
+fault_in-StandsFor (Tag OddLength layer feature index) d stands = ap fault_in stands
+fault_in-StandsFor (Tag NoKey layer feature index) d stands = ap fault_in stands
+fault_in-StandsFor (Tag NoValue layer feature index) d stands = ap fault_in stands
+fault_in-StandsFor (Tag Repeated layer feature index) d stands = ap fault_in stands
+fault_in-StandsFor (Command OtherCommand layer feature index) d stands = ap fault_in stands
+fault_in-StandsFor (Command OtherCount layer feature index) d stands = ap fault_in stands
+fault_in-StandsFor (Command Unfinished layer feature index) d stands = ap fault_in stands
+fault_in-StandsFor (Command GreatestParameter layer feature index) d stands = ap fault_in stands
+fault_in-StandsFor (Command OutOfBounds layer feature index) d stands = ap fault_in stands
+fault_in-StandsFor (Command NoStep layer feature index) d stands = ap fault_in stands
+fault_in-StandsFor (Ring code layer feature ring) d stands = ap fault_in stands ∙ ap (λ c. Ring c layer feature ring) (ring_code_at-ring_code code)
+fault_in-StandsFor (Meeting layer feature polygon first second x y w) d stands =
+    ap fault_in stands.object ∙ (λ i. Meeting layer feature polygon first second (stands.writes_x.1 i) (stands.writes_y.1 i) (stands.writes_w.1 i))
+fault_in-StandsFor (Outside layer feature polygon ring vertex) d stands = ap fault_in stands
+fault_in-StandsFor (HoleInHole layer feature polygon ring vertex other) d stands = ap fault_in stands
 
--- two faults with one object are the same
-data_of-injective : (f g : Fault) → IsInRange f → IsInRange g → data_of f ≡ data_of g → f ≡ g
-data_of-injective f g here there same =
-    sym (fault_in-data_of f here) ∙ ap fault_in same ∙ fault_in-data_of g there
+-- a value stands for one fault at most
+pub StandsFor-unique : (d : Data) (f g : Fault) → StandsFor f d → StandsFor g d → f ≡ g
+StandsFor-unique d f g here there = sym (fault_in-StandsFor f d here) ∙ fault_in-StandsFor g d there
 
--- the object of a fault is shallow enough to be read
-depth-data_of : (f : Fault) → depth (data_of f) ≤ max_depth
-depth-data_of (Wire code Tile at field) = lit≤ tt
-depth-data_of (Wire code (Layer layer) at field) = lit≤ tt
-depth-data_of (Wire code (Value layer value) at field) = lit≤ tt
-depth-data_of (Wire code (Feature layer feature) at field) = lit≤ tt
-depth-data_of (Version layer) = lit≤ tt
-depth-data_of (Name first second) = lit≤ tt
-depth-data_of (Tag code layer feature index) = lit≤ tt
-depth-data_of (Command code layer feature index) = lit≤ tt
-depth-data_of (Ring code layer feature ring) = lit≤ tt
-depth-data_of (Meeting layer feature polygon first second x y w) = lit≤ tt
-depth-data_of (Outside layer feature polygon ring vertex) = lit≤ tt
-depth-data_of (HoleInHole layer feature polygon ring vertex other) = lit≤ tt
+-- the object of a fault stands for it
+pub StandsFor-data_of : (f : Fault) → IsInRange f → StandsFor f (data_of f)
+StandsFor-data_of (Wire code scope at field) in_range = refl
+StandsFor-data_of (Version layer) in_range = refl
+StandsFor-data_of (Name first second) in_range = refl
+StandsFor-data_of (Tag code layer feature index) in_range = refl
+StandsFor-data_of (Command code layer feature index) in_range = refl
+StandsFor-data_of (Ring code layer feature ring) in_range = refl
+StandsFor-data_of (Meeting layer feature polygon first second x y w) in_range = record {
+  x_text = signed_decimal x;
+  y_text = signed_decimal y;
+  w_text = signed_decimal w;
+  writes_x = Writes-signed_decimal x in_range.0;
+  writes_y = Writes-signed_decimal y in_range.1;
+  writes_w = Writes-signed_decimal w in_range.2;
+  object = refl;
+}
+StandsFor-data_of (Outside layer feature polygon ring vertex) in_range = refl
+StandsFor-data_of (HoleInHole layer feature polygon ring vertex other) in_range = refl
+
+-- what stands for a fault in range is its object
+pub data_of-StandsFor : (f : Fault) (d : Data) → StandsFor f d → IsInRange f → d ≡ data_of f
+data_of-StandsFor (Wire code scope at field) d stands in_range = stands
+data_of-StandsFor (Version layer) d stands in_range = stands
+data_of-StandsFor (Name first second) d stands in_range = stands
+data_of-StandsFor (Tag code layer feature index) d stands in_range = stands
+data_of-StandsFor (Command code layer feature index) d stands in_range = stands
+data_of-StandsFor (Ring code layer feature ring) d stands in_range = stands
+data_of-StandsFor (Meeting layer feature polygon first second x y w) d stands in_range =
+    let same_x = signed_decimal-Writes stands.x_text x stands.writes_x in_range.0 in
+    let same_y = signed_decimal-Writes stands.y_text y stands.writes_y in_range.1 in
+    let same_w = signed_decimal-Writes stands.w_text w stands.writes_w in_range.2 in
+    stands.object ∙ sym (λ i. meeting_parts layer feature polygon (edge_data first) (edge_data second) (string (same_w i)) (string (same_x i)) (string (same_y i)))
+data_of-StandsFor (Outside layer feature polygon ring vertex) d stands in_range = stands
+data_of-StandsFor (HoleInHole layer feature polygon ring vertex other) d stands in_range = stands
+
+-- the value is shallow enough to be read, and has no float, whose text isn't known
+abbrev pub IsPlain : Data → Type 0
+IsPlain d = (depth d ≤ max_depth) × (has_float d ≡ false)
+
+-- the object of a fault is plain
+pub IsPlain-StandsFor : (f : Fault) (d : Data) → StandsFor f d → IsPlain d
+IsPlain-StandsFor (Wire code Tile at field) d stands = subst IsPlain (sym stands) (lit≤ tt, refl)
+IsPlain-StandsFor (Wire code (Layer layer) at field) d stands = subst IsPlain (sym stands) (lit≤ tt, refl)
+IsPlain-StandsFor (Wire code (Value layer value) at field) d stands = subst IsPlain (sym stands) (lit≤ tt, refl)
+IsPlain-StandsFor (Wire code (Feature layer feature) at field) d stands = subst IsPlain (sym stands) (lit≤ tt, refl)
+IsPlain-StandsFor (Version layer) d stands = subst IsPlain (sym stands) (lit≤ tt, refl)
+IsPlain-StandsFor (Name first second) d stands = subst IsPlain (sym stands) (lit≤ tt, refl)
+IsPlain-StandsFor (Tag code layer feature index) d stands = subst IsPlain (sym stands) (lit≤ tt, refl)
+IsPlain-StandsFor (Command code layer feature index) d stands = subst IsPlain (sym stands) (lit≤ tt, refl)
+IsPlain-StandsFor (Ring code layer feature ring) d stands = subst IsPlain (sym stands) (lit≤ tt, refl)
+IsPlain-StandsFor (Meeting layer feature polygon first second x y w) d stands = subst IsPlain (sym stands.object) (lit≤ tt, refl)
+IsPlain-StandsFor (Outside layer feature polygon ring vertex) d stands = subst IsPlain (sym stands) (lit≤ tt, refl)
+IsPlain-StandsFor (HoleInHole layer feature polygon ring vertex other) d stands = subst IsPlain (sym stands) (lit≤ tt, refl)
 
 -- what reads as a fault's object stands for that fault
 pub Reads-string_bytes : (f : Fault) (d : Data) (s : String Global) → d ≡ data_of f → IsInRange f
     → (depth d ≤ max_depth → read (string_bytes s) ≡ Some d) → Reads (string_bytes s) f
-Reads-string_bytes f d s same in_range back = record {
-  utf8 = IsUtf8-string_bytes s;
-  value = back (rw same (depth-data_of f)) ∙ ap Some same;
-  in_range = in_range;
-}
+Reads-string_bytes f d s same in_range back =
+    let stands : StandsFor f d = subst (StandsFor f) (sym same) (StandsFor-data_of f in_range) in
+    record {
+      utf8 = IsUtf8-string_bytes s;
+      value = back (IsPlain-StandsFor f d stands).0 ∙ ap Some same;
+      in_range = in_range;
+    }
 
 -- a text stands for one fault at most
 pub Reads-unique : (bytes : List ℕ) (f g : Fault) → Reads bytes f → Reads bytes g → g ≡ f
 Reads-unique bytes f g first second =
-    let same : data_of g ≡ data_of f = cc (first.value, second.value) in data_of-injective g f second.in_range first.in_range same
+    let same : data_of g ≡ data_of f = cc (first.value, second.value) in
+    StandsFor-unique (data_of f) g f (subst (StandsFor g) same (StandsFor-data_of g second.in_range)) (StandsFor-data_of f first.in_range)

@@ -6,6 +6,7 @@ mod command;
 mod fault;
 pub mod laws;
 mod order;
+mod reading;
 mod ring;
 mod tag;
 #[cfg(test)]
@@ -16,6 +17,7 @@ pub use command::CommandCode;
 pub use fault::{Fault, code, place};
 pub use mvt_wire::Scope;
 pub use order::Place;
+pub use reading::{FaultTextError, fault_from_text};
 pub use ring::{RingCode, RingEdge};
 pub use tag::TagCode;
 pub use text::fault_text;

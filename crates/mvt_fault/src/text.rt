@@ -2,9 +2,9 @@ ghost use Rattle.std.specs.Prelude.{◌≡◌, IfOk, OnOk, string_bytes};
 ghost use Rattle.serde_json.specs.View.{view};
 ghost use Rattle.mvt_fault.specs.Text.{data_of, text_of, IsInRange, Reads};
 
-mod polygons;
-mod rules;
-mod wire;
+pub(crate) mod polygons;
+pub(crate) mod rules;
+pub(crate) mod wire;
 
 use crate::fault::Fault;
 use polygons::{
@@ -42,7 +42,7 @@ fn fault_object(alloc: Global, fault: &Fault) -> Result<Value, AllocError>
             scope,
             at,
             field,
-        } => wire_object(alloc, code, scope, at, field),
+        } => wire_object(alloc, code, scope, at, u64::from(field)),
         Fault::Version { layer } => version_object(alloc, layer),
         Fault::Name { first, second } => name_object(alloc, first, second),
         Fault::Tag {

@@ -1,6 +1,7 @@
 //! The JSON objects of the faults of rings and polygons.
 
 ghost use Rattle.std.specs.Prelude.{◌≡◌, IfOk};
+ghost use Rattle.serde_json.specs.Data.{string};
 ghost use Rattle.serde_json.specs.View.{view};
 ghost use Rattle.mvt_fault.specs.Text.{ring_data, edge_data, digits, meeting_data, meeting_parts, outside_data, hole_in_hole_data};
 
@@ -12,7 +13,7 @@ use std::alloc::{AllocError, Global};
 /// A polygon of a tile by ordinals: of its layer, of the feature in the layer, and of the polygon in the
 /// feature.
 #[derive(Clone, Copy)]
-pub(super) struct PolygonId {
+pub(crate) struct PolygonId {
     pub layer: usize,
     pub feature: usize,
     pub polygon: usize,
@@ -20,13 +21,21 @@ pub(super) struct PolygonId {
 
 /// The point (x / w, y / w).
 #[derive(Clone, Copy)]
-pub(super) struct MeetingPoint {
+pub(crate) struct MeetingPoint {
     pub x: i128,
     pub y: i128,
     pub w: i128,
 }
 
-pub(super) fn ring_object(
+/// The numbers of such a point, in decimal digits.
+#[derive(Clone, Copy)]
+pub(crate) struct WrittenPoint<'a> {
+    pub x: &'a str,
+    pub y: &'a str,
+    pub w: &'a str,
+}
+
+pub(crate) fn ring_object(
     alloc: Global,
     code: u16,
     layer: usize,
@@ -38,7 +47,7 @@ pub(super) fn ring_object(
     json!(in alloc; {"code": code, "feature": feature, "layer": layer, "ring": ring})
 }
 
-pub(super) fn meeting_object(
+pub(crate) fn meeting_object(
     alloc: Global,
     id: PolygonId,
     first: RingEdge,
@@ -51,6 +60,24 @@ pub(super) fn meeting_object(
     let w = digits_value(alloc, point.w)?;
     let x = digits_value(alloc, point.x)?;
     let y = digits_value(alloc, point.y)?;
+    meeting_of_values(alloc, id, first, second, w, x, y)
+}
+
+/// The same of numbers that are written already, in decimal digits.
+pub(crate) fn written_meeting_object(
+    alloc: Global,
+    id: PolygonId,
+    first: RingEdge,
+    second: RingEdge,
+    point: &WrittenPoint<'_>,
+) -> Result<Value, AllocError>
+    ensures { IfOk result (λ v. view v ≡ meeting_parts id.layer id.feature id.polygon (edge_data first) (edge_data second)
+        (string point.now.w.now) (string point.now.x.now) (string point.now.y.now)) }
+{
+    let (first, second) = (edge_object(alloc, first)?, edge_object(alloc, second)?);
+    let w = string_value(alloc, point.w)?;
+    let x = string_value(alloc, point.x)?;
+    let y = string_value(alloc, point.y)?;
     meeting_of_values(alloc, id, first, second, w, x, y)
 }
 
@@ -84,7 +111,13 @@ fn digits_value(alloc: Global, number: i128) -> Result<Value, AllocError>
     Ok(Value::String(number.to_string(alloc)?))
 }
 
-pub(super) fn outside_object(
+fn string_value(alloc: Global, text: &str) -> Result<Value, AllocError>
+    ensures { IfOk result (λ v. view v ≡ string text.now) }
+{
+    Ok(Value::String(String::from_str(alloc, text)?))
+}
+
+pub(crate) fn outside_object(
     alloc: Global,
     id: PolygonId,
     ring: usize,
@@ -98,7 +131,7 @@ pub(super) fn outside_object(
     })
 }
 
-pub(super) fn hole_in_hole_object(
+pub(crate) fn hole_in_hole_object(
     alloc: Global,
     id: PolygonId,
     ring: usize,

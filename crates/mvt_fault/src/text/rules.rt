@@ -8,19 +8,19 @@ use crate::fault::{NAME_CODE, VERSION_CODE};
 use serde_json::{Value, json};
 use std::alloc::{AllocError, Global};
 
-pub(super) fn version_object(alloc: Global, layer: usize) -> Result<Value, AllocError>
+pub(crate) fn version_object(alloc: Global, layer: usize) -> Result<Value, AllocError>
     ensures { IfOk result (λ v. view v ≡ version_data layer) }
 {
     json!(in alloc; {"code": VERSION_CODE, "layer": layer})
 }
 
-pub(super) fn name_object(alloc: Global, first: usize, second: usize) -> Result<Value, AllocError>
+pub(crate) fn name_object(alloc: Global, first: usize, second: usize) -> Result<Value, AllocError>
     ensures { IfOk result (λ v. view v ≡ name_data first second) }
 {
     json!(in alloc; {"code": NAME_CODE, "first": first, "second": second})
 }
 
-pub(super) fn feature_rule_object(
+pub(crate) fn feature_rule_object(
     alloc: Global,
     code: u16,
     layer: usize,

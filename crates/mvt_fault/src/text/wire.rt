@@ -9,12 +9,12 @@ use serde_json::{Value, json};
 use std::alloc::{AllocError, Global};
 
 // One function for each scope: several objects in one are too much for the search of proofs.
-pub(super) fn wire_object(
+pub(crate) fn wire_object(
     alloc: Global,
     code: WireCode,
     scope: Scope,
     at: usize,
-    field: u32,
+    field: u64,
 ) -> Result<Value, AllocError>
     ensures { IfOk result (λ v. view v ≡ wire_data code scope at field) }
 {
@@ -26,7 +26,7 @@ pub(super) fn wire_object(
     }
 }
 
-fn tile_object(alloc: Global, code: WireCode, at: usize, field: u32) -> Result<Value, AllocError>
+fn tile_object(alloc: Global, code: WireCode, at: usize, field: u64) -> Result<Value, AllocError>
     ensures { IfOk result (λ v. view v ≡ wire_data code Scope.Tile at field) }
 {
     json!(in alloc; {"at": at, "code": code.code(), "field": field, "scope": "tile"})
@@ -37,7 +37,7 @@ fn layer_object(
     code: WireCode,
     layer: usize,
     at: usize,
-    field: u32,
+    field: u64,
 ) -> Result<Value, AllocError>
     ensures { IfOk result (λ v. view v ≡ wire_data code (Scope.Layer layer) at field) }
 {
@@ -52,7 +52,7 @@ fn value_object(
     layer: usize,
     value: usize,
     at: usize,
-    field: u32,
+    field: u64,
 ) -> Result<Value, AllocError>
     ensures { IfOk result (λ v. view v ≡ wire_data code (Scope.Value layer value) at field) }
 {
@@ -68,7 +68,7 @@ fn feature_object(
     layer: usize,
     feature: usize,
     at: usize,
-    field: u32,
+    field: u64,
 ) -> Result<Value, AllocError>
     ensures { IfOk result (λ v. view v ≡ wire_data code (Scope.Feature layer feature) at field) }
 {

@@ -1,0 +1,351 @@
+-- A value has the shape of a fault only as its candidate.
+use Rattle.std.proofs.Common.{◌≡◌, ◌≢◌, ℕ, ◌^◌, ◌<◌, ◌≤◌, ◌⊎◌, List, ℤ, get_or, Option, Some, None, MatchOption, codes, lit≤, inl, inr, refl, sym, ap, subst, ◌∙◌, arith}
+use Rattle.std.specs.Str.Parse.{signed_digits_value}
+use Rattle.serde_json.specs.Data.{Data, string}
+use Rattle.serde_json.specs.Find.{get}
+use Rattle.mvt_wire.specs.Code.{code_of}
+use Rattle.mvt_wire.specs.declared.cause.WireCode.{WireCode}
+use Rattle.mvt_wire.specs.declared.cause.WireCode.TheVariants.{Ends, TooLong, BadNumber, BadWireType, PastEnd, OtherType, Again, Missing, OneField, NotUtf8, OutOfRange}
+use Rattle.mvt_wire.specs.declared.scope.Scope.{Scope}
+use Rattle.mvt_wire.specs.declared.scope.Scope.TheVariants.{Tile, Layer, Value, Feature}
+use Rattle.mvt_fault.specs.Code.{tag_code, command_code, ring_code, fault_code}
+use Rattle.mvt_fault.specs.Candidate.{HasCode}
+use Rattle.mvt_fault.specs.Reading.{HasDecimalForm, Writes, StandsFor, IsOutOfRange}
+use Rattle.mvt_fault.specs.Text.{whole, wire_data, feature_data, ring_data, edge_data, meeting_parts, HasWidth, IsInRange}
+use Rattle.mvt_fault.specs.declared.fault.Fault.{Fault}
+use Rattle.mvt_fault.specs.declared.fault.Fault.TheVariants.{Wire, Version, Name, Tag, Command, Ring, Meeting, Outside, HoleInHole}
+use Rattle.mvt_fault.specs.declared.tag.TagCode.{TagCode}
+use Rattle.mvt_fault.specs.declared.tag.TagCode.TheVariants.{OddLength, NoKey, NoValue, Repeated}
+use Rattle.mvt_fault.specs.declared.command.CommandCode.{CommandCode}
+use Rattle.mvt_fault.specs.declared.command.CommandCode.TheVariants.{OtherCommand, OtherCount, Unfinished, GreatestParameter, OutOfBounds, NoStep}
+use Rattle.mvt_fault.specs.declared.ring.RingCode.{RingCode}
+use Rattle.mvt_fault.specs.declared.ring.RingCode.TheVariants.{EndsAtItsBeginning, NoArea, BeginsWithHole}
+use Rattle.mvt_fault.specs.declared.ring.RingEdge.{RingEdge}
+use Rattle.mvt_fault.proofs.Causes.{wire_code_at, wire_code_at-code_of}
+
+-- the numbers of the causes of wire faults
+code_of-range : (code : WireCode) → (101 ≤ code_of code) × (code_of code ≤ 111)
+code_of-range Ends = (lit≤ tt, lit≤ tt)
+code_of-range TooLong = (lit≤ tt, lit≤ tt)
+code_of-range BadNumber = (lit≤ tt, lit≤ tt)
+code_of-range BadWireType = (lit≤ tt, lit≤ tt)
+code_of-range PastEnd = (lit≤ tt, lit≤ tt)
+code_of-range OtherType = (lit≤ tt, lit≤ tt)
+code_of-range Again = (lit≤ tt, lit≤ tt)
+code_of-range Missing = (lit≤ tt, lit≤ tt)
+code_of-range OneField = (lit≤ tt, lit≤ tt)
+code_of-range NotUtf8 = (lit≤ tt, lit≤ tt)
+code_of-range OutOfRange = (lit≤ tt, lit≤ tt)
+
+-- of those of tags
+tag_code-range : (code : TagCode) → (301 ≤ tag_code code) × (tag_code code ≤ 304)
+tag_code-range OddLength = (lit≤ tt, lit≤ tt)
+tag_code-range NoKey = (lit≤ tt, lit≤ tt)
+tag_code-range NoValue = (lit≤ tt, lit≤ tt)
+tag_code-range Repeated = (lit≤ tt, lit≤ tt)
+
+-- of those of commands
+command_code-range : (code : CommandCode) → (401 ≤ command_code code) × (command_code code ≤ 406)
+command_code-range OtherCommand = (lit≤ tt, lit≤ tt)
+command_code-range OtherCount = (lit≤ tt, lit≤ tt)
+command_code-range Unfinished = (lit≤ tt, lit≤ tt)
+command_code-range GreatestParameter = (lit≤ tt, lit≤ tt)
+command_code-range OutOfBounds = (lit≤ tt, lit≤ tt)
+command_code-range NoStep = (lit≤ tt, lit≤ tt)
+
+-- of those of rings
+ring_code-range : (code : RingCode) → (501 ≤ ring_code code) × (ring_code code ≤ 503)
+ring_code-range EndsAtItsBeginning = (lit≤ tt, lit≤ tt)
+ring_code-range NoArea = (lit≤ tt, lit≤ tt)
+ring_code-range BeginsWithHole = (lit≤ tt, lit≤ tt)
+
+-- what stands for a fault has its code
+HasCode-StandsFor : (f : Fault) (d : Data) → StandsFor f d → HasCode d (fault_code f)
+HasCode-StandsFor (Wire code Tile at field) d stands = ap (get (codes "code")) stands
+HasCode-StandsFor (Wire code (Layer layer) at field) d stands = ap (get (codes "code")) stands
+HasCode-StandsFor (Wire code (Value layer value) at field) d stands = ap (get (codes "code")) stands
+HasCode-StandsFor (Wire code (Feature layer feature) at field) d stands = ap (get (codes "code")) stands
+HasCode-StandsFor (Version layer) d stands = ap (get (codes "code")) stands
+HasCode-StandsFor (Name first second) d stands = ap (get (codes "code")) stands
+HasCode-StandsFor (Tag code layer feature index) d stands = ap (get (codes "code")) stands
+HasCode-StandsFor (Command code layer feature index) d stands = ap (get (codes "code")) stands
+HasCode-StandsFor (Ring code layer feature ring) d stands = ap (get (codes "code")) stands
+HasCode-StandsFor (Meeting layer feature polygon first second x y w) d stands = ap (get (codes "code")) stands.object
+HasCode-StandsFor (Outside layer feature polygon ring vertex) d stands = ap (get (codes "code")) stands
+HasCode-StandsFor (HoleInHole layer feature polygon ring vertex other) d stands = ap (get (codes "code")) stands
+
+-- a value has one code
+HasCode-unique : (d : Data) (m n : ℕ) → HasCode d m → HasCode d n → m ≡ n
+HasCode-unique d m n here there = cc
+
+-- so a value with a code stands for faults of that code alone
+fault_code-StandsFor : (d : Data) (n : ℕ) → HasCode d n → (f : Fault) → StandsFor f d → fault_code f ≡ n
+fault_code-StandsFor d n has f stands = HasCode-unique d (fault_code f) n (HasCode-StandsFor f d stands) has
+
+-- the name of a scope
+abbrev name_of : Scope → List ℕ
+name_of Tile = codes "tile"
+name_of (Layer layer) = codes "layer"
+name_of (Value layer value) = codes "value"
+name_of (Feature layer feature) = codes "feature"
+
+-- stands in the object of its faults
+scope_text : (d : Data) (code : WireCode) (scope : Scope) (at field : ℕ) → d ≡ wire_data code scope at field → get (codes "scope") d ≡ Some (string (name_of scope))
+scope_text d code Tile at field is = ap (get (codes "scope")) is
+scope_text d code (Layer layer) at field is = ap (get (codes "scope")) is
+scope_text d code (Value layer value) at field is = ap (get (codes "scope")) is
+scope_text d code (Feature layer feature) at field is = ap (get (codes "scope")) is
+
+-- a text tells the scope of wire faults by its first letter
+module _ (d : Data) (text : List ℕ) (told : (s : List ℕ) → get (codes "scope") d ≡ Some (string s) → text ≡ s) where
+  first_letter : (code : WireCode) (scope : Scope) (at field : ℕ) → d ≡ wire_data code scope at field → get_or text 0 0 ≡ get_or (name_of scope) 0 0
+  first_letter code scope at field is = ap (λ t. get_or t 0 0) (told (name_of scope) (scope_text d code scope at field is))
+
+  pub layer_scope : (layer : ℕ) → text ≡ codes "layer" → ((n : ℕ) → get (codes "layer") d ≡ Some (whole n) → layer ≡ n)
+      → (code : WireCode) (scope : Scope) (at field : ℕ) → d ≡ wire_data code scope at field → Layer layer ≡ scope
+  layer_scope layer is at_layer code Tile at field same = absurd (omega (arith, ap (λ t. get_or t 0 0) is, first_letter code Tile at field same))
+  layer_scope layer is at_layer code (Layer l) at field same = ap Layer (at_layer l (ap (get (codes "layer")) same))
+  layer_scope layer is at_layer code (Value l v) at field same = absurd (omega (arith, ap (λ t. get_or t 0 0) is, first_letter code (Value l v) at field same))
+  layer_scope layer is at_layer code (Feature l f) at field same = absurd (omega (arith, ap (λ t. get_or t 0 0) is, first_letter code (Feature l f) at field same))
+
+  pub value_scope : (layer value : ℕ) → text ≡ codes "value" → ((n : ℕ) → get (codes "layer") d ≡ Some (whole n) → layer ≡ n)
+      → ((n : ℕ) → get (codes "value") d ≡ Some (whole n) → value ≡ n)
+      → (code : WireCode) (scope : Scope) (at field : ℕ) → d ≡ wire_data code scope at field → Value layer value ≡ scope
+  value_scope layer value is at_layer at_value code Tile at field same = absurd (omega (arith, ap (λ t. get_or t 0 0) is, first_letter code Tile at field same))
+  value_scope layer value is at_layer at_value code (Layer l) at field same = absurd (omega (arith, ap (λ t. get_or t 0 0) is, first_letter code (Layer l) at field same))
+  value_scope layer value is at_layer at_value code (Value l v) at field same =
+      λ i. Value (at_layer l (ap (get (codes "layer")) same) i) (at_value v (ap (get (codes "value")) same) i)
+  value_scope layer value is at_layer at_value code (Feature l f) at field same = absurd (omega (arith, ap (λ t. get_or t 0 0) is, first_letter code (Feature l f) at field same))
+
+  pub feature_scope : (layer feature : ℕ) → text ≡ codes "feature" → ((n : ℕ) → get (codes "layer") d ≡ Some (whole n) → layer ≡ n)
+      → ((n : ℕ) → get (codes "feature") d ≡ Some (whole n) → feature ≡ n)
+      → (code : WireCode) (scope : Scope) (at field : ℕ) → d ≡ wire_data code scope at field → Feature layer feature ≡ scope
+  feature_scope layer feature is at_layer at_feature code Tile at field same = absurd (omega (arith, ap (λ t. get_or t 0 0) is, first_letter code Tile at field same))
+  feature_scope layer feature is at_layer at_feature code (Layer l) at field same = absurd (omega (arith, ap (λ t. get_or t 0 0) is, first_letter code (Layer l) at field same))
+  feature_scope layer feature is at_layer at_feature code (Value l v) at field same = absurd (omega (arith, ap (λ t. get_or t 0 0) is, first_letter code (Value l v) at field same))
+  feature_scope layer feature is at_layer at_feature code (Feature l f) at field same =
+      λ i. Feature (at_layer l (ap (get (codes "layer")) same) i) (at_feature f (ap (get (codes "feature")) same) i)
+
+  pub tile_scope : text ≢ codes "layer" → text ≢ codes "value" → text ≢ codes "feature"
+      → (code : WireCode) (scope : Scope) (at field : ℕ) → d ≡ wire_data code scope at field → Tile ≡ scope
+  tile_scope no_layer no_value no_feature code Tile at field same = refl
+  tile_scope no_layer no_value no_feature code (Layer l) at field same = absurd (no_layer (told (codes "layer") (scope_text d code (Layer l) at field same)))
+  tile_scope no_layer no_value no_feature code (Value l v) at field same = absurd (no_value (told (codes "value") (scope_text d code (Value l v) at field same)))
+  tile_scope no_layer no_value no_feature code (Feature l f) at field same = absurd (no_feature (told (codes "feature") (scope_text d code (Feature l f) at field same)))
+
+-- so do the place and the field of a wire fault
+at_in : (d : Data) (code : WireCode) (scope : Scope) (at field : ℕ) → d ≡ wire_data code scope at field → get (codes "at") d ≡ Some (whole at)
+at_in d code Tile at field is = ap (get (codes "at")) is
+at_in d code (Layer layer) at field is = ap (get (codes "at")) is
+at_in d code (Value layer value) at field is = ap (get (codes "at")) is
+at_in d code (Feature layer feature) at field is = ap (get (codes "at")) is
+
+field_in : (d : Data) (code : WireCode) (scope : Scope) (at field : ℕ) → d ≡ wire_data code scope at field → get (codes "field") d ≡ Some (whole field)
+field_in d code Tile at field is = ap (get (codes "field")) is
+field_in d code (Layer layer) at field is = ap (get (codes "field")) is
+field_in d code (Value layer value) at field is = ap (get (codes "field")) is
+field_in d code (Feature layer feature) at field is = ap (get (codes "field")) is
+
+-- the causes of wire faults have different numbers
+code_of-injective : (a b : WireCode) → code_of a ≡ code_of b → a ≡ b
+code_of-injective a b same = sym (wire_code_at-code_of a) ∙ ap wire_code_at same ∙ wire_code_at-code_of b
+
+-- a value with the code of a wire fault has the shape of a fault only as the object of what is read in it
+pub wire_only : (d built : Data) (code : WireCode) (scope : Scope) (at field : ℕ) → HasCode d (code_of code)
+    → ((c : WireCode) (s : Scope) (a n : ℕ) → d ≡ wire_data c s a n → scope ≡ s)
+    → ((n : ℕ) → get (codes "at") d ≡ Some (whole n) → at ≡ n)
+    → ((n : ℕ) → get (codes "field") d ≡ Some (whole n) → field ≡ n)
+    → built ≡ wire_data code scope at field → (f : Fault) → StandsFor f d → d ≡ built
+wire_only d built code scope at field has told_scope told_at told_field made (Wire c s a n) stands =
+    let same_code = code_of-injective code c (sym (fault_code-StandsFor d (code_of code) has (Wire c s a n) stands)) in
+    let same_scope = told_scope c s a n stands in
+    let same_at = told_at a (at_in d c s a n stands) in
+    let same_field = told_field n (field_in d c s a n stands) in
+    stands ∙ sym (λ i. wire_data (same_code i) (same_scope i) (same_at i) (same_field i)) ∙ sym made
+wire_only d built code scope at field has told_scope told_at told_field made (Version layer) stands =
+    absurd (omega (arith, code_of-range code, fault_code-StandsFor d (code_of code) has (Version layer) stands))
+wire_only d built code scope at field has told_scope told_at told_field made (Name first second) stands =
+    absurd (omega (arith, code_of-range code, fault_code-StandsFor d (code_of code) has (Name first second) stands))
+wire_only d built code scope at field has told_scope told_at told_field made (Tag c layer feature index) stands =
+    absurd (omega (arith, code_of-range code, tag_code-range c, fault_code-StandsFor d (code_of code) has (Tag c layer feature index) stands))
+wire_only d built code scope at field has told_scope told_at told_field made (Command c layer feature index) stands =
+    absurd (omega (arith, code_of-range code, command_code-range c, fault_code-StandsFor d (code_of code) has (Command c layer feature index) stands))
+wire_only d built code scope at field has told_scope told_at told_field made (Ring c layer feature ring) stands =
+    absurd (omega (arith, code_of-range code, ring_code-range c, fault_code-StandsFor d (code_of code) has (Ring c layer feature ring) stands))
+wire_only d built code scope at field has told_scope told_at told_field made (Meeting layer feature polygon first second x y w) stands =
+    absurd (omega (arith, code_of-range code, fault_code-StandsFor d (code_of code) has (Meeting layer feature polygon first second x y w) stands))
+wire_only d built code scope at field has told_scope told_at told_field made (Outside layer feature polygon ring vertex) stands =
+    absurd (omega (arith, code_of-range code, fault_code-StandsFor d (code_of code) has (Outside layer feature polygon ring vertex) stands))
+wire_only d built code scope at field has told_scope told_at told_field made (HoleInHole layer feature polygon ring vertex other) stands =
+    absurd (omega (arith, code_of-range code, fault_code-StandsFor d (code_of code) has (HoleInHole layer feature polygon ring vertex other) stands))
+
+-- the object of a wire fault stands for it, in range or not
+pub wire_in_range : (built : Data) (code : WireCode) (scope : Scope) (at field : ℕ) (o : Option Fault) → built ≡ wire_data code scope at field
+    → MatchOption o (2 ^ 32 ≤ field) (λ f. (f ≡ Wire code scope at field) × (field < 2 ^ 32))
+    → MatchOption o (IsOutOfRange built) (λ f. StandsFor f built × IsInRange f)
+wire_in_range built code scope at field None made large = (Wire code scope at field, made, λ small. omega arith)
+wire_in_range built code scope at field (Some f) made told =
+    (subst (λ g. StandsFor g built) (sym told.0) made, subst IsInRange (sym told.0) told.1)
+
+-- both are between those of names and of rings
+pub tag_code-bounds : (code : TagCode) → (301 ≤ tag_code code) × (tag_code code ≤ 406)
+tag_code-bounds code = let range = tag_code-range code in (range.0, omega (arith, range.1))
+
+pub command_code-bounds : (code : CommandCode) → (301 ≤ command_code code) × (command_code code ≤ 406)
+command_code-bounds code = let range = command_code-range code in (omega (arith, range.0), range.1)
+
+-- what a value with a number as its code has, read as a fault in a feature
+same_feature : (d built : Data) (n layer feature index : ℕ)
+    → ((m : ℕ) → get (codes "layer") d ≡ Some (whole m) → layer ≡ m)
+    → ((m : ℕ) → get (codes "feature") d ≡ Some (whole m) → feature ≡ m)
+    → ((m : ℕ) → get (codes "index") d ≡ Some (whole m) → index ≡ m)
+    → built ≡ feature_data n layer feature index → (m l g i : ℕ) → m ≡ n → d ≡ feature_data m l g i → d ≡ built
+same_feature d built n layer feature index told_layer told_feature told_index made m l g i same_code stands =
+    let same_layer = told_layer l (ap (get (codes "layer")) stands) in
+    let same_feature = told_feature g (ap (get (codes "feature")) stands) in
+    let same_index = told_index i (ap (get (codes "index")) stands) in
+    stands ∙ (λ j. feature_data (same_code j) (sym same_layer j) (sym same_feature j) (sym same_index j)) ∙ sym made
+
+-- a value with the code of a fault of tags or commands has the shape of a fault only as the object of what is read in it
+pub feature_only : (d built : Data) (n layer feature index : ℕ) → HasCode d n → (301 ≤ n) × (n ≤ 406)
+    → ((m : ℕ) → get (codes "layer") d ≡ Some (whole m) → layer ≡ m)
+    → ((m : ℕ) → get (codes "feature") d ≡ Some (whole m) → feature ≡ m)
+    → ((m : ℕ) → get (codes "index") d ≡ Some (whole m) → index ≡ m)
+    → built ≡ feature_data n layer feature index → (f : Fault) → StandsFor f d → d ≡ built
+feature_only d built n layer feature index has range told_layer told_feature told_index made (Tag c l g i) stands =
+    same_feature d built n layer feature index told_layer told_feature told_index made (tag_code c) l g i
+    (fault_code-StandsFor d n has (Tag c l g i) stands) stands
+feature_only d built n layer feature index has range told_layer told_feature told_index made (Command c l g i) stands =
+    same_feature d built n layer feature index told_layer told_feature told_index made (command_code c) l g i
+    (fault_code-StandsFor d n has (Command c l g i) stands) stands
+feature_only d built n layer feature index has range told_layer told_feature told_index made (Wire c s a m) stands =
+    absurd (omega (arith, range, code_of-range c, fault_code-StandsFor d n has (Wire c s a m) stands))
+feature_only d built n layer feature index has range told_layer told_feature told_index made (Version l) stands =
+    absurd (omega (arith, range, fault_code-StandsFor d n has (Version l) stands))
+feature_only d built n layer feature index has range told_layer told_feature told_index made (Name first second) stands =
+    absurd (omega (arith, range, fault_code-StandsFor d n has (Name first second) stands))
+feature_only d built n layer feature index has range told_layer told_feature told_index made (Ring c l g r) stands =
+    absurd (omega (arith, range, ring_code-range c, fault_code-StandsFor d n has (Ring c l g r) stands))
+feature_only d built n layer feature index has range told_layer told_feature told_index made (Meeting l g p first second x y w) stands =
+    absurd (omega (arith, range, fault_code-StandsFor d n has (Meeting l g p first second x y w) stands))
+feature_only d built n layer feature index has range told_layer told_feature told_index made (Outside l g p r vertex) stands =
+    absurd (omega (arith, range, fault_code-StandsFor d n has (Outside l g p r vertex) stands))
+feature_only d built n layer feature index has range told_layer told_feature told_index made (HoleInHole l g p r vertex other) stands =
+    absurd (omega (arith, range, fault_code-StandsFor d n has (HoleInHole l g p r vertex other) stands))
+
+-- a value with the code of a fault of a ring has the shape of a fault only as the object of what is read in it
+pub ring_only : (d built : Data) (code : RingCode) (layer feature ring : ℕ) → HasCode d (ring_code code)
+    → ((n : ℕ) → get (codes "layer") d ≡ Some (whole n) → layer ≡ n)
+    → ((n : ℕ) → get (codes "feature") d ≡ Some (whole n) → feature ≡ n)
+    → ((n : ℕ) → get (codes "ring") d ≡ Some (whole n) → ring ≡ n)
+    → built ≡ ring_data (ring_code code) layer feature ring → (f : Fault) → StandsFor f d → d ≡ built
+ring_only d built code layer feature ring has told_layer told_feature told_ring made (Ring c l g r) stands =
+    let same_code : ring_code c ≡ ring_code code = fault_code-StandsFor d (ring_code code) has (Ring c l g r) stands in
+    let same_layer = told_layer l (ap (get (codes "layer")) stands) in
+    let same_feature = told_feature g (ap (get (codes "feature")) stands) in
+    let same_ring = told_ring r (ap (get (codes "ring")) stands) in
+    stands ∙ (λ i. ring_data (same_code i) (sym same_layer i) (sym same_feature i) (sym same_ring i)) ∙ sym made
+ring_only d built code layer feature ring has told_layer told_feature told_ring made (Wire c s a n) stands =
+    absurd (omega (arith, ring_code-range code, code_of-range c, fault_code-StandsFor d (ring_code code) has (Wire c s a n) stands))
+ring_only d built code layer feature ring has told_layer told_feature told_ring made (Version l) stands =
+    absurd (omega (arith, ring_code-range code, fault_code-StandsFor d (ring_code code) has (Version l) stands))
+ring_only d built code layer feature ring has told_layer told_feature told_ring made (Name first second) stands =
+    absurd (omega (arith, ring_code-range code, fault_code-StandsFor d (ring_code code) has (Name first second) stands))
+ring_only d built code layer feature ring has told_layer told_feature told_ring made (Tag c l g index) stands =
+    absurd (omega (arith, ring_code-range code, tag_code-range c, fault_code-StandsFor d (ring_code code) has (Tag c l g index) stands))
+ring_only d built code layer feature ring has told_layer told_feature told_ring made (Command c l g index) stands =
+    absurd (omega (arith, ring_code-range code, command_code-range c, fault_code-StandsFor d (ring_code code) has (Command c l g index) stands))
+ring_only d built code layer feature ring has told_layer told_feature told_ring made (Meeting l g polygon first second x y w) stands =
+    absurd (omega (arith, ring_code-range code, fault_code-StandsFor d (ring_code code) has (Meeting l g polygon first second x y w) stands))
+ring_only d built code layer feature ring has told_layer told_feature told_ring made (Outside l g polygon r vertex) stands =
+    absurd (omega (arith, ring_code-range code, fault_code-StandsFor d (ring_code code) has (Outside l g polygon r vertex) stands))
+ring_only d built code layer feature ring has told_layer told_feature told_ring made (HoleInHole l g polygon r vertex other) stands =
+    absurd (omega (arith, ring_code-range code, fault_code-StandsFor d (ring_code code) has (HoleInHole l g polygon r vertex other) stands))
+
+-- an edge's ordinals are those of its object
+pub edge_told : (d : Data) (key : List ℕ) (built : Data) (ring edge : ℕ) (it : RingEdge) → Some built ≡ get key d → get key d ≡ Some (edge_data it)
+    → ((n : ℕ) → get (codes "ring") built ≡ Some (whole n) → ring ≡ n)
+    → ((n : ℕ) → get (codes "edge") built ≡ Some (whole n) → edge ≡ n)
+    → ◌≡◌ {A = RingEdge} (record { ring = ring; edge = edge }) it
+edge_told d key built ring edge it found is told_ring told_edge =
+    let same : built ≡ edge_data it = cc in
+    let same_ring = told_ring it.ring (ap (get (codes "ring")) same) in
+    let same_edge = told_edge it.edge (ap (get (codes "edge")) same) in
+    λ i. record { ring = same_ring i; edge = same_edge i }
+
+-- what is told of the parts of a meeting's object
+pub record IsMeetingTold (d : Data) (layer feature polygon : ℕ) (first second : RingEdge) (x y w : List ℕ) : Type 0 where
+  pub layer_told : (n : ℕ) → get (codes "layer") d ≡ Some (whole n) → layer ≡ n
+  pub feature_told : (n : ℕ) → get (codes "feature") d ≡ Some (whole n) → feature ≡ n
+  pub polygon_told : (n : ℕ) → get (codes "polygon") d ≡ Some (whole n) → polygon ≡ n
+  pub first_told : (it : RingEdge) → get (codes "first") d ≡ Some (edge_data it) → first ≡ it
+  pub second_told : (it : RingEdge) → get (codes "second") d ≡ Some (edge_data it) → second ≡ it
+  pub x_told : (s : List ℕ) → HasDecimalForm s → get (codes "x") d ≡ Some (string s) → x ≡ s
+  pub y_told : (s : List ℕ) → HasDecimalForm s → get (codes "y") d ≡ Some (string s) → y ≡ s
+  pub w_told : (s : List ℕ) → HasDecimalForm s → get (codes "w") d ≡ Some (string s) → w ≡ s
+
+-- a value with the code of a meeting has the shape of a fault only as the object of what is read in it
+pub meeting_only : (d built : Data) (layer feature polygon : ℕ) (first second : RingEdge) (x y w : List ℕ) → HasCode d 504
+    → IsMeetingTold d layer feature polygon first second x y w
+    → built ≡ meeting_parts layer feature polygon (edge_data first) (edge_data second) (string w) (string x) (string y)
+    → (f : Fault) → StandsFor f d → d ≡ built
+meeting_only d built layer feature polygon first second x y w has told made (Meeting l g p e h a b c) stands =
+    let same_layer = told.layer_told l (ap (get (codes "layer")) stands.object) in
+    let same_feature = told.feature_told g (ap (get (codes "feature")) stands.object) in
+    let same_polygon = told.polygon_told p (ap (get (codes "polygon")) stands.object) in
+    let same_first = told.first_told e (ap (get (codes "first")) stands.object) in
+    let same_second = told.second_told h (ap (get (codes "second")) stands.object) in
+    let same_x = told.x_told stands.x_text stands.writes_x.0 (ap (get (codes "x")) stands.object) in
+    let same_y = told.y_told stands.y_text stands.writes_y.0 (ap (get (codes "y")) stands.object) in
+    let same_w = told.w_told stands.w_text stands.writes_w.0 (ap (get (codes "w")) stands.object) in
+    stands.object
+    ∙ sym (λ i. meeting_parts (same_layer i) (same_feature i) (same_polygon i) (edge_data (same_first i)) (edge_data (same_second i)) (string (same_w i)) (string (same_x i)) (string (same_y i)))
+    ∙ sym made
+meeting_only d built layer feature polygon first second x y w has told made (Wire c s a n) stands =
+    absurd (omega (arith, code_of-range c, fault_code-StandsFor d 504 has (Wire c s a n) stands))
+meeting_only d built layer feature polygon first second x y w has told made (Version l) stands =
+    absurd (omega (arith, fault_code-StandsFor d 504 has (Version l) stands))
+meeting_only d built layer feature polygon first second x y w has told made (Name f s) stands =
+    absurd (omega (arith, fault_code-StandsFor d 504 has (Name f s) stands))
+meeting_only d built layer feature polygon first second x y w has told made (Tag c l g index) stands =
+    absurd (omega (arith, tag_code-range c, fault_code-StandsFor d 504 has (Tag c l g index) stands))
+meeting_only d built layer feature polygon first second x y w has told made (Command c l g index) stands =
+    absurd (omega (arith, command_code-range c, fault_code-StandsFor d 504 has (Command c l g index) stands))
+meeting_only d built layer feature polygon first second x y w has told made (Ring c l g r) stands =
+    absurd (omega (arith, ring_code-range c, fault_code-StandsFor d 504 has (Ring c l g r) stands))
+meeting_only d built layer feature polygon first second x y w has told made (Outside l g p r vertex) stands =
+    absurd (omega (arith, fault_code-StandsFor d 504 has (Outside l g p r vertex) stands))
+meeting_only d built layer feature polygon first second x y w has told made (HoleInHole l g p r vertex other) stands =
+    absurd (omega (arith, fault_code-StandsFor d 504 has (HoleInHole l g p r vertex other) stands))
+
+-- a number of a point doesn't have 128 bits
+abbrev pub HasNoWidth : List ℕ → Type 0
+HasNoWidth s = (z : ℤ) → Writes s z → ¬ HasWidth z
+
+-- then the object of a meeting is out of range
+pub meeting_out_of_range : (o : Option Fault) → o ≡ None → (d : Data) (layer feature polygon : ℕ) (first second : RingEdge) (x y w : List ℕ)
+    → HasDecimalForm x → HasDecimalForm y → HasDecimalForm w
+    → d ≡ meeting_parts layer feature polygon (edge_data first) (edge_data second) (string w) (string x) (string y)
+    → (HasNoWidth x ⊎ (HasNoWidth y ⊎ HasNoWidth w)) → MatchOption o (IsOutOfRange d) (λ f. StandsFor f d × IsInRange f)
+meeting_out_of_range o none d layer feature polygon first second x y w x_form y_form w_form made out =
+    subst (λ p. MatchOption p (IsOutOfRange d) (λ f. StandsFor f d × IsInRange f)) (sym none) (
+      Meeting layer feature polygon first second (signed_digits_value 10 x) (signed_digits_value 10 y) (signed_digits_value 10 w),
+      record { x_text = x; y_text = y; w_text = w; writes_x = (x_form, refl); writes_y = (y_form, refl); writes_w = (w_form, refl); object = made },
+      λ in_range. elim out [
+        | inl wide_x ↦ wide_x (signed_digits_value 10 x) (x_form, refl) in_range.0
+        | inr others ↦ elim others [
+          | inl wide_y ↦ wide_y (signed_digits_value 10 y) (y_form, refl) in_range.1
+          | inr wide_w ↦ wide_w (signed_digits_value 10 w) (w_form, refl) in_range.2
+        ]
+      ],
+    )
+
+-- and where its numbers have 128 bits it is in range
+pub meeting_in_range : (d : Data) (layer feature polygon : ℕ) (first second : RingEdge) (x y w : List ℕ) (a b c : ℤ)
+    → Writes x a × HasWidth a → Writes y b × HasWidth b → Writes w c × HasWidth c
+    → d ≡ meeting_parts layer feature polygon (edge_data first) (edge_data second) (string w) (string x) (string y)
+    → StandsFor (Meeting layer feature polygon first second a b c) d × IsInRange (Meeting layer feature polygon first second a b c)
+meeting_in_range d layer feature polygon first second x y w a b c of_x of_y of_w made = (
+  record { x_text = x; y_text = y; w_text = w; writes_x = of_x.0; writes_y = of_y.0; writes_w = of_w.0; object = made },
+  (of_x.1, of_y.1, of_w.1),
+)

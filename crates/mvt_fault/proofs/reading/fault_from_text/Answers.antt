@@ -1,0 +1,14 @@
+use Rattle.mvt_fault.proofs.FaultTexts.{Reads-answer, alone-answer, refused-answer, range-answer}
+use Rattle.mvt_fault.proofs.reading.fault_from_text.Goals as goal
+
+pub returns-in-Ok-clause-ok : goal.returns-in-Ok-clause-ok
+returns-in-Ok-clause-ok c = Reads-answer c.args.bytes.now _ _ c.in-Ok.ensures.ok c.fault_of.ensures
+
+pub returns-in-Ok-clause-alone : goal.returns-in-Ok-clause-alone
+returns-in-Ok-clause-alone c = alone-answer c.args.bytes.now _ _ c.in-Ok.ensures.ok c.fault_of.ensures
+
+pub returns-in-Ok-clause-refused : goal.returns-in-Ok-clause-refused
+returns-in-Ok-clause-refused c = refused-answer c.args.bytes.now _ _ c.in-Ok.ensures.ok c.fault_of.ensures
+
+pub returns-in-Ok-clause-range : goal.returns-in-Ok-clause-range
+returns-in-Ok-clause-range c = range-answer c.args.bytes.now _ _ c.in-Ok.ensures.ok c.fault_of.ensures
