@@ -1,16 +1,14 @@
 -- Edges with their numbers, and what is told of edges that come one behind another (Mapbox Vector Tile Specification 2.1,
 -- section 4.3.4.4).
-use Rattle.std.specs.Prelude.{◌≡◌, ◌↔◌, ◌*◌, ◌^◌, ℕ, IsTrue, List, length, slice_get, Some}
+use Rattle.std.specs.Prelude.{◌≡◌, ◌↔◌, ℕ, IsTrue, List, length, slice_get, Some}
 use Rattle.mvt_confirm.specs.PolygonFault.{number_of}
-use Rattle.mvt_confirm.specs.declared.area_sum.AreaSum.{AreaSum}
 use Rattle.mvt_confirm.specs.declared.crossings.Crossings.{Crossings}
 use Rattle.mvt_confirm.specs.declared.edge_tests.NumberedEdge.{NumberedEdge}
-use Rattle.mvt_plane.specs.Bound.{IsWithin}
 use Rattle.mvt_plane.specs.Inside.{PassesOver, HoldsOfOdd}
 use Rattle.mvt_plane.specs.Meeting.{IsEdgeOf}
 use Rattle.mvt_plane.specs.Position.{Position}
 use Rattle.mvt_plane.specs.RationalPoint.{RationalPoint, IsAt}
-use Rattle.mvt_plane.specs.Ring.{next_round, area_of_edges}
+use Rattle.mvt_plane.specs.Ring.{next_round}
 use Rattle.mvt_plane.specs.declared.edge.Edge.{Edge}
 
 -- the two are edges of these rings by their numbers, and where they are in one ring, it has this number of vertices
@@ -27,8 +25,3 @@ IsApartBehind first second vertex_count point =
 -- the parity is that of those of the edges that pass over the position
 abbrev pub IsParityOf : Crossings → Position → List Edge → Type 0
 IsParityOf crossings position passed = IsTrue crossings.is_odd ↔ HoldsOfOdd (PassesOver position) passed
-
--- the sum is the doubled area of these edges, and at most 2^61 an edge
-pub record IsAreaOf (area : AreaSum) (passed : List Edge) : Type 0 where
-  pub sum : area.sum ≡ area_of_edges passed
-  pub bound : IsWithin (2 ^ 61 * length passed) area.sum

@@ -2,9 +2,12 @@ pub mod Commands
 pub mod Corners
 pub mod EdgeTests
 pub mod Feature
+pub mod FeatureBytes
 pub mod Geometry
 pub mod Packed
 pub mod PolygonFault
+pub mod Polygons
+pub mod RingEdges
 pub mod Rings
 pub mod Shows
 pub mod Stretch

@@ -38,3 +38,10 @@ Shows bytes (Outside layer feature polygon ring vertex) =
     OfFeature bytes layer feature (λ whose it. OfRings it (λ rings. IsVertexOutside rings polygon ring vertex))
 Shows bytes (HoleInHole layer feature polygon ring vertex other) =
     OfFeature bytes layer feature (λ whose it. OfRings it (λ rings. IsVertexInHole rings polygon ring vertex other))
+
+-- the fault is one of a polygon
+abbrev pub IsOfPolygon : Fault → Type 0
+IsOfPolygon (Meeting layer feature polygon first second x y w) = Unit {0}
+IsOfPolygon (Outside layer feature polygon ring vertex) = Unit {0}
+IsOfPolygon (HoleInHole layer feature polygon ring vertex other) = Unit {0}
+IsOfPolygon fault = ⊥

@@ -54,6 +54,13 @@ impl<'a> Corners<'a> {
         }
     }
 
+    /// How many vertices of the same ring come next; none in front of a ring.
+    pub(crate) fn vertices_left(&self) -> u32
+        ensures { result ≡ self.now.left }
+    {
+        self.left
+    }
+
     /// The next vertex; None where no ring is left.
     pub(crate) fn next_corner(&mut self) -> Option<Corner>
         ensures corner { IfSome result (GivesCorner self.old self.new) }

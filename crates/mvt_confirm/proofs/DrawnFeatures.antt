@@ -1,0 +1,91 @@
+-- What a test tells of the bytes of a feature, or of the rings that it draws, it tells of the feature with these ordinals.
+use Rattle.std.proofs.Common.{◌≡◌, ◌↔◌, ℕ, Bool, IsTrue, false, List, subst}
+use Rattle.mvt_plane.specs.Geometry.{HasRings}
+use Rattle.mvt_plane.specs.Position.{Position}
+use Rattle.mvt_wire.specs.Rules.{IsFeatureOf}
+use Rattle.mvt_wire.specs.Tile.{FeatureRecord, LayerRecord, TileRecord, IsTile}
+use Rattle.mvt_confirm.specs.Feature.{OfRings}
+use Rattle.mvt_confirm.specs.FeatureBytes.{DrawsRings, FeaturePlace, IsFeatureAt}
+use Rattle.mvt_confirm.specs.Shows.{OfFeature}
+use Rattle.mvt_confirm.proofs.TileFeatures.{feature_of_this_tile, one_feature_of, one_list_of_rings}
+
+module _ (bytes : List ℕ) (layer feature : ℕ) where
+  -- the feature with these ordinals stands at a place
+  abbrev StandsThere : FeaturePlace → Type 0
+  StandsThere place = (tile : TileRecord) → IsTile bytes tile → (whose : LayerRecord) × (it : FeatureRecord) × IsFeatureOf tile layer feature whose it × IsFeatureAt place it
+
+  -- and draws rings there
+  abbrev DrawsThere : FeaturePlace → Type 0
+  DrawsThere place =
+      (tile : TileRecord) → IsTile bytes tile → (whose : LayerRecord) × (it : FeatureRecord) × (rings : List (List Position))
+      × IsFeatureOf tile layer feature whose it × HasRings it.kind it.geometry rings × DrawsRings place rings
+
+  -- there is no feature with these ordinals
+  abbrev IsNowhere : Type 0
+  IsNowhere = (tile : TileRecord) (whose : LayerRecord) (it : FeatureRecord) → IsTile bytes tile → ¬ IsFeatureOf tile layer feature whose it
+
+  -- or none that draws rings
+  abbrev DrawsNowhere : Type 0
+  DrawsNowhere =
+      (tile : TileRecord) (whose : LayerRecord) (it : FeatureRecord) (rings : List (List Position)) → IsTile bytes tile
+      → IsFeatureOf tile layer feature whose it → ¬ HasRings it.kind it.geometry rings
+
+  -- a test of the feature that stands there
+  pub place_tells : (tile : TileRecord) (place : FeaturePlace) (test : Bool) (Holds : FeatureRecord → Type 0) → IsTile bytes tile → StandsThere place
+      → ((it : FeatureRecord) → IsFeatureAt place it → IsTrue test ↔ Holds it) → IsTrue test ↔ OfFeature bytes layer feature (λ whose it. Holds it)
+  place_tells tile place test Holds is stands tells =
+      let found = stands tile is in
+      let its = tells found.1 found.3 in (
+        λ holds. (found.0, found.1, record { tile = tile; is = is; there = found.2 }, its.0 holds),
+        λ shown.
+            let there = feature_of_this_tile bytes tile layer feature shown.0 shown.1 is shown.2 in
+            let same = one_feature_of tile layer feature shown.0 found.0 shown.1 found.1 there found.2 in
+            its.1 (subst Holds same.1 shown.3),
+      )
+
+  -- where there is no feature, nothing is true of it
+  pub nothing_told : (tile : TileRecord) (Holds : LayerRecord → FeatureRecord → Type 0) → IsTile bytes tile → IsNowhere
+      → IsTrue false ↔ OfFeature bytes layer feature Holds
+  nothing_told tile Holds is nowhere =
+      (λ holds. absurd (cc holds), λ shown. absurd (nowhere tile shown.0 shown.1 is (feature_of_this_tile bytes tile layer feature shown.0 shown.1 is shown.2)))
+
+  -- a test of the rings that are drawn there
+  pub rings_tell : (tile : TileRecord) (place : FeaturePlace) (test : Bool) (Holds : List (List Position) → Type 0) → IsTile bytes tile → DrawsThere place
+      → ((rings : List (List Position)) → DrawsRings place rings → IsTrue test ↔ Holds rings)
+      → IsTrue test ↔ OfFeature bytes layer feature (λ whose it. OfRings it Holds)
+  rings_tell tile place test Holds is draws tells =
+      let found = draws tile is in
+      let its = tells found.2 found.5 in (
+        λ holds. (found.0, found.1, record { tile = tile; is = is; there = found.3 }, (found.2, found.4, its.0 holds)),
+        λ shown.
+            let there = feature_of_this_tile bytes tile layer feature shown.0 shown.1 is shown.2 in
+            let same = one_feature_of tile layer feature shown.0 found.0 shown.1 found.1 there found.3 in
+            let drawn = subst (λ (it : FeatureRecord). HasRings it.kind it.geometry shown.3.0) same.1 shown.3.1 in
+            its.1 (subst Holds (one_list_of_rings found.1 shown.3.0 found.2 drawn found.4) shown.3.2),
+      )
+
+  -- where no feature draws rings, nothing is true of them
+  pub no_rings_told : (tile : TileRecord) (Holds : List (List Position) → Type 0) → IsTile bytes tile → DrawsNowhere
+      → IsTrue false ↔ OfFeature bytes layer feature (λ whose it. OfRings it Holds)
+  no_rings_told tile Holds is nowhere = (
+    λ holds. absurd (cc holds),
+    λ shown.
+        absurd (nowhere tile shown.0 shown.1 shown.3.0 is (feature_of_this_tile bytes tile layer feature shown.0 shown.1 is shown.2) shown.3.1),
+  )
+
+  module _ (place : FeaturePlace) (test : Bool) (stands : StandsThere place)
+      (tells : (it : FeatureRecord) → IsFeatureAt place it → IsTrue test ↔ ((rings : List (List Position)) × HasRings it.kind it.geometry rings)) where
+    -- a feature of which it is told that it draws rings
+    pub draws_told : IsTrue test → DrawsThere place
+    draws_told holds = λ tile is.
+        let found = stands tile is in
+        let drawn = (tells found.1 found.3).0 holds in
+        (found.0, found.1, drawn.0, found.2, drawn.1, record { it = found.1; is = found.3; drawn = drawn.1 })
+
+    -- and one of which it isn't
+    pub none_told : test ≡ false → DrawsNowhere
+    none_told fails = λ tile whose it rings is there drawn.
+        let found = stands tile is in
+        let same = one_feature_of tile layer feature whose found.0 it found.1 there found.2 in
+        let holds : IsTrue test = (tells found.1 found.3).1 (rings, subst (λ (one : FeatureRecord). HasRings one.kind one.geometry rings) same.1 drawn) in
+        absurd (cc (holds, fails))

@@ -1,0 +1,110 @@
+-- Vertices of holes that aren't where they should be, told by tests whether they are inside other rings.
+use Rattle.std.proofs.Common.{◌≡◌, ◌≢◌, ◌↔◌, ℕ, Bool, not, IsTrue, List, slice_get, Some, sym, ◌∙◌, ap, subst}
+use Rattle.std.proofs.lemmas.Bool.Decides.{Decides-not}
+use Rattle.std.proofs.lemmas.Option.{same_Some}
+use Rattle.mvt_plane.specs.Inside.{IsInside}
+use Rattle.mvt_plane.specs.Nesting.{IsVertexOf}
+use Rattle.mvt_plane.specs.Polygon.{PolygonRings, IsPolygon, IsHoleOf}
+use Rattle.mvt_plane.specs.Position.{Position}
+use Rattle.mvt_plane.specs.Ring.{ArePolygonRings}
+use Rattle.mvt_plane.proofs.SamePolygons.{same_polygon}
+use Rattle.mvt_confirm.specs.PolygonFault.{IsVertexOutside, IsVertexInHole}
+use Rattle.mvt_confirm.proofs.PolygonMembers.{IsHole, exterior_in, hole_in, vertices_there}
+
+-- the vertex of a number has one position
+one_position : (rings : List (List Position)) (ring vertex : ℕ) (one other : Position) → IsVertexOf rings ring vertex one → IsVertexOf rings ring vertex other → one ≡ other
+one_position rings ring vertex one other is_one is_other =
+    let vertices : is_one.vertices ≡ is_other.vertices = same_Some is_one.vertices is_other.vertices (sym is_one.there ∙ is_other.there) in
+    same_Some one other (sym is_one.here ∙ ap (λ (vertices : List Position). slice_get vertices vertex) vertices ∙ is_other.here)
+
+-- what tests tell of the position of a vertex
+abbrev TellsInside : List (List Position) → ℕ → Position → Bool → Type 0
+TellsInside rings ring position inside = (vertices : List Position) → slice_get rings ring ≡ Some vertices → IsTrue inside ↔ IsInside position vertices
+
+-- a hole of a polygon with this exterior
+abbrev IsHoleRound : List (List Position) → ℕ → ℕ → ℕ → Type 0
+IsHoleRound rings polygon ring exterior = (it : PolygonRings) × IsPolygon rings polygon it × IsHoleOf it ring × (it.exterior ≡ exterior)
+
+-- a ring of one number is one
+pub inside_of_number : {Found : Type 0} (rings : List (List Position)) (ring : ℕ) (position : Position) (vertices its : List Position) → slice_get rings ring ≡ Some vertices
+    → slice_get rings ring ≡ Some its → Found ↔ IsInside position its → Found ↔ IsInside position vertices
+inside_of_number {Found} rings ring position vertices its there is told =
+    subst (λ (vertices : List Position). Found ↔ IsInside position vertices) (same_Some its vertices (sym is ∙ there)) told
+
+-- Outside the exterior
+
+-- where the test says that the vertex isn't inside
+outside_by_test : (rings : List (List Position)) (polygon ring vertex exterior : ℕ) (position : Position) (inside : Bool) → ArePolygonRings rings → IsHoleRound rings polygon ring exterior
+    → IsVertexOf rings ring vertex position → TellsInside rings exterior position inside → ¬ IsTrue inside → IsVertexOutside rings polygon ring vertex
+outside_by_test rings polygon ring vertex exterior position inside sound hole here tells outside =
+    let around = vertices_there rings polygon hole.0.exterior hole.0 hole.1 (exterior_in rings polygon hole.0 hole.1) in
+    let there : slice_get rings exterior ≡ Some around.0 = subst (λ (number : ℕ). slice_get rings number ≡ Some around.0) hole.3 around.1 in
+    record {
+      it = hole.0;
+      of = record { sound = sound; there = hole.1 };
+      outside = record {
+        hole = hole.2;
+        position = position;
+        here = here;
+        exterior = around.0;
+        there = around.1;
+        outside = λ within. outside ((tells around.0 there).1 within);
+      };
+    }
+
+-- and only there
+test_by_outside : (rings : List (List Position)) (polygon ring vertex exterior : ℕ) (position : Position) (inside : Bool) → IsHoleRound rings polygon ring exterior
+    → IsVertexOf rings ring vertex position → TellsInside rings exterior position inside → IsVertexOutside rings polygon ring vertex → ¬ IsTrue inside
+test_by_outside rings polygon ring vertex exterior position inside hole here tells is within =
+    let one : is.it ≡ hole.0 = same_polygon rings polygon is.it hole.0 is.of.there hole.1 in
+    let number : is.it.exterior ≡ exterior = ap (λ (it : PolygonRings). it.exterior) one ∙ hole.3 in
+    let there : slice_get rings exterior ≡ Some is.outside.exterior = subst (λ (number : ℕ). slice_get rings number ≡ Some is.outside.exterior) number is.outside.there in
+    let same : position ≡ is.outside.position = one_position rings ring vertex position is.outside.position here is.outside.here in
+    is.outside.outside (subst (λ (at : Position). IsInside at is.outside.exterior) same ((tells is.outside.exterior there).0 within))
+
+-- so the test tells
+pub outside_told : (rings : List (List Position)) (polygon ring vertex exterior : ℕ) (position : Position) (inside : Bool) → ArePolygonRings rings → IsHoleRound rings polygon ring exterior
+    → IsVertexOf rings ring vertex position → TellsInside rings exterior position inside → IsTrue (not inside) ↔ IsVertexOutside rings polygon ring vertex
+outside_told rings polygon ring vertex exterior position inside sound hole here tells =
+    let negated = Decides-not {P = IsTrue inside} inside (λ it. it, λ it. it) in (
+      λ test. outside_by_test rings polygon ring vertex exterior position inside sound hole here tells (negated.0 test),
+      λ is. negated.1 (test_by_outside rings polygon ring vertex exterior position inside hole here tells is),
+    )
+
+-- Inside another hole
+
+-- where the test says so
+in_hole_by_test : (rings : List (List Position)) (polygon ring vertex other : ℕ) (position : Position) (inside : Bool) → ArePolygonRings rings → ring ≢ other → IsHole rings polygon ring
+    → IsHole rings polygon other → IsVertexOf rings ring vertex position → TellsInside rings other position inside → IsTrue inside → IsVertexInHole rings polygon ring vertex other
+in_hole_by_test rings polygon ring vertex other position inside sound different hole other_hole here tells within =
+    let around = vertices_there rings polygon other other_hole.0 other_hole.1 (hole_in other_hole.0 other other_hole.2) in
+    let one : other_hole.0 ≡ hole.0 = same_polygon rings polygon other_hole.0 hole.0 other_hole.1 hole.1 in
+    record {
+      it = hole.0;
+      of = record { sound = sound; there = hole.1 };
+      inside = record {
+        hole = hole.2;
+        position = position;
+        here = here;
+        other_hole = subst (λ (it : PolygonRings). IsHoleOf it other) one other_hole.2;
+        different = λ same. different (sym same);
+        around = around.0;
+        there = around.1;
+        inside = (tells around.0 around.1).0 within;
+      };
+    }
+
+-- and only there
+test_by_in_hole : (rings : List (List Position)) (polygon ring vertex other : ℕ) (position : Position) (inside : Bool) → IsVertexOf rings ring vertex position → TellsInside rings other position inside
+    → IsVertexInHole rings polygon ring vertex other → IsTrue inside
+test_by_in_hole rings polygon ring vertex other position inside here tells is =
+    let same : is.inside.position ≡ position = one_position rings ring vertex is.inside.position position is.inside.here here in
+    (tells is.inside.around is.inside.there).1 (subst (λ (at : Position). IsInside at is.inside.around) same is.inside.inside)
+
+-- so the test tells
+pub in_hole_told : (rings : List (List Position)) (polygon ring vertex other : ℕ) (position : Position) (inside : Bool) → ArePolygonRings rings → ring ≢ other → IsHole rings polygon ring
+    → IsHole rings polygon other → IsVertexOf rings ring vertex position → TellsInside rings other position inside → IsTrue inside ↔ IsVertexInHole rings polygon ring vertex other
+in_hole_told rings polygon ring vertex other position inside sound different hole other_hole here tells = (
+  in_hole_by_test rings polygon ring vertex other position inside sound different hole other_hole here tells,
+  test_by_in_hole rings polygon ring vertex other position inside here tells,
+)

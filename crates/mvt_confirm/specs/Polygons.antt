@@ -1,0 +1,12 @@
+-- Which polygon a ring belongs to, as a walk over the rings tells it (Mapbox Vector Tile Specification 2.1, section 4.3.4.4).
+use Rattle.std.specs.Prelude.{◌≡◌, ℕ, List}
+use Rattle.mvt_confirm.specs.declared.polygons.RingPlace.{RingPlace}
+use Rattle.mvt_plane.specs.Polygon.{PolygonRings, IsPolygon, IsRingOf}
+use Rattle.mvt_plane.specs.Position.{Position}
+
+-- the ring belongs to the polygon of this number, whose exterior is this one
+pub record IsPlaceOf (rings : List (List Position)) (ring : ℕ) (place : RingPlace) : Type 0 where
+  pub it : PolygonRings
+  pub there : IsPolygon rings place.polygon it
+  pub begins : it.exterior ≡ place.exterior
+  pub of : IsRingOf it ring

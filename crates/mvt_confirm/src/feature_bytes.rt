@@ -1,0 +1,103 @@
+//! The bytes of one feature, over whose numbers a walk may begin as often as one is wanted (Mapbox Vector Tile
+//! Specification 2.1, section 4.2).
+
+ghost use Rattle.std.specs.Prelude.{◌≡◌, ◌↔◌, ◌≤◌, IsTrue, List, length, Some, None, IfNone, IfSome};
+ghost use Rattle.mvt_confirm.specs.Corners.{RingsLeft};
+ghost use Rattle.mvt_confirm.specs.FeatureBytes.{DrawsRings, FeaturePlace, IsFeatureAt};
+ghost use Rattle.mvt_confirm.specs.Stretch.{as_span};
+ghost use Rattle.mvt_fault.specs.Code.{command_code};
+ghost use Rattle.mvt_plane.specs.Geometry.{BreaksCommands, HasRings};
+ghost use Rattle.mvt_plane.specs.Position.{Position};
+ghost use Rattle.mvt_wire.specs.Numbers.{NumbersLeft};
+ghost use Rattle.mvt_wire.specs.Rules.{IsFeatureOf};
+ghost use Rattle.mvt_wire.specs.Tile.{FeatureRecord, LayerRecord, TileRecord, IsTile};
+
+#[cfg(test)]
+mod tests;
+
+use crate::commands::{breaks_commands, draws_rings};
+use crate::corners::Corners;
+use crate::stretch::{Stretch, stretch_of};
+use mvt_fault::CommandCode;
+use mvt_wire::{Numbers, Scope};
+use std::marker::Model;
+
+// The field numbers of a feature's geometry type and of its geometry.
+const TYPE: u32 = 3;
+
+const GEOMETRY: u32 = 4;
+
+// The number of the geometry type of polygons.
+const POLYGON: u32 = 3;
+
+/// Where a feature stands in the bytes of a tile.
+#[derive(Drop)]
+pub(crate) struct FeatureBytes<'a> {
+    bytes: &'a [u8],
+    stretch: Stretch,
+}
+
+impl<'a> Model for FeatureBytes<'a> {
+    ghost Value = { FeaturePlace };
+
+    ghost view = { λ feature. record { bytes = feature.bytes.now; span = as_span feature.stretch } };
+
+    ghost invariant = { λ feature. (feature.stretch.from ≤ feature.stretch.to) × (feature.stretch.to ≤ length feature.bytes.now) };
+}
+
+/// The feature with these ordinals, of bytes that are a tile; None where there is none.
+pub(crate) fn feature_of(bytes: &[u8], layer: usize, feature: usize) -> Option<FeatureBytes>
+    ensures there { IfSome result (λ place. (tile : TileRecord) → IsTile bytes.now tile
+        → (whose : LayerRecord) × (it : FeatureRecord) × IsFeatureOf tile layer feature whose it × IsFeatureAt place it) }
+    ensures none { IfNone result ((tile : TileRecord) (whose : LayerRecord) (it : FeatureRecord) → IsTile bytes.now tile
+        → ¬ IsFeatureOf tile layer feature whose it) }
+{
+    let stretch = stretch_of(bytes, &Scope::Feature(layer, feature))?;
+    Some(FeatureBytes { bytes, stretch })
+}
+
+impl<'a> FeatureBytes<'a> {
+    /// A walk over the numbers of its geometry.
+    pub(crate) fn geometry(&self) -> Numbers<'a>
+        ensures { (it : FeatureRecord) → IsFeatureAt self.now it → NumbersLeft result it.geometry None }
+    {
+        Numbers::new(self.bytes, self.stretch.from, self.stretch.to, GEOMETRY)
+    }
+
+    /// Whether its geometry has this command fault, at this index.
+    pub(crate) fn breaks_commands(&self, code: CommandCode, index: usize) -> bool
+        ensures { (it : FeatureRecord) → IsFeatureAt self.now it → (IsTrue result ↔ BreaksCommands it.kind it.geometry (command_code code) index) }
+    {
+        let Some(kind) = self.kind() else {
+            return false;
+        };
+        breaks_commands(self.geometry(), u64::from(kind), code, index)
+    }
+
+    /// Whether it is of the type of polygons, and its geometry draws rings.
+    pub(crate) fn draws_rings(&self) -> bool
+        ensures { (it : FeatureRecord) → IsFeatureAt self.now it →
+            (IsTrue result ↔ ((rings : List (List Position)) × HasRings it.kind it.geometry rings)) }
+    {
+        self.kind() == Some(POLYGON) && draws_rings(self.geometry())
+    }
+
+    /// A walk over the vertices of its rings, for a feature that draws rings.
+    pub(crate) fn corners(&self) -> Corners<'a>
+        ensures { (rings : List (List Position)) → DrawsRings self.now rings → RingsLeft result rings }
+    {
+        Corners::new(self.geometry())
+    }
+
+    /// The number of its geometry type.
+    fn kind(&self) -> Option<u32>
+        ensures { (it : FeatureRecord) → IsFeatureAt self.now it → result ≡ Some it.kind }
+    {
+        let mut numbers = Numbers::new(self.bytes, self.stretch.from, self.stretch.to, TYPE);
+        match numbers.next_number() {
+            Some(Ok(kind)) => Some(kind),
+            Some(Err(_)) => None,
+            None => None,
+        }
+    }
+}

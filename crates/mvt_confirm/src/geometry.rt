@@ -1,0 +1,128 @@
+//! The faults of the geometry of a feature, by the feature's ordinals, of bytes that are a tile (Mapbox Vector
+//! Tile Specification 2.1, section 4.3).
+
+ghost use Rattle.std.specs.Prelude.{◌↔◌, IsTrue, List, IfNone, IfSome};
+ghost use Rattle.mvt_confirm.specs.Feature.{OfRings};
+ghost use Rattle.mvt_confirm.specs.FeatureBytes.{DrawsRings};
+ghost use Rattle.mvt_confirm.specs.PolygonFault.{IsMeeting, IsVertexInHole, IsVertexOutside};
+ghost use Rattle.mvt_confirm.specs.Shows.{OfFeature};
+ghost use Rattle.mvt_fault.specs.Code.{command_code, ring_code};
+ghost use Rattle.mvt_plane.specs.Geometry.{BreaksCommands, HasRings};
+ghost use Rattle.mvt_plane.specs.Position.{Position};
+ghost use Rattle.mvt_plane.specs.Ring.{BreaksRings};
+ghost use Rattle.mvt_wire.specs.Rules.{IsFeatureOf};
+ghost use Rattle.mvt_wire.specs.Tile.{FeatureRecord, LayerRecord, TileRecord, IsTile};
+
+use crate::feature_bytes::{FeatureBytes, feature_of};
+use crate::meeting::{PointNumbers, is_meeting};
+use crate::nesting::{is_vertex_in_hole, is_vertex_outside};
+use crate::ring_faults::breaks_rings;
+use mvt_fault::{CommandCode, RingCode, RingEdge};
+
+/// Whether there is a feature with these ordinals, and its geometry has this command fault, at this index.
+pub(crate) fn has_command_fault(
+    bytes: &[u8],
+    code: CommandCode,
+    layer: usize,
+    feature: usize,
+    index: usize,
+) -> bool
+    ensures { (tile : TileRecord) → IsTile bytes.now tile → (IsTrue result
+        ↔ OfFeature bytes.now layer feature (λ whose it. BreaksCommands it.kind it.geometry (command_code code) index)) }
+{
+    match feature_of(bytes, layer, feature) {
+        Some(place) => place.breaks_commands(code, index),
+        None => false,
+    }
+}
+
+/// Whether there is a feature with these ordinals that draws rings, and this one of them has this fault.
+pub(crate) fn has_ring_fault(
+    bytes: &[u8],
+    code: RingCode,
+    layer: usize,
+    feature: usize,
+    ring: usize,
+) -> bool
+    ensures { (tile : TileRecord) → IsTile bytes.now tile → (IsTrue result
+        ↔ OfFeature bytes.now layer feature (λ whose it. OfRings it (λ rings. BreaksRings rings (ring_code code) ring))) }
+{
+    match drawn_feature(bytes, layer, feature) {
+        Some(place) => breaks_rings(place.corners(), code, ring),
+        None => false,
+    }
+}
+
+/// Whether there is a feature with these ordinals that draws rings, and two edges of this polygon of it, named
+/// in order, meet wrongly at this point.
+pub(crate) fn has_meeting(
+    bytes: &[u8],
+    layer: usize,
+    feature: usize,
+    polygon: usize,
+    first: RingEdge,
+    second: RingEdge,
+    point: PointNumbers,
+) -> bool
+    ensures { (tile : TileRecord) → IsTile bytes.now tile → (IsTrue result ↔ OfFeature bytes.now layer feature
+        (λ whose it. OfRings it (λ rings. IsMeeting rings polygon first second (record { x = point.x; y = point.y; w = point.w })))) }
+{
+    match drawn_feature(bytes, layer, feature) {
+        Some(place) => is_meeting(&place, polygon, first, second, point),
+        None => false,
+    }
+}
+
+/// Whether there is a feature with these ordinals that draws rings, and this vertex of a hole of this polygon of
+/// it isn't inside the exterior.
+pub(crate) fn has_vertex_outside(
+    bytes: &[u8],
+    layer: usize,
+    feature: usize,
+    polygon: usize,
+    ring: usize,
+    vertex: usize,
+) -> bool
+    ensures { (tile : TileRecord) → IsTile bytes.now tile → (IsTrue result
+        ↔ OfFeature bytes.now layer feature (λ whose it. OfRings it (λ rings. IsVertexOutside rings polygon ring vertex))) }
+{
+    match drawn_feature(bytes, layer, feature) {
+        Some(place) => is_vertex_outside(&place, polygon, ring, vertex),
+        None => false,
+    }
+}
+
+/// Whether there is a feature with these ordinals that draws rings, and this vertex of a hole of this polygon of
+/// it is inside this other hole.
+pub(crate) fn has_vertex_in_hole(
+    bytes: &[u8],
+    layer: usize,
+    feature: usize,
+    polygon: usize,
+    ring: usize,
+    vertex: usize,
+    other: usize,
+) -> bool
+    ensures { (tile : TileRecord) → IsTile bytes.now tile → (IsTrue result
+        ↔ OfFeature bytes.now layer feature (λ whose it. OfRings it (λ rings. IsVertexInHole rings polygon ring vertex other))) }
+{
+    match drawn_feature(bytes, layer, feature) {
+        Some(place) => is_vertex_in_hole(&place, polygon, ring, vertex, other),
+        None => false,
+    }
+}
+
+/// The feature with these ordinals, if there is one and it draws rings.
+fn drawn_feature(bytes: &[u8], layer: usize, feature: usize) -> Option<FeatureBytes>
+    ensures there { IfSome result (λ place. (tile : TileRecord) → IsTile bytes.now tile → (whose : LayerRecord) × (it : FeatureRecord)
+        × (rings : List (List Position)) × IsFeatureOf tile layer feature whose it × HasRings it.kind it.geometry rings × DrawsRings place rings) }
+    ensures none { IfNone result ((tile : TileRecord) (whose : LayerRecord) (it : FeatureRecord) (rings : List (List Position)) → IsTile bytes.now tile
+        → IsFeatureOf tile layer feature whose it → ¬ HasRings it.kind it.geometry rings) }
+{
+    let place = feature_of(bytes, layer, feature)?;
+    if place.draws_rings() {
+        Some(place)
+    } else {
+        None
+    }
+}

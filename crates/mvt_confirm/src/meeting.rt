@@ -1,0 +1,101 @@
+//! Edges of a polygon that meet where they may not (Mapbox Vector Tile Specification 2.1, section 4.3.4.4).
+
+ghost use Rattle.std.specs.Prelude.{◌≡◌, ◌↔◌, IsTrue, List, length, slice_get, Some, IfNone, IfSome};
+ghost use Rattle.mvt_confirm.specs.FeatureBytes.{DrawsRings};
+ghost use Rattle.mvt_confirm.specs.PolygonFault.{IsMeeting, number_of};
+ghost use Rattle.mvt_plane.specs.Meeting.{ComesBefore, IsEdgeOf, MeetsWrongly};
+ghost use Rattle.mvt_plane.specs.Polygon.{PolygonRings, IsPolygon, IsRingOf};
+ghost use Rattle.mvt_plane.specs.Position.{Position};
+ghost use Rattle.mvt_plane.specs.RationalPoint.{IsBounded};
+ghost use Rattle.mvt_plane.specs.Ring.{ArePolygonRings};
+ghost use Rattle.mvt_plane.specs.declared.edge.Edge.{Edge};
+
+use crate::edge_tests::{NumberedEdge, meets_in_order};
+use crate::feature_bytes::FeatureBytes;
+use crate::polygons::{are_polygon_rings, place_of_ring};
+use crate::ring_edges::{edge_at, edges_of_ring};
+use mvt_fault::RingEdge;
+
+/// A point by the numbers that a fault gives for it: it stands for (x / w, y / w), if they are in range.
+#[derive(Clone, Copy)]
+pub(crate) struct PointNumbers {
+    pub(crate) x: i128,
+    pub(crate) y: i128,
+    pub(crate) w: i128,
+}
+
+/// An edge, and how many vertices its ring has.
+#[derive(Clone, Copy)]
+struct EdgeInRing {
+    numbered: NumberedEdge,
+    vertex_count: usize,
+}
+
+/// Whether two edges of this polygon, named in order, meet wrongly at this point, of a feature that draws
+/// rings. The numbers may be any.
+pub(crate) fn is_meeting(
+    feature: &FeatureBytes,
+    polygon: usize,
+    first: RingEdge,
+    second: RingEdge,
+    point: PointNumbers,
+) -> bool
+    ensures { (rings : List (List Position)) → DrawsRings feature.now rings →
+        (IsTrue result ↔ IsMeeting rings polygon first second (record { x = point.x; y = point.y; w = point.w })) }
+{
+    are_polygon_rings(feature.corners())
+        && is_ring_of_polygon(feature, polygon, first.ring)
+        && is_ring_of_polygon(feature, polygon, second.ring)
+        && do_meet(feature, first, second, point)
+}
+
+/// Whether the ring with this ordinal belongs to this polygon, of rings that have no fault of their own.
+fn is_ring_of_polygon(feature: &FeatureBytes, polygon: usize, ring: usize) -> bool
+    ensures { (rings : List (List Position)) → DrawsRings feature.now rings → ArePolygonRings rings →
+        (IsTrue result ↔ ((it : PolygonRings) × IsPolygon rings polygon it × IsRingOf it ring)) }
+{
+    match place_of_ring(feature.corners(), ring) {
+        Some(place) => place.polygon == polygon,
+        None => false,
+    }
+}
+
+/// Whether two edges, named in order, meet wrongly at this point.
+fn do_meet(feature: &FeatureBytes, first: RingEdge, second: RingEdge, point: PointNumbers) -> bool
+    ensures { (rings : List (List Position)) → DrawsRings feature.now rings → (IsTrue result
+        ↔ (ComesBefore (number_of first) (number_of second)
+        × IsBounded (record { x = point.x; y = point.y; w = point.w })
+        × MeetsWrongly rings (number_of first) (number_of second) (record { x = point.x; y = point.y; w = point.w }))) }
+{
+    let Some(one) = edge_of_number(feature, first) else {
+        return false;
+    };
+    let Some(other) = edge_of_number(feature, second) else {
+        return false;
+    };
+    meets_in_order(
+        &one.numbered,
+        &other.numbered,
+        one.vertex_count,
+        point.x,
+        point.y,
+        point.w,
+    )
+}
+
+/// The edge with these ordinals; None where there is no such edge.
+fn edge_of_number(feature: &FeatureBytes, number: RingEdge) -> Option<EdgeInRing>
+    ensures number { IfSome result (λ found. found.numbered.number ≡ number) }
+    ensures there { IfSome result (λ found. (rings : List (List Position)) → DrawsRings feature.now rings → IsEdgeOf rings (number_of number) found.numbered.edge) }
+    ensures count { IfSome result (λ found. (rings : List (List Position)) (ring : List Position) → DrawsRings feature.now rings
+        → slice_get rings number.ring ≡ Some ring → length ring ≡ found.vertex_count) }
+    ensures none { IfNone result ((rings : List (List Position)) (edge : Edge) → DrawsRings feature.now rings → ¬ IsEdgeOf rings (number_of number) edge) }
+{
+    let walk = edges_of_ring(feature.corners(), number.ring)?;
+    let vertex_count = walk.count();
+    let edge = edge_at(walk, number.edge)?;
+    Some(EdgeInRing {
+        numbered: NumberedEdge { number, edge },
+        vertex_count,
+    })
+}
