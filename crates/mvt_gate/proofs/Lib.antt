@@ -1,4 +1,8 @@
+pub mod ConfirmAnswers
 pub mod DrawnRings
+pub mod DumpAnswers
+pub mod DumpLists
+pub mod DumpTexts
 pub mod EngineLemmas
 pub mod FeatureGeometries
 pub mod FieldsAnswers

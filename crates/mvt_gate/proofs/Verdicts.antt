@@ -43,7 +43,7 @@ valid_without_fault bytes none keeps =
     (valid_by_parts bytes).1 (tile.0, tile.1, kept.parts, kept.features)
 
 -- no wire fault is true of a tile
-no_fault_of_tile : (bytes : List ℕ) (tile : TileRecord) (fault : Fault) → IsTile bytes tile → ¬ IsWireFault bytes fault
+pub no_fault_of_tile : (bytes : List ℕ) (tile : TileRecord) (fault : Fault) → IsTile bytes tile → ¬ IsWireFault bytes fault
 no_fault_of_tile bytes tile fault whole (wire code scope at field holds) = tile_faultless bytes tile scope (cause_at code at field) whole holds
 
 -- the first wire fault is the first of all faults of the bytes

@@ -1,6 +1,8 @@
 -- What an engine reads and writes, as the counts of its tallies show it.
 use Rattle.std.specs.Prelude.{◌≡◌, ℕ, ◌+◌, ◌<◌, ◌≤◌, ◌⊎◌, List, length, take, Option}
 use Rattle.std.specs.Io.KnownBytes.{Appends, Consumes, IsAtEnd}
+use Rattle.mvt_gate.specs.declared.engine.EngineFault.{EngineFault}
+use Rattle.mvt_gate.specs.declared.engine.EngineFault.TheVariants.{NotJson, NotAFault, FaultRange}
 use Rattle.mvt_gate.specs.declared.engine.Outcome.{Outcome}
 use Rattle.mvt_gate.specs.declared.tally.Tally.{Tally}
 use Rattle.mvt_gate.specs.Tally.{counts_of, tally_bytes}
@@ -34,6 +36,10 @@ HasFailed t others = (0 < (counts_of t).failed) ⊎ (interruption_limit < (count
 pub record IsClean {T : Type 0} (t : Tally T) (others : ℕ) : Type 0 where
   pub failed : (counts_of t).failed ≡ 0
   pub patient : (counts_of t).interrupted + others ≤ interruption_limit
+
+-- the fault is one of a second input, which is to tell a fault
+abbrev pub IsOfClaim : EngineFault → Type 0
+IsOfClaim fault = (fault ≡ NotJson) ⊎ (fault ≡ NotAFault) ⊎ (fault ≡ FaultRange)
 
 -- An engine is told by its answers: which outcome and which line answer an input.
 

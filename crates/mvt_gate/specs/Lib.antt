@@ -1,9 +1,7 @@
-pub use Rattle.mvt_fault.specs.Place
-pub use Rattle.mvt_fault.specs.Text
-pub use Rattle.mvt_wire.specs.Field
-pub use Rattle.mvt_wire.specs.Message
-pub use Rattle.mvt_wire.specs.Tile
 pub mod Check
+pub mod Claim
+pub mod Confirm
+pub mod Dump
 pub mod Engine
 pub mod FaultLine
 pub mod Fields
@@ -11,3 +9,8 @@ pub mod FieldsLine
 pub mod Polygons
 pub mod Tally
 pub mod Verdict
+pub use Rattle.mvt_fault.specs.Place
+pub use Rattle.mvt_fault.specs.Text
+pub use Rattle.mvt_wire.specs.Field
+pub use Rattle.mvt_wire.specs.Message
+pub use Rattle.mvt_wire.specs.Tile

@@ -1,7 +1,7 @@
 //! The engine of `check`: whether an input is a tile that keeps the rules, as one line of JSON.
 ghost use Rattle.std.specs.Prelude.{◌≡◌, ◌≢◌, ◌<◌, IfOk, IfErr, OnOk};
 ghost use Rattle.mvt_gate.specs.Check.{IsCheckAnswer};
-ghost use Rattle.mvt_gate.specs.Engine.{Answers, BreaksOff, HasFailed, IsClean, input_limit};
+ghost use Rattle.mvt_gate.specs.Engine.{Answers, BreaksOff, HasFailed, IsClean, IsOfClaim, input_limit};
 ghost use Rattle.mvt_gate.specs.Tally.{IsUntouched, counts_of};
 
 use crate::engine;
@@ -32,6 +32,8 @@ pub fn check_stream<R: Read, W: Write>(
     ensures read { result ≡ Err EngineFault.Read → HasFailed reader.new (counts_of writer.new).interrupted }
     ensures too_large { result ≡ Err EngineFault.TooLarge → input_limit < (counts_of reader.new).bytes }
     ensures write { result ≡ Err EngineFault.Write → HasFailed writer.new (counts_of reader.new).interrupted }
+    // There is no second input that could be wrong.
+    ensures no_claim { IfErr result (λ fault. ¬ IsOfClaim fault) }
 
     // Before the line is whole, nothing goes out; after a failed write, a first part of the line.
     ensures untouched { IfErr result (λ fault. fault ≢ EngineFault.Write → IsUntouched writer.old writer.new) }

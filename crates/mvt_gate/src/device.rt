@@ -23,6 +23,8 @@ pub struct Manner {
     pub interruptions: u64,
     /// The call that fails; 0 for none.
     pub fails_at: u64,
+    /// The kind of error that it fails with.
+    pub failure: ErrorKind,
     /// Whether reads never come to an end.
     pub is_endless: bool,
 }
@@ -34,6 +36,7 @@ impl Manner {
         interrupted_from: 1,
         interruptions: 0,
         fails_at: 0,
+        failure: ErrorKind::BrokenPipe,
         is_endless: false,
     };
 }
@@ -60,7 +63,7 @@ impl<'a> Device<'a> {
     fn begin_call(&mut self) -> io::Result<()> {
         self.calls = self.calls.saturating_add(1);
         if self.calls == self.manner.fails_at {
-            return Err(io::Error::from(ErrorKind::BrokenPipe));
+            return Err(io::Error::from(self.manner.failure));
         }
         if self.calls >= self.manner.interrupted_from && self.manner.interruptions > 0 {
             self.manner.interruptions -= 1;

@@ -2,12 +2,15 @@
 ghost use Rattle.std.specs.Prelude.{◌≡◌, ◌≢◌, ℕ, ◌+◌, ◌<◌, ◌≤◌, ◌⊎◌, List, length, take, IsTrue, IsFalse, IfOk, IfErr, OnOk, OnErr, string_bytes};
 ghost use Rattle.std.specs.Io.KnownBytes.{Keeps};
 ghost use Rattle.std.specs.IoError.{error_kind};
-ghost use Rattle.mvt_gate.specs.Engine.{Answers, BreaksOff, HasFailed, IsClean, ReadsWhole, Writes, input_limit, interruption_limit};
+ghost use Rattle.mvt_gate.specs.Engine.{Answers, BreaksOff, HasFailed, IsClean, IsOfClaim, ReadsWhole, Writes, input_limit, interruption_limit};
 ghost use Rattle.mvt_gate.specs.FaultLine.{fault_line};
 ghost use Rattle.mvt_gate.specs.declared.engine.Outcome.{Outcome};
 ghost use Rattle.mvt_gate.specs.Tally.{IsUntouched, counts_of, no_counts, tally_bytes};
 
+mod claim;
+
 use crate::tally::Tally;
+pub use claim::{ClaimTask, run_on_claim};
 use mvt_fault::{Fault, fault_text};
 use std::alloc::{AllocError, Global};
 use std::io;
@@ -44,6 +47,15 @@ pub enum EngineFault {
     /// A write or a flush failed, or the devices were interrupted more than 1,000 times together.
     #[error("mvtgate: cannot write the output")]
     Write,
+    /// What should tell a fault is no JSON text.
+    #[error("mvtgate: the fault file is not JSON")]
+    NotJson,
+    /// What should tell a fault is a JSON text of something else.
+    #[error("mvtgate: the fault file holds no fault")]
+    NotAFault,
+    /// A number of the told fault is out of the range of such numbers.
+    #[error("mvtgate: a number of the fault is out of range")]
+    FaultRange,
     /// Memory was refused.
     #[error("mvtgate: out of memory")]
     Memory,
@@ -74,6 +86,8 @@ pub fn run<T: Task, R: Read, W: Write>(
     ensures read { result ≡ Err EngineFault.Read → HasFailed reader.new (counts_of writer.new).interrupted }
     ensures too_large { result ≡ Err EngineFault.TooLarge → input_limit < (counts_of reader.new).bytes }
     ensures write { result ≡ Err EngineFault.Write → HasFailed writer.new (counts_of reader.new).interrupted }
+    // There is no second input that could be wrong.
+    ensures no_claim { IfErr result (λ fault. ¬ IsOfClaim fault) }
 
     // Before the line is whole, nothing goes out; after a failed write, a first part of the line.
     ensures untouched { IfErr result (λ fault. fault ≢ EngineFault.Write → IsUntouched writer.old writer.new) }
@@ -114,6 +128,7 @@ fn read_whole<R: Read>(
     ensures read { result ≡ Err EngineFault.Read → HasFailed reader.new others }
     ensures too_large { result ≡ Err EngineFault.TooLarge → input_limit < (counts_of reader.new).bytes }
     ensures no_write { result ≢ Err EngineFault.Write }
+    ensures no_claim { IfErr result (λ fault. ¬ IsOfClaim fault) }
 {
     let mut input = Vec::new(alloc);
     let mut chunk = [0u8; CHUNK_LENGTH];

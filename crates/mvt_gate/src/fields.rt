@@ -1,6 +1,6 @@
 //! The engine of `fields`: the outermost fields of a tile, as one line of JSON.
 ghost use Rattle.std.specs.Prelude.{◌≡◌, ◌≢◌, ◌<◌, IfOk, IfErr, OnOk};
-ghost use Rattle.mvt_gate.specs.Engine.{Answers, BreaksOff, HasFailed, IsClean, input_limit};
+ghost use Rattle.mvt_gate.specs.Engine.{Answers, BreaksOff, HasFailed, IsClean, IsOfClaim, input_limit};
 ghost use Rattle.mvt_gate.specs.Fields.{IsFieldsAnswer, tile_fault};
 ghost use Rattle.mvt_gate.specs.Tally.{IsUntouched, counts_of};
 
@@ -33,6 +33,8 @@ pub fn fields_stream<R: Read, W: Write>(
     ensures read { result ≡ Err EngineFault.Read → HasFailed reader.new (counts_of writer.new).interrupted }
     ensures too_large { result ≡ Err EngineFault.TooLarge → input_limit < (counts_of reader.new).bytes }
     ensures write { result ≡ Err EngineFault.Write → HasFailed writer.new (counts_of reader.new).interrupted }
+    // There is no second input that could be wrong.
+    ensures no_claim { IfErr result (λ fault. ¬ IsOfClaim fault) }
 
     // Before the line is whole, nothing goes out; after a failed write, a first part of the line.
     ensures untouched { IfErr result (λ fault. fault ≢ EngineFault.Write → IsUntouched writer.old writer.new) }

@@ -5,6 +5,8 @@ ghost use Rattle.mvt_confirm.specs.Shows.{Shows};
 ghost use Rattle.mvt_fault.specs.Place.{AreMeetingsInOne, IsLeast};
 ghost use Rattle.mvt_fault.specs.declared.fault.Fault.{Fault};
 ghost use Rattle.mvt_gate.specs.Check.{IsCheckAnswer};
+ghost use Rattle.mvt_gate.specs.Confirm.{IsConfirmAnswer};
+ghost use Rattle.mvt_gate.specs.Dump.{IsDumpAnswer};
 ghost use Rattle.mvt_gate.specs.FaultLine.{fault_line};
 ghost use Rattle.mvt_gate.specs.Fields.{IsFieldsAnswer};
 ghost use Rattle.mvt_gate.specs.Verdict.{IsVerdict};
@@ -37,4 +39,17 @@ pub fn one_check_answer()
         IsCheckAnswer input first line → IsCheckAnswer input second other →
         (first ≡ second) × ((line ≡ other) ⊎
         ((fault : Fault) × (its : Fault) × (line ≡ fault_line fault) × (other ≡ fault_line its) × AreMeetingsInOne fault its)) }
+{}
+
+/// No input has two answers of `dump`, or two lines.
+pub fn one_dump_answer()
+    ensures { (input : List ℕ) (first second : Outcome) (line other : List ℕ) →
+        IsDumpAnswer input first line → IsDumpAnswer input second other → (first ≡ second) × (line ≡ other) }
+{}
+
+/// No tile and claim have two answers of `confirm`, or two lines: a text is one fault's at most.
+pub fn one_confirm_answer()
+    ensures { (input claimed : List ℕ) (first second : Outcome) (line other : List ℕ) →
+        IsConfirmAnswer input claimed first line → IsConfirmAnswer input claimed second other →
+        (first ≡ second) × (line ≡ other) }
 {}

@@ -1,9 +1,12 @@
 //! The gate: it judges a tile, and its engines read a tile from a device and write one line of answer.
 #![tactic(auto)]
 
+mod agreement;
 mod check;
+mod confirm;
 #[cfg(test)]
 mod device;
+mod dump;
 mod engine;
 mod fields;
 mod geometry;
@@ -12,7 +15,10 @@ mod polygons;
 mod tally;
 mod verdict;
 
+pub use agreement::{Agreement, judge_and_confirm};
 pub use check::check_stream;
+pub use confirm::confirm_streams;
+pub use dump::{dump_stream, dump_text};
 pub use engine::{EngineFault, Outcome};
 pub use fields::fields_stream;
 pub use tally::Tally;

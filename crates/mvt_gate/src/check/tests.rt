@@ -1,9 +1,11 @@
 use super::check_stream;
+use crate::agreement::judge_and_confirm;
 use crate::device::{Device, Manner, bytes_of};
 use crate::engine::{EngineFault, Outcome};
 use crate::tally::Tally;
 use crate::verdict::{Verdict, judge};
-use mvt_fault::fault_text;
+use mvt_fault::{Fault, fault_from_text, fault_text};
+use std::io::ErrorKind;
 use std::test::Fail;
 
 const OK: &str = r#"{"ok":true}"#;
@@ -302,10 +304,26 @@ fn told(rt: &HostRuntime, verdict: Verdict) -> Result<String, Fail> {
     })
 }
 
+/// A fault that is true of none of the tiles, which have fewer layers.
+const OTHER_FAULT: Fault = Fault::Version { layer: 7 };
+
+/// Whether the line of a verdict's fault reads back to it.
+fn is_read_back(rt: &HostRuntime, verdict: Verdict, line: &str) -> Result<bool, Fail> {
+    Ok(match verdict {
+        Verdict::Yes => true,
+        Verdict::No(fault) => fault_from_text(rt.alloc(), line.as_bytes()) == Ok(fault),
+    })
+}
+
 /// Whether the line is what `judge` says of the bytes, and what the engine writes and answers.
 fn is_answer(rt: &HostRuntime, text: &str, line: &str) -> Result<bool, Fail> {
     let bytes = bytes_of(rt, text)?;
     let verdict = judge(rt.alloc(), &bytes)?;
+    let said = judge_and_confirm(rt.alloc(), &bytes, &OTHER_FAULT)?;
+    let is_agreed = said.verdict == verdict
+        && said.is_confirmed == (line != OK)
+        && !said.is_other_confirmed
+        && is_read_back(rt, verdict, line)?;
 
     let mut reader = Tally::new(bytes.as_slice());
     let mut sink = Device::new(rt.alloc(), &[], Manner::CALM);
@@ -314,7 +332,8 @@ fn is_answer(rt: &HostRuntime, text: &str, line: &str) -> Result<bool, Fail> {
 
     let whole = format!(in rt.alloc(); "{line}\n")?;
     Ok(
-        told(rt, verdict)?.as_str() == line
+        is_agreed
+            && told(rt, verdict)?.as_str() == line
             && (outcome == Outcome::Yes) == (line == OK)
             && sink.taken.as_slice() == whole.as_bytes(),
     )
@@ -367,6 +386,37 @@ fn bears_devices_that_fail(rt: HostRuntime) -> Result<(), Fail> {
         let got = check_stream(rt.alloc(), &mut reader, &mut writer);
         assert_eq!(rt; got, want);
         assert!(rt; sink.taken.as_slice() == went_out);
+    }
+    Ok(())
+}
+
+/// An error that is no interruption ends a run and counts as failed, of whatever kind it is.
+#[test]
+fn fails_with_any_kind_of_error(rt: HostRuntime) -> Result<(), Fail> {
+    let calm = Manner::CALM;
+    let bytes = bytes_of(&rt, EQUAL_LAYERS)?;
+    for kind in [ErrorKind::WouldBlock, ErrorKind::TimedOut] {
+        let blocks = |at: u64| Manner {
+            fails_at: at,
+            failure: kind,
+            ..calm
+        };
+        // the result, and the failed calls of the reader and of the writer
+        for (reads, writes, want, failed) in [
+            (blocks(1), calm, EngineFault::Read, (1, 0)),
+            (blocks(2), calm, EngineFault::Read, (1, 0)),
+            (calm, blocks(1), EngineFault::Write, (0, 1)),
+            (calm, blocks(2), EngineFault::Write, (0, 1)),
+        ] {
+            let mut source = Device::new(rt.alloc(), &bytes, reads);
+            let mut sink = Device::new(rt.alloc(), &[], writes);
+            let mut reader = Tally::new(&mut source);
+            let mut writer = Tally::new(&mut sink);
+            let got = check_stream(rt.alloc(), &mut reader, &mut writer);
+            assert_eq!(rt; got, Err(want));
+            assert_eq!(rt; (reader.failed(), writer.failed()), failed);
+            assert_eq!(rt; (reader.interrupted(), writer.interrupted()), (0, 0));
+        }
     }
     Ok(())
 }

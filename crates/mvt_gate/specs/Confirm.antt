@@ -1,0 +1,31 @@
+-- The answer of the program's `confirm`.
+use Rattle.std.specs.Prelude.{◌≡◌, ℕ, List, codes}
+use Rattle.mvt_confirm.specs.Shows.{Shows}
+use Rattle.mvt_fault.specs.Reading.{IsNoJson, HasOtherShape, HasOtherRange}
+use Rattle.mvt_fault.specs.Text.{Reads}
+use Rattle.mvt_fault.specs.declared.fault.Fault.{Fault}
+use Rattle.mvt_fault.specs.declared.reading.FaultTextError.{FaultTextError}
+use Rattle.mvt_fault.specs.declared.reading.FaultTextError.TheVariants.{Json, Shape, Range, Memory}
+use Rattle.mvt_gate.specs.declared.engine.Outcome.{Outcome}
+use Rattle.mvt_gate.specs.declared.engine.Outcome.TheVariants.{Yes, No}
+
+-- the line of a fault that is true of the tile's bytes, with its LF
+abbrev pub confirmed_line : List ℕ
+confirmed_line = codes "{\"confirmed\":true}\n"
+
+-- the line of a fault that isn't
+abbrev pub unconfirmed_line : List ℕ
+unconfirmed_line = codes "{\"confirmed\":false}\n"
+
+-- The claim is a text of a fault, and the line says whether that is true of the input. No input and claim have two
+-- answers (the law `one_confirm_answer`).
+abbrev pub IsConfirmAnswer : List ℕ → List ℕ → Outcome → List ℕ → Type 0
+IsConfirmAnswer input claimed Yes line = (fault : Fault) × Reads claimed fault × Shows input fault × (line ≡ confirmed_line)
+IsConfirmAnswer input claimed No line = (fault : Fault) × Reads claimed fault × (¬ Shows input fault) × (line ≡ unconfirmed_line)
+
+-- the claim is no text of a fault, for this reason
+abbrev pub IsRefusedClaim : List ℕ → FaultTextError → Type 0
+IsRefusedClaim claimed Json = IsNoJson claimed
+IsRefusedClaim claimed Shape = HasOtherShape claimed
+IsRefusedClaim claimed Range = HasOtherRange claimed
+IsRefusedClaim claimed Memory = ⊥

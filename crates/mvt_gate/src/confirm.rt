@@ -1,0 +1,95 @@
+//! The engine of `confirm`: whether a fault is true of a tile, as one line of JSON.
+ghost use Rattle.std.specs.Prelude.{◌≡◌, ◌≢◌, ◌+◌, ◌<◌, ℕ, List, IfOk, IfErr, OnOk, string_bytes};
+ghost use Rattle.mvt_fault.specs.Reading.{IsNoJson, HasOtherShape, HasOtherRange};
+ghost use Rattle.mvt_fault.specs.Text.{Reads};
+ghost use Rattle.mvt_gate.specs.Claim.{AnswersClaim, BreaksOffClaim, EndsReading, Finds};
+ghost use Rattle.mvt_gate.specs.Confirm.{IsConfirmAnswer, IsRefusedClaim};
+ghost use Rattle.mvt_gate.specs.Engine.{HasFailed, IsClean, input_limit};
+ghost use Rattle.mvt_gate.specs.Tally.{IsUntouched, counts_of};
+
+use crate::engine::{ClaimTask, EngineFault, Outcome, run_on_claim};
+use crate::tally::Tally;
+use mvt_confirm::confirm;
+use mvt_fault::{Fault, FaultTextError, fault_from_text};
+use std::alloc::{AllocError, Global};
+use std::io::{Read, Write};
+
+/// Reads a whole tile and then a whole fault text, each of at most 67,108,864 bytes, and writes whether
+/// the fault is true of the tile's bytes (`mvt_confirm::confirm` says it whole), as the line
+/// `{"confirmed":true}` or `{"confirmed":false}` with one LF. An error other than `Memory` comes only where
+/// a device is to blame, as its counts show, or where the text is none of a fault.
+pub fn confirm_streams<R: Read, Q: Read, W: Write>(
+    alloc: Global,
+    tile: &mut Tally<R>,
+    claim: &mut Tally<Q>,
+    writer: &mut Tally<W>,
+) -> Result<Outcome, EngineFault>
+    // The line is that of all that both readers gave, and it went out once and whole.
+    ensures answers { IfOk result (AnswersClaim IsConfirmAnswer
+        R.remaining Q.remaining W.contents tile.old tile.new claim.old claim.new writer.old writer.new) }
+    ensures clean { OnOk result (IsClean writer.new ((counts_of tile.new).interrupted + (counts_of claim.new).interrupted)) }
+
+    // A fault of reading the tile comes before one of reading the claim.
+    ensures read { result ≡ Err EngineFault.Read → EndsReading R.remaining tile.old tile.new claim.old claim.new
+        (HasFailed tile.new ((counts_of claim.new).interrupted + (counts_of writer.new).interrupted))
+        (HasFailed claim.new ((counts_of tile.new).interrupted + (counts_of writer.new).interrupted)) }
+    ensures too_large { result ≡ Err EngineFault.TooLarge → EndsReading R.remaining tile.old tile.new claim.old claim.new
+        (input_limit < (counts_of tile.new).bytes) (input_limit < (counts_of claim.new).bytes) }
+    ensures write { result ≡ Err EngineFault.Write →
+        HasFailed writer.new ((counts_of tile.new).interrupted + (counts_of claim.new).interrupted) }
+
+    // Only a claim that was read whole is refused, and only behind a tile that was.
+    ensures not_json { result ≡ Err EngineFault.NotJson → Finds (λ _ claimed. IsNoJson claimed)
+        R.remaining Q.remaining tile.old tile.new claim.old claim.new }
+    ensures not_a_fault { result ≡ Err EngineFault.NotAFault → Finds (λ _ claimed. HasOtherShape claimed)
+        R.remaining Q.remaining tile.old tile.new claim.old claim.new }
+    ensures fault_range { result ≡ Err EngineFault.FaultRange → Finds (λ _ claimed. HasOtherRange claimed)
+        R.remaining Q.remaining tile.old tile.new claim.old claim.new }
+
+    // Before the line is whole, nothing goes out; after a failed write, a first part of the line.
+    ensures untouched { IfErr result (λ fault. fault ≢ EngineFault.Write → IsUntouched writer.old writer.new) }
+    ensures prefix { result ≡ Err EngineFault.Write → BreaksOffClaim IsConfirmAnswer
+        R.remaining Q.remaining W.contents tile.old tile.new claim.old claim.new writer.old writer.new }
+{
+    run_on_claim(alloc, &ConfirmFault, tile, claim, writer)
+}
+
+/// To tell whether a fault is true of a tile.
+struct ConfirmFault;
+
+impl ClaimTask for ConfirmFault {
+    ghost IsAnswer = { λ _. IsConfirmAnswer };
+
+    ghost IsRefused = { λ _. IsRefusedClaim };
+
+    fn answer(
+        &self,
+        alloc: Global,
+        tile: &[u8],
+        claim: &[u8],
+    ) -> Result<(Outcome, String), FaultTextError> {
+        match fault_from_text(alloc, claim) {
+            Ok(fault) => match confirm_line(alloc, tile, &fault) {
+                Ok(answer) => Ok(answer),
+                Err(AllocError) => Err(FaultTextError::Memory),
+            },
+            Err(error) => Err(error),
+        }
+    }
+}
+
+/// Whether the fault is true of the tile, and the line that says so, with its LF.
+fn confirm_line(alloc: Global, tile: &[u8], fault: &Fault) -> Result<(Outcome, String), AllocError>
+    ensures { IfOk result (λ answer. (claimed : List ℕ) → Reads claimed fault.now → IsConfirmAnswer tile.now claimed answer.0 (string_bytes answer.1)) }
+{
+    if confirm(tile, fault) {
+        let line = String::from_str(alloc, "{\"confirmed\":true}\n")?;
+        Ok((Outcome::Yes, line))
+    } else {
+        let line = String::from_str(alloc, "{\"confirmed\":false}\n")?;
+        Ok((Outcome::No, line))
+    }
+}
+
+#[cfg(test)]
+mod tests;
