@@ -3,13 +3,16 @@ use Rattle.std.specs.Prelude.{ℕ, Result, Ok, Err}
 use Rattle.mvt_gate.specs.declared.engine.Outcome.{Outcome}
 use Rattle.mvt_gate.specs.declared.engine.Outcome.TheVariants.{Yes, No}
 use Rattle.mvt_gate.specs.declared.engine.EngineFault.{EngineFault}
-use Rattle.mvt_gate.specs.declared.engine.EngineFault.TheVariants.{Read, TooLarge, Write, Memory}
+use Rattle.mvt_gate.specs.declared.engine.EngineFault.TheVariants.{Read, TooLarge, Write, NotJson, NotAFault, FaultRange, Memory}
 
 -- the status of an engine's fault
 abbrev pub fault_status : EngineFault → ℕ
 fault_status Read = 3
 fault_status TooLarge = 3
 fault_status Write = 3
+fault_status NotJson = 5
+fault_status NotAFault = 5
+fault_status FaultRange = 5
 fault_status Memory = 4
 
 -- the status of an engine's answer

@@ -1,12 +1,14 @@
 //! The whole run of the program: its words, its devices and its exit status.
 ghost use Rattle.std.specs.Prelude.{◌≡◌, ◌≢◌, ◌≤◌, ◌⊎◌, IfOk, IfErr};
 ghost use Rattle.clap.specs.Words.{kind_of};
-ghost use Rattle.mvt_gate.specs.Engine.{Answers};
+ghost use Rattle.mvt_gate.specs.Engine.{Answers, IsOfClaim};
 ghost use Rattle.mvtgate.specs.Status.{status_of};
 
 use clap::error::ErrorKind;
 use clap::{Arg, ArgMatches, Command};
-use mvt_gate::{EngineFault, Outcome, Tally, check_stream, fields_stream};
+use mvt_gate::{
+    EngineFault, Outcome, Tally, check_stream, confirm_streams, dump_stream, fields_stream,
+};
 use std::alloc::{AllocError, Global};
 use std::io::{Read, Write};
 use std::rt::{Env, Files};
@@ -21,11 +23,24 @@ const BAD_DEVICE: u8 = 3;
 /// The exit status of a run that memory does not suffice for.
 const NO_MEMORY: u8 = 4;
 
-/// What the program does with a tile.
+/// The exit status of a run on a fault file that holds no fault.
+const BAD_FAULT: u8 = 5;
+
+/// What the program does with a tile alone.
 #[derive(Clone, Copy)]
 enum Engine {
     Fields,
     Check,
+    Dump,
+}
+
+/// What the words ask for.
+#[derive(Clone, Copy)]
+enum Call<'a> {
+    /// An engine on a tile, of a file or of standard input.
+    OneTile(Engine, Option<&'a str>),
+    /// Whether a fault is true of a tile, each of a file.
+    Confirm { tile: &'a str, fault: &'a str },
 }
 
 impl Engine {
@@ -37,12 +52,14 @@ impl Engine {
         reader: &mut Tally<R>,
         writer: &mut Tally<W>,
     ) -> Result<Outcome, EngineFault>
-        ensures { IfOk result (Answers (IsAnswer self)
+        ensures answers { IfOk result (Answers (IsAnswer self)
             R.remaining W.contents reader.old reader.new writer.old writer.new) }
+        ensures no_claim { IfErr result (λ fault. ¬ IsOfClaim fault) }
     {
         match self {
             Engine::Fields => fields_stream(alloc, reader, writer),
             Engine::Check => check_stream(alloc, reader, writer),
+            Engine::Dump => dump_stream(alloc, reader, writer),
         }
     }
 }
@@ -50,14 +67,15 @@ impl Engine {
 /// Runs the program on the words of a command line, of which the first is the program's name, and
 /// returns its exit status.
 pub fn run<R: Files + Input + Print + Eprint + AllocGlobal>(rt: &R, words: &[String]) -> u8
-    ensures { result ≤ 4 }
+    ensures { result ≤ 5 }
 {
     let Ok(command) = command_line(rt.alloc()) else {
         return end(rt, Err(EngineFault::Memory));
     };
     match command.try_get_matches_from(words) {
         Ok(matches) => match call_of(&matches) {
-            Some((engine, file)) => run_engine(rt, engine, file),
+            Some(Call::OneTile(engine, file)) => run_engine(rt, engine, file),
+            Some(Call::Confirm { tile, fault }) => run_confirm(rt, tile, fault),
             // a command line with no command, which `clap` refuses itself
             None => BAD_WORDS,
         },
@@ -97,11 +115,14 @@ fn command_line<'a>(alloc: Global) -> Result<Command<'a>, AllocError> {
         "check",
         "Says yes to a good tile, or tells its first fault",
     )?;
+    let dump = tile_command(alloc, "dump", "Lists what a tile holds")?;
     Command::new(alloc, "mvtgate")
         .about("A gate before the publishing of Mapbox vector tiles")
         .subcommand_required(true)
         .subcommand(fields)?
-        .subcommand(check)
+        .subcommand(check)?
+        .subcommand(dump)?
+        .subcommand(confirm_command(alloc)?)
 }
 
 /// A command that reads one tile.
@@ -114,22 +135,39 @@ fn tile_command<'a>(
     Command::new(alloc, name).about(about).arg(file)
 }
 
-/// Which engine the words call, and the file that they name.
-fn call_of<'a>(matches: &ArgMatches<'a>) -> Option<(Engine, Option<&'a str>)> {
+/// The command that reads a tile and a fault.
+fn confirm_command<'a>(alloc: Global) -> Result<Command<'a>, AllocError> {
+    let tile = Arg::new(alloc, "FILE").help("The tile").required(true);
+    let fault = Arg::new(alloc, "FAULTFILE")
+        .help("The fault, as check writes it")
+        .required(true);
+    Command::new(alloc, "confirm")
+        .about("Says whether a fault is true of a tile")
+        .arg(tile)?
+        .arg(fault)
+}
+
+/// What the words ask for, and the files that they name.
+fn call_of<'a>(matches: &ArgMatches<'a>) -> Option<Call<'a>> {
     let (name, found) = matches.subcommand()?;
-    let engine = match name {
-        "fields" => Engine::Fields,
-        "check" => Engine::Check,
+    let file = found.get_str("FILE");
+    Some(match name {
+        "fields" => Call::OneTile(Engine::Fields, file),
+        "check" => Call::OneTile(Engine::Check, file),
+        "dump" => Call::OneTile(Engine::Dump, file),
+        "confirm" => Call::Confirm {
+            tile: file?,
+            fault: found.get_str("FAULTFILE")?,
+        },
         _ => return None,
-    };
-    Some((engine, found.get_str("FILE")))
+    })
 }
 
 /// Prints what `clap` has to say: help on standard output, and anything else as an error.
 fn explain<R: Print + Eprint>(rt: &R, error: &clap::Error) -> u8
     ensures help { kind_of error.now ≡ ErrorKind.DisplayHelp → result ≡ 0 }
     ensures memory { kind_of error.now ≡ ErrorKind.OutOfMemory → result ≡ 4 }
-    ensures range { result ≤ 4 }
+    ensures range { result ≤ 5 }
 
     // The program has no word for its version.
     ensures mistake { kind_of error.now ≢ ErrorKind.DisplayHelp →
@@ -148,7 +186,7 @@ fn run_engine<R: Files + Input + Print + Eprint + AllocGlobal>(
     engine: Engine,
     file: Option<&str>,
 ) -> u8
-    ensures { result ≤ 4 }
+    ensures { result ≤ 5 }
 {
     let mut writer = Tally::new(io::writer(rt));
     let Some(path) = file else {
@@ -163,6 +201,29 @@ fn run_engine<R: Files + Input + Print + Eprint + AllocGlobal>(
     end(rt, engine.stream(rt.alloc(), &mut reader, &mut writer))
 }
 
+/// Runs `confirm`. Both files are opened before a byte is read, the tile first.
+fn run_confirm<R: Files + Input + Print + Eprint + AllocGlobal>(
+    rt: &R,
+    tile: &str,
+    fault: &str,
+) -> u8
+    ensures { result ≤ 5 }
+{
+    let Ok(opened_tile) = fs::open(rt, tile) else {
+        let _ = eprintln!(rt; "mvtgate: cannot open the tile file");
+        return BAD_DEVICE;
+    };
+    let Ok(opened_fault) = fs::open(rt, fault) else {
+        let _ = eprintln!(rt; "mvtgate: cannot open the fault file");
+        return BAD_DEVICE;
+    };
+    let mut tile_reader = Tally::new(opened_tile);
+    let mut fault_reader = Tally::new(opened_fault);
+    let mut writer = Tally::new(io::writer(rt));
+    let answer = confirm_streams(rt.alloc(), &mut tile_reader, &mut fault_reader, &mut writer);
+    end(rt, answer)
+}
+
 /// The status of an engine's answer. A fault of the run is told in one line on standard error, and
 /// whether that line could be written changes no status.
 fn end(rt: &impl Eprint, answer: Result<Outcome, EngineFault>) -> u8
@@ -175,6 +236,9 @@ fn end(rt: &impl Eprint, answer: Result<Outcome, EngineFault>) -> u8
             let _ = eprintln!(rt; "{fault}");
             match fault {
                 EngineFault::Read | EngineFault::TooLarge | EngineFault::Write => BAD_DEVICE,
+                EngineFault::NotJson | EngineFault::NotAFault | EngineFault::FaultRange => {
+                    BAD_FAULT
+                }
                 EngineFault::Memory => NO_MEMORY,
             }
         }

@@ -30,8 +30,11 @@ fn exits_by_the_words(rt: HostRuntime) -> Result<(), Fail> {
         (["mvtgate", "nothing"].as_slice(), 2),
         (["mvtgate", "fields", "a", "b"].as_slice(), 2),
         (["mvtgate", "check", "a", "b"].as_slice(), 2),
+        (["mvtgate", "dump", "a", "b"].as_slice(), 2),
+        (["mvtgate", "confirm", "a"].as_slice(), 2),
         (["mvtgate", "fields", "--help"].as_slice(), 0),
         (["mvtgate", "check", "--help"].as_slice(), 0),
+        (["mvtgate", "confirm", "--help"].as_slice(), 0),
     ] {
         assert_eq!(rt; status(&rt, texts)?, want, "{texts:?}");
     }
@@ -60,10 +63,42 @@ fn exits_by_the_file(rt: HostRuntime) -> Result<(), Fail> {
     ];
     let listed = statuses(&rt, "fields", &files)?;
     let checked = statuses(&rt, "check", &files)?;
+    let dumped = statuses(&rt, "dump", &files)?;
     // the folder goes before a wrong status ends the test
     fs::remove_dir_all(&rt, &folder)?;
-    for got in [listed, checked] {
+    for got in [listed, checked, dumped] {
         assert_eq!(rt; got.as_slice(), [0, 1, 3, 3, 3].as_slice());
     }
+    Ok(())
+}
+
+/// Texts of fault files: one that is true of the cut tile, one that isn't, one that is no JSON, one that holds no
+/// fault, and one with a number out of range.
+const FAULTS: [&str; 5] = [
+    r#"{"at":0,"code":105,"field":3,"scope":"tile"}"#,
+    r#"{"at":1,"code":105,"field":3,"scope":"tile"}"#,
+    "{",
+    r#"{"ok":true}"#,
+    r#"{"at":0,"code":105,"field":4294967296,"scope":"tile"}"#,
+];
+
+#[test]
+fn exits_by_the_fault(rt: HostRuntime) -> Result<(), Fail> {
+    let name = format!(in rt.alloc(); "mvtgate_faults_{}", process::id(rt.process()))?;
+    let folder = env::temp_dir(&rt)?.join(rt.alloc(), name.as_str())?;
+    fs::create_dir_all(&rt, &folder)?;
+    let cut = folder.join(rt.alloc(), "cut.mvt")?;
+    fs::write(&rt, &cut, &POINT[..15])?;
+    let fault = folder.join(rt.alloc(), "fault.json")?;
+    let mut got = Vec::new(rt.alloc());
+    got.push(status(&rt, &["mvtgate", "confirm", cut.as_str(), fault.as_str()])?)?;
+    for text in FAULTS {
+        fs::write(&rt, &fault, text.as_bytes())?;
+        got.push(status(&rt, &["mvtgate", "confirm", cut.as_str(), fault.as_str()])?)?;
+    }
+    // the folder goes before a wrong status ends the test
+    fs::remove_dir_all(&rt, &folder)?;
+    // (at first there is no file of the fault)
+    assert_eq!(rt; got.as_slice(), [3, 0, 1, 5, 5, 5].as_slice());
     Ok(())
 }
