@@ -1,5 +1,6 @@
 #!/usr/bin/env python3
-"""Writes the inputs of bench/run and bench/polygons into a folder, all or those named: inputs.py FOLDER [NAME..].
+"""Writes the inputs of bench/run, bench/polygons, bench/confirm and bench/dump into a folder, all or those named:
+inputs.py FOLDER [NAME..].
 
 Each run writes the same bytes.
 """
@@ -288,6 +289,49 @@ def tagged_features(size, keys):
     return one_payload(NAMED + SMALLEST_KEY * keys + SMALLEST_VALUE, b"".join(features), size)
 
 
+# One fault at the end of many bytes
+
+# a ring of positive area, from the cursor and back to it
+SQUARE = [command(MOVE_TO, 1), *parameters([(0, -2)]), command(LINE_TO, 3), *parameters([(2, 0), (0, 2), (-2, 0)]), command(CLOSE_PATH, 1)]
+TRIANGLE = packed(SQUARE[:3] + [command(LINE_TO, 2), *parameters([(2, 0), (-2, 2)]), command(CLOSE_PATH, 1)])
+
+
+def ring(first, *steps):
+    """The numbers of a ring whose first vertex is a step from the cursor."""
+    return [command(MOVE_TO, 1), *parameters([first]), command(LINE_TO, len(steps)), *parameters(steps), command(CLOSE_PATH, 1)]
+
+
+def rings_with(last, size):
+    """One feature of as many squares as fit, each a polygon, with these numbers behind them."""
+    drawn = repeated(packed(SQUARE), size - 128)
+    one = feature(POLYGON, drawn + packed(last))
+    return field(3, DELIMITED, NAMED + field(2, DELIMITED, one))
+
+
+def features_with(last, size, rest=b""):
+    """One layer of as many small features as fit, with this feature behind them, and then these bytes."""
+    small = field(2, DELIMITED, feature(POLYGON, TRIANGLE))
+    own = SMALLEST_KEY + SMALLEST_VALUE
+    return field(3, DELIMITED, NAMED + own + repeated(small, size - 128) + field(2, DELIMITED, last)) + rest
+
+
+GOOD = feature(POINT, packed([command(MOVE_TO, 1), 0, 0]))
+# By the kind of the fault: (the square's hole of negative area is beside it, or within another)
+SHIFTED = [(0, -100), (100, 0), (0, 100), (-100, 0)]
+FAULTY = {
+    "wire": lambda size: features_with(field(3, VARINT, POINT) + field(4, DELIMITED, b"\x09\x00\x80"), size),
+    "version": lambda size: features_with(GOOD, size, field(3, DELIMITED, field(15, VARINT, 1) + field(1, DELIMITED, b"b"))),
+    "name": lambda size: features_with(GOOD, size, field(3, DELIMITED, NAMED)),
+    "tag": lambda size: features_with(feature(UNKNOWN, b"", tags=packed([0, 0, 0, 0])), size),
+    "command": lambda size: rings_with([command(MOVE_TO, 1), 0, 4294967295], size),
+    "ring": lambda size: rings_with(ring((0, -2), (2, 0), (2, 0)), size),
+    "meeting": lambda size: rings_with(ring((0, 8), (10, -8), (0, 10), (-10, -10)), size),
+    "outside": lambda size: rings_with(ring((20, 0), (0, 10), (10, 0), (0, -10)), size),
+    "hole_in_hole": lambda size: rings_with(
+        ring(*SHIFTED) + ring((10, -90), (0, 80), (80, 0), (0, -80)) + ring((-70, 10), (0, 10), (10, 0), (0, -10)), size
+    ),
+}
+
 INPUTS = {
     "one_payload_64_mib": lambda: one_payload(b"", NO_MESSAGE, 64 * MIB),
     "small_layers_8_mib": lambda: b"".join(smallest_layers(8 * MIB)),
@@ -305,12 +349,15 @@ for mib in (16, 32, 64):
         f"smallest_points_{mib}_mib": lambda size=mib * MIB: one_payload(NAMED, SMALLEST_POINT, size),
         f"smallest_lines_{mib}_mib": lambda size=mib * MIB: smallest_lines(size),
         f"parted_lines_{mib}_mib": lambda size=mib * MIB: parted_lines(size),
+        f"smallest_keys_{mib}_mib": lambda size=mib * MIB: one_payload(NAMED, SMALLEST_KEY, size),
         f"smallest_values_{mib}_mib": lambda size=mib * MIB: one_payload(NAMED, SMALLEST_VALUE, size),
         f"named_layers_{mib}_mib": lambda size=mib * MIB: named_layers(size),
         f"many_tags_{mib}_mib": lambda size=mib * MIB: many_tags(size),
         f"tagged_features_{mib}_mib": lambda size=mib * MIB: tagged_features(size, 128),
         f"many_keys_{mib}_mib": lambda size=mib * MIB: tagged_features(size, size // 8),
     }
+for kind, write in FAULTY.items():
+    INPUTS[f"{kind}_fault_64_mib"] = lambda write=write: write(64 * MIB)
 
 folder = sys.argv[1]
 os.makedirs(folder, exist_ok=True)
