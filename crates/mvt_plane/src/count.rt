@@ -69,6 +69,7 @@ impl Count {
     pub fn tick_probe(&mut self)
         ensures tests { self.new.tests ≡ self.old.tests }
         ensures probes { self.new.probes ≡ ticked self.old.probes }
+        ensures no_fewer { self.old.probes ≤ self.new.probes }
         ensures visits { self.new.visits ≡ self.old.visits }
     {
         self.probes = self.probes.saturating_add(1);
@@ -79,6 +80,7 @@ impl Count {
         ensures tests { self.new.tests ≡ self.old.tests }
         ensures probes { self.new.probes ≡ self.old.probes }
         ensures visits { self.new.visits ≡ ticked self.old.visits }
+        ensures no_fewer { self.old.visits ≤ self.new.visits }
     {
         self.visits = self.visits.saturating_add(1);
     }
