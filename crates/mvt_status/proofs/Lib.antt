@@ -1,3 +1,6 @@
 pub mod BinaryDigits
 pub mod Halves
+pub mod Heights
+pub mod NodeSplits
+pub mod Sides
 pub mod SplitPoints

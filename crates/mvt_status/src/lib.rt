@@ -3,8 +3,13 @@
 #![tactic(auto)]
 
 pub mod laws;
+mod node;
 mod status;
+#[cfg(test)]
+mod tests;
+mod tree_status;
 mod vec_status;
 
 pub use status::Status;
+pub use tree_status::TreeStatus;
 pub use vec_status::VecStatus;

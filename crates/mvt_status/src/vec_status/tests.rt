@@ -1,139 +1,33 @@
-ghost use Rattle.std.specs.Prelude.{◌≡◌, ℕ, ◌*◌, ◌<◌, ◌≤◌, All, IfOk, nat_lt, not, ◌==◌, [], ◌∷◌, insert, length, slice_index};
-ghost use Rattle.mvt_status.specs.Counts.{AddsAtMost, bits};
-ghost use Rattle.mvt_status.specs.Split.{IsSplit};
-
 use super::VecStatus;
-use crate::Status;
+use crate::tests::{edges_come_and_go, split_of_many};
 use mvt_plane::Count;
-use std::alloc::{AllocError, Global};
 use std::process::Abort;
-
-/// Puts an edge in front of all whose keys aren't below its own, as a sweep does.
-fn place<S: Status>(
-    status: &mut S,
-    keys: &[u64],
-    edge: usize,
-    count: &mut Count,
-) -> Result<usize, AllocError>
-    requires keyed { edge < length keys.now }
-    requires all_keyed { All (λ it. it < length keys.now) (S.edges status.old) }
-    requires in_order { (i j : ℕ) → i < j → j < length (S.edges status.old) → slice_index keys.now (slice_index (S.edges status.old) i) ≤ slice_index keys.now (slice_index (S.edges status.old) j) }
-    ensures split { IfOk result (λ point. IsSplit (λ it answer. answer ≡ nat_lt (slice_index keys.now it) (slice_index keys.now edge)) (S.edges status.old) point) }
-    ensures placed { IfOk result (λ point. S.edges status.new ≡ insert (S.edges status.old) point edge) }
-    ensures counted { AddsAtMost (2 * bits (length (S.edges status.old))) (4 * bits (length (S.edges status.old))) count.old count.new }
-{
-    let key = keys[edge];
-    let below = |other: usize| -> bool
-        requires { other < length keys.now }
-        ensures { result ≡ nat_lt (slice_index keys.entry.now other) key }
-    { keys[other] < key };
-    let point = status.split_point(&below, count);
-    status.insert(point, edge, count)?;
-    Ok(point)
-}
-
-/// The edges of a status, in order.
-fn list(alloc: Global, status: &VecStatus, count: &mut Count) -> Result<Vec<usize>, AllocError> {
-    let mut edges = Vec::new(alloc);
-    for at in 0..status.len() {
-        edges.push(status.get(at, count))?;
-    }
-    Ok(edges)
-}
-
-/// Puts edges 7, 4 and 9 into a status, so that they stand as 4, 9, 7. Answers how many stand before the 7, and the
-/// edge at 1, which it takes out.
-fn three_edges<S: Status>(status: &mut S, count: &mut Count) -> Result<(usize, usize), AllocError>
-    requires { S.edges status.old ≡ [] }
-    ensures found { IfOk result (λ found. found ≡ (2, 9)) }
-    ensures list { IfOk result (λ _. S.edges status.new ≡ 4 ∷ 7 ∷ []) }
-{
-    status.insert(0, 7, count)?;
-    status.insert(0, 4, count)?;
-    status.insert(1, 9, count)?;
-    let is_other = |edge: usize| -> bool
-        ensures { result ≡ not (edge == 7) }
-    { edge != 7 };
-    let split = status.split_point(&is_other, count);
-    Ok((split, status.remove(1, count)))
-}
-
-/// Puts edge 5 between 4 and 7, by their keys.
-fn edge_between<S: Status>(status: &mut S, count: &mut Count) -> Result<usize, AllocError>
-    requires { S.edges status.old ≡ 4 ∷ 7 ∷ [] }
-{
-    let keys = [0, 0, 0, 0, 10, 20, 0, 30];
-    place(status, &keys, 5, count)
-}
-
-/// The answers of both, and the edges that there are then.
-fn edges_placed(
-    alloc: Global,
-    count: &mut Count,
-) -> Result<((usize, usize), usize, Vec<usize>), AllocError> {
-    let mut status = VecStatus::new(alloc);
-    let found = three_edges(&mut status, count)?;
-    let between = edge_between(&mut status, count)?;
-    Ok((found, between, list(alloc, &status, count)?))
-}
 
 // Edges that come and go, with a probe for each binary digit of their number, and no visit.
 #[test]
-fn edges_come_and_go(rt: HostRuntime) {
+fn few_edges(rt: HostRuntime) {
+    let mut status = VecStatus::new(rt.alloc());
     let mut count = Count::new();
-    match edges_placed(rt.alloc(), &mut count) {
-        Ok((found, between, edges)) => {
-            assert_eq!(&rt; (found, between), ((2, 9), 1));
-            assert_eq!(&rt; edges.as_slice(), [4, 5, 7].as_slice());
+    match edges_come_and_go(rt.alloc(), &mut status, &mut count) {
+        Ok(found) => {
+            assert_eq!(&rt; (found.three, found.between), ((2, 9), 1));
+            assert_eq!(&rt; found.edges.as_slice(), [4, 5, 7].as_slice());
         }
         Err(refused) => assert!(&rt; false, "{refused:?}"),
     }
     assert_eq!(&rt; (count.tests(), count.probes(), count.visits()), (0, 4, 0));
 }
 
-/// Puts the numbers below `many` into a status, each at the end.
-fn count_up<S: Status>(status: &mut S, many: usize, count: &mut Count) -> Result<(), AllocError>
-    requires { S.edges status.old ≡ [] }
-    ensures many { IfOk result (λ _. length (S.edges status.new) ≡ many) }
-    ensures numbered { IfOk result (λ _. (at : ℕ) → at < many → slice_index (S.edges status.new) at ≡ at) }
-{
-    for edge in 0..many {
-        status.insert(edge, edge, count)?;
-    }
-    Ok(())
-}
-
-/// How many numbers of a status that counts up are below a limit.
-fn split_below<S: Status>(status: &S, limit: usize, count: &mut Count) -> usize
-    requires within { limit ≤ length (S.edges status.now) }
-    requires numbered { (at : ℕ) → at < length (S.edges status.now) → slice_index (S.edges status.now) at ≡ at }
-    ensures { result ≡ limit }
-{
-    let below = |edge: usize| -> bool
-        ensures { result ≡ nat_lt edge limit }
-    { edge < limit };
-    status.split_point(&below, count)
-}
-
-/// The split of a status that counts up to 1,000, and the probes that it takes.
-fn split_of_many(alloc: Global, limit: usize) -> Result<(usize, u64), AllocError>
-    requires { limit ≤ 1000 }
-{
-    let mut status = VecStatus::new(alloc);
-    let mut count = Count::new();
-    count_up(&mut status, 1000, &mut count)?;
-    let split = split_below(&status, limit, &mut count);
-    Ok((split, count.probes()))
-}
-
 // Many edges, of which a few are asked for.
 #[test]
-fn split_of_many_edges(rt: HostRuntime) {
+fn many_edges(rt: HostRuntime) {
     for limit in [0, 1, 700, 999, 1000] {
-        match split_of_many(rt.alloc(), limit) {
-            Ok((split, probes)) => {
-                assert_eq!(&rt; split, limit);
-                assert!(&rt; (9..=10).contains(&probes), "{probes}");
+        let mut status = VecStatus::new(rt.alloc());
+        match split_of_many(&mut status, limit) {
+            Ok(many) => {
+                assert_eq!(&rt; many.split, limit);
+                assert!(&rt; (9..=10).contains(&many.probes), "{}", many.probes);
+                assert_eq!(&rt; (many.visits, many.visits_to_insert), (0, 0));
             }
             Err(refused) => assert!(&rt; false, "{refused:?}"),
         }

@@ -1,7 +1,7 @@
 use Rattle.std.proofs.Common.{◌≡◌, ℕ, ◌<◌, ◌≤◌, true, nat_lt, List, length, slice_index, arith}
 use Rattle.std.proofs.lemmas.Bool.{ltb-true, lt-ltb}
 use Rattle.mvt_status.proofs.SplitPoints.{there_is_a_split}
-use Rattle.mvt_status.proofs.vec_status.tests.place.Goals as goal
+use Rattle.mvt_status.proofs.tests.place.Goals as goal
 
 -- of edges in the order of their keys, those in front of one with a lesser key have a lesser one too
 lesser_before : (keys edges : List ℕ) (key : ℕ)

@@ -2,7 +2,7 @@ use Rattle.std.proofs.Common.{◌≡◌, ℕ, ◌<◌, ◌≤◌, nat_lt, Bool, 
 use Rattle.std.proofs.lemmas.Bool.{lt-ltb, le-ltb}
 use Rattle.mvt_status.specs.Split.{IsSplit}
 use Rattle.mvt_status.proofs.SplitPoints.{one_split}
-use Rattle.mvt_status.proofs.vec_status.tests.split_below.Goals as goal
+use Rattle.mvt_status.proofs.tests.split_below.Goals as goal
 
 -- numbers at their own places split at a limit
 splits_at_limit : (edges : List ℕ) (limit : ℕ) → limit ≤ length edges → ((at : ℕ) → at < length edges → slice_index edges at ≡ at)
@@ -17,8 +17,8 @@ pub split_point-requires-clause-splits : goal.split_point-requires-clause-splits
 split_point-requires-clause-splits g c =
     (c.args.limit, splits_at_limit (g.S.Status.edges c.args.status.now) c.args.limit c.requires.within c.requires.numbered)
 
-pub returns : goal.returns
-returns g c =
+pub returns-clause-split : goal.returns-clause-split
+returns-clause-split g c =
     let edges = g.S.Status.edges c.args.status.now in
     one_split (λ (edge : ℕ) (answer : Bool). answer ≡ nat_lt edge c.args.limit) edges c.split_point.result c.args.limit
     (λ i within. (nat_lt (slice_index edges i) c.args.limit, refl)) c.split_point.ensures.split

@@ -1,5 +1,5 @@
 use Rattle.std.proofs.Common.{◌≡◌, ℕ, ◌<◌, length, slice_index}
-use Rattle.mvt_status.proofs.vec_status.tests.count_up.Given as goal
+use Rattle.mvt_status.proofs.tests.count_up.Given as goal
 
 -- the numbers so far stand at their own places
 abbrev pub invariant-loop-edge : goal.invariant-loop-edge

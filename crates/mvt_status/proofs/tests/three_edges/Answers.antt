@@ -1,7 +1,7 @@
 use Rattle.std.proofs.Common.{◌≡◌, ℕ, zero, suc, ◌<◌, ◌≤◌, ◌==◌, not, Bool, true, false, List, [], ◌∷◌, insert, slice_index, refl, sym, ap, subst, ◌∙◌, arith}
 use Rattle.mvt_status.specs.Split.{IsSplit}
 use Rattle.mvt_status.proofs.SplitPoints.{one_split}
-use Rattle.mvt_status.proofs.vec_status.tests.three_edges.Goals as goal
+use Rattle.mvt_status.proofs.tests.three_edges.Goals as goal
 
 abbrev three : List ℕ
 three = 4 ∷ 9 ∷ 7 ∷ []

@@ -1,0 +1,87 @@
+-- How high a side of a node can be, for as many edges as it has.
+use Rattle.std.proofs.Common.{◌≡◌, ℕ, zero, suc, max, ◌+◌, ◌*◌, ◌^◌, ◌<◌, ◌≤◌, inl, inr, List, length, ap, subst, arith}
+use Rattle.std.proofs.lemmas.Bool.{cases_lt}
+use Rattle.std.proofs.Math.Nat.{pow-suc}
+use Rattle.mvt_plane.specs.Counted.{Counted}
+use Rattle.mvt_status.specs.Counts.{AddsAtMost, bits}
+use Rattle.mvt_status.specs.Tree.{DifferByAtMost, fewest}
+use Rattle.mvt_status.proofs.BinaryDigits.{within_digits}
+
+at_least_one : (height : ℕ) → 1 ≤ fewest height
+unfolding fewest
+at_least_one zero = omega arith
+at_least_one (suc zero) = omega arith
+at_least_one (suc (suc height)) = omega (arith, at_least_one height)
+
+-- what is a level higher has no fewer edges
+no_fewer : (height : ℕ) → fewest height ≤ fewest (suc height)
+unfolding fewest
+no_fewer zero = omega arith
+no_fewer (suc zero) = omega arith
+no_fewer (suc (suc height)) = omega (arith, no_fewer height)
+
+-- a node over a side and one that is as high or a level lower
+over_both : (low high : ℕ) → low ≤ high → high ≤ low + 1 → fewest (suc high) ≤ fewest low + fewest high
+unfolding fewest
+over_both low zero no_higher near = omega (arith, at_least_one low)
+over_both low (suc high) no_higher near =
+    elim (cases_lt low (suc high)) [
+      | inl lower ↦
+          (let same : high ≡ low = omega arith in
+          subst (λ (level : ℕ). 2 * fewest high ≤ fewest level + fewest (suc high)) same (omega (arith, no_fewer high)))
+      | inr as_high ↦
+          (let same : suc high ≡ low = omega arith in
+          subst (λ (level : ℕ). 2 * fewest high ≤ fewest level + fewest (suc high)) same (omega (arith, no_fewer high)))
+    ]
+
+-- a node over two sides of nearly one height has enough edges for its own
+pub filled_over_both : (left right height : ℕ) → DifferByAtMost 1 left right → height ≡ suc (max left right) → fewest height ≤ fewest left + fewest right
+filled_over_both left right height near measured =
+    elim (cases_lt left right) [
+      | inl lower ↦
+          (let same : suc right ≡ height = omega arith in
+          subst (λ (level : ℕ). fewest level ≤ fewest left + fewest right) same (over_both left right (omega arith) near.second))
+      | inr as_high ↦
+          (let same : suc left ≡ height = omega arith in
+          subst (λ (level : ℕ). fewest level ≤ fewest left + fewest right) same (omega (arith, over_both right left as_high near.first)))
+    ]
+
+at_most_twice : (height digits : ℕ) → fewest height ≤ 2 ^ digits → height ≤ 2 * digits
+unfolding fewest
+at_most_twice zero digits filled = omega arith
+at_most_twice (suc zero) zero filled = absurd (omega arith)
+at_most_twice (suc zero) (suc digits) filled = omega arith
+at_most_twice (suc (suc height)) zero filled = absurd (omega (arith, at_least_one height))
+at_most_twice (suc (suc height)) (suc digits) filled = omega (arith, at_most_twice height digits (omega (arith, pow-suc 2 digits)))
+
+-- no more levels than twice the binary digits of the number of edges
+height_by_digits : (height edges : ℕ) → fewest height ≤ suc edges → height ≤ 2 * bits edges
+height_by_digits height edges filled = at_most_twice height (bits edges) (omega (arith, within_digits edges))
+
+-- edges that a word can count are on at most 128 levels
+pub height_of_a_word : (height edges : ℕ) → fewest height ≤ suc edges → edges < 2 ^ 64 → height ≤ 128
+height_of_a_word height edges filled within = at_most_twice height 64 (omega arith)
+
+-- a visit for each level is no more than two for each digit
+pub visits_by_digits : (height : ℕ) (edges all : List ℕ) (before after : Counted) → edges ≡ all → AddsAtMost 0 height before after → fewest height ≤ suc (length edges)
+    → AddsAtMost 0 (2 * bits (length all)) before after
+visits_by_digits height edges all before after same added filled = record {
+  tests = added.tests;
+  no_fewer_probes = added.no_fewer_probes;
+  probes_added = added.probes_added;
+  no_fewer_visits = added.no_fewer_visits;
+  visits_added = omega (arith, added.visits_added, height_by_digits height (length all) (omega (arith, filled, ap length same)));
+}
+
+-- and so with a probe for each level
+pub probes_by_digits : (height : ℕ) (edges all : List ℕ) (before after : Counted) → edges ≡ all → AddsAtMost height height before after → fewest height ≤ suc (length edges)
+    → AddsAtMost (2 * bits (length all)) (2 * bits (length all)) before after
+probes_by_digits height edges all before after same added filled =
+    let within = height_by_digits height (length all) (omega (arith, filled, ap length same)) in
+    record {
+      tests = added.tests;
+      no_fewer_probes = added.no_fewer_probes;
+      probes_added = omega (arith, added.probes_added, within);
+      no_fewer_visits = added.no_fewer_visits;
+      visits_added = omega (arith, added.visits_added, within);
+    }

@@ -1,0 +1,113 @@
+-- The split of a node's edges, from the answer of the test on its own edge and the split of one side.
+use Rattle.std.proofs.Common.{◌≡◌, ℕ, suc, ◌+◌, ◌-◌, ◌<◌, ◌≤◌, Bool, true, false, true≢false, All, inl, inr, List, ◌∷◌, ◌++◌, length, length-append, slice_index, ap, sym, subst, ◌∙◌, arith}
+use Rattle.std.proofs.lemmas.Bool.{cases_lt}
+use Rattle.std.proofs.lemmas.List.{get_or_append_left, get_or-append-add}
+use Rattle.std.proofs.Math.Seq.{get_or-append_seam}
+use Rattle.mvt_status.specs.Split.{IsSplit}
+
+-- what is true of all edges of a node is true of its own
+pub of_middle : (P : ℕ → Type 0) (left right edges : List ℕ) (edge : ℕ) → left ++ edge ∷ right ≡ edges → All P edges → P edge
+of_middle P left right edges edge same all =
+    let here = subst (All P) (sym same) all (length left) edge (omega (arith, length-append left (edge ∷ right))) in
+    subst P (get_or-append_seam left edge right edge) here
+
+-- and of each on its left
+pub of_left : (P : ℕ → Type 0) (left right edges : List ℕ) (edge : ℕ) → left ++ edge ∷ right ≡ edges → All P edges → All P left
+of_left P left right edges edge same all = λ i default within.
+    let here = subst (All P) (sym same) all i default (omega (arith, length-append left (edge ∷ right))) in
+    subst P (get_or_append_left left (edge ∷ right) default i within) here
+
+-- and of each on its right
+pub of_right : (P : ℕ → Type 0) (left right edges : List ℕ) (edge : ℕ) → left ++ edge ∷ right ≡ edges → All P edges → All P right
+of_right P left right edges edge same all = λ i default within.
+    let here = subst (All P) (sym same) all (length left + suc i) default (omega (arith, length-append left (edge ∷ right))) in
+    subst P (get_or-append-add left (edge ∷ right) (suc i) default) here
+
+-- the edge of a node, among all its edges
+middle : (left right edges : List ℕ) (edge : ℕ) → left ++ edge ∷ right ≡ edges → edge ≡ slice_index edges (length left)
+middle left right edges edge same = sym (get_or-append_seam left edge right 0) ∙ ap (λ all. slice_index all (length left)) same
+
+on_left : (left right edges : List ℕ) (edge i : ℕ) → left ++ edge ∷ right ≡ edges → i < length left → slice_index left i ≡ slice_index edges i
+on_left left right edges edge i same within = sym (get_or_append_left left (edge ∷ right) 0 i within) ∙ ap (λ all. slice_index all i) same
+
+on_right : (left right edges : List ℕ) (edge i : ℕ) → left ++ edge ∷ right ≡ edges → slice_index right i ≡ slice_index edges (length left + suc i)
+on_right left right edges edge i same = sym (get_or-append-add left (edge ∷ right) (suc i) 0) ∙ ap (λ all. slice_index all (length left + suc i)) same
+
+-- where the test is true, the split is behind the edge
+behind : (answers : ℕ → Bool → Type 0) (left right edges : List ℕ) (edge point : ℕ) → left ++ edge ∷ right ≡ edges → IsSplit answers edges point → answers edge true → length left < point
+behind answers left right edges edge point same split answered =
+    let here = subst (λ (it : ℕ). answers it true) (middle left right edges edge same) answered in
+    elim (cases_lt (length left) point) [
+      | inl further ↦ further
+      | inr no_further ↦ absurd (true≢false (split.rest (length left) no_further (omega (arith, length-append left (edge ∷ right), ap length same)) true here))
+    ]
+
+-- where it is false, the split is not
+not_behind : (answers : ℕ → Bool → Type 0) (left right edges : List ℕ) (edge point : ℕ) → left ++ edge ∷ right ≡ edges → IsSplit answers edges point → answers edge false → point ≤ length left
+not_behind answers left right edges edge point same split answered =
+    let here = subst (λ (it : ℕ). answers it false) (middle left right edges edge same) answered in
+    elim (cases_lt (length left) point) [
+      | inl further ↦ absurd (true≢false (sym (split.front (length left) further false here)))
+      | inr no_further ↦ no_further
+    ]
+
+-- the split of the right side, where the test is true
+pub on_the_right : (answers : ℕ → Bool → Type 0) (left right edges : List ℕ) (edge : ℕ) (answer : Bool) → left ++ edge ∷ right ≡ edges → answers edge answer → answer ≡ true
+    → (point : ℕ) × IsSplit answers edges point → (point : ℕ) × IsSplit answers right point
+on_the_right answers left right edges edge answer same answered is (point, split) =
+    let further = behind answers left right edges edge point same split (subst (answers edge) is answered) in
+    let counted : length left + suc (length right) ≡ length edges = sym (length-append left (edge ∷ right)) ∙ ap length same in (
+      point - suc (length left),
+      record {
+        within = omega (arith, split.within);
+        front = λ i below answer there. split.front (length left + suc i) (omega arith) answer (subst (λ (it : ℕ). answers it answer) (on_right left right edges edge i same) there);
+        rest = λ i from below answer there. split.rest (length left + suc i) (omega arith) (omega arith) answer (subst (λ (it : ℕ). answers it answer) (on_right left right edges edge i same) there);
+      },
+    )
+
+-- the split of the left side, where the test is false
+pub on_the_left : (answers : ℕ → Bool → Type 0) (left right edges : List ℕ) (edge : ℕ) (answer : Bool) → left ++ edge ∷ right ≡ edges → answers edge answer → answer ≡ false
+    → (point : ℕ) × IsSplit answers edges point → (point : ℕ) × IsSplit answers left point
+on_the_left answers left right edges edge answer same answered is (point, split) =
+    let no_further = not_behind answers left right edges edge point same split (subst (answers edge) is answered) in
+    let counted : length left + suc (length right) ≡ length edges = sym (length-append left (edge ∷ right)) ∙ ap length same in (
+      point,
+      record {
+        within = no_further;
+        front = λ i below answer there. split.front i below answer (subst (λ (it : ℕ). answers it answer) (on_left left right edges edge i same (omega arith)) there);
+        rest = λ i from below answer there. split.rest i from (omega arith) answer (subst (λ (it : ℕ). answers it answer) (on_left left right edges edge i same below) there);
+      },
+    )
+
+-- with that of the right side there is the split of the node
+pub from_the_right : (answers : ℕ → Bool → Type 0) (left right edges : List ℕ) (edge before point : ℕ) (answer : Bool) → left ++ edge ∷ right ≡ edges → before ≡ length left
+    → answers edge answer → answer ≡ true → (other : ℕ) × IsSplit answers edges other → IsSplit answers right point → IsSplit answers edges (before + 1 + point)
+from_the_right answers left right edges edge before point answer same many answered is (other, split) part =
+    let further = behind answers left right edges edge other same split (subst (answers edge) is answered) in
+    let counted : length left + suc (length right) ≡ length edges = sym (length-append left (edge ∷ right)) ∙ ap length same in
+    let at : (i : ℕ) → before + 1 ≤ i → slice_index right (i - (before + 1)) ≡ slice_index edges i =
+    λ i from. on_right left right edges edge (i - (before + 1)) same ∙ ap (slice_index edges) (omega arith) in
+    record {
+      within = omega (arith, part.within);
+      front = λ i below answer there. elim (cases_lt i (before + 1)) [
+        | inl earlier ↦ split.front i (omega arith) answer there
+        | inr later ↦ part.front (i - (before + 1)) (omega arith) answer (subst (λ (it : ℕ). answers it answer) (sym (at i later)) there)
+      ];
+      rest = λ i from below answer there. part.rest (i - (before + 1)) (omega arith) (omega arith) answer (subst (λ (it : ℕ). answers it answer) (sym (at i (omega arith))) there);
+    }
+
+-- with that of the left side there is the split of the node
+pub from_the_left : (answers : ℕ → Bool → Type 0) (left right edges : List ℕ) (edge point : ℕ) (answer : Bool) → left ++ edge ∷ right ≡ edges
+    → answers edge answer → answer ≡ false → (other : ℕ) × IsSplit answers edges other → IsSplit answers left point → IsSplit answers edges point
+from_the_left answers left right edges edge point answer same answered is (other, split) part =
+    let no_further = not_behind answers left right edges edge other same split (subst (answers edge) is answered) in
+    let counted : length left + suc (length right) ≡ length edges = sym (length-append left (edge ∷ right)) ∙ ap length same in
+    record {
+      within = omega (arith, part.within);
+      front = λ i below answer there. part.front i below answer
+          (subst (λ (it : ℕ). answers it answer) (sym (on_left left right edges edge i same (omega (arith, part.within)))) there);
+      rest = λ i from below answer there. elim (cases_lt i (length left)) [
+        | inl earlier ↦ part.rest i from earlier answer (subst (λ (it : ℕ). answers it answer) (sym (on_left left right edges edge i same earlier)) there)
+        | inr later ↦ split.rest i (omega arith) below answer there
+      ];
+    }

@@ -1,0 +1,49 @@
+-- Places in a list of edges that is what two sides and an edge between them have.
+use Rattle.std.proofs.Common.{◌≡◌, ℕ, ◌+◌, ◌-◌, ◌<◌, List, [], ◌∷◌, ◌++◌, length, length-append, take, drop, remove, slice_index, refl, ap, sym, subst, ◌∙◌, append_assoc, arith}
+use Rattle.std.proofs.lemmas.List.Edits.{remove-append_right}
+use Rattle.std.proofs.Math.Seq.{take-append-add, drop-append-add}
+
+-- what is put in behind the edge in the middle
+pub insert_right : (left middle right new : List ℕ) (at before : ℕ) → length middle ≡ 1 → length left ≡ before → before < at
+    → left ++ (middle ++ (take (at - before - 1) right ++ (new ++ drop (at - before - 1) right)))
+    ≡ take at (left ++ (middle ++ right)) ++ (new ++ drop at (left ++ (middle ++ right)))
+insert_right left middle right new at before one many behind =
+    let place : length (left ++ middle) + (at - before - 1) ≡ at = omega (arith, length-append left middle) in
+    let regroup : (rest : List ℕ) → (left ++ middle) ++ rest ≡ left ++ (middle ++ rest) = append_assoc left middle in
+    let front : take at (left ++ (middle ++ right)) ≡ left ++ (middle ++ take (at - before - 1) right) =
+    subst (λ (i : ℕ). take i (left ++ (middle ++ right)) ≡ left ++ (middle ++ take (at - before - 1) right)) place
+    (ap (take (length (left ++ middle) + (at - before - 1))) (sym (regroup right)) ∙ take-append-add (left ++ middle) right (at - before - 1) ∙ regroup _) in
+    let rest : drop at (left ++ (middle ++ right)) ≡ drop (at - before - 1) right =
+    subst (λ (i : ℕ). drop i (left ++ (middle ++ right)) ≡ drop (at - before - 1) right) place
+    (ap (drop (length (left ++ middle) + (at - before - 1))) (sym (regroup right)) ∙ drop-append-add (left ++ middle) right (at - before - 1)) in
+    grind (arith, append_assoc)
+
+-- what is taken out behind the edge in the middle
+pub remove_right : (left middle right : List ℕ) (at before : ℕ) → length middle ≡ 1 → length left ≡ before → before < at
+    → left ++ (middle ++ remove right (at - before - 1)) ≡ remove (left ++ (middle ++ right)) at
+remove_right left middle right at before one many behind =
+    sym (remove-append_right left (middle ++ right) before at many (omega arith) ∙ ap (λ rest. left ++ rest) (remove-append_right middle right 1 (at - before) one (omega arith)))
+
+-- the first edge and what is left without it
+first_and_rest : (edges : List ℕ) → 0 < length edges → (slice_index edges 0 ∷ []) ++ remove edges 0 ≡ edges
+first_and_rest [] some = absurd (omega arith)
+first_and_rest (edge ∷ rest) some = refl
+
+-- what is behind one edge is left without it
+without_first : (middle right : List ℕ) → length middle ≡ 1 → remove (middle ++ right) 0 ≡ right
+without_first [] right one = absurd (omega arith)
+without_first (edge ∷ []) right one = refl
+without_first (edge ∷ next ∷ rest) right one = absurd (omega arith)
+
+-- the first edge on the right takes the place of that in the middle
+pub remove_between : (left middle right next : List ℕ) (at before : ℕ) → length middle ≡ 1 → length left ≡ before → at ≡ before → 0 < length right
+    → next ≡ slice_index right 0 ∷ [] → left ++ (next ++ remove right 0) ≡ remove (left ++ (middle ++ right)) at
+remove_between left middle right next at before one many there some is =
+    let none : at - before ≡ 0 = omega arith in
+    let rest : remove (middle ++ right) (at - before) ≡ right = ap (remove (middle ++ right)) none ∙ without_first middle right one in
+    let moved : next ++ remove right 0 ≡ right = ap (λ front. front ++ remove right 0) is ∙ first_and_rest right some in
+    sym (remove-append_right left (middle ++ right) before at many (omega arith) ∙ ap (λ behind. left ++ behind) (rest ∙ sym moved))
+
+-- a node has an edge
+pub some_edge : (left right : List ℕ) (edge height : ℕ) (seen : List ℕ × ℕ) → ◌≡◌ {A = List ℕ × ℕ} (left ++ edge ∷ right, height) seen → 0 < length seen.0
+some_edge left right edge height seen is = omega (arith, ap (λ (it : List ℕ × ℕ). length it.0) is, length-append left (edge ∷ right))

@@ -1,0 +1,6 @@
+use Rattle.mvt_status.specs.Tree.{height_of}
+use Rattle.mvt_status.proofs.node.+edge_at.Given as goal
+
+-- levels that are left
+abbrev pub decreases-edge_at : goal.decreases-edge_at
+decreases-edge_at l = height_of l.side.now

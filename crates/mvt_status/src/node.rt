@@ -1,0 +1,314 @@
+//! Nodes of a tree: each holds an edge between those of its two sides, and no side is more than one level higher
+//! than the other.
+ghost use Rattle.std.specs.Prelude.{◌≡◌, ℕ, ◌+◌, ◌^◌, ◌<◌, ◌≤◌, suc, max, All, IfOk, IfSome, ◌∷◌, [], ◌++◌, drop, length, remove, slice_index, take};
+ghost use Rattle.mvt_plane.specs.Counted.{ticked};
+ghost use Rattle.mvt_status.specs.Counts.{AddsAtMost};
+ghost use Rattle.mvt_status.specs.Split.{IsSplit};
+ghost use Rattle.mvt_status.specs.Tree.{DifferByAtMost, IsHeightOfBoth, edges_of, fewest, height_of};
+
+use mvt_plane::Count;
+use std::alloc::{AllocError, Global};
+use std::marker::Model;
+
+/// A side of a node: a node below it, or nothing.
+pub(crate) type Side = Option<Box<Node>>;
+
+#[derive(Drop)]
+pub(crate) struct Node {
+    left: Side,
+    right: Side,
+    edge: usize,
+    // How many edges there are in the node and on both sides.
+    size: usize,
+    // How many levels there are, this one included.
+    height: u8,
+}
+
+impl Model for Node {
+    ghost use Rattle.std.specs.Prelude.{ℕ, List, ◌∷◌, ◌++◌, length};
+    ghost use Rattle.std.proofs.Common.{arith, length-append};
+    ghost use Rattle.mvt_status.specs.Tree.{IsNode, edges_of};
+
+    ghost Value = { List ℕ × ℕ };
+
+    ghost view = { λ node. (edges_of node.left ++ node.edge ∷ edges_of node.right, node.height) };
+
+    ghost invariant = { λ node. IsNode node.left node.right node.size node.height };
+
+    ghost size = { λ seen. length seen.0 };
+
+    ghost size_decreases = { λ node holds. Prim.grind (arith, length-append) };
+}
+
+/// How many edges a side has.
+pub(crate) fn size(side: &Side) -> usize
+    ensures { result ≡ length (edges_of side.now) }
+{
+    match side {
+        None => 0,
+        Some(node) => node.size,
+    }
+}
+
+/// How many levels a side has.
+pub(crate) fn height(side: &Side) -> u8
+    ensures value { result ≡ height_of side.now }
+    ensures filled { fewest (height_of side.now) ≤ suc (length (edges_of side.now)) }
+{
+    match side {
+        None => 0,
+        Some(node) => node.height,
+    }
+}
+
+/// A node of one edge.
+pub(crate) fn alone(alloc: Global, edge: usize) -> Result<Box<Node>, AllocError>
+    ensures { IfOk result (λ node. node.value ≡ (edge ∷ [], 1)) }
+{
+    Ok(Box::new(
+        alloc,
+        Node {
+            left: None,
+            right: None,
+            edge,
+            size: 1,
+            height: 1,
+        },
+    )?)
+}
+
+/// The edge of a node of one edge.
+pub(crate) fn edge_of(node: &Node) -> usize
+    requires { length node.now.0 ≡ 1 }
+    ensures { node.now.0 ≡ result ∷ [] }
+{
+    node.edge
+}
+
+/// Another edge in a node of one edge.
+pub(crate) fn renamed(mut node: Box<Node>, edge: usize) -> Box<Node>
+    requires one { length node.value.0 ≡ 1 }
+    requires alone { node.value.1 ≡ 1 }
+    ensures { result.value ≡ (edge ∷ [], 1) }
+{
+    node.edge = edge;
+    node
+}
+
+/// A node taken apart: what is on the left, the node with its edge alone, what is on the right.
+fn open(mut node: Box<Node>) -> (Side, Box<Node>, Side)
+    ensures edges { node.value.0 ≡ edges_of result.0 ++ (result.1.value.0 ++ edges_of result.2) }
+    ensures one { length result.1.value.0 ≡ 1 }
+    ensures alone { result.1.value.1 ≡ 1 }
+    ensures filled { fewest node.value.1 ≤ suc (length node.value.0) }
+    ensures height { node.value.1 ≡ suc (max (height_of result.0) (height_of result.2)) }
+    ensures near { DifferByAtMost 1 (height_of result.0) (height_of result.2) }
+    ensures room { length node.value.0 < 2 ^ 64 }
+{
+    let top: &mut Node = &mut node;
+    let left = top.left.take();
+    let right = top.right.take();
+    top.size = 1;
+    top.height = 1;
+    (left, node, right)
+}
+
+/// A node put together, of two sides of nearly one height.
+fn close(left: Side, mut node: Box<Node>, right: Side) -> Box<Node>
+    requires one { length node.value.0 ≡ 1 }
+    requires near { DifferByAtMost 1 (height_of left) (height_of right) }
+    requires room { length (edges_of left) + length (edges_of right) + 1 < 2 ^ 64 }
+    ensures edges { result.value.0 ≡ edges_of left ++ (node.value.0 ++ edges_of right) }
+    ensures height { result.value.1 ≡ suc (max (height_of left) (height_of right)) }
+{
+    let top: &mut Node = &mut node;
+    top.size = size(&left) + 1 + size(&right);
+    top.height = height(&left).max(height(&right)) + 1;
+    top.left = left;
+    top.right = right;
+    node
+}
+
+/// The same, where one side may be two levels higher than the other.
+fn join(left: Side, middle: Box<Node>, right: Side) -> Box<Node>
+    requires one { length middle.value.0 ≡ 1 }
+    requires near { DifferByAtMost 2 (height_of left) (height_of right) }
+    requires room { length (edges_of left) + length (edges_of right) + 1 < 2 ^ 64 }
+    ensures edges { result.value.0 ≡ edges_of left ++ (middle.value.0 ++ edges_of right) }
+    ensures height { IsHeightOfBoth (height_of left) (height_of right) result.value.1 }
+{
+    let (left_height, right_height) = (height(&left), height(&right));
+    if left_height > right_height + 1 {
+        lean_right(left, middle, right)
+    } else if right_height > left_height + 1 {
+        lean_left(left, middle, right)
+    } else {
+        close(left, middle, right)
+    }
+}
+
+/// The same, where the left side is two levels higher.
+fn lean_right(left: Side, middle: Box<Node>, right: Side) -> Box<Node>
+    requires one { length middle.value.0 ≡ 1 }
+    requires two_higher { height_of left ≡ height_of right + 2 }
+    requires room { length (edges_of left) + length (edges_of right) + 1 < 2 ^ 64 }
+    ensures edges { result.value.0 ≡ edges_of left ++ (middle.value.0 ++ edges_of right) }
+    ensures not_lower { height_of left ≤ result.value.1 }
+    ensures at_most_one_higher { result.value.1 ≤ height_of left + 1 }
+{
+    let Some(top) = left else { unreachable!() };
+    let (outer, top, inner) = open(top);
+    if height(&outer) >= height(&inner) {
+        return close(outer, top, Some(close(inner, middle, right)));
+    }
+    let Some(inner) = inner else { unreachable!() };
+    let (near, raised, far) = open(inner);
+    close(
+        Some(close(outer, top, near)),
+        raised,
+        Some(close(far, middle, right)),
+    )
+}
+
+/// The same, where the right side is two levels higher.
+fn lean_left(left: Side, middle: Box<Node>, right: Side) -> Box<Node>
+    requires one { length middle.value.0 ≡ 1 }
+    requires two_higher { height_of right ≡ height_of left + 2 }
+    requires room { length (edges_of left) + length (edges_of right) + 1 < 2 ^ 64 }
+    ensures edges { result.value.0 ≡ edges_of left ++ (middle.value.0 ++ edges_of right) }
+    ensures not_lower { height_of right ≤ result.value.1 }
+    ensures at_most_one_higher { result.value.1 ≤ height_of right + 1 }
+{
+    let Some(top) = right else { unreachable!() };
+    let (inner, top, outer) = open(top);
+    if height(&outer) >= height(&inner) {
+        return close(Some(close(left, middle, inner)), top, outer);
+    }
+    let Some(inner) = inner else { unreachable!() };
+    let (far, raised, near) = open(inner);
+    close(
+        Some(close(left, middle, far)),
+        raised,
+        Some(close(near, top, outer)),
+    )
+}
+
+/// Puts a node of one edge in front of the edge at a place, and ticks a visit for each node on the way there.
+pub(crate) fn insert_into(side: Side, at: usize, new: Box<Node>, count: &mut Count) -> Box<Node>
+    requires within { at ≤ length (edges_of side) }
+    requires one { length new.value.0 ≡ 1 }
+    requires alone { new.value.1 ≡ 1 }
+    requires room { length (edges_of side) + 1 < 2 ^ 64 }
+    ensures edges { result.value.0 ≡ take at (edges_of side) ++ (new.value.0 ++ drop at (edges_of side)) }
+    ensures not_lower { height_of side ≤ result.value.1 }
+    ensures at_most_one_higher { result.value.1 ≤ height_of side + 1 }
+    ensures counted { AddsAtMost 0 (height_of side) count.old count.new }
+    ensures visited { IfSome side (λ _. ticked count.old.visits ≤ count.new.visits) }
+    ensures filled { fewest (height_of side) ≤ suc (length (edges_of side)) }
+{
+    let Some(node) = side else { return new };
+    visit(count);
+    let (left, middle, right) = open(node);
+    let before = size(&left);
+    if at <= before {
+        let left = insert_into(left, at, new, count);
+        join(Some(left), middle, right)
+    } else {
+        let right = insert_into(right, at - before - 1, new, count);
+        join(left, middle, Some(right))
+    }
+}
+
+/// Takes the edge at a place out, and answers what is left, and the edge in a node by itself. Ticks a visit for each
+/// node on the way to the place and to the edge that takes it.
+pub(crate) fn remove_from(node: Box<Node>, at: usize, count: &mut Count) -> (Side, Box<Node>)
+    requires within { at < length node.value.0 }
+    ensures edges { edges_of result.0 ≡ remove node.value.0 at }
+    ensures out { result.1.value ≡ (slice_index node.value.0 at ∷ [], 1) }
+    ensures not_higher { height_of result.0 ≤ node.value.1 }
+    ensures at_most_one_lower { node.value.1 ≤ height_of result.0 + 1 }
+    ensures counted { AddsAtMost 0 node.value.1 count.old count.new }
+    ensures visited { ticked count.old.visits ≤ count.new.visits }
+    ensures filled { fewest node.value.1 ≤ suc (length node.value.0) }
+{
+    visit(count);
+    let (left, middle, right) = open(node);
+    let before = size(&left);
+    if at < before {
+        let Some(left) = left else { unreachable!() };
+        let (left, out) = remove_from(left, at, count);
+        return (Some(join(left, middle, right)), out);
+    }
+    let Some(right) = right else {
+        return (left, middle)
+    };
+    if at == before {
+        // (each node has an edge of its own, so there is a first one)
+        prove!(right.size > 0);
+        let (right, next) = remove_from(right, 0, count);
+        return (Some(join(left, next, right)), middle);
+    }
+    let (right, out) = remove_from(right, at - before - 1, count);
+    (Some(join(left, middle, right)), out)
+}
+
+/// The edge at a place. Ticks a visit for each node on the way there.
+pub(crate) fn edge_at(side: &Side, at: usize, count: &mut Count) -> usize
+    requires { at < length (edges_of side.now) }
+    ensures value { result ≡ slice_index (edges_of side.now) at }
+    ensures counted { AddsAtMost 0 (height_of side.now) count.old count.new }
+    ensures visited { ticked count.old.visits ≤ count.new.visits }
+    ensures filled { fewest (height_of side.now) ≤ suc (length (edges_of side.now)) }
+{
+    let Some(node) = side else { unreachable!() };
+    let node: &Node = node;
+    visit(count);
+    let before = size(&node.left);
+    if at < before {
+        edge_at(&node.left, at, count)
+    } else if at == before {
+        node.edge
+    } else {
+        edge_at(&node.right, at - before - 1, count)
+    }
+}
+
+/// How many edges of which `below` is true stand at the front. Ticks a visit and a probe for each node on the way
+/// there.
+pub(crate) fn split_of<F: Fn(usize) -> bool>(side: &Side, below: &F, count: &mut Count) -> usize
+    requires callable { All (F.pre below.now) (edges_of side.now) }
+    requires splits { (point : ℕ) × IsSplit (F.post below.now) (edges_of side.now) point }
+    ensures split { IsSplit (F.post below.now) (edges_of side.now) result }
+    ensures counted { AddsAtMost (height_of side.now) (height_of side.now) count.old count.new }
+    ensures visited { IfSome side.now (λ _. ticked count.old.visits ≤ count.new.visits) }
+    ensures probed { IfSome side.now (λ _. ticked count.old.probes ≤ count.new.probes) }
+    ensures filled { fewest (height_of side.now) ≤ suc (length (edges_of side.now)) }
+{
+    let Some(node) = side else { return 0 };
+    let node: &Node = node;
+    visit(count);
+    probe(count);
+    if below(node.edge) {
+        // (the sum is no more than the node's own size)
+        prove!(node.size <= usize::MAX);
+        size(&node.left) + 1 + split_of(&node.right, below, count)
+    } else {
+        split_of(&node.left, below, count)
+    }
+}
+
+/// Counts a visit of a node.
+fn visit(count: &mut Count)
+    ensures counted { AddsAtMost 0 1 count.old count.new }
+    ensures visited { count.new.visits ≡ ticked count.old.visits }
+{
+    count.tick_visit();
+}
+
+/// Counts a comparison.
+fn probe(count: &mut Count)
+    ensures counted { AddsAtMost 1 0 count.old count.new }
+    ensures probed { count.new.probes ≡ ticked count.old.probes }
+{
+    count.tick_probe();
+}

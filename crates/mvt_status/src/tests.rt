@@ -1,0 +1,158 @@
+//! Callers of a status, for the tests of each.
+
+ghost use Rattle.std.specs.Prelude.{◌≡◌, ℕ, ◌*◌, ◌<◌, ◌≤◌, All, IfOk, nat_lt, not, ◌==◌, [], ◌∷◌, insert, length, slice_index};
+ghost use Rattle.mvt_status.specs.Counts.{AddsAtMost, bits};
+ghost use Rattle.mvt_status.specs.Split.{IsSplit};
+
+use crate::Status;
+use mvt_plane::Count;
+use std::alloc::{AllocError, Global};
+
+/// Puts an edge in front of all whose keys aren't below its own, as a sweep does.
+fn place<S: Status>(
+    status: &mut S,
+    keys: &[u64],
+    edge: usize,
+    count: &mut Count,
+) -> Result<usize, AllocError>
+    requires keyed { edge < length keys.now }
+    requires all_keyed { All (λ it. it < length keys.now) (S.edges status.old) }
+    requires in_order { (i j : ℕ) → i < j → j < length (S.edges status.old) → slice_index keys.now (slice_index (S.edges status.old) i) ≤ slice_index keys.now (slice_index (S.edges status.old) j) }
+    ensures split { IfOk result (λ point. IsSplit (λ it answer. answer ≡ nat_lt (slice_index keys.now it) (slice_index keys.now edge)) (S.edges status.old) point) }
+    ensures placed { IfOk result (λ point. S.edges status.new ≡ insert (S.edges status.old) point edge) }
+    ensures counted { AddsAtMost (2 * bits (length (S.edges status.old))) (4 * bits (length (S.edges status.old))) count.old count.new }
+{
+    let key = keys[edge];
+    let below = |other: usize| -> bool
+        requires { other < length keys.now }
+        ensures { result ≡ nat_lt (slice_index keys.entry.now other) key }
+    { keys[other] < key };
+    let point = status.split_point(&below, count);
+    status.insert(point, edge, count)?;
+    Ok(point)
+}
+
+/// The edges of a status, in order.
+pub(crate) fn list<S: Status>(
+    alloc: Global,
+    status: &S,
+    count: &mut Count,
+) -> Result<Vec<usize>, AllocError> {
+    let mut edges = Vec::new(alloc);
+    for at in 0..status.len() {
+        edges.push(status.get(at, count))?;
+    }
+    Ok(edges)
+}
+
+/// Puts edges 7, 4 and 9 into a status, so that they stand as 4, 9, 7. Answers how many stand before the 7, and the
+/// edge at 1, which it takes out.
+fn three_edges<S: Status>(status: &mut S, count: &mut Count) -> Result<(usize, usize), AllocError>
+    requires { S.edges status.old ≡ [] }
+    ensures found { IfOk result (λ found. found ≡ (2, 9)) }
+    ensures list { IfOk result (λ _. S.edges status.new ≡ 4 ∷ 7 ∷ []) }
+{
+    status.insert(0, 7, count)?;
+    status.insert(0, 4, count)?;
+    status.insert(1, 9, count)?;
+    let is_other = |edge: usize| -> bool
+        ensures { result ≡ not (edge == 7) }
+    { edge != 7 };
+    let split = status.split_point(&is_other, count);
+    Ok((split, status.remove(1, count)))
+}
+
+/// Puts edge 5 between 4 and 7, by their keys.
+fn edge_between<S: Status>(status: &mut S, count: &mut Count) -> Result<usize, AllocError>
+    requires { S.edges status.old ≡ 4 ∷ 7 ∷ [] }
+{
+    let keys = [0, 0, 0, 0, 10, 20, 0, 30];
+    place(status, &keys, 5, count)
+}
+
+/// What is found in a status where edges come and go.
+#[derive(Drop)]
+pub(crate) struct Found {
+    /// The split of three edges, and the edge taken out.
+    pub(crate) three: (usize, usize),
+    /// The place of the edge that was put between the others.
+    pub(crate) between: usize,
+    /// The edges that there are then.
+    pub(crate) edges: Vec<usize>,
+}
+
+/// The answers of a status that is empty at first.
+pub(crate) fn edges_come_and_go<S: Status>(
+    alloc: Global,
+    status: &mut S,
+    count: &mut Count,
+) -> Result<Found, AllocError>
+    requires { S.edges status.old ≡ [] }
+{
+    let three = three_edges(status, count)?;
+    let between = edge_between(status, count)?;
+    let edges = list(alloc, status, count)?;
+    Ok(Found {
+        three,
+        between,
+        edges,
+    })
+}
+
+/// Puts the numbers below `many` into a status, each at the end. Answers the most visits that one took.
+fn count_up<S: Status>(status: &mut S, many: usize, count: &mut Count) -> Result<u64, AllocError>
+    requires { S.edges status.old ≡ [] }
+    ensures many { IfOk result (λ _. length (S.edges status.new) ≡ many) }
+    ensures numbered { IfOk result (λ _. (at : ℕ) → at < many → slice_index (S.edges status.new) at ≡ at) }
+{
+    let mut most = 0;
+    for edge in 0..many {
+        let before = count.visits();
+        status.insert(edge, edge, count)?;
+        most = most.max(count.visits() - before);
+    }
+    Ok(most)
+}
+
+/// How many numbers of a status that counts up are below a limit.
+fn split_below<S: Status>(status: &S, limit: usize, count: &mut Count) -> usize
+    requires within { limit ≤ length (S.edges status.now) }
+    requires numbered { (at : ℕ) → at < length (S.edges status.now) → slice_index (S.edges status.now) at ≡ at }
+    ensures split { result ≡ limit }
+    ensures counted { AddsAtMost (2 * bits (length (S.edges status.now))) (2 * bits (length (S.edges status.now))) count.old count.new }
+{
+    let below = |edge: usize| -> bool
+        ensures { result ≡ nat_lt edge limit }
+    { edge < limit };
+    status.split_point(&below, count)
+}
+
+/// The split of a status that counts up to 1,000, and the work that it takes.
+#[derive(Drop)]
+pub(crate) struct SplitOfMany {
+    pub(crate) split: usize,
+    pub(crate) probes: u64,
+    pub(crate) visits: u64,
+    /// The most visits of an edge that was put in.
+    pub(crate) visits_to_insert: u64,
+}
+
+/// Splits a status that counts up to 1,000, and is empty at first.
+pub(crate) fn split_of_many<S: Status>(
+    status: &mut S,
+    limit: usize,
+) -> Result<SplitOfMany, AllocError>
+    requires empty { S.edges status.old ≡ [] }
+    requires within { limit ≤ 1000 }
+{
+    let mut count = Count::new();
+    let visits_to_insert = count_up(status, 1000, &mut count)?;
+    let before = count;
+    let split = split_below(status, limit, &mut count);
+    Ok(SplitOfMany {
+        split,
+        probes: count.probes() - before.probes(),
+        visits: count.visits() - before.visits(),
+        visits_to_insert,
+    })
+}

@@ -1,0 +1,106 @@
+ghost use Rattle.std.specs.Prelude.{◌≡◌, ℕ, ◌*◌, ◌<◌, ◌≤◌, All, [], if◌then◌else◌, insert, is_ok, length, remove, slice_index};
+ghost use Rattle.mvt_status.specs.Counts.{AddsAtMost, bits};
+ghost use Rattle.mvt_status.specs.Split.{IsSplit};
+
+use crate::Status;
+use crate::node::{
+    Node, Side, alone, edge_at, edge_of, insert_into, remove_from, renamed, size, split_of,
+};
+use mvt_plane::Count;
+use std::alloc::{AllocError, Global};
+use std::marker::Model;
+
+#[cfg(test)]
+mod tests;
+
+/// A status in a height-balanced tree. Each call takes a number of steps that grows with the binary digits of the
+/// number of edges. A node that was taken out serves the next edge that comes.
+#[derive(Drop)]
+pub struct TreeStatus {
+    root: Side,
+    // Nodes that were taken out.
+    spare: Vec<Box<Node>>,
+    alloc: Global,
+}
+
+impl Model for TreeStatus {
+    ghost use Rattle.std.specs.Prelude.{ℕ, All, List};
+    ghost use Rattle.mvt_status.specs.Tree.{IsAlone, edges_of};
+
+    ghost Value = { List ℕ };
+
+    ghost view = { λ status. edges_of status.root };
+
+    ghost invariant = { λ status. All IsAlone status.spare.items };
+}
+
+impl TreeStatus {
+    /// A status with no edge. It takes no memory.
+    pub fn new(alloc: Global) -> TreeStatus
+        ensures { result ≡ [] }
+    {
+        TreeStatus {
+            root: None,
+            spare: Vec::new(alloc),
+            alloc,
+        }
+    }
+}
+
+impl Status for TreeStatus {
+    ghost edges = { λ status. status };
+
+    fn len(&self) -> usize {
+        size(&self.root)
+    }
+
+    fn get(&self, at: usize, count: &mut Count) -> usize
+        requires { at < length self.now }
+        ensures value { result ≡ slice_index self.now at }
+        ensures counted { AddsAtMost 0 (2 * bits (length self.now)) count.old count.new }
+    {
+        edge_at(&self.root, at, count)
+    }
+
+    fn insert(&mut self, at: usize, edge: usize, count: &mut Count) -> Result<(), AllocError>
+        requires { at ≤ length self.old }
+        ensures list { self.new ≡ (if is_ok result then insert self.old at edge else self.old) }
+        ensures counted { AddsAtMost 0 (2 * bits (length self.old)) count.old count.new }
+    {
+        if self.len() == usize::MAX {
+            return Err(AllocError);
+        }
+        let node = match self.spare.pop() {
+            Some(node) => renamed(node, edge),
+            None => alone(self.alloc, edge)?,
+        };
+        self.root = Some(insert_into(self.root.take(), at, node, count));
+        Ok(())
+    }
+
+    fn remove(&mut self, at: usize, count: &mut Count) -> usize
+        requires { at < length self.old }
+        ensures value { result ≡ slice_index self.old at }
+        ensures list { self.new ≡ remove self.old at }
+        ensures counted { AddsAtMost 0 (2 * bits (length self.old)) count.old count.new }
+    {
+        let Some(node) = self.root.take() else {
+            unreachable!()
+        };
+        let (rest, out) = remove_from(node, at, count);
+        self.root = rest;
+        let edge = edge_of(&out);
+        // (where there is no memory for it, the node is given back)
+        let _ = self.spare.push(out);
+        edge
+    }
+
+    fn split_point<F: Fn(usize) -> bool>(&self, below: &F, count: &mut Count) -> usize
+        requires callable { All (F.pre below.now) self.now }
+        requires splits { (point : ℕ) × IsSplit (F.post below.now) self.now point }
+        ensures split { IsSplit (F.post below.now) self.now result }
+        ensures counted { AddsAtMost (2 * bits (length self.now)) (2 * bits (length self.now)) count.old count.new }
+    {
+        split_of(&self.root, below, count)
+    }
+}
