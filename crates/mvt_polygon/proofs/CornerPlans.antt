@@ -25,6 +25,7 @@ use Rattle.mvt_polygon.specs.declared.sweep.corners.Corner.{Corner}
 use Rattle.mvt_polygon.proofs.CornerNumbers.{IsVertex, corner_there, vertex_at, vertex_within, edge_within, in_order, next_within, previous_within, next_previous, previous_next, next_but_one}
 use Rattle.mvt_polygon.proofs.EdgeNumbers.{edge_read, one_edge, within_ring}
 use Rattle.mvt_plane.proofs.Gaps.{same_key}
+use Rattle.mvt_polygon.proofs.SegmentEnds.{IsBetweenThem, up, down, between_them, rising_between, end_first, end_second}
 use Rattle.mvt_polygon.proofs.PairMeetings.{AreSharing, meeting_by_name}
 use Rattle.mvt_polygon.proofs.SharedVertices.{follows_next, only_shared, none_in_two_rings, none_apart, none_is_shared}
 
@@ -81,55 +82,6 @@ linked_corners rings corners proper are = record {
 
 -- Corners are a plan
 
--- the edge between two positions goes one way or the other
-data IsBetweenThem (one other : Position) : Type 0 where
-  up : key_of one <ℤ key_of other → segment_between one other ≡ segment one other → IsBetweenThem one other
-  down : key_of other ≤ℤ key_of one → segment_between one other ≡ segment other one → IsBetweenThem one other
-
--- a lesser number passes the test of the code
-less : (a b : ℤ) → a <ℤ b → lt_z a b ≡ true
-less a b is = grind (arith, ints)
-
--- and one that isn't doesn't
-not_less : (a b : ℤ) → b ≤ℤ a → lt_z a b ≡ false
-not_less a b is = grind (arith, ints)
-
--- and it is known which
-between_them : (one other : Position) → IsBetweenThem one other
-between_them one other = either (le_or_lt (key_of other) (key_of one))
-  where
-    either : (key_of other ≤ℤ key_of one) ⊎ (key_of one <ℤ key_of other) → IsBetweenThem one other
-    either (inl falls) = down falls (cond-false (lt_z (key_of one) (key_of other)) (segment one other) (segment other one) (not_less (key_of one) (key_of other) falls))
-    either (inr rises) = up rises (cond-true (lt_z (key_of one) (key_of other)) (segment one other) (segment other one) (less (key_of one) (key_of other) rises))
-
--- it rises where its ends are apart
-rising_between : (one other : Position) → IsPosition one → IsPosition other → one ≢ other → IsRising (segment_between one other)
-rising_between one other within inside apart = either (between_them one other)
-  where
-    either : IsBetweenThem one other → IsRising (segment_between one other)
-    either (up rises is) = subst IsRising (sym is) rises
-    either (down falls is) = subst IsRising (sym is) (strict (le_or_lt (key_of one) (key_of other)))
-      where
-        strict : (key_of one ≤ℤ key_of other) ⊎ (key_of other <ℤ key_of one) → key_of other <ℤ key_of one
-        strict (inl no_more) = absurd (apart (same_key one other within inside (antisym_ℤ no_more falls)))
-        strict (inr fewer) = fewer
-
--- one position is an end of it
-end_first : (one other : Position) → IsEndOf one (segment_between one other)
-end_first one other = either (between_them one other)
-  where
-    either : IsBetweenThem one other → IsEndOf one (segment_between one other)
-    either (up rises is) = subst (IsEndOf one) (sym is) (inl refl)
-    either (down falls is) = subst (IsEndOf one) (sym is) (inr refl)
-
--- so is the other
-end_second : (one other : Position) → IsEndOf other (segment_between one other)
-end_second one other = either (between_them one other)
-  where
-    either : IsBetweenThem one other → IsEndOf other (segment_between one other)
-    either (up rises is) = subst (IsEndOf other) (sym is) (inr refl)
-    either (down falls is) = subst (IsEndOf other) (sym is) (inl refl)
-
 -- what two edges share, by their numbers
 data SharedWay (corners : List Corner) (first second : ℕ) : Type 0 where
   ahead : (corner_at corners first).next ≡ second → shared_at corners first second ≡ Some (position_at corners second) → SharedWay corners first second
@@ -147,7 +99,7 @@ same_or_not number other = either (cases_order number other)
     either (inr (inr more)) = inr (λ same. omega arith)
 
 -- the first goes on to the second
-when_ahead : (corners : List Corner) (first second : ℕ) → (corner_at corners first).next ≡ second → shared_at corners first second ≡ Some (position_at corners second)
+pub when_ahead : (corners : List Corner) (first second : ℕ) → (corner_at corners first).next ≡ second → shared_at corners first second ≡ Some (position_at corners second)
 when_ahead corners first second same = cond-true ((corner_at corners first).next == second) _ _ (eq-eqb (corner_at corners first).next second same)
 
 -- the second to the first

@@ -1,7 +1,6 @@
 pub mod Chain
 pub mod CornerOrder
 pub mod Corners
-pub mod Edges
 pub mod Meeting
 pub mod Nesting
 pub mod Polygons

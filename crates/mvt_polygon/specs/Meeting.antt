@@ -29,7 +29,3 @@ pub record IsMeetingOf (rings : List (List Position)) (meeting : Meeting) : Type
   pub shared : Option Position
   pub is_shared : (vertex : Position) → (shared ≡ Some vertex) ↔ IsShared rings (first_of meeting) (second_of meeting) vertex
   pub named : IsNamed shared one other (Some meeting.point)
-
--- no edge before a number meets this edge wrongly
-abbrev pub NoneMeets : List (List Position) → EdgeNumber → EdgeNumber → Type 0
-NoneMeets rings before second = (first : EdgeNumber) (point : RationalPoint) → ComesBefore first before → ¬ MeetsWrongly rings first second point

@@ -74,6 +74,11 @@ pub record IsEvent (plan : Plan) (key : ℤ) (vertex : Position) (first second :
   pub next_low : (edge : ℕ) → edge < plan.count → (key_of (plan.segment edge).low ≤ℤ key) ⊎ (key_of vertex ≤ℤ key_of (plan.segment edge).low)
   pub next_high : (edge : ℕ) → edge < plan.count → (key_of (plan.segment edge).high ≤ℤ key) ⊎ (key_of vertex ≤ℤ key_of (plan.segment edge).high)
 
+-- both edges begin there
+pub record BeginThere (plan : Plan) (vertex : Position) (first second : ℕ) : Type 0 where
+  pub first_begins : (plan.segment first).low ≡ vertex
+  pub second_begins : (plan.segment second).low ≡ vertex
+
 -- both edges begin there, the first below the second
 pub record BothBegin (plan : Plan) (vertex : Position) (lower upper : ℕ) : Type 0 where
   pub lower_begins : (plan.segment lower).low ≡ vertex

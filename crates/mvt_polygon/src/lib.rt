@@ -2,14 +2,13 @@
 //! wrongly, and holes that aren't where they should be (Mapbox Vector Tile Specification 2.1, section 4.3.4.4).
 #![tactic(auto)]
 
-mod edges;
 mod meeting;
 mod nesting;
 mod polygons;
 mod rings;
 mod sweep;
 
-pub use meeting::{Meeting, find_meeting};
+pub use meeting::{Meeting, find_meeting, find_meeting_with};
 pub use nesting::{NestFault, check_nesting};
 pub use polygons::{groups, polygon_end};
 pub use rings::{RingFault, check_rings};

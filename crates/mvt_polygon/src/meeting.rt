@@ -1,13 +1,16 @@
 //! Edges that meet wrongly.
-ghost use Rattle.std.specs.Prelude.{◌≤◌, IfOk, IfNone, IfSome};
-ghost use Rattle.mvt_plane.specs.Meeting.{EdgeNumber, ComesBefore, IsEdgeOf, MeetsWrongly};
+ghost use Rattle.std.specs.Prelude.{◌≡◌, ◌+◌, ◌*◌, IfOk, IfNone, IfSome, []};
+ghost use Rattle.mvt_plane.specs.Meeting.{EdgeNumber, MeetsWrongly};
 ghost use Rattle.mvt_plane.specs.RationalPoint.{RationalPoint};
-ghost use Rattle.mvt_polygon.specs.Edges.{number_of};
-ghost use Rattle.mvt_polygon.specs.Meeting.{IsMeetingOf, NoneMeets};
+ghost use Rattle.mvt_polygon.specs.CornerOrder.{AddsWork};
+ghost use Rattle.mvt_polygon.specs.Corners.{vertex_count};
+ghost use Rattle.mvt_polygon.specs.Meeting.{IsMeetingOf};
 ghost use Rattle.mvt_polygon.specs.Rings.{rings_of, AreProperRings};
+ghost use Rattle.mvt_status.specs.Counts.{bits};
 
-use crate::edges::{Edges, NumberedEdge, shared_vertex};
-use mvt_plane::{Count, Hpoint, Point, common};
+use crate::sweep::{corners_of, meeting_at, one_position, order_of, sweep};
+use mvt_plane::{Count, Hpoint, Point};
+use mvt_status::{Status, TreeStatus};
 use std::alloc::{AllocError, Global};
 
 #[cfg(test)]
@@ -31,76 +34,41 @@ pub struct Meeting {
 
 /// Two edges of the rings that have a point in common other than the vertex that they share as neighbours in
 /// a ring, or None where there are no such edges (Mapbox Vector Tile Specification 2.1, section 4.3.4.4).
-/// Each ring is to have three vertices or more, none at the position of the next one. All pairs of edges are
-/// tested, so the work grows with the square of their number. `count` counts each test of two edges; none of
-/// its numbers falls. The only error is that memory was refused.
+/// Each ring is to have three vertices or more, none at the position of the next one. `count` counts the
+/// work: of n vertices at most 3 * n tests of two edges, n * (2 * bits(n) + 2) comparisons of an edge with a vertex and
+/// n * 20 * bits(n) nodes of the status that are visited, where bits(n) is the number of n's binary digits; none of its
+/// numbers falls. The only error is that memory was refused.
 pub fn find_meeting(
-    _alloc: Global,
+    alloc: Global,
     rings: &[Vec<Point>],
     count: &mut Count,
 ) -> Result<Option<Meeting>, AllocError>
     requires { AreProperRings (rings_of rings.now) }
     ensures none { IfOk result (λ found. IfNone found ((first second : EdgeNumber) (point : RationalPoint) → ¬ MeetsWrongly (rings_of rings.now) first second point)) }
     ensures some { IfOk result (λ found. IfSome found (IsMeetingOf (rings_of rings.now))) }
-    ensures tests { count.old.tests ≤ count.new.tests }
-    ensures probes { count.old.probes ≤ count.new.probes }
-    ensures visits { count.old.visits ≤ count.new.visits }
+    ensures counted { let vertices = vertex_count (rings_of rings.now) in AddsWork (3 * vertices) (vertices * (2 * bits vertices + 2)) (vertices * (20 * bits vertices)) count.old count.new }
 {
-    let mut edges = Edges::of(rings);
-    'edges: while let Some(second) = edges.next_edge() {
-        if let Some(meeting) = meeting_before(rings, &second, count) {
-            return Ok(Some(meeting));
-        }
-    }
-    Ok(None)
+    find_meeting_with(alloc, rings, &mut TreeStatus::new(alloc), count)
 }
 
-/// A wrong meeting of an edge with one of those before it.
-fn meeting_before(rings: &[Vec<Point>], second: &NumberedEdge, count: &mut Count) -> Option<Meeting>
-    requires drawn { AreProperRings (rings_of rings.now) }
-    requires second { IsEdgeOf (rings_of rings.now) (number_of second.now) second.now.ends }
-    ensures none { IfNone result (NoneMeets (rings_of rings.now) (number_of second.now) (number_of second.now)) }
-    ensures some { IfSome result (IsMeetingOf (rings_of rings.now)) }
-    ensures tests { count.old.tests ≤ count.new.tests }
-    ensures probes { count.old.probes ≤ count.new.probes }
-    ensures visits { count.old.visits ≤ count.new.visits }
-{
-    let mut edges = Edges::of(rings);
-    'edges: while let Some(first) = edges.next_edge() {
-        if !first.comes_before(second) {
-            return None;
-        }
-        if let Some(meeting) = meeting_of(rings, &first, second, count) {
-            return Some(meeting);
-        }
-    }
-    None
-}
-
-/// The wrong meeting of two edges, if they have one.
-fn meeting_of(
+/// The same over a status of the caller's, which is empty at the call. A status that was refused memory counts as a
+/// refusal of memory.
+pub fn find_meeting_with<S: Status>(
+    alloc: Global,
     rings: &[Vec<Point>],
-    first: &NumberedEdge,
-    second: &NumberedEdge,
+    status: &mut S,
     count: &mut Count,
-) -> Option<Meeting>
-    requires drawn { AreProperRings (rings_of rings.now) }
-    requires first { IsEdgeOf (rings_of rings.now) (number_of first.now) first.now.ends }
-    requires second { IsEdgeOf (rings_of rings.now) (number_of second.now) second.now.ends }
-    requires in_order { ComesBefore (number_of first.now) (number_of second.now) }
-    ensures none { IfNone result ((point : RationalPoint) → ¬ MeetsWrongly (rings_of rings.now) (number_of first.now) (number_of second.now) point) }
-    ensures some { IfSome result (IsMeetingOf (rings_of rings.now)) }
-    ensures tests { count.old.tests ≤ count.new.tests }
-    ensures probes { count.old.probes ≤ count.new.probes }
-    ensures visits { count.old.visits ≤ count.new.visits }
+) -> Result<Option<Meeting>, AllocError>
+    requires rings { AreProperRings (rings_of rings.now) }
+    requires empty { S.edges status.old ≡ [] }
+    ensures none { IfOk result (λ found. IfNone found ((first second : EdgeNumber) (point : RationalPoint) → ¬ MeetsWrongly (rings_of rings.now) first second point)) }
+    ensures some { IfOk result (λ found. IfSome found (IsMeetingOf (rings_of rings.now))) }
+    ensures counted { let vertices = vertex_count (rings_of rings.now) in AddsWork (3 * vertices) (vertices * (2 * bits vertices + 2)) (vertices * (20 * bits vertices)) count.old count.new }
 {
-    let shared = shared_vertex(rings, first, second);
-    let point = common(first.ends, second.ends, shared, count)?;
-    Some(Meeting {
-        first_ring: first.ring,
-        first_edge: first.edge,
-        second_ring: second.ring,
-        second_edge: second.edge,
-        point,
-    })
+    let corners = corners_of(alloc, rings)?;
+    let order = order_of(alloc, &corners)?;
+    if let Some((first, second)) = one_position(&corners, &order) {
+        return Ok(meeting_at(&corners, first, second, count));
+    }
+    sweep(&corners, &order, status, count)
 }

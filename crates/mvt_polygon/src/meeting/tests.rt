@@ -1,13 +1,16 @@
-ghost use Rattle.std.specs.Prelude.{◌≡◌, ◌≢◌, ◌≤◌, ℕ, IsTrue, length, slice_get, Some};
+ghost use Rattle.std.specs.Prelude.{◌≡◌, ◌≢◌, ◌<◌, ◌≤◌, ℕ, IsTrue, length, slice_get, Some};
 ghost use Rattle.mvt_plane.specs.Position.{Position};
-ghost use Rattle.mvt_plane.specs.Ring.{next_round};
+ghost use Rattle.mvt_plane.specs.Ring.{edges, next_round};
 ghost use Rattle.mvt_polygon.specs.Rings.{rings_of, AreProperRings};
 
-use super::{Meeting, find_meeting};
-use crate::edges::edge_of;
-use mvt_plane::{Count, Point};
+use super::{Meeting, find_meeting, find_meeting_with};
+use crate::sweep::corners::next_round;
+use mvt_plane::{Count, Edge, Point};
+use mvt_status::VecStatus;
 use std::alloc::{AllocError, Global};
 use std::process::Abort;
+
+mod generated;
 
 /// Rings through these coordinates.
 fn rings_at(
@@ -24,6 +27,17 @@ fn rings_at(
         rings.push(points)?;
     }
     Ok(rings)
+}
+
+/// The edge of a ring that goes from the vertex of this number to the next one, the last to the first vertex.
+fn edge_of(ring: &[Point], number: usize) -> Edge
+    requires { number < length ring.now }
+    ensures { slice_get (edges ring.now) number ≡ Some result }
+{
+    Edge {
+        a: ring[number],
+        b: ring[next_round(ring.len(), number)],
+    }
 }
 
 /// Whether a ring has three vertices or more, none at the position of the next one.
@@ -56,25 +70,51 @@ fn are_drawn(rings: &[Vec<Point>]) -> bool
     true
 }
 
+/// How many vertices rings have.
+fn vertices_of(rings: &[Vec<Point>]) -> usize {
+    let mut vertices: usize = 0;
+    for ring in rings {
+        vertices = vertices.saturating_add(ring.len());
+    }
+    vertices
+}
+
+/// The meeting that is found in rings, and what was counted: over a tree, and over a vector of the caller's, which
+/// gives the same meeting.
+fn meeting_in(
+    rt: &impl Abort,
+    alloc: Global,
+    rings: &[Vec<Point>],
+) -> Result<(Option<Meeting>, Count, Count), AllocError>
+    requires { AreProperRings (rings_of rings.now) }
+{
+    let mut count = Count::new();
+    let found = find_meeting(alloc, rings, &mut count)?;
+    let mut other = Count::new();
+    let again = find_meeting_with(alloc, rings, &mut VecStatus::new(alloc), &mut other)?;
+    let same = found == again && count.tests() == other.tests();
+    assert!(rt; same, "{rings:?}");
+    let tests = count.tests();
+    let most = vertices_of(rings).saturating_mul(3);
+    assert!(rt; tests <= most as u64, "{rings:?}");
+    Ok((found, count, other))
+}
+
+/// The same in rings through these coordinates.
+fn counted_at(
+    rt: &impl Abort,
+    alloc: Global,
+    coordinates: &[&[(i32, i32)]],
+) -> Result<(Option<Meeting>, Count, Count), AllocError> {
+    let rings = rings_at(rt, alloc, coordinates)?;
+    assert!(rt; are_drawn(&rings), "{rings:?}");
+    meeting_in(rt, alloc, &rings)
+}
+
 /// The meeting that is found in rings through these coordinates.
 fn meeting_at(rt: &impl Abort, alloc: Global, coordinates: &[&[(i32, i32)]]) -> Option<Meeting> {
-    let mut count = Count::new();
-    match rings_at(rt, alloc, coordinates) {
-        Ok(rings) => {
-            assert!(rt; are_drawn(&rings), "{rings:?}");
-            match find_meeting(alloc, &rings, &mut count) {
-                Ok(found) => found,
-                Err(refused) => {
-                    assert!(rt; false, "{refused:?}");
-                    None
-                }
-            }
-        }
-        Err(refused) => {
-            assert!(rt; false, "{refused:?}");
-            None
-        }
-    }
+    let (found, _, _) = counted_at(rt, alloc, coordinates).expect(rt, "memory");
+    found
 }
 
 /// That one of these pairs of edges is found, each by ring and edge, with this point.
@@ -208,17 +248,47 @@ fn combs(alloc: Global, moved: (i32, i32)) -> Result<Vec<(i32, i32)>, AllocError
     Ok(ring)
 }
 
+/// The ring in the other order, with x and y exchanged.
+fn turned(alloc: Global, ring: &[(i32, i32)]) -> Result<Vec<(i32, i32)>, AllocError> {
+    let mut other = Vec::new(alloc);
+    for &(x, y) in ring.iter().rev() {
+        other.push((y, x))?;
+    }
+    Ok(other)
+}
+
 // Many edges above each other, and the same with a vertex moved across an edge.
 #[test]
 fn two_combs(rt: HostRuntime) {
     let alloc = rt.alloc();
     for (moved, meets) in [((80, 20), false), ((77, 15), true)] {
-        match combs(alloc, moved) {
-            Ok(ring) => {
-                assert_eq!(&rt; ring.len(), 316);
-                assert_eq!(&rt; meeting_at(&rt, alloc, &[&ring]).is_some(), meets);
-            }
-            Err(refused) => assert!(&rt; false, "{refused:?}"),
-        }
+        let ring = combs(alloc, moved).expect(&rt, "memory");
+        assert_eq!(&rt; ring.len(), 316);
+        assert_eq!(&rt; meeting_at(&rt, alloc, &[&ring]).is_some(), meets);
+        let other = turned(alloc, &ring).expect(&rt, "memory");
+        assert_eq!(&rt; meeting_at(&rt, alloc, &[&other]).is_some(), meets);
     }
+}
+
+// At most 3 tests, 20 probes and 180 visits a vertex; a status in a vector has no nodes.
+#[test]
+fn work_of_two_combs(rt: HostRuntime) {
+    let alloc = rt.alloc();
+    let ring = combs(alloc, (80, 20)).expect(&rt, "memory");
+    let (found, count, other) = counted_at(&rt, alloc, &[&ring]).expect(&rt, "memory");
+    assert_eq!(&rt; found, None);
+    assert!(&rt; (1..=948).contains(&count.tests()), "{count:?}");
+    assert!(&rt; (1..=6320).contains(&count.probes()), "{count:?}");
+    assert!(&rt; (1..=56880).contains(&count.visits()), "{count:?}");
+    assert!(&rt; (1..=6320).contains(&other.probes()), "{other:?}");
+    assert_eq!(&rt; other.visits(), 0);
+}
+
+// No edges, so no work.
+#[test]
+fn no_rings(rt: HostRuntime) {
+    let (found, count, other) = counted_at(&rt, rt.alloc(), &[]).expect(&rt, "memory");
+    assert_eq!(&rt; found, None);
+    assert_eq!(&rt; (count.tests(), count.probes()), (0, 0));
+    assert_eq!(&rt; (other.tests(), other.probes()), (0, 0));
 }

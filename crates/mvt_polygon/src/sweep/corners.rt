@@ -1,11 +1,11 @@
 //! The vertices of rings in one list, each with the edge that begins in it.
 ghost use Rattle.std.specs.Prelude.{◌≡◌, ◌≢◌, ◌<◌, ◌^◌, IfOk, IfNone, IfSome, OnOk, suc, length, take};
-ghost use Rattle.mvt_polygon.specs.CornerOrder.{AddsTests};
+ghost use Rattle.mvt_plane.specs.Ring.{next_round};
+ghost use Rattle.mvt_polygon.specs.CornerOrder.{AddsWork};
 ghost use Rattle.mvt_polygon.specs.Corners.{AreCorners, AreLinked, IsMeetingAt, edge_at, plan_of, previous_round, shared_at, vertex_count};
 ghost use Rattle.mvt_polygon.specs.Rings.{rings_of};
 ghost use Rattle.mvt_polygon.specs.Sweep.{Tested};
 
-use crate::edges::next_round;
 use crate::meeting::Meeting;
 use mvt_plane::{Count, Edge, Point, common};
 use std::alloc::{AllocError, Global};
@@ -73,6 +73,15 @@ fn add_corners(
     Ok(())
 }
 
+/// The number behind this one, going round: behind the last one comes 0.
+pub(crate) fn next_round(count: usize, number: usize) -> usize
+    requires { number < count }
+    ensures value { result ≡ next_round count number }
+    ensures within { result < count }
+{
+    if number + 1 == count { 0 } else { number + 1 }
+}
+
 /// The number before this one, going round: before 0 comes the last one.
 fn previous_round(count: usize, number: usize) -> usize
     requires { number < count }
@@ -95,7 +104,7 @@ pub(crate) fn meeting_at(
     requires differ { one ≢ other }
     ensures none { IfNone result (Tested (plan_of corners.now) one other × Tested (plan_of corners.now) other one) }
     ensures some { IfSome result (IsMeetingAt corners.now) }
-    ensures counted { AddsTests 1 count.old count.new }
+    ensures counted { AddsWork 1 0 0 count.old count.new }
 {
     if one < other {
         meeting_in_order(corners, one, other, count)
@@ -116,7 +125,7 @@ fn meeting_in_order(
     requires known { second < length corners.now }
     ensures none { IfNone result (Tested (plan_of corners.now) first second) }
     ensures some { IfSome result (IsMeetingAt corners.now) }
-    ensures counted { AddsTests 1 count.old count.new }
+    ensures counted { AddsWork 1 0 0 count.old count.new }
 {
     let shared = shared_at(corners, first, second);
     let point = common(

@@ -1,9 +1,10 @@
 //! The place of a corner among the edges that the line of a sweep meets.
-ghost use Rattle.std.specs.Prelude.{◌≡◌, ◌↔◌, ◌<◌, ◌≤◌, IsTrue, List, ℕ, drop, length, take};
+ghost use Rattle.std.specs.Prelude.{◌≡◌, ◌↔◌, ◌*◌, ◌<◌, ◌≤◌, IsTrue, List, ℕ, drop, length, take};
 ghost use Rattle.mvt_polygon.specs.Chain.{Each};
-ghost use Rattle.mvt_polygon.specs.CornerOrder.{AddsTests};
+ghost use Rattle.mvt_polygon.specs.CornerOrder.{AddsWork};
 ghost use Rattle.mvt_polygon.specs.Corners.{AreInRange, AreLinked, plan_of, position_at};
 ghost use Rattle.mvt_polygon.specs.Sweep.{IsCut, IsUnder};
+ghost use Rattle.mvt_status.specs.Counts.{bits};
 
 use crate::sweep::corners::Corner;
 use mvt_plane::{Count, Point, orient, sweep_key};
@@ -20,10 +21,11 @@ pub(crate) fn place_of<S: Status>(
     requires in_range { AreInRange corners.now }
     requires number { number < length corners.now }
     requires known { Each (λ edge. edge < length corners.now) (S.edges status.now) }
+    requires few { length (S.edges status.now) ≤ length corners.now }
     requires cut { (front : List ℕ) × (rest : List ℕ) × IsCut (plan_of corners.now) (position_at corners.now number) (S.edges status.now) front rest }
     ensures within { result ≤ length (S.edges status.now) }
     ensures cut { IsCut (plan_of corners.now) (position_at corners.now number) (S.edges status.now) (take result (S.edges status.now)) (drop result (S.edges status.now)) }
-    ensures counted { AddsTests 0 count.old count.new }
+    ensures counted { AddsWork 0 (2 * bits (length corners.now)) (2 * bits (length corners.now)) count.old count.new }
 {
     let position = corners[number].position;
     let below = |edge: usize| -> bool

@@ -7,6 +7,7 @@ use Rattle.mvt_polygon.specs.Corners.{no_corner}
 use Rattle.mvt_polygon.specs.Sweep.{Plan, IsUnder, IsCut}
 use Rattle.mvt_polygon.specs.declared.sweep.corners.Corner.{Corner}
 use Rattle.mvt_polygon.proofs.ChainParts.{split_of_parts, parts_of_split, take_drop}
+use Rattle.mvt_polygon.proofs.StatusCounts.{work_of_split}
 use Rattle.mvt_status.specs.Split.{IsSplit}
 use Rattle.mvt_polygon.proofs.sweep.place.place_of.Goals as goal
 
@@ -52,3 +53,6 @@ pub returns-clause-cut : goal.returns-clause-cut
 returns-clause-cut g c =
     cut_of _ (slice_index_or c.args.corners.now c.args.number c.index-corners-number.result).position _ (g.S.Status.edges c.args.status.now) c.split_point.result
     (ap (λ (corner : Corner). corner.position) (get_or_default c.args.corners.now c.args.number c.index-corners-number.result no_corner c.requires.number)) c.split_point.ensures.split
+
+pub returns-clause-counted : goal.returns-clause-counted
+returns-clause-counted g c = work_of_split (length (g.S.Status.edges c.args.status.now)) (length c.args.corners.now) c.requires.few c.split_point.ensures.counted

@@ -1,0 +1,87 @@
+-- The work of a sweep, step by step, and what it finds, told of the rings.
+use Rattle.std.proofs.Common.{◌≡◌, ℕ, ◌+◌, ◌*◌, ◌≤◌, List, Option, Some, None, IfNone, IfSome, Result, Ok, Err, IfOk, arith}
+use Rattle.mvt_plane.specs.Counted.{Counted}
+use Rattle.mvt_plane.specs.Meeting.{EdgeNumber, MeetsWrongly}
+use Rattle.mvt_plane.specs.Position.{Position}
+use Rattle.mvt_plane.specs.RationalPoint.{RationalPoint}
+use Rattle.mvt_polygon.specs.CornerOrder.{AddsWork, AreTogether}
+use Rattle.mvt_polygon.specs.Corners.{AreCorners, AreLinked, IsMeetingAt, NoneWrong, plan_of}
+use Rattle.mvt_polygon.specs.Meeting.{IsMeetingOf}
+use Rattle.mvt_polygon.specs.Rings.{AreProperRings}
+use Rattle.mvt_polygon.specs.Sweep.{Tested}
+use Rattle.mvt_polygon.specs.declared.meeting.Meeting.{Meeting}
+use Rattle.mvt_polygon.specs.declared.sweep.corners.Corner.{Corner}
+use Rattle.mvt_polygon.proofs.CornerPlans.{together_meets, meeting_of_rings, none_of_rings}
+use Rattle.mvt_polygon.proofs.MeetingsTold.{none_map}
+
+-- The work
+
+-- one more of so many
+one_more : (at each : ℕ) → (at + 1) * each ≡ at * each + each
+one_more at each = grind arith
+
+-- more of so many are no less
+no_less : (at many each : ℕ) → at ≤ many → at * each ≤ many * each
+no_less at many each most = grind arith
+
+-- no step is no work
+pub no_step : (probes visits : ℕ) (count : Counted) → AddsWork (3 * 0) (0 * probes) (0 * visits) count count
+no_step probes visits count = record {
+  tests_added = omega arith;
+  probes_added = omega arith;
+  visits_added = omega arith;
+  no_fewer_tests = omega arith;
+  no_fewer_probes = omega arith;
+  no_fewer_visits = omega arith;
+}
+
+-- the work of one more step
+pub another_step : (at probes visits : ℕ) (before between after : Counted) → AddsWork (3 * at) (at * probes) (at * visits) before between → AddsWork 3 probes visits between after
+    → AddsWork (3 * (at + 1)) ((at + 1) * probes) ((at + 1) * visits) before after
+another_step at probes visits before between after passed step = record {
+  tests_added = omega (arith, passed.tests_added, step.tests_added);
+  probes_added = omega (arith, passed.probes_added, step.probes_added, one_more at probes);
+  visits_added = omega (arith, passed.visits_added, step.visits_added, one_more at visits);
+  no_fewer_tests = omega (arith, passed.no_fewer_tests, step.no_fewer_tests);
+  no_fewer_probes = omega (arith, passed.no_fewer_probes, step.no_fewer_probes);
+  no_fewer_visits = omega (arith, passed.no_fewer_visits, step.no_fewer_visits);
+}
+
+-- at most that of so many steps
+pub so_many_steps : (at many probes visits : ℕ) (before after : Counted) → at ≤ many → AddsWork (3 * at) (at * probes) (at * visits) before after
+    → AddsWork (3 * many) (many * probes) (many * visits) before after
+so_many_steps at many probes visits before after most work = record {
+  tests_added = omega (arith, work.tests_added);
+  probes_added = omega (arith, work.probes_added, no_less at many probes most);
+  visits_added = omega (arith, work.visits_added, no_less at many visits most);
+  no_fewer_tests = work.no_fewer_tests;
+  no_fewer_probes = work.no_fewer_probes;
+  no_fewer_visits = work.no_fewer_visits;
+}
+
+-- What is found
+
+-- a meeting of corners' edges is one of the rings
+pub some_told : (rings : List (List Position)) (corners : List Corner) (found : Option Meeting) → AreProperRings rings → AreCorners rings corners
+    → IfSome found (IsMeetingAt corners) → IfSome found (IsMeetingOf rings)
+some_told rings corners None proper are is = is
+some_told rings corners (Some meeting) proper are is = meeting_of_rings rings corners meeting proper are is
+
+-- the meeting that the sweep answers, if it comes to an end
+pub swept_some : {E : Type 0} (rings : List (List Position)) (corners : List Corner) (result : Result (Option Meeting) E)
+    → AreProperRings rings → AreCorners rings corners → IfOk result (λ found. IfSome found (IsMeetingAt corners)) → IfOk result (λ found. IfSome found (IsMeetingOf rings))
+swept_some rings corners (Ok found) proper are is = some_told rings corners found proper are is
+swept_some rings corners (Err error) proper are is = is
+
+-- where it answers none, no two edges of the rings meet wrongly
+pub swept_none : {E : Type 0} (rings : List (List Position)) (corners : List Corner) (result : Result (Option Meeting) E)
+    → AreProperRings rings → AreCorners rings corners → IfOk result (λ found. IfNone found (NoneWrong corners))
+    → IfOk result (λ found. IfNone found ((first second : EdgeNumber) (point : RationalPoint) → ¬ MeetsWrongly rings first second point))
+swept_none rings corners (Ok found) proper are is = none_map found (none_of_rings rings corners proper are) is
+swept_none rings corners (Err error) proper are is = is
+
+-- of two corners at one position the edges meet, so that a meeting is found
+pub together_found : (corners : List Corner) (first second : ℕ) (found : Option Meeting) (P : Type 0) → AreLinked corners → AreTogether corners first second
+    → IfNone found (Tested (plan_of corners) first second × Tested (plan_of corners) second first) → IfNone found P
+together_found corners first second None P linked together tested = absurd (together_meets corners first second linked together tested.0)
+together_found corners first second (Some it) P linked together tested = tested

@@ -1,0 +1,19 @@
+use Rattle.std.proofs.Common.{[], ◌∷◌, length, arith}
+use Rattle.mvt_polygon.specs.Corners.{plan_of}
+use Rattle.mvt_polygon.specs.Sweep.{Tested}
+use Rattle.mvt_polygon.proofs.MeetingsTold.{none_map}
+use Rattle.mvt_polygon.proofs.StatusCounts.{work_then, work_within, work_of_place}
+use Rattle.mvt_polygon.proofs.StatusPlaces.{joined_at}
+use Rattle.mvt_polygon.proofs.sweep.neighbors.meeting_below.Goals as goal
+
+pub returns-clause-none : goal.returns-clause-none
+returns-clause-none g c =
+    none_map c.meeting_at.result
+    (λ tested. joined_at (Tested (plan_of c.args.corners.now)) (g.S.Status.edges c.args.status.now) (c.args.edge ∷ []) c.args.place c.get-below.result (omega arith) c.requires.place
+    c.get-below.ensures.value tested.0)
+    c.meeting_at.ensures.none
+
+pub returns-clause-counted : goal.returns-clause-counted
+returns-clause-counted g c =
+    work_within (omega arith) (omega arith) (omega arith)
+    (work_then (work_of_place (length (g.S.Status.edges c.args.status.now)) (length c.args.corners.now) c.requires.few c.get-below.ensures.counted) c.meeting_at.ensures.counted)

@@ -1,0 +1,69 @@
+//! What happens where the line of a sweep comes to a corner in which both of its edges begin.
+ghost use Rattle.std.specs.Prelude.{◌≡◌, ◌<◌, ◌⊎◌, IfNone, IfSome, IfOk, length};
+ghost use Rattle.mvt_polygon.specs.CornerOrder.{AddsStep, AddsWork, IsNextCorner, IsSweptOver};
+ghost use Rattle.mvt_polygon.specs.Corners.{AreInRange, AreLinked, IsMeetingAt, corner_at, plan_of, position_at};
+ghost use Rattle.mvt_polygon.specs.Sweep.{BeginThere, BothBegin, Tested};
+
+use crate::meeting::Meeting;
+use crate::sweep::corners::{Corner, meeting_at};
+use crate::sweep::neighbors::{meeting_above, meeting_below};
+use crate::sweep::place::place_of;
+use mvt_plane::{Count, orient};
+use mvt_status::Status;
+use std::alloc::AllocError;
+
+/// Both edges of the corner begin in it.
+pub(crate) fn begin<S: Status>(
+    corners: &[Corner],
+    number: usize,
+    status: &mut S,
+    count: &mut Count,
+) -> Result<Option<Meeting>, AllocError>
+    requires linked { AreLinked corners.now }
+    requires in_range { AreInRange corners.now }
+    requires number { number < length corners.now }
+    requires next { IsNextCorner corners.now number (corner_at corners.now number).previous number (S.edges status.old) }
+    requires begin { BeginThere (plan_of corners.now) (position_at corners.now number) (corner_at corners.now number).previous number }
+    ensures none { IfOk result (λ found. IfNone found (IsSweptOver corners.now number (S.edges status.new))) }
+    ensures some { IfOk result (λ found. IfSome found (IsMeetingAt corners.now)) }
+    ensures counted { AddsStep 3 (length corners.now) count.old count.new }
+{
+    let previous = corners[number].previous;
+    if let Some(meeting) = meeting_at(corners, previous, number, count) {
+        return Ok(Some(meeting));
+    }
+    let (lower, upper) = in_order(corners, number, count);
+    let place = place_of(corners, number, status, count);
+    if let Some(meeting) = meeting_below(corners, lower, place, status, count) {
+        return Ok(Some(meeting));
+    }
+    if let Some(meeting) = meeting_above(corners, upper, place, status, count) {
+        return Ok(Some(meeting));
+    }
+    status.insert(place, upper, count)?;
+    status.insert(place, lower, count)?;
+    Ok(None)
+}
+
+/// The two edges that begin in a corner, the lower one first. They were tested, so they don't go one way. Ticks a
+/// probe.
+fn in_order(corners: &[Corner], number: usize, count: &mut Count) -> (usize, usize)
+    requires linked { AreLinked corners.now }
+    requires in_range { AreInRange corners.now }
+    requires number { number < length corners.now }
+    requires begin { BeginThere (plan_of corners.now) (position_at corners.now number) (corner_at corners.now number).previous number }
+    requires tested { Tested (plan_of corners.now) (corner_at corners.now number).previous number }
+    ensures pair { (result ≡ ((corner_at corners.now number).previous, number)) ⊎ (result ≡ (number, (corner_at corners.now number).previous)) }
+    ensures begin { BothBegin (plan_of corners.now) (position_at corners.now number) result.0 result.1 }
+    ensures counted { AddsWork 0 1 0 count.old count.new }
+{
+    let corner = corners[number];
+    let before = corners[corner.previous].position;
+    let behind = corners[corner.next].position;
+    count.tick_probe();
+    if orient(corner.position, before, behind) > 0 {
+        (corner.previous, number)
+    } else {
+        (number, corner.previous)
+    }
+}

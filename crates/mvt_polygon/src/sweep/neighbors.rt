@@ -1,0 +1,87 @@
+//! Tests of edges that became neighbours in the status.
+ghost use Rattle.std.specs.Prelude.{◌≢◌, ◌*◌, ◌<◌, ◌≤◌, IfNone, IfSome, [], ◌∷◌, drop, length, take};
+ghost use Rattle.mvt_polygon.specs.Chain.{Each, Head, Joined, Ordered};
+ghost use Rattle.mvt_polygon.specs.CornerOrder.{AddsWork};
+ghost use Rattle.mvt_polygon.specs.Corners.{AreLinked, IsMeetingAt, plan_of};
+ghost use Rattle.mvt_polygon.specs.Sweep.{Tested};
+ghost use Rattle.mvt_status.specs.Counts.{bits};
+
+use crate::meeting::Meeting;
+use crate::sweep::corners::{Corner, meeting_at};
+use mvt_plane::Count;
+use mvt_status::Status;
+
+/// The wrong meeting of an edge with the one that comes before this place of the status.
+pub(crate) fn meeting_below<S: Status>(
+    corners: &[Corner],
+    edge: usize,
+    place: usize,
+    status: &S,
+    count: &mut Count,
+) -> Option<Meeting>
+    requires linked { AreLinked corners.now }
+    requires edge { edge < length corners.now }
+    requires place { place ≤ length (S.edges status.now) }
+    requires few { length (S.edges status.now) ≤ length corners.now }
+    requires known { Each (λ other. (other < length corners.now) × (other ≢ edge)) (S.edges status.now) }
+    ensures none { IfNone result (Joined (Tested (plan_of corners.now)) (take place (S.edges status.now)) (edge ∷ [])) }
+    ensures some { IfSome result (IsMeetingAt corners.now) }
+    ensures counted { AddsWork 1 0 (2 * bits (length corners.now)) count.old count.new }
+{
+    if place == 0 {
+        return None;
+    }
+    let below = status.get(place - 1, count);
+    meeting_at(corners, below, edge, count)
+}
+
+/// The wrong meeting of an edge with the one at this place of the status.
+pub(crate) fn meeting_above<S: Status>(
+    corners: &[Corner],
+    edge: usize,
+    place: usize,
+    status: &S,
+    count: &mut Count,
+) -> Option<Meeting>
+    requires linked { AreLinked corners.now }
+    requires edge { edge < length corners.now }
+    requires place { place ≤ length (S.edges status.now) }
+    requires few { length (S.edges status.now) ≤ length corners.now }
+    requires known { Each (λ other. (other < length corners.now) × (other ≢ edge)) (S.edges status.now) }
+    ensures none { IfNone result (Head (Tested (plan_of corners.now)) edge (drop place (S.edges status.now))) }
+    ensures some { IfSome result (IsMeetingAt corners.now) }
+    ensures counted { AddsWork 1 0 (2 * bits (length corners.now)) count.old count.new }
+{
+    if place == status.len() {
+        return None;
+    }
+    let above = status.get(place, count);
+    meeting_at(corners, edge, above, count)
+}
+
+/// The wrong meeting of the two edges before and at this place of the status.
+pub(crate) fn meeting_across<S: Status>(
+    corners: &[Corner],
+    place: usize,
+    status: &S,
+    count: &mut Count,
+) -> Option<Meeting>
+    requires linked { AreLinked corners.now }
+    requires place { place ≤ length (S.edges status.now) }
+    requires few { length (S.edges status.now) ≤ length corners.now }
+    requires known { Each (λ edge. edge < length corners.now) (S.edges status.now) }
+    requires differ { Ordered (λ first second. first ≢ second) (S.edges status.now) }
+    ensures none { IfNone result (Joined (Tested (plan_of corners.now)) (take place (S.edges status.now)) (drop place (S.edges status.now))) }
+    ensures some { IfSome result (IsMeetingAt corners.now) }
+    ensures counted { AddsWork 1 0 (4 * bits (length corners.now)) count.old count.new }
+{
+    if place == 0 {
+        return None;
+    }
+    if place == status.len() {
+        return None;
+    }
+    let below = status.get(place - 1, count);
+    let above = status.get(place, count);
+    meeting_at(corners, below, above, count)
+}
