@@ -359,8 +359,15 @@ for mib in (16, 32, 64):
 for kind, write in FAULTY.items():
     INPUTS[f"{kind}_fault_64_mib"] = lambda write=write: write(64 * MIB)
 
-folder = sys.argv[1]
-os.makedirs(folder, exist_ok=True)
-for name in sys.argv[2:] or INPUTS:
-    with open(f"{folder}/{name}", "wb") as it:
-        it.write(INPUTS[name]())
+
+
+def write_inputs(inputs, folder, names):
+    """Writes those of these inputs that are named, or all, each into a file of its name."""
+    os.makedirs(folder, exist_ok=True)
+    for name in names or inputs:
+        with open(f"{folder}/{name}", "wb") as it:
+            it.write(inputs[name]())
+
+
+if __name__ == "__main__":
+    write_inputs(INPUTS, sys.argv[1], sys.argv[2:])

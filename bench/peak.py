@@ -18,6 +18,8 @@ import time
 MIB = 1 << 20
 PAGE = os.sysconf("SC_PAGE_SIZE")
 BECOME_SUBREAPER = 36
+# Between two looks at shared pages, which slow processes of many pages down.
+SECONDS_BETWEEN_LOOKS = 10
 # what the gate does with a crate
 PARTS = ("proof", "tests", "edits")
 
@@ -81,6 +83,7 @@ said = reader.parse_args()
 # A process whose parent has ended then stays below this one.
 ctypes.CDLL(None).prctl(BECOME_SUBREAPER, 1, 0, 0, 0)
 before, most, most_resident, spans = time.monotonic(), 0, 0, {}
+looked = -SECONDS_BETWEEN_LOOKS
 command = subprocess.Popen(said.command)
 while True:
     resident = {process: pages * PAGE for process, pages in below(os.getpid()).items()}
@@ -88,7 +91,9 @@ while True:
     for it in filter(None, map(task, resident)) if said.crates else ():
         spans[it] = spans.get(it, (now, now))[0], now
     most_resident = max(most_resident, sum(resident.values()))
-    most = max(most, sum(shared_once(*it) for it in resident.items()))
+    if sum(resident.values()) > most and now - looked >= SECONDS_BETWEEN_LOOKS:
+        most = max(most, sum(shared_once(*it) for it in resident.items()))
+        looked = now
     try:
         status = command.wait(timeout=1)
         break

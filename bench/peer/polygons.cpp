@@ -3,17 +3,13 @@
 // Without FILE the tile comes from standard input. It writes {"ok":true} with status 0, or what is wrong with status 1;
 // status 2 says that it could not run. Rings become polygons as `mvtgate check` groups them. What is valid is up to
 // GEOS, by the rules of OGC Simple Features, which let rings touch in a point; nothing else of the tile is looked at.
-#include "geometry.hpp"
-#include "reading.hpp"
+#include "rings.hpp"
 
 #include <geos_c.h>
 
 #include <cstddef>
 #include <cstdint>
-#include <cstdio>
-#include <exception>
 #include <memory>
-#include <string>
 #include <vector>
 
 namespace {
@@ -46,31 +42,6 @@ struct Destroy {
 };
 
 using Shape = std::unique_ptr<GEOSGeometry, Destroy>;
-
-// x and y in turn, from the first vertex round to the first again
-using Ring = std::vector<double>;
-
-void push(Ring& ring, const Cursor& cursor) {
-    ring.push_back(static_cast<double>(cursor.x()));
-    ring.push_back(static_cast<double>(cursor.y()));
-}
-
-Ring draw_ring(Numbers& numbers, Cursor& cursor) {
-    Ring ring;
-    get_count(numbers, move_to, 1, 1);
-    cursor.take(numbers);
-    push(ring, cursor);
-    for (std::uint32_t left = get_count(numbers, line_to, 2, greatest_count); left > 0; --left) {
-        require(cursor.take(numbers), "a line goes nowhere");
-        push(ring, cursor);
-    }
-    get_count(numbers, close_path, 1, 1);
-    const double x = ring[0];
-    const double y = ring[1];
-    ring.push_back(x);
-    ring.push_back(y);
-    return ring;
-}
 
 // Twice the area, in whole numbers: a product has up to 61 bits, more than a double holds.
 __int128 doubled_area(const Ring& ring) {
@@ -135,66 +106,9 @@ private:
     std::vector<Shape> holes_;
 };
 
-void check_feature(pbf_reader feature, Geometry& geometry, const Geos& geos) {
-    std::uint64_t type = unknown;
-    geometry.begin_feature();
-    while (next(feature)) {
-        switch (feature.tag_and_type()) {
-            case varint(3):
-                type = get_number(feature, polygon);
-                break;
-            case delimited(4):
-                geometry.add(get_payload(feature));
-                break;
-            case varint(4):
-                geometry.add(get_varint(feature));
-                break;
-            default:
-                feature.skip();
-        }
-    }
-    if (type == polygon) {
-        Polygons{geos}.check(geometry.numbers());
-    }
-}
-
-void check_tile(pbf_reader tile, const Geos& geos) {
-    Geometry geometry;
-    while (next(tile)) {
-        if (tile.tag_and_type() != delimited(3)) {
-            tile.skip();
-            continue;
-        }
-        for (pbf_reader layer{get_payload(tile)}; next(layer);) {
-            if (layer.tag_and_type() == delimited(2)) {
-                check_feature(pbf_reader{get_payload(layer)}, geometry, geos);
-            } else {
-                layer.skip();
-            }
-        }
-    }
-}
-
 } // namespace
 
 int main(int count, char** words) {
-    std::FILE* const input = count > 1 ? std::fopen(words[1], "rb") : stdin;
-    if (input == nullptr) {
-        std::perror(words[1]);
-        return 2;
-    }
-    const std::string bytes = read_whole(input);
-    if (std::ferror(input) != 0) {
-        std::perror("cannot read the input");
-        return 2;
-    }
-    try {
-        const Geos geos;
-        check_tile(pbf_reader{bytes}, geos);
-    } catch (const std::exception& fault) {
-        std::printf("{\"fault\":\"%s\"}\n", fault.what());
-        return 1;
-    }
-    std::puts("{\"ok\":true}");
-    return 0;
+    const Geos geos;
+    return run(count, words, [&](Numbers numbers) { Polygons{geos}.check(numbers); });
 }

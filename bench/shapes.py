@@ -1,0 +1,111 @@
+#!/usr/bin/env python3
+"""Writes polygons of many vertices as tiles of one feature into a folder, all or those named: shapes.py FOLDER [NAME..].
+
+A name is a shape and its number of vertices, as comb_1000. Each run writes the same bytes.
+"""
+import math
+import sys
+
+from inputs import CLOSE_PATH, DELIMITED, LINE_TO, MOVE_TO, NAMED, POLYGON, Dice, command, feature, field, packed, parameters, write_inputs
+
+# coordinates lie from -2^30 to 2^30
+REACH = 1 << 29
+COUNTS = (1_000, 10_000, 100_000, 1_000_000)
+# of a ring among many
+SMALL = 10
+
+
+def drawn(rings):
+    """The numbers of rings."""
+    numbers, x, y = [], 0, 0
+    for ring in rings:
+        moves = []
+        for to_x, to_y in ring:
+            moves.append((to_x - x, to_y - y))
+            x, y = to_x, to_y
+        numbers += [command(MOVE_TO, 1), *parameters(moves[:1]), command(LINE_TO, len(ring) - 1), *parameters(moves[1:]), command(CLOSE_PATH, 1)]
+    return numbers
+
+
+def tile(rings):
+    one = feature(POLYGON, packed(drawn(rings)))
+    return field(3, DELIMITED, NAMED + field(2, DELIMITED, one))
+
+
+def comb(vertices):
+    """A bar with teeth upwards and downwards, which end at one height, so that each x inside has two vertical edges."""
+    teeth = (vertices - 4) // 8
+    lower = []
+    for i in range(teeth + 1):
+        lower += [(4 * i, -20), (4 * i + 2, -20)]
+        if i < teeth:
+            lower += [(4 * i + 2, -10), (4 * i + 4, -10)]
+    upper = []
+    for i in range(teeth, -1, -1):
+        upper += [(4 * i + 2, 20), (4 * i, 20)]
+        if i > 0:
+            upper += [(4 * i, 10), (4 * i - 2, 10)]
+    return [lower + upper]
+
+
+def lying_comb(vertices):
+    """The same with x and y exchanged: all teeth lie beside each other along the sweep."""
+    return [[(y, x) for x, y in reversed(ring)] for ring in comb(vertices)]
+
+
+def late_meeting(vertices):
+    """A comb whose last tooth crosses the one before it."""
+    ring = comb(vertices)[0]
+    last = max(range(len(ring)), key=lambda it: ring[it])
+    ring[last] = (ring[last][0] - 5, ring[last][1] - 4)
+    return [ring]
+
+
+def around(vertices, radius):
+    """A ring round the middle, of this distance at each vertex."""
+    turns = (2 * math.pi * i / vertices for i in range(vertices))
+    return [[(round(radius(i) * math.cos(turn)), round(radius(i) * math.sin(turn))) for i, turn in enumerate(turns)]]
+
+
+def star(vertices):
+    return around(vertices, lambda i: REACH // (1 + i % 2))
+
+
+def coast(vertices):
+    """A ring whose distance from the middle is rough at each scale."""
+    dice = Dice(1)
+    heights, step = [0.75, 0.75], 0.2
+    while len(heights) <= vertices:
+        between = [(one + other) / 2 + step * (dice.between(-1000, 1000) / 1000) for one, other in zip(heights, heights[1:])]
+        heights = [it for pair in zip(heights, between) for it in pair] + heights[-1:]
+        step *= 0.6
+    return around(vertices, lambda i: REACH * min(max(heights[i], 0.25), 1.5))
+
+
+def small_ring(x, y, is_hole):
+    """A ring of SMALL vertices that fits in a square of 20."""
+    ring = [(x, y), (x + 6, y + 1), (x + 12, y), (x + 18, y + 5), (x + 17, y + 10), (x + 18, y + 15), (x + 12, y + 18), (x + 6, y + 16), (x, y + 18), (x + 2, y + 9)]
+    return ring[::-1] if is_hole else ring
+
+
+def scattered(rings, is_hole):
+    """So many small rings in rows, one beside another."""
+    side = math.isqrt(rings - 1) + 1
+    return [small_ring(20 * (i % side), 20 * (i // side), is_hole) for i in range(rings)]
+
+
+def small_polygons(vertices):
+    return scattered(vertices // SMALL, False)
+
+
+def holes(vertices):
+    """One exterior with small holes."""
+    side = 20 * (math.isqrt(vertices // SMALL) + 1)
+    return [[(-1, -1), (side, -1), (side, side), (-1, side)]] + scattered(vertices // SMALL, True)
+
+
+SHAPES = {it.__name__: it for it in (comb, lying_comb, star, coast, small_polygons, holes, late_meeting)}
+INPUTS = {f"{name}_{count}": lambda shape=shape, count=count: tile(shape(count)) for name, shape in SHAPES.items() for count in COUNTS}
+
+if __name__ == "__main__":
+    write_inputs(INPUTS, sys.argv[1], sys.argv[2:])
