@@ -63,7 +63,7 @@ by_other_sign {Passes} z tells = by_order (le_or_lt z (pos 0))
     by_order (inr more) = inl (tells.0 more)
 
 -- one of the two holds of any edge
-passes_or_not : (position : Position) (edge : Edge) → PassesOver position edge ⊎ ¬ PassesOver position edge
+pub passes_or_not : (position : Position) (edge : Edge) → PassesOver position edge ⊎ ¬ PassesOver position edge
 passes_or_not position edge = by_ends (le_or_lt edge.a.x position.x) (le_or_lt edge.b.x position.x)
   where
     by_ends : (edge.a.x ≤ℤ position.x) ⊎ (position.x <ℤ edge.a.x) → (edge.b.x ≤ℤ position.x) ⊎ (position.x <ℤ edge.b.x) → PassesOver position edge ⊎ ¬ PassesOver position edge

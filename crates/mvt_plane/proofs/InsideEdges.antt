@@ -140,12 +140,12 @@ on_edge_back q a b on_edge =
     }
 
 -- one of two holds, whichever is the first
-differ_back : {One Other : Type 0} → Differ One Other → Differ Other One
+pub differ_back : {One Other : Type 0} → Differ One Other → Differ Other One
 differ_back (inl (one, not_other)) = inr (not_other, one)
 differ_back (inr (not_one, other)) = inl (other, not_one)
 
 -- the edge that goes back passes over the same positions
-passes_back : (p a b : Position) → PassesOver p (record { a = a; b = b }) → PassesOver p (record { a = b; b = a })
+pub passes_back : (p a b : Position) → PassesOver p (record { a = a; b = b }) → PassesOver p (record { a = b; b = a })
 passes_back p a b passes = record {
   parted = differ_back passes.parted;
   point = passes.point;

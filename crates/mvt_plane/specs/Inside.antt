@@ -27,3 +27,17 @@ HoldsOfOdd Holds (edge ∷ rest) = Differ (Holds edge) (HoldsOfOdd Holds rest)
 -- an odd number of the ring's edges pass over the position
 abbrev pub IsInside : Position → List Position → Type 0
 IsInside position ring = HoldsOfOdd (PassesOver position) (edges ring)
+
+-- The same for rational points, which needn't be positions
+
+-- the edge passes over the rational point, which is (x / w, y / w) with w at least 1
+pub record PassesOverPoint (point : RationalPoint) (edge : Edge) : Type 0 where
+  pub parted : Differ ((edge.a.x *ℤ point.w) ≤ℤ point.x) ((edge.b.x *ℤ point.w) ≤ℤ point.x)
+  pub higher : RationalPoint
+  pub on_edge : LiesOn higher edge
+  pub same_x : higher.x *ℤ point.w ≡ point.x *ℤ higher.w
+  pub greater_y : (point.y *ℤ higher.w) <ℤ (higher.y *ℤ point.w)
+
+-- an odd number of the ring's edges pass over the rational point
+abbrev pub IsPointInside : RationalPoint → List Position → Type 0
+IsPointInside point ring = HoldsOfOdd (PassesOverPoint point) (edges ring)

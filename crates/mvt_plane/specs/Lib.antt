@@ -1,3 +1,5 @@
+pub mod Apart
+pub mod Below
 pub mod Bound
 pub mod CommandFault
 pub mod CommonPoint

@@ -1,15 +1,18 @@
 //! The laws of geometry commands (Mapbox Vector Tile Specification 2.1, section 4.3), as contracts of
 //! functions that do nothing. `reading` and `courses` have those of reading and drawing numbers one by one;
 //! `points`, `names`, `rings` and `spelled` those of points on edges and of the named ones, of rings and of
-//! polygons, and of rings that have a spelling; `sides` those of edges met one behind another.
+//! polygons, and of rings that have a spelling; `sides` those of edges met one behind another; `inside` those
+//! of what is inside a ring, and `below` those of edges that pass below a position.
 
 ghost use Rattle.std.specs.Prelude.{◌≡◌, ◌⊎◌, ℕ, ◌^◌, ◌<◌, List, All, map, ℤ};
 ghost use Rattle.mvt_plane.specs.CommandFault.{HasCommandFault, Word, words};
 ghost use Rattle.mvt_plane.specs.Drawing.{start, Passes, state_behind, MayEnd, Draws, FaultFrom, IsSound, unzigzag};
 ghost use Rattle.mvt_plane.specs.Figure.{GeometryType, Figure, type_of, spelling, HasSpelling, Spells, zigzag};
 
+pub mod below;
 pub mod courses;
 pub mod examples;
+pub mod inside;
 pub mod names;
 pub mod order;
 pub mod points;
