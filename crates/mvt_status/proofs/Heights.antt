@@ -1,10 +1,10 @@
 -- How high a side of a node can be, for as many edges as it has.
-use Rattle.std.proofs.Common.{◌≡◌, ℕ, zero, suc, max, ◌+◌, ◌*◌, ◌^◌, ◌<◌, ◌≤◌, inl, inr, List, length, ap, subst, arith}
+use Rattle.std.proofs.Common.{◌≡◌, ℕ, zero, suc, max, ◌+◌, ◌*◌, ◌^◌, ◌<◌, ◌≤◌, inl, inr, Box, Global, List, length, Option, None, refl, ap, sym, subst, ◌∙◌, arith}
 use Rattle.std.proofs.lemmas.Bool.{cases_lt}
 use Rattle.std.proofs.Math.Nat.{pow-suc}
 use Rattle.mvt_plane.specs.Counted.{Counted}
 use Rattle.mvt_status.specs.Counts.{AddsAtMost, bits}
-use Rattle.mvt_status.specs.Tree.{DifferByAtMost, fewest}
+use Rattle.mvt_status.specs.Tree.{DifferByAtMost, IsNode, edges_of, fewest, height_of}
 use Rattle.mvt_status.proofs.BinaryDigits.{within_digits}
 
 at_least_one : (height : ℕ) → 1 ≤ fewest height
@@ -84,4 +84,36 @@ probes_by_digits height edges all before after same added filled =
       probes_added = omega (arith, added.probes_added, within);
       no_fewer_visits = added.no_fewer_visits;
       visits_added = omega (arith, added.visits_added, within);
+    }
+
+-- a node with nothing on either side
+pub node_alone : (left right : Option (Box (List ℕ × ℕ) Global)) → left ≡ None → right ≡ None → IsNode left right 1 1
+unfolding fewest
+node_alone left right none nothing =
+    rw (none, nothing) (record {
+      counted = refl;
+      measured = refl;
+      near = record {
+        first = omega arith;
+        second = omega arith;
+      };
+      filled = omega arith;
+    })
+
+-- a node whose sides are as high as before, with an edge less
+pub with_one_less : (left right new_left new_right : Option (Box (List ℕ × ℕ) Global)) (size height new_size new_height : ℕ) → IsNode left right size height
+    → new_size ≡ length (edges_of new_left) + 1 + length (edges_of new_right) → new_height ≡ height
+    → height_of new_left ≡ height_of left → height_of new_right ≡ height_of right
+    → fewest (height_of new_left) ≤ suc (length (edges_of new_left)) → fewest (height_of new_right) ≤ suc (length (edges_of new_right)) → IsNode new_left new_right new_size new_height
+with_one_less left right new_left new_right size height new_size new_height node counted as_high left_level right_level left_filled right_filled =
+    let near : DifferByAtMost 1 (height_of new_left) (height_of new_right) = record {
+      first = omega (arith, node.near.first, left_level, right_level);
+      second = omega (arith, node.near.second, left_level, right_level);
+    } in
+    let measured : new_height ≡ suc (max (height_of new_left) (height_of new_right)) = omega (arith, node.measured, as_high, left_level, right_level) in
+    record {
+      counted = counted;
+      measured = measured;
+      near = near;
+      filled = omega (arith, filled_over_both _ _ _ near measured, left_filled, right_filled, counted);
     }

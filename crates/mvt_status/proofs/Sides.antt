@@ -1,10 +1,11 @@
 -- Places in a list of edges that is what two sides and an edge between them have.
-use Rattle.std.proofs.Common.{◌≡◌, ℕ, ◌+◌, ◌-◌, ◌<◌, List, [], ◌∷◌, ◌++◌, length, length-append, take, drop, remove, slice_index, refl, ap, sym, subst, ◌∙◌, append_assoc, arith}
-use Rattle.std.proofs.lemmas.List.Edits.{remove-append_right}
+use Rattle.std.proofs.Common.{◌≡◌, ℕ, ◌+◌, ◌-◌, ◌<◌, ◌≤◌, List, [], ◌∷◌, ◌++◌, length, length-append, take, drop, remove, slice_index, refl, ap, sym, subst, ◌∙◌, append_assoc, arith}
+use Rattle.std.proofs.lemmas.List.{take-append-le, drop-append-le}
+use Rattle.std.proofs.lemmas.List.Edits.{remove-append_left, remove-append_right}
 use Rattle.std.proofs.Math.Seq.{take-append-add, drop-append-add}
 
 -- what is put in behind the edge in the middle
-pub insert_right : (left middle right new : List ℕ) (at before : ℕ) → length middle ≡ 1 → length left ≡ before → before < at
+insert_right : (left middle right new : List ℕ) (at before : ℕ) → length middle ≡ 1 → length left ≡ before → before < at
     → left ++ (middle ++ (take (at - before - 1) right ++ (new ++ drop (at - before - 1) right)))
     ≡ take at (left ++ (middle ++ right)) ++ (new ++ drop at (left ++ (middle ++ right)))
 insert_right left middle right new at before one many behind =
@@ -19,7 +20,7 @@ insert_right left middle right new at before one many behind =
     grind (arith, append_assoc)
 
 -- what is taken out behind the edge in the middle
-pub remove_right : (left middle right : List ℕ) (at before : ℕ) → length middle ≡ 1 → length left ≡ before → before < at
+remove_right : (left middle right : List ℕ) (at before : ℕ) → length middle ≡ 1 → length left ≡ before → before < at
     → left ++ (middle ++ remove right (at - before - 1)) ≡ remove (left ++ (middle ++ right)) at
 remove_right left middle right at before one many behind =
     sym (remove-append_right left (middle ++ right) before at many (omega arith) ∙ ap (λ rest. left ++ rest) (remove-append_right middle right 1 (at - before) one (omega arith)))
@@ -36,7 +37,7 @@ without_first (edge ∷ []) right one = refl
 without_first (edge ∷ next ∷ rest) right one = absurd (omega arith)
 
 -- the first edge on the right takes the place of that in the middle
-pub remove_between : (left middle right next : List ℕ) (at before : ℕ) → length middle ≡ 1 → length left ≡ before → at ≡ before → 0 < length right
+remove_between : (left middle right next : List ℕ) (at before : ℕ) → length middle ≡ 1 → length left ≡ before → at ≡ before → 0 < length right
     → next ≡ slice_index right 0 ∷ [] → left ++ (next ++ remove right 0) ≡ remove (left ++ (middle ++ right)) at
 remove_between left middle right next at before one many there some is =
     let none : at - before ≡ 0 = omega arith in
@@ -47,3 +48,32 @@ remove_between left middle right next at before one many there some is =
 -- a node has an edge
 pub some_edge : (left right : List ℕ) (edge height : ℕ) (seen : List ℕ × ℕ) → ◌≡◌ {A = List ℕ × ℕ} (left ++ edge ∷ right, height) seen → 0 < length seen.0
 some_edge left right edge height seen is = omega (arith, ap (λ (it : List ℕ × ℕ). length it.0) is, length-append left (edge ∷ right))
+
+-- a side with edges put in, next to what it had beside it
+pub put_in_left : (left right part all new : List ℕ) (edge at : ℕ) → left ++ edge ∷ right ≡ all → at ≤ length left → part ≡ take at left ++ (new ++ drop at left)
+    → part ++ edge ∷ right ≡ take at all ++ (new ++ drop at all)
+put_in_left left right part all new edge at same within is =
+    let front : take at all ≡ take at left = ap (take at) (sym same) ∙ take-append-le at left (edge ∷ right) within in
+    let rest : drop at all ≡ drop at left ++ edge ∷ right = ap (drop at) (sym same) ∙ drop-append-le at left (edge ∷ right) within in
+    rw (is, front, rest) (append_assoc (take at left) (new ++ drop at left) (edge ∷ right) ∙ ap (λ behind. take at left ++ behind) (append_assoc new (drop at left) (edge ∷ right)))
+
+-- and so on the right
+pub put_in_right : (left right part all new : List ℕ) (edge at before : ℕ) → left ++ edge ∷ right ≡ all → before ≡ length left → before < at
+    → part ≡ take (at - before - 1) right ++ (new ++ drop (at - before - 1) right) → left ++ edge ∷ part ≡ take at all ++ (new ++ drop at all)
+put_in_right left right part all new edge at before same many behind is = rw (is, sym same) (insert_right left (edge ∷ []) right new at before refl (sym many) behind)
+
+-- a side with an edge taken out, next to what it had beside it
+pub take_out_left : (left right part all : List ℕ) (edge at : ℕ) → left ++ edge ∷ right ≡ all → at < length left → part ≡ remove left at → part ++ edge ∷ right ≡ remove all at
+take_out_left left right part all edge at same within is = rw (is, sym same) (sym (remove-append_left left (edge ∷ right) at within))
+
+-- and so on the right
+pub take_out_right : (left right part all : List ℕ) (edge at before : ℕ) → left ++ edge ∷ right ≡ all → before ≡ length left → before < at
+    → part ≡ remove right (at - before - 1) → left ++ edge ∷ part ≡ remove all at
+take_out_right left right part all edge at before same many behind is = rw (is, sym same) (remove_right left (edge ∷ []) right at before refl (sym many) behind)
+
+-- the first edge on the right in the place of the one that is taken out
+pub take_out_middle : (left right part all next : List ℕ) (edge own at before : ℕ) → left ++ edge ∷ right ≡ all → before ≡ length left → at ≡ before → 0 < length right
+    → next ≡ slice_index right 0 ∷ [] → next ≡ own ∷ [] → part ≡ remove right 0 → left ++ own ∷ part ≡ remove all at
+take_out_middle left right part all next edge own at before same many there some first is_own is =
+    rw (is, sym same) (subst (λ (front : List ℕ). left ++ (front ++ remove right 0) ≡ remove (left ++ edge ∷ right) at) is_own
+    (remove_between left (edge ∷ []) right next at before refl (sym many) there some first))

@@ -12,7 +12,7 @@ abbrev pub height_of : Option (Box (List ℕ × ℕ) Global) → ℕ
 height_of None = 0
 height_of (Some node) = node.value.1
 
--- one more than the fewest edges that a side of this height has: twice as many with each two levels
+-- a side of this height has this many edges or more, but one: twice as many with each two levels
 unfoldable pub fewest : ℕ → ℕ
 fewest zero = 1
 fewest (suc zero) = 2

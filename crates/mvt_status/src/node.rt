@@ -1,6 +1,6 @@
 //! Nodes of a tree: each holds an edge between those of its two sides, and no side is more than one level higher
 //! than the other.
-ghost use Rattle.std.specs.Prelude.{◌≡◌, ℕ, ◌+◌, ◌^◌, ◌<◌, ◌≤◌, suc, max, All, IfOk, IfSome, ◌∷◌, [], ◌++◌, drop, length, remove, slice_index, take};
+ghost use Rattle.std.specs.Prelude.{◌≡◌, ℕ, ◌+◌, ◌^◌, ◌<◌, ◌≤◌, suc, max, All, IfOk, IfSome, Some, ◌∷◌, [], ◌++◌, drop, length, remove, slice_index, take};
 ghost use Rattle.mvt_plane.specs.Counted.{ticked};
 ghost use Rattle.mvt_status.specs.Counts.{AddsAtMost};
 ghost use Rattle.mvt_status.specs.Split.{IsSplit};
@@ -41,6 +41,7 @@ impl Model for Node {
 }
 
 /// How many edges a side has.
+#[inline(always)]
 pub(crate) fn size(side: &Side) -> usize
     ensures { result ≡ length (edges_of side.now) }
 {
@@ -51,6 +52,7 @@ pub(crate) fn size(side: &Side) -> usize
 }
 
 /// How many levels a side has.
+#[inline(always)]
 pub(crate) fn height(side: &Side) -> u8
     ensures value { result ≡ height_of side.now }
     ensures filled { fewest (height_of side.now) ≤ suc (length (edges_of side.now)) }
@@ -193,63 +195,170 @@ fn lean_left(left: Side, middle: Box<Node>, right: Side) -> Box<Node>
     )
 }
 
-/// Puts a node of one edge in front of the edge at a place, and ticks a visit for each node on the way there.
-pub(crate) fn insert_into(side: Side, at: usize, new: Box<Node>, count: &mut Count) -> Box<Node>
-    requires within { at ≤ length (edges_of side) }
-    requires one { length new.value.0 ≡ 1 }
-    requires alone { new.value.1 ≡ 1 }
-    requires room { length (edges_of side) + 1 < 2 ^ 64 }
-    ensures edges { result.value.0 ≡ take at (edges_of side) ++ (new.value.0 ++ drop at (edges_of side)) }
-    ensures not_lower { height_of side ≤ result.value.1 }
-    ensures at_most_one_higher { result.value.1 ≤ height_of side + 1 }
-    ensures counted { AddsAtMost 0 (height_of side) count.old count.new }
-    ensures visited { IfSome side (λ _. ticked count.old.visits ≤ count.new.visits) }
-    ensures filled { fewest (height_of side) ≤ suc (length (edges_of side)) }
+/// Nothing to run: each side has enough edges for its levels.
+#[inline(always)]
+fn is_filled(side: &Side)
+    ensures { fewest (height_of side.now) ≤ suc (length (edges_of side.now)) }
 {
-    let Some(node) = side else { return new };
-    visit(count);
-    let (left, middle, right) = open(node);
-    let before = size(&left);
-    if at <= before {
-        let left = insert_into(left, at, new, count);
-        join(Some(left), middle, right)
-    } else {
-        let right = insert_into(right, at - before - 1, new, count);
-        join(left, middle, Some(right))
-    }
+    height(side);
 }
 
-/// Takes the edge at a place out, and answers what is left, and the edge in a node by itself. Ticks a visit for each
-/// node on the way to the place and to the edge that takes it.
-pub(crate) fn remove_from(node: Box<Node>, at: usize, count: &mut Count) -> (Side, Box<Node>)
-    requires within { at < length node.value.0 }
-    ensures edges { edges_of result.0 ≡ remove node.value.0 at }
-    ensures out { result.1.value ≡ (slice_index node.value.0 at ∷ [], 1) }
-    ensures not_higher { height_of result.0 ≤ node.value.1 }
-    ensures at_most_one_lower { node.value.1 ≤ height_of result.0 + 1 }
-    ensures counted { AddsAtMost 0 node.value.1 count.old count.new }
-    ensures visited { ticked count.old.visits ≤ count.new.visits }
-    ensures filled { fewest node.value.1 ≤ suc (length node.value.0) }
+/// How many levels a node over two sides has, unless one of them is two levels higher.
+#[inline(always)]
+fn level_over(left: &Side, right: &Side) -> Option<u8>
+    requires room { length (edges_of left.now) + length (edges_of right.now) + 1 < 2 ^ 64 }
+    ensures near { IfSome result (λ _. DifferByAtMost 1 (height_of left.now) (height_of right.now)) }
+    ensures measured { IfSome result (λ level. level ≡ suc (max (height_of left.now) (height_of right.now))) }
+    ensures filled { IfSome result (λ level. fewest level ≤ length (edges_of left.now) + length (edges_of right.now) + 2) }
 {
-    visit(count);
-    let (left, middle, right) = open(node);
-    let before = size(&left);
-    if at < before {
-        let Some(left) = left else { unreachable!() };
-        let (left, out) = remove_from(left, at, count);
-        return (Some(join(left, middle, right)), out);
+    let (left_height, right_height) = (height(left), height(right));
+    if left_height > right_height + 1 || right_height > left_height + 1 {
+        return None;
     }
-    let Some(right) = right else {
-        return (left, middle)
+    Some(left_height.max(right_height) + 1)
+}
+
+/// Puts two sides, of which one may be two levels higher than the other, on both sides of a node of one edge.
+fn join_over(left: Side, side: &mut Side, right: Side)
+    requires one { length (edges_of side.old) ≡ 1 }
+    requires near { DifferByAtMost 2 (height_of left) (height_of right) }
+    requires room { length (edges_of left) + length (edges_of right) + 1 < 2 ^ 64 }
+    ensures edges { edges_of side.new ≡ edges_of left ++ (edges_of side.old ++ edges_of right) }
+    ensures height { IsHeightOfBoth (height_of left) (height_of right) (height_of side.new) }
+{
+    let Some(middle) = side.take() else {
+        unreachable!()
     };
-    if at == before {
-        // (each node has an edge of its own, so there is a first one)
-        prove!(right.size > 0);
-        let (right, next) = remove_from(right, 0, count);
-        return (Some(join(left, next, right)), middle);
+    *side = Some(join(left, middle, right));
+}
+
+/// Puts a side in the place of a node, and answers the node.
+fn lift(side: &mut Side, left: Side) -> Box<Node>
+    requires { 0 < length (edges_of side.old) }
+    ensures rest { side.new ≡ left }
+    ensures out { side.old ≡ Some result }
+{
+    let Some(out) = side.take() else {
+        unreachable!()
+    };
+    *side = left;
+    out
+}
+
+/// A node of one edge with another in its place, which it hands over its own.
+fn exchanged(node: Box<Node>, edge: &mut usize) -> Box<Node>
+    requires one { length node.value.0 ≡ 1 }
+    requires alone { node.value.1 ≡ 1 }
+    ensures taken { node.value.0 ≡ edge.new ∷ [] }
+    ensures given { result.value ≡ (edge.old ∷ [], 1) }
+{
+    let own = edge_of(&node);
+    let node = renamed(node, *edge);
+    *edge = own;
+    node
+}
+
+/// Puts a node of one edge in front of the edge at a place, and ticks a visit for each node on the way there.
+pub(crate) fn insert_into(side: &mut Side, at: usize, new: Box<Node>, count: &mut Count)
+    requires within { at ≤ length (edges_of side.old) }
+    requires one { length new.value.0 ≡ 1 }
+    requires alone { new.value.1 ≡ 1 }
+    requires room { length (edges_of side.old) + 1 < 2 ^ 64 }
+    ensures edges { edges_of side.new ≡ take at (edges_of side.old) ++ (new.value.0 ++ drop at (edges_of side.old)) }
+    ensures not_lower { height_of side.old ≤ height_of side.new }
+    ensures at_most_one_higher { height_of side.new ≤ height_of side.old + 1 }
+    ensures counted { AddsAtMost 0 (height_of side.old) count.old count.new }
+    ensures visited { IfSome side.old (λ _. ticked count.old.visits ≤ count.new.visits) }
+    ensures filled { fewest (height_of side.old) ≤ suc (length (edges_of side.old)) }
+{
+    let Some(node) = side else {
+        *side = Some(new);
+        return;
+    };
+    visit(count);
+    let top: &mut Node = node;
+    let before = size(&top.left);
+    if at <= before {
+        let level = height(&top.left);
+        insert_into(&mut top.left, at, new, count);
+        top.size += 1;
+        if height(&top.left) == level {
+            return;
+        }
+    } else {
+        let level = height(&top.right);
+        insert_into(&mut top.right, at - before - 1, new, count);
+        top.size += 1;
+        if height(&top.right) == level {
+            return;
+        }
     }
-    let (right, out) = remove_from(right, at - before - 1, count);
-    (Some(join(left, middle, right)), out)
+    if let Some(level) = level_over(&top.left, &top.right) {
+        top.height = level;
+        return;
+    }
+    let (left, right) = (top.left.take(), top.right.take());
+    top.size = 1;
+    top.height = 1;
+    join_over(left, side, right);
+}
+
+/// Takes the edge at a place out, and answers it in a node by itself. Ticks a visit for each node on the way to the
+/// place and to the edge that takes it.
+pub(crate) fn remove_from(side: &mut Side, at: usize, count: &mut Count) -> Box<Node>
+    requires within { at < length (edges_of side.old) }
+    ensures edges { edges_of side.new ≡ remove (edges_of side.old) at }
+    ensures out { result.value ≡ (slice_index (edges_of side.old) at ∷ [], 1) }
+    ensures not_higher { height_of side.new ≤ height_of side.old }
+    ensures at_most_one_lower { height_of side.old ≤ height_of side.new + 1 }
+    ensures counted { AddsAtMost 0 (height_of side.old) count.old count.new }
+    ensures visited { ticked count.old.visits ≤ count.new.visits }
+    ensures filled { fewest (height_of side.old) ≤ suc (length (edges_of side.old)) }
+{
+    let Some(node) = side else { unreachable!() };
+    visit(count);
+    let top: &mut Node = node;
+    let before = size(&top.left);
+    let out;
+    if at < before {
+        let level = height(&top.left);
+        out = remove_from(&mut top.left, at, count);
+        is_filled(&top.right);
+        top.size -= 1;
+        if height(&top.left) == level {
+            return out;
+        }
+    } else {
+        let level = height(&top.right);
+        if at == before {
+            let Some(right) = &top.right else {
+                let left = top.left.take();
+                top.size = 1;
+                top.height = 1;
+                return lift(side, left);
+            };
+            // (each node has an edge of its own, so there is a first one)
+            prove!(right.size > 0);
+            let next = remove_from(&mut top.right, 0, count);
+            out = exchanged(next, &mut top.edge);
+        } else {
+            out = remove_from(&mut top.right, at - before - 1, count);
+        }
+        is_filled(&top.left);
+        top.size -= 1;
+        if height(&top.right) == level {
+            return out;
+        }
+    }
+    if let Some(level) = level_over(&top.left, &top.right) {
+        top.height = level;
+        return out;
+    }
+    let (left, right) = (top.left.take(), top.right.take());
+    top.size = 1;
+    top.height = 1;
+    join_over(left, side, right);
+    out
 }
 
 /// The edge at a place. Ticks a visit for each node on the way there.
@@ -298,6 +407,7 @@ pub(crate) fn split_of<F: Fn(usize) -> bool>(side: &Side, below: &F, count: &mut
 }
 
 /// Counts a visit of a node.
+#[inline(always)]
 fn visit(count: &mut Count)
     ensures counted { AddsAtMost 0 1 count.old count.new }
     ensures visited { count.new.visits ≡ ticked count.old.visits }
@@ -306,6 +416,7 @@ fn visit(count: &mut Count)
 }
 
 /// Counts a comparison.
+#[inline(always)]
 fn probe(count: &mut Count)
     ensures counted { AddsAtMost 1 0 count.old count.new }
     ensures probed { count.new.probes ≡ ticked count.old.probes }

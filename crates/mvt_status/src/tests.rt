@@ -7,6 +7,7 @@ ghost use Rattle.mvt_status.specs.Split.{IsSplit};
 use crate::Status;
 use mvt_plane::Count;
 use std::alloc::{AllocError, Global};
+use std::process::Abort;
 
 /// Puts an edge in front of all whose keys aren't below its own, as a sweep does.
 fn place<S: Status>(
@@ -70,33 +71,22 @@ fn edge_between<S: Status>(status: &mut S, count: &mut Count) -> Result<usize, A
     place(status, &keys, 5, count)
 }
 
-/// What is found in a status where edges come and go.
-#[derive(Drop)]
-pub(crate) struct Found {
-    /// The split of three edges, and the edge taken out.
-    pub(crate) three: (usize, usize),
-    /// The place of the edge that was put between the others.
-    pub(crate) between: usize,
-    /// The edges that there are then.
-    pub(crate) edges: Vec<usize>,
-}
-
-/// The answers of a status that is empty at first.
+/// Edges come and go in a status that is empty at first, and each is found where it should be. Answers what was
+/// counted.
 pub(crate) fn edges_come_and_go<S: Status>(
+    rt: &impl Abort,
     alloc: Global,
     status: &mut S,
-    count: &mut Count,
-) -> Result<Found, AllocError>
+) -> Result<Count, AllocError>
     requires { S.edges status.old ≡ [] }
 {
-    let three = three_edges(status, count)?;
-    let between = edge_between(status, count)?;
-    let edges = list(alloc, status, count)?;
-    Ok(Found {
-        three,
-        between,
-        edges,
-    })
+    let mut count = Count::new();
+    let three = three_edges(status, &mut count)?;
+    let between = edge_between(status, &mut count)?;
+    let edges = list(alloc, status, &mut count)?;
+    assert_eq!(rt; (three, between), ((2, 9), 1));
+    assert_eq!(rt; edges.as_slice(), [4, 5, 7].as_slice());
+    Ok(count)
 }
 
 /// Puts the numbers below `many` into a status, each at the end. Answers the most visits that one took.

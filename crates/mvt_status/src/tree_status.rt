@@ -4,7 +4,7 @@ ghost use Rattle.mvt_status.specs.Split.{IsSplit};
 
 use crate::Status;
 use crate::node::{
-    Node, Side, alone, edge_at, edge_of, insert_into, remove_from, renamed, size, split_of,
+    Side, alone, edge_at, edge_of, insert_into, remove_from, renamed, size, split_of,
 };
 use mvt_plane::Count;
 use std::alloc::{AllocError, Global};
@@ -14,24 +14,24 @@ use std::marker::Model;
 mod tests;
 
 /// A status in a height-balanced tree. Each call takes a number of steps that grows with the binary digits of the
-/// number of edges. A node that was taken out serves the next edge that comes.
+/// number of edges. The node that was taken out last serves the next edge that comes.
 #[derive(Drop)]
 pub struct TreeStatus {
     root: Side,
-    // Nodes that were taken out.
-    spare: Vec<Box<Node>>,
+    // The node that was taken out last.
+    spare: Side,
     alloc: Global,
 }
 
 impl Model for TreeStatus {
-    ghost use Rattle.std.specs.Prelude.{ℕ, All, List};
+    ghost use Rattle.std.specs.Prelude.{ℕ, IfSome, List};
     ghost use Rattle.mvt_status.specs.Tree.{IsAlone, edges_of};
 
     ghost Value = { List ℕ };
 
     ghost view = { λ status. edges_of status.root };
 
-    ghost invariant = { λ status. All IsAlone status.spare.items };
+    ghost invariant = { λ status. IfSome status.spare IsAlone };
 }
 
 impl TreeStatus {
@@ -41,7 +41,7 @@ impl TreeStatus {
     {
         TreeStatus {
             root: None,
-            spare: Vec::new(alloc),
+            spare: None,
             alloc,
         }
     }
@@ -70,11 +70,11 @@ impl Status for TreeStatus {
         if self.len() == usize::MAX {
             return Err(AllocError);
         }
-        let node = match self.spare.pop() {
+        let node = match self.spare.take() {
             Some(node) => renamed(node, edge),
             None => alone(self.alloc, edge)?,
         };
-        self.root = Some(insert_into(self.root.take(), at, node, count));
+        insert_into(&mut self.root, at, node, count);
         Ok(())
     }
 
@@ -84,14 +84,9 @@ impl Status for TreeStatus {
         ensures list { self.new ≡ remove self.old at }
         ensures counted { AddsAtMost 0 (2 * bits (length self.old)) count.old count.new }
     {
-        let Some(node) = self.root.take() else {
-            unreachable!()
-        };
-        let (rest, out) = remove_from(node, at, count);
-        self.root = rest;
+        let out = remove_from(&mut self.root, at, count);
         let edge = edge_of(&out);
-        // (where there is no memory for it, the node is given back)
-        let _ = self.spare.push(out);
+        self.spare = Some(out);
         edge
     }
 

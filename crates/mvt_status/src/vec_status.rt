@@ -1,4 +1,5 @@
 ghost use Rattle.std.specs.Prelude.{◌≡◌, ℕ, ◌<◌, ◌≤◌, All, [], if◌then◌else◌, insert, is_ok, length, remove, slice_index};
+ghost use Rattle.mvt_plane.specs.Counted.{ticked};
 ghost use Rattle.mvt_status.specs.Counts.{AddsAtMost, bits};
 ghost use Rattle.mvt_status.specs.Split.{IsSplit};
 
@@ -89,10 +90,10 @@ impl Status for VecStatus {
     }
 }
 
-/// Counts a probe. The number has 64 bits, so a tick that leaves it at the greatest of them doesn't bring it down.
+/// Counts a comparison.
 fn tick(count: &mut Count)
-    ensures { AddsAtMost 1 0 count.old count.new }
+    ensures counted { AddsAtMost 1 0 count.old count.new }
+    ensures probed { count.new.probes ≡ ticked count.old.probes }
 {
-    prove!(count.probes() <= u64::MAX);
     count.tick_probe();
 }

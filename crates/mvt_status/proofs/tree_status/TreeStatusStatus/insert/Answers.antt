@@ -4,4 +4,4 @@ use Rattle.mvt_status.proofs.Heights.{visits_by_digits}
 use Rattle.mvt_status.proofs.tree_status.TreeStatusStatus.insert.Goals as goal
 
 pub returns-clause-counted : goal.returns-clause-counted
-returns-clause-counted c = visits_by_digits _ _ _ _ _ (ap edges_of c.take.ensures.value ∙ c.self.view_is) c.insert_into.ensures.counted c.insert_into.ensures.filled
+returns-clause-counted c = visits_by_digits _ _ _ _ _ c.self.view_is c.insert_into.ensures.counted c.insert_into.ensures.filled

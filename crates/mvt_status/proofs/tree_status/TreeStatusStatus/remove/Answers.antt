@@ -1,8 +1,7 @@
-use Rattle.std.proofs.Common.{◌∙◌, ap, sym}
+use Rattle.std.proofs.Common.{◌∙◌, ap}
 use Rattle.mvt_status.specs.Tree.{edges_of}
 use Rattle.mvt_status.proofs.Heights.{visits_by_digits}
 use Rattle.mvt_status.proofs.tree_status.TreeStatusStatus.remove.Goals as goal
 
 pub returns-clause-counted : goal.returns-clause-counted
-returns-clause-counted c =
-    visits_by_digits _ _ _ _ _ (ap edges_of (sym c.in-Some.is ∙ c.take.ensures.value) ∙ c.self.view_is) c.remove_from-rest.ensures.counted c.remove_from-rest.ensures.filled
+returns-clause-counted c = visits_by_digits _ _ _ _ _ c.self.view_is c.remove_from-out.ensures.counted c.remove_from-out.ensures.filled

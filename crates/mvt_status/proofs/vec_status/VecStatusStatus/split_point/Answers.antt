@@ -29,7 +29,7 @@ halves-preserved-then-below g c =
       part = split_behind (goal.F-post g c.args.below.now) c.args.self.now c.halves.from c.halves.to middle c.halves.invariant.part before
           c.index.result.now c.below.result is c.below.ensures c.if-below.true;
       probes = probes_half (c.halves.to - c.halves.from) (c.halves.to - (middle + 1)) (length c.args.self.now) c.args.count.now c.halves.count c.tick.new.count
-          c.halves.invariant.probes c.tick.ensures (omega (arith, c.halves-test.true)) (omega (arith, c.halves-test.true));
+          c.halves.invariant.probes c.tick.ensures.counted (omega (arith, c.halves-test.true)) (omega (arith, c.halves-test.true));
     }
 
 pub halves-preserved : goal.halves-preserved
@@ -41,7 +41,7 @@ halves-preserved g c =
       part = split_before (goal.F-post g c.args.below.now) c.args.self.now c.halves.from c.halves.to middle c.halves.invariant.part before
           c.index.result.now c.below.result is c.below.ensures c.if-below.false;
       probes = probes_half (c.halves.to - c.halves.from) (middle - c.halves.from) (length c.args.self.now) c.args.count.now c.halves.count c.tick.new.count
-          c.halves.invariant.probes c.tick.ensures (omega (arith, c.halves-test.true)) (omega (arith, c.halves-test.true));
+          c.halves.invariant.probes c.tick.ensures.counted (omega (arith, c.halves-test.true)) (omega (arith, c.halves-test.true));
     }
 
 pub returns-clause-split : goal.returns-clause-split
