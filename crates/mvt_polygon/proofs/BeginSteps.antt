@@ -7,10 +7,9 @@ use Rattle.mvt_plane.specs.Position.{Position}
 use Rattle.mvt_polygon.specs.Chain.{Head, Joined}
 use Rattle.mvt_polygon.specs.CornerOrder.{AddsWork}
 use Rattle.mvt_polygon.specs.Sweep.{Plan, IsPlan, Tested, IsSwept, IsEvent, BothBegin, IsCut}
-use Rattle.mvt_polygon.proofs.StatusCounts.{few_swept}
+use Rattle.mvt_polygon.proofs.StatusCounts.{few_swept, work_then, work_within, work_of_place}
 use Rattle.mvt_polygon.proofs.StatusPlaces.{begin_in_order}
 use Rattle.mvt_status.specs.Counts.{AddsAtMost, bits}
-use Rattle.mvt_status.proofs.BinaryDigits.{no_more_digits}
 
 -- with the first of two edges in it the status still has no more edges than there are: both fit
 pub few_between : (plan : Plan) (key : ℤ) (vertex : Position) (first second : ℕ) (pair : ℕ × ℕ) (place : ℕ) (edges more : List ℕ) → IsPlan plan → IsSwept plan key edges
@@ -28,35 +27,16 @@ few_between plan key vertex first second pair place edges more is_plan swept eve
 pub work_first : (edges corners : ℕ) (start tested ordered placed under over done : Counted) → edges ≤ corners → AddsWork 1 0 0 start tested → AddsWork 0 1 0 tested ordered
     → AddsWork 0 (2 * bits corners) (2 * bits corners) ordered placed → AddsWork 1 0 (2 * bits corners) placed under → AddsWork 1 0 (2 * bits corners) under over
     → AddsAtMost 0 (2 * bits edges) over done → AddsWork 3 (2 * bits corners + 2) (8 * bits corners) start done
-work_first edges corners start tested ordered placed under over done few one two three four five six = record {
-  tests_added = omega (arith, one.tests_added, two.tests_added, three.tests_added, four.tests_added, five.tests_added, six.tests);
-  probes_added = omega (arith, one.probes_added, two.probes_added, three.probes_added, four.probes_added, five.probes_added, six.probes_added);
-  visits_added = omega (arith, one.visits_added, two.visits_added, three.visits_added, four.visits_added, five.visits_added, six.visits_added, no_more_digits edges corners few);
-  no_fewer_tests = omega (arith, one.no_fewer_tests, two.no_fewer_tests, three.no_fewer_tests, four.no_fewer_tests, five.no_fewer_tests, six.tests);
-  no_fewer_probes = omega (arith, one.no_fewer_probes, two.no_fewer_probes, three.no_fewer_probes, four.no_fewer_probes, five.no_fewer_probes, six.no_fewer_probes);
-  no_fewer_visits = omega (arith, one.no_fewer_visits, two.no_fewer_visits, three.no_fewer_visits, four.no_fewer_visits, five.no_fewer_visits, six.no_fewer_visits);
-}
+work_first edges corners start tested ordered placed under over done few one two three four five six =
+    work_within (omega arith) (omega arith) (omega arith) (work_then one (work_then two (work_then three (work_then four (work_then five (work_of_place edges corners few six))))))
 
 -- and with the second
 pub work_second : (edges corners : ℕ) (start between done : Counted) → edges ≤ corners → AddsWork 3 (2 * bits corners + 2) (8 * bits corners) start between
     → AddsAtMost 0 (2 * bits edges) between done → AddsWork 3 (2 * bits corners + 2) (10 * bits corners) start done
-work_second edges corners start between done few first second = record {
-  tests_added = omega (arith, first.tests_added, second.tests);
-  probes_added = omega (arith, first.probes_added, second.probes_added);
-  visits_added = omega (arith, first.visits_added, second.visits_added, no_more_digits edges corners few);
-  no_fewer_tests = omega (arith, first.no_fewer_tests, second.tests);
-  no_fewer_probes = omega (arith, first.no_fewer_probes, second.no_fewer_probes);
-  no_fewer_visits = omega (arith, first.no_fewer_visits, second.no_fewer_visits);
-}
+work_second edges corners start between done few first second =
+    work_within (omega arith) (omega arith) (omega arith) (work_then first (work_of_place edges corners few second))
 
 -- it is less where the second isn't come to
 pub work_so_far : (corners : ℕ) (start done : Counted) → AddsWork 3 (2 * bits corners + 2) (8 * bits corners) start done
     → AddsWork 3 (2 * bits corners + 2) (10 * bits corners) start done
-work_so_far corners start done work = record {
-  tests_added = work.tests_added;
-  probes_added = work.probes_added;
-  visits_added = omega (arith, work.visits_added);
-  no_fewer_tests = work.no_fewer_tests;
-  no_fewer_probes = work.no_fewer_probes;
-  no_fewer_visits = work.no_fewer_visits;
-}
+work_so_far corners start done work = work_within (omega arith) (omega arith) (omega arith) work

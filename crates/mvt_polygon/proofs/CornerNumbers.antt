@@ -1,17 +1,22 @@
 -- Corners of rings by their numbers: which vertex of which ring has a number.
-use Rattle.std.proofs.Common.{◌≡◌, ◌≢◌, ◌+◌, ◌<◌, ◌≤◌, ℕ, zero, suc, ◌⊎◌, inl, inr, List, [], ◌∷◌, ◌++◌, length, map, sum, take, slice_get, Some, refl, sym, ◌∙◌, ap, ap₂, subst, arith}
+use Rattle.std.proofs.Common.{◌≡◌, ◌≢◌, ◌+◌, ◌-◌, ◌==◌, ◌<◌, ◌≤◌, ltb, cond, ℕ, zero, suc, ◌⊎◌, inl, inr, List, [], ◌∷◌, ◌++◌, length, map, sum, take, slice_get, Some, refl, sym, ◌∙◌, ap, ap₂, subst, arith}
 use Rattle.std.proofs.lemmas.Bool.{cases_order}
 use Rattle.std.proofs.lemmas.Bool.Decides.{nat_tests}
 use Rattle.std.proofs.lemmas.List.{length-append, length-take}
 use Rattle.std.proofs.lemmas.List.Sums.{sum_by-append}
 use Rattle.std.proofs.lemmas.Option.{same_Some, slice_get_within, slice_get-get_or, none-some}
-use Rattle.mvt_plane.specs.Meeting.{ComesBefore}
+use Rattle.mvt_plane.specs.Meeting.{EdgeNumber, ComesBefore}
 use Rattle.mvt_plane.specs.Position.{Position}
 use Rattle.mvt_plane.specs.Ring.{next_round}
-use Rattle.mvt_polygon.specs.Corners.{AreCorners, IsCornerOf, corner_at, edge_number, no_corner, previous_round, vertex_count}
+use Rattle.mvt_polygon.specs.Corners.{AreCorners, IsCornerOf, IsNumbered, corner_at, far_end_of, next_at, no_corner, position_at, previous_at, vertex_count}
+use Rattle.mvt_polygon.specs.Rings.{AreProperRings}
 use Rattle.mvt_polygon.specs.declared.sweep.corners.Corner.{Corner}
 
 -- Going round
+
+-- the number before this one, going round: before 0 comes the last one
+abbrev pub previous_round : ℕ → ℕ → ℕ
+previous_round count number = cond (number == 0) (count - 1) (number - 1)
 
 -- the number behind one is one
 pub next_within : (count number : ℕ) → number < count → next_round count number < count
@@ -32,6 +37,16 @@ previous_next count number within = grind (arith, nat_tests)
 -- of three numbers or more, the next one but one is another
 pub next_but_one : (count number : ℕ) → 3 ≤ count → number < count → next_round count (next_round count number) ≢ number
 next_but_one count number several within same = grind (arith, nat_tests)
+
+-- the next one is found by the far end, behind so many corners of other rings
+next_by_far_end : (count before number : ℕ) → 3 ≤ count → number < count
+    → cond (ltb (before + far_end_of count number) (before + number)) (before + far_end_of count number) (before + number + 1) ≡ before + next_round count number
+next_by_far_end count before number several within = grind (arith, nat_tests)
+
+-- and so is the previous one
+previous_by_far_end : (count before number : ℕ) → 3 ≤ count → number < count
+    → cond (ltb (before + number) (before + far_end_of count number)) (before + far_end_of count number) (before + number - 1) ≡ before + previous_round count number
+previous_by_far_end count before number several within = grind (arith, nat_tests)
 
 -- How many vertices the first rings have
 
@@ -98,66 +113,60 @@ count_within rings number ring there = omega (arith, count_step rings number rin
 
 -- The vertex of a number
 
--- a corner is a vertex of its ring
-pub edge_within : (rings : List (List Position)) (number : ℕ) (it : Corner) → (is : IsCornerOf rings number it) → it.edge < length is.ring
-edge_within rings number it is = slice_get_within is.ring it.edge it.position is.here
-
--- corners come in the order of their rings, and in a ring in that of their vertices
-pub in_order : (rings : List (List Position)) (first second : ℕ) (one other : Corner) → IsCornerOf rings first one → IsCornerOf rings second other → first < second
-    → ComesBefore (edge_number one) (edge_number other)
-in_order rings first second one other is_one is_other less = by_ring (cases_order one.ring other.ring)
+-- vertices come in the order of their rings, and in a ring in their own
+pub in_order : (rings : List (List Position)) (first second : ℕ) (one other : EdgeNumber) → IsNumbered rings first one → IsNumbered rings second other → first < second
+    → ComesBefore one other
+in_order rings first second one other is its less = by_ring (cases_order one.ring other.ring)
   where
-    by_ring : (one.ring ≡ other.ring) ⊎ ((one.ring < other.ring) ⊎ (other.ring < one.ring)) → ComesBefore (edge_number one) (edge_number other)
-    by_ring (inl same) =
-        let counts = ap (λ (number : ℕ). vertex_count (take number rings)) same in
-        inr (same, omega (arith, counts, is_one.numbered, is_other.numbered))
+    by_ring : (one.ring ≡ other.ring) ⊎ ((one.ring < other.ring) ⊎ (other.ring < one.ring)) → ComesBefore one other
+    by_ring (inl same) = let counts = ap (λ (number : ℕ). vertex_count (take number rings)) same in inr (same, omega (arith, counts, is.numbered, its.numbered))
     by_ring (inr (inl before)) = inl before
-    by_ring (inr (inr behind)) =
-        let within = edge_within rings second other is_other in
-        absurd (omega (arith, is_one.numbered, is_other.numbered, within, count_behind rings other.ring one.ring is_other.ring is_other.there behind))
+    by_ring (inr (inr behind)) = absurd (omega (arith, is.numbered, its.numbered, its.within, count_behind rings other.ring one.ring its.ring its.there behind))
 
 -- one number is that of one vertex
-one_place : (rings : List (List Position)) (one other edge another : ℕ) (ring its : List Position) → slice_get rings one ≡ Some ring → slice_get rings other ≡ Some its
-    → edge < length ring → another < length its → vertex_count (take one rings) + edge ≡ vertex_count (take other rings) + another → (one ≡ other) × (edge ≡ another)
-one_place rings one other edge another ring its there here within inside same = by_ring (cases_order one other)
+pub one_place : (rings : List (List Position)) (number : ℕ) (one other : EdgeNumber) → IsNumbered rings number one → IsNumbered rings number other → one ≡ other
+one_place rings number one other is its = by_ring (cases_order one.ring other.ring)
   where
-    by_ring : (one ≡ other) ⊎ ((one < other) ⊎ (other < one)) → (one ≡ other) × (edge ≡ another)
-    by_ring (inl alike) = let counts = ap (λ (number : ℕ). vertex_count (take number rings)) alike in (alike, omega arith)
-    by_ring (inr (inl before)) = absurd (omega (arith, count_behind rings one other ring there before))
-    by_ring (inr (inr behind)) = absurd (omega (arith, count_behind rings other one its here behind))
-
--- the corner is the vertex of this number in the ring of that number
-pub record IsVertex (rings : List (List Position)) (number : ℕ) (ring : List Position) (edge : ℕ) (it : Corner) : Type 0 where
-  pub in_ring : it.ring ≡ number
-  pub its_edge : it.edge ≡ edge
-  pub here : slice_get ring edge ≡ Some it.position
-  pub next : it.next ≡ vertex_count (take number rings) + next_round (length ring) edge
-  pub previous : it.previous ≡ vertex_count (take number rings) + previous_round (length ring) edge
+    by_ring : (one.ring ≡ other.ring) ⊎ ((one.ring < other.ring) ⊎ (other.ring < one.ring)) → one ≡ other
+    by_ring (inl alike) =
+        let counts = ap (λ (number : ℕ). vertex_count (take number rings)) alike in
+        let edges : one.edge ≡ other.edge = omega (arith, counts, is.numbered, its.numbered) in
+        ap₂ (λ (r e : ℕ). record { ring = r; edge = e }) alike edges
+    by_ring (inr (inl before)) = absurd (omega (arith, is.numbered, its.numbered, is.within, count_behind rings one.ring other.ring is.ring is.there before))
+    by_ring (inr (inr behind)) = absurd (omega (arith, is.numbered, its.numbered, its.within, count_behind rings other.ring one.ring its.ring its.there behind))
 
 -- the corners that are there are those of rings
 pub corner_there : (rings : List (List Position)) (corners : List Corner) (number : ℕ) → AreCorners rings corners → number < length corners → IsCornerOf rings number (corner_at corners number)
 corner_there rings corners number are within = are.each number (corner_at corners number) (slice_get-get_or corners number no_corner within)
 
 -- each vertex is there
-pub vertex_within : (rings : List (List Position)) (corners : List Corner) (number : ℕ) (ring : List Position) (edge at : ℕ) → AreCorners rings corners → slice_get rings number ≡ Some ring
-    → edge < length ring → at ≡ vertex_count (take number rings) + edge → at < length corners
-vertex_within rings corners number ring edge at are there within is = omega (arith, are.count, count_within rings number ring there)
+pub numbered_within : (rings : List (List Position)) (corners : List Corner) (number : ℕ) (place : EdgeNumber) → AreCorners rings corners → IsNumbered rings number place
+    → number < length corners
+numbered_within rings corners number place are is = omega (arith, are.count, is.numbered, is.within, count_within rings place.ring is.ring is.there)
 
--- and has its corner
-pub vertex_at : (rings : List (List Position)) (corners : List Corner) (number : ℕ) (ring : List Position) (edge at : ℕ) → AreCorners rings corners → slice_get rings number ≡ Some ring
-    → edge < length ring → at ≡ vertex_count (take number rings) + edge → IsVertex rings number ring edge (corner_at corners at)
-vertex_at rings corners number ring edge at are there within is =
-    let it = corner_at corners at in
-    let its = corner_there rings corners at are (vertex_within rings corners number ring edge at are there within is) in
-    let place = one_place rings it.ring number it.edge edge its.ring ring its.there there (edge_within rings at it its) within (sym its.numbered ∙ is) in
-    let same : its.ring ≡ ring = same_Some its.ring ring (sym its.there ∙ ap (slice_get rings) place.0 ∙ there) in
-    let counts = ap (λ (n : ℕ). vertex_count (take n rings)) place.0 in
+-- the corner of this number is that vertex of the ring, and knows those behind and before it
+pub record IsVertex (rings : List (List Position)) (corners : List Corner) (number : ℕ) (place : EdgeNumber) (ring : List Position) : Type 0 where
+  pub here : slice_get ring place.edge ≡ Some (position_at corners number)
+  pub next : next_at corners number ≡ vertex_count (take place.ring rings) + next_round (length ring) place.edge
+  pub previous : previous_at corners number ≡ vertex_count (take place.ring rings) + previous_round (length ring) place.edge
+
+-- so do those of proper rings
+pub vertex_at : (rings : List (List Position)) (corners : List Corner) (number : ℕ) (place : EdgeNumber) → AreProperRings rings → AreCorners rings corners
+    → (is : IsNumbered rings number place)
+    → IsVertex rings corners number place is.ring
+vertex_at rings corners number place proper are is =
+    let it = corner_at corners number in
+    let its = corner_there rings corners number are (numbered_within rings corners number place are is) in
+    let alike : its.place ≡ place = one_place rings number its.place place its.is is in
+    let same : its.is.ring ≡ is.ring = same_Some its.is.ring is.ring (sym its.is.there ∙ ap (λ (p : EdgeNumber). slice_get rings p.ring) alike ∙ is.there) in
+    let before = vertex_count (take place.ring rings) in
+    let several = proper.several place.ring is.ring is.there in
+    let far : it.far_end ≡ before + far_end_of (length is.ring) place.edge =
+    its.far_end ∙ ap₂ (λ (p : EdgeNumber) (r : List Position). vertex_count (take p.ring rings) + far_end_of (length r) p.edge) alike same in
     record {
-      in_ring = place.0;
-      its_edge = place.1;
-      here = ap₂ (λ (r : List Position) (e : ℕ). slice_get r e) (sym same) (sym place.1) ∙ its.here;
-      next = its.next ∙ ap₂ (λ (a b : ℕ). a + b) counts (ap₂ (λ (r : List Position) (e : ℕ). next_round (length r) e) same place.1);
-      previous = its.previous ∙ ap₂ (λ (a b : ℕ). a + b) counts (ap₂ (λ (r : List Position) (e : ℕ). previous_round (length r) e) same place.1);
+      here = ap₂ (λ (r : List Position) (p : EdgeNumber). slice_get r p.edge) (sym same) (sym alike) ∙ its.here;
+      next = ap₂ (λ (f n : ℕ). cond (ltb f n) f (n + 1)) far is.numbered ∙ next_by_far_end (length is.ring) before place.edge several is.within;
+      previous = ap₂ (λ (f n : ℕ). cond (ltb n f) f (n - 1)) far is.numbered ∙ previous_by_far_end (length is.ring) before place.edge several is.within;
     }
 
 -- The corners so far
@@ -168,16 +177,14 @@ pub record AreFirst (rings : List (List Position)) (many : ℕ) (corners : List 
   pub each : (number : ℕ) (it : Corner) → slice_get corners number ≡ Some it → IsCornerOf rings number it
 
 -- a corner of a ring, as the code makes it
-pub corner_of_ring : (rings : List (List Position)) (number : ℕ) (ring : List Position) (edge before next previous : ℕ) (position : Position) → slice_get rings number ≡ Some ring
-    → slice_get ring edge ≡ Some position → before ≡ vertex_count (take number rings) → next ≡ next_round (length ring) edge → previous ≡ previous_round (length ring) edge
-    → IsCornerOf rings (before + edge) (record { position = position; next = before + next; previous = before + previous; ring = number; edge = edge })
-corner_of_ring rings number ring edge before next previous position there here count is_next is_previous = record {
-  ring = ring;
-  there = there;
+pub corner_of_ring : (rings : List (List Position)) (number : ℕ) (ring : List Position) (edge before far_end : ℕ) (position : Position) → slice_get rings number ≡ Some ring
+    → edge < length ring → slice_get ring edge ≡ Some position → before ≡ vertex_count (take number rings) → far_end ≡ far_end_of (length ring) edge
+    → IsCornerOf rings (before + edge) (record { position = position; far_end = before + far_end })
+corner_of_ring rings number ring edge before far_end position there within here count is_far_end = record {
+  place = record { ring = number; edge = edge };
+  is = record { ring = ring; there = there; within = within; numbered = ap (λ (n : ℕ). n + edge) count };
   here = here;
-  numbered = ap (λ (n : ℕ). n + edge) count;
-  next = ap₂ (λ (a b : ℕ). a + b) count is_next;
-  previous = ap₂ (λ (a b : ℕ). a + b) count is_previous;
+  far_end = ap₂ (λ (a b : ℕ). a + b) count is_far_end;
 }
 
 -- an element of a list that is one longer is the last one, or is one of the others
@@ -251,16 +258,19 @@ first_of_whole rings many corners are = record {
   where
     whole : (number : ℕ) (it : Corner) → IsCornerOf (take many rings) number it → IsCornerOf rings number it
     whole number it is =
-        let within = take_within rings many it.ring is.ring is.there in
-        let below : it.ring ≤ many = omega arith in
-        let counts = take_count rings many it.ring below in
+        let within = take_within rings many is.place.ring is.is.ring is.is.there in
+        let below : is.place.ring ≤ many = omega arith in
+        let counts = take_count rings many is.place.ring below in
         record {
-          ring = is.ring;
-          there = sym (take_there rings many it.ring within) ∙ is.there;
+          place = is.place;
+          is = record {
+            ring = is.is.ring;
+            there = sym (take_there rings many is.place.ring within) ∙ is.is.there;
+            within = is.is.within;
+            numbered = is.is.numbered ∙ ap (λ (n : ℕ). n + is.place.edge) counts;
+          };
           here = is.here;
-          numbered = omega (arith, is.numbered, counts);
-          next = omega (arith, is.next, counts);
-          previous = omega (arith, is.previous, counts);
+          far_end = is.far_end ∙ ap (λ (n : ℕ). n + far_end_of (length is.is.ring) is.place.edge) counts;
         }
 
 -- the same back
@@ -270,20 +280,23 @@ whole_of_first rings many corners are = record {
   each = λ number it there. part number it (slice_get_within corners number it there) (are.each number it there);
 }
   where
-    before : (number : ℕ) (it : Corner) → number < length corners → (is : IsCornerOf rings number it) → (it.ring < many) ⊎ (many ≤ it.ring) → it.ring < many
+    before : (number : ℕ) (it : Corner) → number < length corners → (is : IsCornerOf rings number it) → (is.place.ring < many) ⊎ (many ≤ is.place.ring) → is.place.ring < many
     before number it within is (inl less) = less
-    before number it within is (inr more) = absurd (omega (arith, are.count, is.numbered, count_up rings many it.ring more))
+    before number it within is (inr more) = absurd (omega (arith, are.count, is.is.numbered, count_up rings many is.place.ring more))
 
     part : (number : ℕ) (it : Corner) → number < length corners → IsCornerOf rings number it → IsCornerOf (take many rings) number it
     part number it within is =
-        let less : it.ring < many = before number it within is (less_or_not it.ring many) in
-        let below : it.ring ≤ many = omega arith in
-        let counts = take_count rings many it.ring below in
+        let less : is.place.ring < many = before number it within is (less_or_not is.place.ring many) in
+        let below : is.place.ring ≤ many = omega arith in
+        let counts = sym (take_count rings many is.place.ring below) in
         record {
-          ring = is.ring;
-          there = take_there rings many it.ring less ∙ is.there;
+          place = is.place;
+          is = record {
+            ring = is.is.ring;
+            there = take_there rings many is.place.ring less ∙ is.is.there;
+            within = is.is.within;
+            numbered = is.is.numbered ∙ ap (λ (n : ℕ). n + is.place.edge) counts;
+          };
           here = is.here;
-          numbered = omega (arith, is.numbered, counts);
-          next = omega (arith, is.next, counts);
-          previous = omega (arith, is.previous, counts);
+          far_end = is.far_end ∙ ap (λ (n : ℕ). n + far_end_of (length is.is.ring) is.place.edge) counts;
         }

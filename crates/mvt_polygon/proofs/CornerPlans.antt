@@ -1,93 +1,113 @@
 -- The corners of rings as a plan of a sweep, and what the sweep tells of them as told of the rings.
-use Rattle.std.proofs.Common.{◌≡◌, ◌≢◌, ℕ, ◌+◌, ◌<◌, ◌⊎◌, ◌==◌, inl, inr, List, length, take, slice_get, Option, Some, None, IfNone, true, false, ℤ, ◌<ℤ◌, ◌≤ℤ◌, refl, sym, ◌∙◌, ap, ap₂, subst, arith}
-use lib.Signed.{lt_z}
+use Rattle.std.proofs.Common.{◌≡◌, ◌≢◌, ℕ, ◌+◌, ◌<◌, ◌⊎◌, ◌==◌, inl, inr, List, length, take, slice_get, Option, Some, None, IfNone, refl, sym, ◌∙◌, ap, ap₂, subst, arith}
 use Rattle.std.proofs.lemmas.Bool.{cases_order, cond-true, cond-false, eq-eqb, ne_eqb}
-use Rattle.std.proofs.lemmas.Int.{ints}
 use Rattle.std.proofs.lemmas.Option.{same_Some, none-some, get_or_from_slice_get}
 use Rattle.mvt_plane.specs.CommonPoint.{IsNamed}
-use Rattle.mvt_plane.specs.EdgeOrder.{Segment, segment, IsRising, IsEndOf, edge_along}
-use Rattle.mvt_plane.specs.Measure.{key_of}
-use Rattle.mvt_plane.specs.Meeting.{EdgeNumber, ComesBefore, IsEdgeOf, IsShared, Follows, forward, backward, MeetsWrongly}
-use Rattle.mvt_plane.specs.Position.{Position, IsPosition}
-use Rattle.mvt_plane.specs.RationalPoint.{RationalPoint, LiesOn, whole}
+use Rattle.mvt_plane.specs.EdgeOrder.{Segment, segment, IsEndOf, edge_along}
+use Rattle.mvt_plane.specs.Meeting.{EdgeNumber, IsEdgeOf, IsShared, Follows, forward, backward, MeetsWrongly}
+use Rattle.mvt_plane.specs.Position.{Position}
+use Rattle.mvt_plane.specs.RationalPoint.{RationalPoint, IsBounded, LiesOn, whole}
 use Rattle.mvt_plane.specs.Ring.{next_round}
 use Rattle.mvt_plane.specs.declared.edge.Edge.{Edge}
 use Rattle.mvt_plane.proofs.CommonPoints.{only_at_the_shared_vertex}
-use Rattle.mvt_plane.proofs.Order.{le_or_lt, antisym_ℤ}
 use Rattle.mvt_plane.proofs.RationalPoints.{lies_on_reversed, begin_lies_on}
 use Rattle.mvt_polygon.specs.CornerOrder.{AreTogether}
-use Rattle.mvt_polygon.specs.Corners.{AreCorners, AreLinked, AreInRange, IsCornerOf, corner_at, position_at, edge_at, edge_number, plan_of, previous_round, segment_between, shared_at, vertex_count, IsMeetingAt, NoneWrong}
-use Rattle.mvt_polygon.specs.Meeting.{IsMeetingOf, second_of}
+use Rattle.mvt_polygon.specs.Corners.{AreCorners, AreLinked, AreInRange, IsNumbered, IsTold, position_at, edge_at, next_at, plan_of, previous_at, shared_at, vertex_count, IsMeetingAt, NoneWrong}
+use Rattle.mvt_polygon.specs.Meeting.{IsMeetingOf, first_of, second_of}
 use Rattle.mvt_polygon.specs.Rings.{AreProperRings}
 use Rattle.mvt_polygon.specs.Sweep.{IsPlan, Tested}
 use Rattle.mvt_polygon.specs.declared.meeting.Meeting.{Meeting}
 use Rattle.mvt_polygon.specs.declared.sweep.corners.Corner.{Corner}
-use Rattle.mvt_polygon.proofs.CornerNumbers.{IsVertex, corner_there, vertex_at, vertex_within, edge_within, in_order, next_within, previous_within, next_previous, previous_next, next_but_one}
+use Rattle.mvt_polygon.specs.declared.sweep.corners.Pair.{Pair}
+use Rattle.mvt_polygon.proofs.CornerNumbers.{IsVertex, corner_there, vertex_at, numbered_within, one_place, in_order, next_within, previous_within, previous_round, next_previous, previous_next, next_but_one}
 use Rattle.mvt_polygon.proofs.EdgeNumbers.{edge_read, one_edge, within_ring}
-use Rattle.mvt_plane.proofs.Gaps.{same_key}
 use Rattle.mvt_polygon.proofs.SegmentEnds.{IsBetweenThem, up, down, between_them, rising_between, end_first, end_second}
 use Rattle.mvt_polygon.proofs.PairMeetings.{AreSharing, meeting_by_name}
 use Rattle.mvt_polygon.proofs.SharedVertices.{follows_next, only_shared, none_in_two_rings, none_apart, none_is_shared}
 
 -- Corners are linked
 
--- the corner behind one, in the ring
-next_vertex : (rings : List (List Position)) (corners : List Corner) (number : ℕ) → (are : AreCorners rings corners) → (within : number < length corners)
-    → (is : IsCornerOf rings number (corner_at corners number))
-    → IsVertex rings (corner_at corners number).ring is.ring (next_round (length is.ring) (corner_at corners number).edge) (corner_at corners (corner_at corners number).next)
-next_vertex rings corners number are within is =
-    let it = corner_at corners number in
-    vertex_at rings corners it.ring is.ring (next_round (length is.ring) it.edge) it.next are is.there (next_within (length is.ring) it.edge (edge_within rings number it is)) is.next
+-- the vertex behind one, in the ring
+abbrev next_place : EdgeNumber → List Position → EdgeNumber
+next_place place ring = record { ring = place.ring; edge = next_round (length ring) place.edge }
 
 -- and the one before it
-previous_vertex : (rings : List (List Position)) (corners : List Corner) (number : ℕ) → (are : AreCorners rings corners) → (within : number < length corners)
-    → (is : IsCornerOf rings number (corner_at corners number))
-    → IsVertex rings (corner_at corners number).ring is.ring (previous_round (length is.ring) (corner_at corners number).edge) (corner_at corners (corner_at corners number).previous)
-previous_vertex rings corners number are within is =
-    let it = corner_at corners number in
-    vertex_at rings corners it.ring is.ring (previous_round (length is.ring) it.edge) it.previous are is.there (previous_within (length is.ring) it.edge (edge_within rings number it is)) is.previous
+abbrev previous_place : EdgeNumber → List Position → EdgeNumber
+previous_place place ring = record { ring = place.ring; edge = previous_round (length ring) place.edge }
+
+-- the corner behind a vertex is the next vertex
+next_numbered : (rings : List (List Position)) (corners : List Corner) (number : ℕ) (place : EdgeNumber) → AreProperRings rings → AreCorners rings corners
+    → (is : IsNumbered rings number place)
+    → IsNumbered rings (next_at corners number) (next_place place is.ring)
+next_numbered rings corners number place proper are is = record {
+  ring = is.ring;
+  there = is.there;
+  within = next_within (length is.ring) place.edge is.within;
+  numbered = (vertex_at rings corners number place proper are is).next;
+}
+
+-- the one before it the previous vertex
+previous_numbered : (rings : List (List Position)) (corners : List Corner) (number : ℕ) (place : EdgeNumber) → AreProperRings rings → AreCorners rings corners
+    → (is : IsNumbered rings number place)
+    → IsNumbered rings (previous_at corners number) (previous_place place is.ring)
+previous_numbered rings corners number place proper are is = record {
+  ring = is.ring;
+  there = is.there;
+  within = previous_within (length is.ring) place.edge is.within;
+  numbered = (vertex_at rings corners number place proper are is).previous;
+}
+
+-- so it knows the one behind it
+next_vertex : (rings : List (List Position)) (corners : List Corner) (number : ℕ) (place : EdgeNumber) → AreProperRings rings → AreCorners rings corners
+    → (is : IsNumbered rings number place)
+    → IsVertex rings corners (next_at corners number) (next_place place is.ring) is.ring
+unfolding next_numbered
+next_vertex rings corners number place proper are is =
+    vertex_at rings corners (next_at corners number) (next_place place is.ring) proper are (next_numbered rings corners number place proper are is)
+
+-- and the one before it
+previous_vertex : (rings : List (List Position)) (corners : List Corner) (number : ℕ) (place : EdgeNumber) → AreProperRings rings → AreCorners rings corners
+    → (is : IsNumbered rings number place)
+    → IsVertex rings corners (previous_at corners number) (previous_place place is.ring) is.ring
+unfolding previous_numbered
+previous_vertex rings corners number place proper are is =
+    vertex_at rings corners (previous_at corners number) (previous_place place is.ring) proper are (previous_numbered rings corners number place proper are is)
 
 -- the corners of proper rings are linked
 pub linked_corners : (rings : List (List Position)) (corners : List Corner) → AreProperRings rings → AreCorners rings corners → AreLinked corners
 linked_corners rings corners proper are = record {
   next_known = λ number within.
-      let it = corner_at corners number in
-      let is = corner_there rings corners number are within in
-      vertex_within rings corners it.ring is.ring (next_round (length is.ring) it.edge) it.next are is.there (next_within (length is.ring) it.edge (edge_within rings number it is)) is.next;
+      let it = corner_there rings corners number are within in
+      numbered_within rings corners (next_at corners number) (next_place it.place it.is.ring) are (next_numbered rings corners number it.place proper are it.is);
   previous_known = λ number within.
-      let it = corner_at corners number in
-      let is = corner_there rings corners number are within in
-      vertex_within rings corners it.ring is.ring (previous_round (length is.ring) it.edge) it.previous are is.there (previous_within (length is.ring) it.edge (edge_within rings number it is)) is.previous;
+      let it = corner_there rings corners number are within in
+      numbered_within rings corners (previous_at corners number) (previous_place it.place it.is.ring) are (previous_numbered rings corners number it.place proper are it.is);
   there_and_back = λ number within.
-      let it = corner_at corners number in
-      let is = corner_there rings corners number are within in
-      (next_vertex rings corners number are within is).previous
-      ∙ ap (λ (n : ℕ). vertex_count (take it.ring rings) + n) (next_previous (length is.ring) it.edge (edge_within rings number it is)) ∙ sym is.numbered;
+      let it = corner_there rings corners number are within in
+      (next_vertex rings corners number it.place proper are it.is).previous
+      ∙ ap (λ (n : ℕ). vertex_count (take it.place.ring rings) + n) (next_previous (length it.is.ring) it.place.edge it.is.within) ∙ sym it.is.numbered;
   back_and_there = λ number within.
-      let it = corner_at corners number in
-      let is = corner_there rings corners number are within in
-      (previous_vertex rings corners number are within is).next
-      ∙ ap (λ (n : ℕ). vertex_count (take it.ring rings) + n) (previous_next (length is.ring) it.edge (edge_within rings number it is)) ∙ sym is.numbered;
+      let it = corner_there rings corners number are within in
+      (previous_vertex rings corners number it.place proper are it.is).next
+      ∙ ap (λ (n : ℕ). vertex_count (take it.place.ring rings) + n) (previous_next (length it.is.ring) it.place.edge it.is.within) ∙ sym it.is.numbered;
   longer = λ number within same.
-      let it = corner_at corners number in
-      let is = corner_there rings corners number are within in
-      let next = (next_vertex rings corners number are within is).next in
-      next_but_one (length is.ring) it.edge (proper.several it.ring is.ring is.there) (edge_within rings number it is) (omega (arith, next, is.numbered, same));
+      let it = corner_there rings corners number are within in
+      let next = sym (next_vertex rings corners number it.place proper are it.is).next ∙ same ∙ it.is.numbered in
+      next_but_one (length it.is.ring) it.place.edge (proper.several it.place.ring it.is.ring it.is.there) it.is.within (omega (arith, next));
   apart = λ number within same.
-      let it = corner_at corners number in
-      let is = corner_there rings corners number are within in
-      let next = next_vertex rings corners number are within is in
-      proper.apart it.ring it.edge is.ring it.position (position_at corners it.next) is.there is.here next.here (sym same);
+      let it = corner_there rings corners number are within in
+      let next = next_vertex rings corners number it.place proper are it.is in
+      proper.apart it.place.ring it.place.edge it.is.ring (position_at corners number) (position_at corners (next_at corners number)) it.is.there it.here next.here (sym same);
 }
 
 -- Corners are a plan
 
 -- what two edges share, by their numbers
 data SharedWay (corners : List Corner) (first second : ℕ) : Type 0 where
-  ahead : (corner_at corners first).next ≡ second → shared_at corners first second ≡ Some (position_at corners second) → SharedWay corners first second
-  back : (corner_at corners first).next ≢ second → (corner_at corners second).next ≡ first → shared_at corners first second ≡ Some (position_at corners first)
+  ahead : next_at corners first ≡ second → shared_at corners first second ≡ Some (position_at corners second) → SharedWay corners first second
+  back : next_at corners first ≢ second → next_at corners second ≡ first → shared_at corners first second ≡ Some (position_at corners first)
       → SharedWay corners first second
-  apart : (corner_at corners first).next ≢ second → (corner_at corners second).next ≢ first → shared_at corners first second ≡ None → SharedWay corners first second
+  apart : next_at corners first ≢ second → next_at corners second ≢ first → shared_at corners first second ≡ None → SharedWay corners first second
 
 -- two numbers are one, or are not
 same_or_not : (number other : ℕ) → (number ≡ other) ⊎ (number ≢ other)
@@ -99,28 +119,28 @@ same_or_not number other = either (cases_order number other)
     either (inr (inr more)) = inr (λ same. omega arith)
 
 -- the first goes on to the second
-pub when_ahead : (corners : List Corner) (first second : ℕ) → (corner_at corners first).next ≡ second → shared_at corners first second ≡ Some (position_at corners second)
-when_ahead corners first second same = cond-true ((corner_at corners first).next == second) _ _ (eq-eqb (corner_at corners first).next second same)
+pub when_ahead : (corners : List Corner) (first second : ℕ) → next_at corners first ≡ second → shared_at corners first second ≡ Some (position_at corners second)
+when_ahead corners first second same = cond-true (next_at corners first == second) _ _ (eq-eqb (next_at corners first) second same)
 
 -- the second to the first
-when_back : (corners : List Corner) (first second : ℕ) → (corner_at corners first).next ≢ second → (corner_at corners second).next ≡ first
+when_back : (corners : List Corner) (first second : ℕ) → next_at corners first ≢ second → next_at corners second ≡ first
     → shared_at corners first second ≡ Some (position_at corners first)
 when_back corners first second not same =
-    cond-false ((corner_at corners first).next == second) _ _ (ne_eqb (corner_at corners first).next second not)
-    ∙ cond-true ((corner_at corners second).next == first) _ _ (eq-eqb (corner_at corners second).next first same)
+    cond-false (next_at corners first == second) _ _ (ne_eqb (next_at corners first) second not)
+    ∙ cond-true (next_at corners second == first) _ _ (eq-eqb (next_at corners second) first same)
 
 -- neither
-when_apart : (corners : List Corner) (first second : ℕ) → (corner_at corners first).next ≢ second → (corner_at corners second).next ≢ first → shared_at corners first second ≡ None
+when_apart : (corners : List Corner) (first second : ℕ) → next_at corners first ≢ second → next_at corners second ≢ first → shared_at corners first second ≡ None
 when_apart corners first second not nor =
-    cond-false ((corner_at corners first).next == second) _ _ (ne_eqb (corner_at corners first).next second not)
-    ∙ cond-false ((corner_at corners second).next == first) _ _ (ne_eqb (corner_at corners second).next first nor)
+    cond-false (next_at corners first == second) _ _ (ne_eqb (next_at corners first) second not)
+    ∙ cond-false (next_at corners second == first) _ _ (ne_eqb (next_at corners second) first nor)
 
 -- and it is known in which way
 shared_way : (corners : List Corner) (first second : ℕ) → SharedWay corners first second
-shared_way corners first second = either (same_or_not (corner_at corners first).next second) (same_or_not (corner_at corners second).next first)
+shared_way corners first second = either (same_or_not (next_at corners first) second) (same_or_not (next_at corners second) first)
   where
-    either : ((corner_at corners first).next ≡ second) ⊎ ((corner_at corners first).next ≢ second)
-        → ((corner_at corners second).next ≡ first) ⊎ ((corner_at corners second).next ≢ first) → SharedWay corners first second
+    either : (next_at corners first ≡ second) ⊎ (next_at corners first ≢ second)
+        → (next_at corners second ≡ first) ⊎ (next_at corners second ≢ first) → SharedWay corners first second
     either (inl same) other = ahead same (when_ahead corners first second same)
     either (inr not) (inl same) = back not same (when_back corners first second not same)
     either (inr not) (inr nor) = apart not nor (when_apart corners first second not nor)
@@ -131,7 +151,7 @@ shared_alike corners first second linked within inside = either (shared_way corn
   where
     either : SharedWay corners first second → SharedWay corners second first → shared_at corners first second ≡ shared_at corners second first
     either (ahead next is) (ahead its was) =
-        absurd (linked.longer first within (ap (λ (number : ℕ). (corner_at corners number).next) next ∙ its))
+        absurd (linked.longer first within (ap (next_at corners) next ∙ its))
     either (ahead next is) (back not its was) = is ∙ sym was
     either (ahead next is) (apart not nor was) = absurd (nor next)
     either (back not its is) (ahead next was) = is ∙ sym was
@@ -147,18 +167,18 @@ shared_on_first corners first second vertex there = either (shared_way corners f
   where
     either : SharedWay corners first second → IsEndOf vertex ((plan_of corners).segment first)
     either (ahead next is) =
-        let at : position_at corners (corner_at corners first).next ≡ vertex = ap (position_at corners) next ∙ same_Some (position_at corners second) vertex (sym is ∙ there) in
-        subst (λ (p : Position). IsEndOf p ((plan_of corners).segment first)) at (end_second (position_at corners first) (position_at corners (corner_at corners first).next))
+        let at : position_at corners (next_at corners first) ≡ vertex = ap (position_at corners) next ∙ same_Some (position_at corners second) vertex (sym is ∙ there) in
+        subst (λ (p : Position). IsEndOf p ((plan_of corners).segment first)) at (end_second (position_at corners first) (position_at corners (next_at corners first)))
     either (back not its is) =
         let at : position_at corners first ≡ vertex = same_Some (position_at corners first) vertex (sym is ∙ there) in
-        subst (λ (p : Position). IsEndOf p ((plan_of corners).segment first)) at (end_first (position_at corners first) (position_at corners (corner_at corners first).next))
+        subst (λ (p : Position). IsEndOf p ((plan_of corners).segment first)) at (end_first (position_at corners first) (position_at corners (next_at corners first)))
     either (apart not nor is) = absurd (none-some vertex (sym is ∙ there))
 
 -- corners that are linked are a plan
 pub plan_of_corners : (corners : List Corner) → AreLinked corners → AreInRange corners → IsPlan (plan_of corners)
 plan_of_corners corners linked in_range = record {
-  rising = λ edge within. rising_between (position_at corners edge) (position_at corners (corner_at corners edge).next) (in_range edge within)
-      (in_range (corner_at corners edge).next (linked.next_known edge within)) (λ same. linked.apart edge within (sym same));
+  rising = λ edge within. rising_between (position_at corners edge) (position_at corners (next_at corners edge)) (in_range edge within)
+      (in_range (next_at corners edge) (linked.next_known edge within)) (λ same. linked.apart edge within (sym same));
   on_first = λ first second vertex within inside there. shared_on_first corners first second vertex there;
   on_second = λ first second vertex within inside there. shared_on_first corners second first vertex (sym (shared_alike corners first second linked within inside) ∙ there);
   alike = λ first second within inside. shared_alike corners first second linked within inside;
@@ -168,21 +188,21 @@ plan_of_corners corners linked in_range = record {
 
 -- edges as the sweep and as the ring goes have the same points
 pub on_edge_at : (corners : List Corner) (number : ℕ) (point : RationalPoint) → LiesOn point (edge_at corners number) → LiesOn point (edge_along ((plan_of corners).segment number))
-on_edge_at corners number point lies = either (between_them (position_at corners number) (position_at corners (corner_at corners number).next))
+on_edge_at corners number point lies = either (between_them (position_at corners number) (position_at corners (next_at corners number)))
   where
-    either : IsBetweenThem (position_at corners number) (position_at corners (corner_at corners number).next) → LiesOn point (edge_along ((plan_of corners).segment number))
+    either : IsBetweenThem (position_at corners number) (position_at corners (next_at corners number)) → LiesOn point (edge_along ((plan_of corners).segment number))
     either (up rises is) = subst (λ (it : Segment). LiesOn point (edge_along it)) (sym is) lies
     either (down falls is) = subst (λ (it : Segment). LiesOn point (edge_along it)) (sym is) (lies_on_reversed point (edge_at corners number) lies)
 
 -- the same back
 pub on_segment_at : (corners : List Corner) (number : ℕ) (point : RationalPoint) → LiesOn point (edge_along ((plan_of corners).segment number)) → LiesOn point (edge_at corners number)
-on_segment_at corners number point lies = either (between_them (position_at corners number) (position_at corners (corner_at corners number).next))
+on_segment_at corners number point lies = either (between_them (position_at corners number) (position_at corners (next_at corners number)))
   where
-    either : IsBetweenThem (position_at corners number) (position_at corners (corner_at corners number).next) → LiesOn point (edge_at corners number)
+    either : IsBetweenThem (position_at corners number) (position_at corners (next_at corners number)) → LiesOn point (edge_at corners number)
     either (up rises is) = subst (λ (it : Segment). LiesOn point (edge_along it)) is lies
     either (down falls is) =
         let turned = subst (λ (it : Segment). LiesOn point (edge_along it)) is lies in
-        lies_on_reversed point (edge_along (segment (position_at corners (corner_at corners number).next) (position_at corners number))) turned
+        lies_on_reversed point (edge_along (segment (position_at corners (next_at corners number)) (position_at corners number))) turned
 
 -- Tests
 
@@ -208,16 +228,16 @@ tested_either_way corners first second linked within inside tested point on_seco
     (it.0, sym (shared_alike corners first second linked within inside) ∙ it.1, it.2)
 
 -- so it tells of both ways
-pub tested_both_ways : (corners : List Corner) (first second : ℕ) (answer : Option Meeting) → AreLinked corners → first < length corners → second < length corners
+pub tested_both_ways : (corners : List Corner) (first second : ℕ) (answer : Option Pair) → AreLinked corners → first < length corners → second < length corners
     → IfNone answer (Tested (plan_of corners) first second) → IfNone answer (Tested (plan_of corners) first second × Tested (plan_of corners) second first)
 tested_both_ways corners first second None linked within inside tested = (tested, tested_either_way corners first second linked within inside tested)
-tested_both_ways corners first second (Some meeting) linked within inside tested = tt
+tested_both_ways corners first second (Some pair) linked within inside tested = tt
 
 -- the same, told the other way round
-pub tested_back_and_forth : (corners : List Corner) (first second : ℕ) (answer : Option Meeting) → AreLinked corners → first < length corners → second < length corners
+pub tested_back_and_forth : (corners : List Corner) (first second : ℕ) (answer : Option Pair) → AreLinked corners → first < length corners → second < length corners
     → IfNone answer (Tested (plan_of corners) second first) → IfNone answer (Tested (plan_of corners) first second × Tested (plan_of corners) second first)
 tested_back_and_forth corners first second None linked within inside tested = (tested_either_way corners second first linked inside within tested, tested)
-tested_back_and_forth corners first second (Some meeting) linked within inside tested = tt
+tested_back_and_forth corners first second (Some pair) linked within inside tested = tt
 
 -- corners at one position share no vertex there
 none_together : (corners : List Corner) (first second : ℕ) (vertex : Position) → AreLinked corners → AreTogether corners first second → shared_at corners first second ≡ Some vertex → ⊥
@@ -241,119 +261,104 @@ together_meets corners first second linked together tested =
 -- Meetings
 
 -- the edge that begins in a corner of rings
-edge_of_corner : (rings : List (List Position)) (corners : List Corner) (number : ℕ) → AreCorners rings corners → number < length corners
-    → IsEdgeOf rings (edge_number (corner_at corners number)) (edge_at corners number)
-edge_of_corner rings corners number are within =
-    let it = corner_at corners number in
-    let is = corner_there rings corners number are within in
-    let inside = edge_within rings number it is in
-    let next = next_vertex rings corners number are within is in
+edge_of_corner : (rings : List (List Position)) (corners : List Corner) (number : ℕ) (place : EdgeNumber) → AreProperRings rings → AreCorners rings corners
+    → IsNumbered rings number place
+    → IsEdgeOf rings place (edge_at corners number)
+edge_of_corner rings corners number place proper are is =
+    let here = (vertex_at rings corners number place proper are is).here in
+    let behind = (next_vertex rings corners number place proper are is).here in
+    let next = next_round (length is.ring) place.edge in
     let a = position_at corners number in
-    let b = position_at corners it.next in
+    let b = position_at corners (next_at corners number) in
     record {
       ring = is.ring;
       there = is.there;
-      here = edge_read is.ring it.edge (next_round (length is.ring) it.edge) a b inside refl (next_within (length is.ring) it.edge inside)
-          (sym (get_or_from_slice_get is.ring it.edge a a is.here)) (sym (get_or_from_slice_get is.ring (next_round (length is.ring) it.edge) b b next.here));
+      here = edge_read is.ring place.edge next a b is.within refl (next_within (length is.ring) place.edge is.within) (sym (get_or_from_slice_get is.ring place.edge a a here))
+          (sym (get_or_from_slice_get is.ring next b b behind));
     }
 
 -- the next corner is that of the edge that follows
-next_is_follower : (rings : List (List Position)) (corners : List Corner) (first second : ℕ) → AreCorners rings corners → first < length corners → second < length corners
-    → (is : IsCornerOf rings first (corner_at corners first)) → (corner_at corners second).ring ≡ (corner_at corners first).ring
-    → (corner_at corners second).edge ≡ next_round (length is.ring) (corner_at corners first).edge → (corner_at corners first).next ≡ second
-next_is_follower rings corners first second are within inside is same follows =
-    let its = corner_there rings corners second are inside in
-    is.next ∙ ap₂ (λ (r e : ℕ). vertex_count (take r rings) + e) (sym same) (sym follows) ∙ sym its.numbered
+next_is_follower : (rings : List (List Position)) (corners : List Corner) (first second : ℕ) (one other : EdgeNumber) → AreProperRings rings → AreCorners rings corners
+    → (is : IsNumbered rings first one)
+    → IsNumbered rings second other → other.ring ≡ one.ring → other.edge ≡ next_round (length is.ring) one.edge → next_at corners first ≡ second
+next_is_follower rings corners first second one other proper are is its same follows =
+    (vertex_at rings corners first one proper are is).next ∙ ap₂ (λ (r e : ℕ). vertex_count (take r rings) + e) (sym same) (sym follows) ∙ sym its.numbered
 
 -- what corners share is what the edges do
-sharing : (rings : List (List Position)) (corners : List Corner) (first second : ℕ) → AreProperRings rings → AreCorners rings corners → first < length corners → second < length corners
-    → AreSharing rings (edge_number (corner_at corners first)) (edge_number (corner_at corners second)) (shared_at corners first second)
-sharing rings corners first second proper are within inside = either (shared_way corners first second)
+sharing : (rings : List (List Position)) (corners : List Corner) (first second : ℕ) (one other : EdgeNumber) → AreProperRings rings → AreCorners rings corners
+    → IsNumbered rings first one
+    → IsNumbered rings second other → AreSharing rings one other (shared_at corners first second)
+sharing rings corners first second one other proper are is its = either (shared_way corners first second)
   where
-    follow : (one other : ℕ) → one < length corners → other < length corners → (corner_at corners one).next ≡ other
-        → Follows rings (edge_number (corner_at corners one)) (edge_number (corner_at corners other)) (position_at corners other)
-    follow one other known its_known next =
-        let is = corner_there rings corners one are known in
-        let behind = subst (λ (n : ℕ). IsVertex rings (corner_at corners one).ring is.ring (next_round (length is.ring) (corner_at corners one).edge) (corner_at corners n)) next
-        (next_vertex rings corners one are known is) in
-        follows_next rings (edge_number (corner_at corners one)) (edge_number (corner_at corners other)) (edge_at corners other) is.ring (edge_of_corner rings corners other are its_known) is.there
-        behind.in_ring behind.its_edge
+    follow : (from to : ℕ) (here behind : EdgeNumber) → (there : IsNumbered rings from here) → IsNumbered rings to behind → next_at corners from ≡ to
+        → Follows rings here behind (position_at corners to)
+    follow from to here behind there its_there next =
+        let moved = subst (λ (n : ℕ). IsNumbered rings n (next_place here there.ring)) next (next_numbered rings corners from here proper are there) in
+        let same : behind ≡ next_place here there.ring = one_place rings to behind (next_place here there.ring) its_there moved in
+        follows_next rings here behind (edge_at corners to) there.ring (edge_of_corner rings corners to behind proper are its_there) there.there
+        (ap (λ (p : EdgeNumber). p.ring) same) (ap (λ (p : EdgeNumber). p.edge) same)
 
-    either : SharedWay corners first second → AreSharing rings (edge_number (corner_at corners first)) (edge_number (corner_at corners second)) (shared_at corners first second)
-    either (ahead next is) =
-        let it = corner_there rings corners first are within in
-        subst (AreSharing rings (edge_number (corner_at corners first)) (edge_number (corner_at corners second))) (sym is)
-        (only_shared rings (edge_number (corner_at corners first)) (edge_number (corner_at corners second)) it.ring (position_at corners second) proper it.there
-        (forward (follow first second within inside next)))
-    either (back not next is) =
-        let it = corner_there rings corners first are within in
-        subst (AreSharing rings (edge_number (corner_at corners first)) (edge_number (corner_at corners second))) (sym is)
-        (only_shared rings (edge_number (corner_at corners first)) (edge_number (corner_at corners second)) it.ring (position_at corners first) proper it.there
-        (backward (follow second first inside within next)))
-    either (apart not nor is) =
-        subst (AreSharing rings (edge_number (corner_at corners first)) (edge_number (corner_at corners second))) (sym is)
-        (none_is_shared rings (edge_number (corner_at corners first)) (edge_number (corner_at corners second)) (by_ring (same_or_not (corner_at corners first).ring (corner_at corners second).ring)))
+    either : SharedWay corners first second → AreSharing rings one other (shared_at corners first second)
+    either (ahead next way) =
+        subst (AreSharing rings one other) (sym way)
+        (only_shared rings one other is.ring (position_at corners second) proper is.there (forward (follow first second one other is its next)))
+    either (back not next way) =
+        subst (AreSharing rings one other) (sym way)
+        (only_shared rings one other is.ring (position_at corners first) proper is.there (backward (follow second first other one its is next)))
+    either (apart not nor way) = subst (AreSharing rings one other) (sym way) (none_is_shared rings one other (by_ring (same_or_not one.ring other.ring)))
       where
-        by_ring : ((corner_at corners first).ring ≡ (corner_at corners second).ring) ⊎ ((corner_at corners first).ring ≢ (corner_at corners second).ring)
-            → (vertex : Position) → ¬ IsShared rings (edge_number (corner_at corners first)) (edge_number (corner_at corners second)) vertex
-        by_ring (inr different) = none_in_two_rings rings (edge_number (corner_at corners first)) (edge_number (corner_at corners second)) different
+        by_ring : (one.ring ≡ other.ring) ⊎ (one.ring ≢ other.ring) → (vertex : Position) → ¬ IsShared rings one other vertex
+        by_ring (inr different) = none_in_two_rings rings one other different
         by_ring (inl same) =
-            let it = corner_there rings corners first are within in
-            let its = corner_there rings corners second are inside in
-            let alike : its.ring ≡ it.ring = same_Some its.ring it.ring (sym its.there ∙ ap (slice_get rings) (sym same) ∙ it.there) in
-            none_apart rings (edge_number (corner_at corners first)) (edge_number (corner_at corners second)) it.ring it.there
-            (λ next. not (next_is_follower rings corners first second are within inside it (sym same) next))
-            (λ next. nor (next_is_follower rings corners second first are inside within its same (next ∙ ap (λ (r : List Position). next_round (length r) (corner_at corners second).edge) (sym alike))))
+            let alike : its.ring ≡ is.ring = same_Some its.ring is.ring (sym its.there ∙ ap (slice_get rings) (sym same) ∙ is.there) in
+            none_apart rings one other is.ring is.there
+            (λ next. not (next_is_follower rings corners first second one other proper are is its (sym same) next))
+            (λ next. nor
+            (next_is_follower rings corners second first other one proper are its is same (next ∙ ap (λ (r : List Position). next_round (length r) other.edge) (sym alike))))
 
 -- a meeting of corners is one of the rings
-pub meeting_of_rings : (rings : List (List Position)) (corners : List Corner) (meeting : Meeting) → AreProperRings rings → AreCorners rings corners → IsMeetingAt corners meeting
-    → IsMeetingOf rings meeting
-meeting_of_rings rings corners meeting proper are is =
-    let within : is.first < length corners = omega (arith, is.in_order, is.known) in
-    let first = edge_number (corner_at corners is.first) in
-    let second = edge_number (corner_at corners is.second) in
-    let order = in_order rings is.first is.second (corner_at corners is.first) (corner_at corners is.second) (corner_there rings corners is.first are within)
-    (corner_there rings corners is.second are is.known) is.in_order in
-    let one = edge_at corners is.first in
-    let other = edge_at corners is.second in
-    let shared = shared_at corners is.first is.second in
-    meeting_by_name rings meeting one other shared
-    (subst (λ (n : EdgeNumber). ComesBefore n (second_of meeting)) (sym is.is_first) (subst (ComesBefore first) (sym is.is_second) order))
-    (subst (λ (n : EdgeNumber). IsEdgeOf rings n one) (sym is.is_first) (edge_of_corner rings corners is.first are within))
-    (subst (λ (n : EdgeNumber). IsEdgeOf rings n other) (sym is.is_second) (edge_of_corner rings corners is.second are is.known))
-    (subst (λ (n : EdgeNumber). AreSharing rings n (second_of meeting) shared) (sym is.is_first)
-    (subst (λ (n : EdgeNumber). AreSharing rings first n shared) (sym is.is_second) (sharing rings corners is.first is.second proper are within is.known)))
-    is.named is.bounded
+pub meeting_of_rings : (rings : List (List Position)) (corners : List Corner) (pair : Pair) (meeting : Meeting) → AreProperRings rings → AreCorners rings corners
+    → IsMeetingAt corners pair
+    → IsTold rings pair meeting → IsMeetingOf rings meeting
+meeting_of_rings rings corners pair meeting proper are is told =
+    let one = edge_at corners pair.first in
+    let other = edge_at corners pair.second in
+    let shared = shared_at corners pair.first pair.second in
+    meeting_by_name rings meeting one other shared (in_order rings pair.first pair.second (first_of meeting) (second_of meeting) told.first told.second is.in_order)
+    (edge_of_corner rings corners pair.first (first_of meeting) proper are told.first) (edge_of_corner rings corners pair.second (second_of meeting) proper are told.second)
+    (sharing rings corners pair.first pair.second (first_of meeting) (second_of meeting) proper are told.first told.second)
+    (subst (λ (point : RationalPoint). IsNamed shared one other (Some point)) (sym told.point) is.named) (subst IsBounded (sym told.point) is.bounded)
 
 -- an edge of rings begins in a corner
 record HasCorner (rings : List (List Position)) (corners : List Corner) (number : EdgeNumber) (it : Edge) : Type 0 where
   at : ℕ
   within : at < length corners
-  its_number : edge_number (corner_at corners at) ≡ number
+  numbered : IsNumbered rings at number
   its_edge : edge_at corners at ≡ it
 
 -- each does
-corner_of_edge : (rings : List (List Position)) (corners : List Corner) (number : EdgeNumber) (it : Edge) → AreCorners rings corners → IsEdgeOf rings number it → HasCorner rings corners number it
-corner_of_edge rings corners number it are is =
-    let inside = within_ring rings number it is.ring is is.there in
+corner_of_edge : (rings : List (List Position)) (corners : List Corner) (number : EdgeNumber) (it : Edge) → AreProperRings rings → AreCorners rings corners
+    → IsEdgeOf rings number it
+    → HasCorner rings corners number it
+corner_of_edge rings corners number it proper are is =
     let at = vertex_count (take number.ring rings) + number.edge in
-    let within = vertex_within rings corners number.ring is.ring number.edge at are is.there inside refl in
-    let vertex = vertex_at rings corners number.ring is.ring number.edge at are is.there inside refl in
-    let same : edge_number (corner_at corners at) ≡ number = ap₂ (λ (r e : ℕ). record { ring = r; edge = e }) vertex.in_ring vertex.its_edge in
-    let its = subst (λ (n : EdgeNumber). IsEdgeOf rings n (edge_at corners at)) same (edge_of_corner rings corners at are within) in
-    record { at = at; within = within; its_number = same; its_edge = one_edge rings number (edge_at corners at) it its is }
+    let numbered : IsNumbered rings at number = record { ring = is.ring; there = is.there; within = within_ring rings number it is.ring is is.there; numbered = refl } in
+    record {
+      at = at;
+      within = numbered_within rings corners at number are numbered;
+      numbered = numbered;
+      its_edge = one_edge rings number (edge_at corners at) it (edge_of_corner rings corners at number proper are numbered) is;
+    }
 
 -- and where the corners have none, the rings have none
 pub none_of_rings : (rings : List (List Position)) (corners : List Corner) → AreProperRings rings → AreCorners rings corners → NoneWrong corners
     → (first second : EdgeNumber) (point : RationalPoint) → ¬ MeetsWrongly rings first second point
 none_of_rings rings corners proper are none first second point meets =
-    let one = corner_of_edge rings corners first meets.one are meets.one_there in
-    let other = corner_of_edge rings corners second meets.other are meets.other_there in
-    let shares = subst (λ (n : EdgeNumber). AreSharing rings n second (shared_at corners one.at other.at)) one.its_number
-    (subst (λ (n : EdgeNumber). AreSharing rings (edge_number (corner_at corners one.at)) n (shared_at corners one.at other.at)) other.its_number
-    (sharing rings corners one.at other.at proper are one.within other.within)) in
+    let one = corner_of_edge rings corners first meets.one proper are meets.one_there in
+    let other = corner_of_edge rings corners second meets.other proper are meets.other_there in
+    let shares = sharing rings corners one.at other.at first second proper are one.numbered other.numbered in
     none one.at other.at point one.within other.within
-    (λ same. meets.different (sym one.its_number ∙ ap (λ (n : ℕ). edge_number (corner_at corners n)) same ∙ other.its_number))
+    (λ same. meets.different (one_place rings one.at first second one.numbered (subst (λ (n : ℕ). IsNumbered rings n second) (sym same) other.numbered)))
     (record {
       on_first = on_edge_at corners one.at point (subst (LiesOn point) (sym one.its_edge) meets.on_one);
       on_second = on_edge_at corners other.at point (subst (LiesOn point) (sym other.its_edge) meets.on_other);

@@ -6,7 +6,7 @@ use Rattle.mvt_plane.specs.Measure.{key_of, orientation}
 use Rattle.mvt_plane.specs.Position.{Position}
 use Rattle.mvt_plane.proofs.Order.{zs, compare_ℤ}
 use Rattle.mvt_polygon.specs.CornerOrder.{IsNextCorner}
-use Rattle.mvt_polygon.specs.Corners.{AreInRange, AreLinked, corner_at, plan_of, position_at, segment_between}
+use Rattle.mvt_polygon.specs.Corners.{AreInRange, AreLinked, plan_of, position_at, segment_between, next_at, previous_at}
 use Rattle.mvt_polygon.specs.Sweep.{BeginThere, BothBegin, BothEnd, PassesOn, Tested}
 use Rattle.mvt_polygon.specs.declared.sweep.corners.Corner.{Corner}
 use Rattle.mvt_polygon.proofs.CornerPlans.{plan_of_corners, when_ahead}
@@ -20,15 +20,15 @@ here_of corners number = position_at corners number
 
 -- where the edge comes from that ends in it, as its ring goes
 abbrev before_of : List Corner → ℕ → Position
-before_of corners number = position_at corners (corner_at corners number).previous
+before_of corners number = position_at corners (previous_at corners number)
 
 -- and where the edge goes to that begins in it
 abbrev behind_of : List Corner → ℕ → Position
-behind_of corners number = position_at corners (corner_at corners number).next
+behind_of corners number = position_at corners (next_at corners number)
 
 -- the edge that comes to the corner
 coming : (corners : List Corner) (number : ℕ) → AreLinked corners → number < length corners
-    → (plan_of corners).segment (corner_at corners number).previous ≡ segment_between (before_of corners number) (here_of corners number)
+    → (plan_of corners).segment (previous_at corners number) ≡ segment_between (before_of corners number) (here_of corners number)
 coming corners number linked within =
     ap (λ (it : ℕ). segment_between (before_of corners number) (position_at corners it)) (linked.back_and_there number within)
 
@@ -49,7 +49,7 @@ GoesBack corners number = lt_z (key_of (here_of corners number)) (key_of (behind
 
 -- one ends and the other begins, as the ring goes
 pub passes_on : (corners : List Corner) (number : ℕ) → AreLinked corners → number < length corners → Comes corners number → GoesOn corners number
-    → PassesOn (plan_of corners) (here_of corners number) (corner_at corners number).previous number
+    → PassesOn (plan_of corners) (here_of corners number) (previous_at corners number) number
 passes_on corners number linked within comes goes = record {
   ends = ap (λ (it : Segment). it.high) (coming corners number linked within ∙ rises_between (before_of corners number) (here_of corners number) comes);
   begins = ap (λ (it : Segment). it.low) (rises_between (here_of corners number) (behind_of corners number) goes);
@@ -57,7 +57,7 @@ passes_on corners number linked within comes goes = record {
 
 -- or against it
 pub passes_back : (corners : List Corner) (number : ℕ) → AreLinked corners → number < length corners → ComesNot corners number → GoesBack corners number
-    → PassesOn (plan_of corners) (here_of corners number) number (corner_at corners number).previous
+    → PassesOn (plan_of corners) (here_of corners number) number (previous_at corners number)
 passes_back corners number linked within comes goes = record {
   ends = ap (λ (it : Segment). it.high) (falls_between (here_of corners number) (behind_of corners number) goes);
   begins = ap (λ (it : Segment). it.low) (coming corners number linked within ∙ falls_between (before_of corners number) (here_of corners number) comes);
@@ -65,7 +65,7 @@ passes_back corners number linked within comes goes = record {
 
 -- both end
 pub both_end : (corners : List Corner) (number : ℕ) → AreLinked corners → number < length corners → Comes corners number → GoesBack corners number
-    → BothEnd (plan_of corners) (here_of corners number) (corner_at corners number).previous number
+    → BothEnd (plan_of corners) (here_of corners number) (previous_at corners number) number
 both_end corners number linked within comes goes = record {
   first_ends = ap (λ (it : Segment). it.high) (coming corners number linked within ∙ rises_between (before_of corners number) (here_of corners number) comes);
   second_ends = ap (λ (it : Segment). it.high) (falls_between (here_of corners number) (behind_of corners number) goes);
@@ -73,7 +73,7 @@ both_end corners number linked within comes goes = record {
 
 -- both begin
 pub both_begin : (corners : List Corner) (number : ℕ) → AreLinked corners → number < length corners → ComesNot corners number → GoesOn corners number
-    → BeginThere (plan_of corners) (here_of corners number) (corner_at corners number).previous number
+    → BeginThere (plan_of corners) (here_of corners number) (previous_at corners number) number
 both_begin corners number linked within comes goes = record {
   first_begins = ap (λ (it : Segment). it.low) (coming corners number linked within ∙ falls_between (before_of corners number) (here_of corners number) comes);
   second_begins = ap (λ (it : Segment). it.low) (rises_between (here_of corners number) (behind_of corners number) goes);
@@ -92,15 +92,15 @@ next_back corners number first second edges linked in_range next = record {
 
 -- their turn is that of the positions that they go to
 turn_is : (corners : List Corner) (number : ℕ) → AreLinked corners → number < length corners
-    → BeginThere (plan_of corners) (here_of corners number) (corner_at corners number).previous number
-    → orientation (here_of corners number) ((plan_of corners).segment (corner_at corners number).previous).high ((plan_of corners).segment number).high
+    → BeginThere (plan_of corners) (here_of corners number) (previous_at corners number) number
+    → orientation (here_of corners number) ((plan_of corners).segment (previous_at corners number)).high ((plan_of corners).segment number).high
     ≡ orientation (here_of corners number) (before_of corners number) (behind_of corners number)
 turn_is corners number linked within begin =
     ap (λ (it : Position). orientation (here_of corners number) it ((plan_of corners).segment number).high) first
     ∙ ap (orientation (here_of corners number) (before_of corners number)) second
   where
-    first : ((plan_of corners).segment (corner_at corners number).previous).high ≡ before_of corners number
-    first = high_from_second (before_of corners number) (position_at corners (corner_at corners (corner_at corners number).previous).next)
+    first : ((plan_of corners).segment (previous_at corners number)).high ≡ before_of corners number
+    first = high_from_second (before_of corners number) (position_at corners (next_at corners (previous_at corners number)))
         (begin.first_begins ∙ sym (ap (position_at corners) (linked.back_and_there number within)))
 
     second : ((plan_of corners).segment number).high ≡ behind_of corners number
@@ -108,20 +108,20 @@ turn_is corners number linked within begin =
 
 -- and so is that of the two the other way round
 turn_back : (corners : List Corner) (number : ℕ) → AreLinked corners → number < length corners
-    → BeginThere (plan_of corners) (here_of corners number) (corner_at corners number).previous number
-    → orientation (here_of corners number) ((plan_of corners).segment number).high ((plan_of corners).segment (corner_at corners number).previous).high
+    → BeginThere (plan_of corners) (here_of corners number) (previous_at corners number) number
+    → orientation (here_of corners number) ((plan_of corners).segment number).high ((plan_of corners).segment (previous_at corners number)).high
     ≡ orientation (here_of corners number) (behind_of corners number) (before_of corners number)
 turn_back corners number linked within begin =
-    let turns = turned_round (here_of corners number) ((plan_of corners).segment (corner_at corners number).previous).high ((plan_of corners).segment number).high in
+    let turns = turned_round (here_of corners number) ((plan_of corners).segment (previous_at corners number)).high ((plan_of corners).segment number).high in
     let turned = turned_round (here_of corners number) (before_of corners number) (behind_of corners number) in
     let same = turn_is corners number linked within begin in
     omega (arith, zs)
 
 -- the one that comes is the lower one
 pub lower_comes : (corners : List Corner) (number : ℕ) → AreLinked corners → number < length corners
-    → BeginThere (plan_of corners) (here_of corners number) (corner_at corners number).previous number
+    → BeginThere (plan_of corners) (here_of corners number) (previous_at corners number) number
     → pos 0 <ℤ orientation (here_of corners number) (before_of corners number) (behind_of corners number)
-    → BothBegin (plan_of corners) (here_of corners number) (corner_at corners number).previous number
+    → BothBegin (plan_of corners) (here_of corners number) (previous_at corners number) number
 lower_comes corners number linked within begin turn = record {
   lower_begins = begin.first_begins;
   upper_begins = begin.second_begins;
@@ -130,9 +130,9 @@ lower_comes corners number linked within begin turn = record {
 
 -- or it is the upper one: edges that were tested don't go one way
 pub lower_goes : (corners : List Corner) (number : ℕ) → AreLinked corners → AreInRange corners → number < length corners
-    → BeginThere (plan_of corners) (here_of corners number) (corner_at corners number).previous number → Tested (plan_of corners) (corner_at corners number).previous number
+    → BeginThere (plan_of corners) (here_of corners number) (previous_at corners number) number → Tested (plan_of corners) (previous_at corners number) number
     → ¬ (pos 0 <ℤ orientation (here_of corners number) (before_of corners number) (behind_of corners number))
-    → BothBegin (plan_of corners) (here_of corners number) number (corner_at corners number).previous
+    → BothBegin (plan_of corners) (here_of corners number) number (previous_at corners number)
 lower_goes corners number linked in_range within begin tested not = record {
   lower_begins = begin.second_begins;
   upper_begins = begin.first_begins;
@@ -144,9 +144,9 @@ lower_goes corners number linked in_range within begin tested not = record {
 
     straight : ¬ (turn ≡ pos 0)
     straight is =
-        spike (plan_of corners) (here_of corners number) (corner_at corners number).previous number (plan_of_corners corners linked in_range)
+        spike (plan_of corners) (here_of corners number) (previous_at corners number) number (plan_of_corners corners linked in_range)
         (linked.previous_known number within) within
-        (when_ahead corners (corner_at corners number).previous number (linked.back_and_there number within)) begin.first_begins begin.second_begins tested
+        (when_ahead corners (previous_at corners number) number (linked.back_and_there number within)) begin.first_begins begin.second_begins tested
         (turn_is corners number linked within begin ∙ is)
 
     positive : (turn <ℤ pos 0) ⊎ ((turn ≡ pos 0) ⊎ (pos 0 <ℤ turn)) → pos 0 <ℤ orientation (here_of corners number) (behind_of corners number) (before_of corners number)

@@ -8,7 +8,7 @@ use Rattle.mvt_plane.specs.Measure.{key_of}
 use Rattle.mvt_plane.specs.Position.{Position, IsPosition}
 use Rattle.mvt_plane.proofs.Order.{zs}
 use Rattle.mvt_polygon.specs.CornerOrder.{IsOrder, IsStrict, IsSweptTo, IsNextCorner, IsSweptOver}
-use Rattle.mvt_polygon.specs.Corners.{AreInRange, AreLinked, NoneWrong, corner_at, plan_of, position_at}
+use Rattle.mvt_polygon.specs.Corners.{AreInRange, AreLinked, NoneWrong, plan_of, position_at, next_at, previous_at}
 use Rattle.mvt_polygon.specs.Sweep.{IsSwept}
 use Rattle.mvt_polygon.specs.declared.sweep.corners.Corner.{Corner}
 use Rattle.mvt_polygon.proofs.CornerOrders.{nat_le_or_lt}
@@ -23,24 +23,24 @@ record IsCorner (corners : List Corner) (edge : ℕ) (end : Position) : Type 0 w
   corner : ℕ
   known : corner < length corners
   here : position_at corners corner ≡ end
-  which : (corner ≡ edge) ⊎ (corner ≡ (corner_at corners edge).next)
+  which : (corner ≡ edge) ⊎ (corner ≡ next_at corners edge)
 
 -- so is an end that is the one position or the other
 end_corner : (corners : List Corner) (edge : ℕ) (end : Position) → AreLinked corners → edge < length corners
-    → (end ≡ position_at corners edge) ⊎ (end ≡ position_at corners (corner_at corners edge).next) → IsCorner corners edge end
+    → (end ≡ position_at corners edge) ⊎ (end ≡ position_at corners (next_at corners edge)) → IsCorner corners edge end
 end_corner corners edge end linked within (inl own) = record { corner = edge; known = within; here = sym own; which = inl refl }
 end_corner corners edge end linked within (inr next) =
-    record { corner = (corner_at corners edge).next; known = linked.next_known edge within; here = sym next; which = inr refl }
+    record { corner = next_at corners edge; known = linked.next_known edge within; here = sym next; which = inr refl }
 
 -- the lower end
 low_corner : (corners : List Corner) (edge : ℕ) → AreLinked corners → edge < length corners → IsCorner corners edge ((plan_of corners).segment edge).low
 low_corner corners edge linked within =
-    end_corner corners edge ((plan_of corners).segment edge).low linked within (low_is (position_at corners edge) (position_at corners (corner_at corners edge).next))
+    end_corner corners edge ((plan_of corners).segment edge).low linked within (low_is (position_at corners edge) (position_at corners (next_at corners edge)))
 
 -- the upper end
 high_corner : (corners : List Corner) (edge : ℕ) → AreLinked corners → edge < length corners → IsCorner corners edge ((plan_of corners).segment edge).high
 high_corner corners edge linked within =
-    end_corner corners edge ((plan_of corners).segment edge).high linked within (high_is (position_at corners edge) (position_at corners (corner_at corners edge).next))
+    end_corner corners edge ((plan_of corners).segment edge).high linked within (high_is (position_at corners edge) (position_at corners (next_at corners edge)))
 
 -- Corners by their keys
 
@@ -76,15 +76,15 @@ one_corner corners order number other in_order strict within inside same = eithe
 
 -- an edge with an end at the key of a corner is one of the corner's two
 its_edge : (corners : List Corner) (order : List (ℤ × ℕ)) (number edge : ℕ) (end : Position) → AreLinked corners → IsOrder corners order → IsStrict order → number < length corners
-    → edge < length corners → IsCorner corners edge end → key_of end ≡ key_of (position_at corners number) → (edge ≡ (corner_at corners number).previous) ⊎ (edge ≡ number)
+    → edge < length corners → IsCorner corners edge end → key_of end ≡ key_of (position_at corners number) → (edge ≡ previous_at corners number) ⊎ (edge ≡ number)
 its_edge corners order number edge end linked in_order strict within inside is same = either is.which
   where
     alike : is.corner ≡ number
     alike = one_corner corners order is.corner number in_order strict is.known within (ap key_of is.here ∙ same)
 
-    either : (is.corner ≡ edge) ⊎ (is.corner ≡ (corner_at corners edge).next) → (edge ≡ (corner_at corners number).previous) ⊎ (edge ≡ number)
+    either : (is.corner ≡ edge) ⊎ (is.corner ≡ next_at corners edge) → (edge ≡ previous_at corners number) ⊎ (edge ≡ number)
     either (inl own) = inr (sym own ∙ alike)
-    either (inr next) = inl (sym (linked.there_and_back edge inside) ∙ ap (λ (it : ℕ). (corner_at corners it).previous) (sym next ∙ alike))
+    either (inr next) = inl (sym (linked.there_and_back edge inside) ∙ ap (previous_at corners) (sym next ∙ alike))
 
 -- no end is strictly between where the line is and the next corner
 none_between : (corners : List Corner) (order : List (ℤ × ℕ)) (at : ℕ) (its : ℤ) (number edge : ℕ) (end : Position) (edges : List ℕ) → IsOrder corners order
@@ -123,17 +123,17 @@ swept_to_first corners order edges linked in_range in_order empty = record {
 }
 
 -- a corner isn't the one before it
-not_previous : (corners : List Corner) (number : ℕ) → AreLinked corners → number < length corners → (corner_at corners number).previous ≢ number
+not_previous : (corners : List Corner) (number : ℕ) → AreLinked corners → number < length corners → previous_at corners number ≢ number
 not_previous corners number linked within same =
-    let round : (corner_at corners number).next ≡ number = ap (λ (it : ℕ). (corner_at corners it).next) (sym same) ∙ linked.back_and_there number within in
-    linked.longer number within (ap (λ (it : ℕ). (corner_at corners it).next) round ∙ round)
+    let round : next_at corners number ≡ number = ap (next_at corners) (sym same) ∙ linked.back_and_there number within in
+    linked.longer number within (ap (next_at corners) round ∙ round)
 
 -- the corner at the next place is the next one that the line comes to
 pub next_corner : (corners : List Corner) (order : List (ℤ × ℕ)) (at : ℕ) (its : ℤ) (number : ℕ) (edges : List ℕ) → AreLinked corners → IsOrder corners order → IsStrict order
-    → IsSweptTo corners order at edges → slice_get order at ≡ Some (its, number) → IsNextCorner corners number (corner_at corners number).previous number edges
+    → IsSweptTo corners order at edges → slice_get order at ≡ Some (its, number) → IsNextCorner corners number (previous_at corners number) number edges
 next_corner corners order at its number edges linked in_order strict swept there =
     let within = in_order.known at its number there in
-    let previous = (corner_at corners number).previous in
+    let previous = previous_at corners number in
     record {
       key = swept.key;
       swept = swept.swept;
@@ -143,8 +143,8 @@ next_corner corners order at its number edges linked in_order strict swept there
         second_known = within;
         differ = not_previous corners number linked within;
         at_first = subst (λ (p : Position). IsEndOf p ((plan_of corners).segment previous)) (ap (position_at corners) (linked.back_and_there number within))
-            (end_second (position_at corners previous) (position_at corners (corner_at corners previous).next));
-        at_second = end_first (position_at corners number) (position_at corners (corner_at corners number).next);
+            (end_second (position_at corners previous) (position_at corners (next_at corners previous)));
+        at_second = end_first (position_at corners number) (position_at corners (next_at corners number));
         meet = when_ahead corners previous number (linked.back_and_there number within);
         only_low = λ edge known same.
             its_edge corners order number edge ((plan_of corners).segment edge).low linked in_order strict within known (low_corner corners edge linked known) same;

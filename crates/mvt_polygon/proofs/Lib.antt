@@ -10,6 +10,8 @@ pub mod EdgeNumbers
 pub mod MeetingsFound
 pub mod MeetingsTold
 pub mod NestFaults
+pub mod NestOnce
+pub mod NumbersInOrder
 pub mod PairMeetings
 pub mod PolygonList
 pub mod RingFaults

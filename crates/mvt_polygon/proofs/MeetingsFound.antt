@@ -1,18 +1,16 @@
 -- The work of a sweep, step by step, and what it finds, told of the rings.
-use Rattle.std.proofs.Common.{◌≡◌, ℕ, ◌+◌, ◌*◌, ◌≤◌, List, Option, Some, None, IfNone, IfSome, Result, Ok, Err, IfOk, arith}
+use Rattle.std.proofs.Common.{◌≡◌, ℕ, ◌+◌, ◌*◌, ◌<◌, ◌≤◌, List, Option, Some, None, IfNone, IfSome, subst, arith}
 use Rattle.mvt_plane.specs.Counted.{Counted}
-use Rattle.mvt_plane.specs.Meeting.{EdgeNumber, MeetsWrongly}
 use Rattle.mvt_plane.specs.Position.{Position}
-use Rattle.mvt_plane.specs.RationalPoint.{RationalPoint}
 use Rattle.mvt_polygon.specs.CornerOrder.{AddsWork, AreTogether}
-use Rattle.mvt_polygon.specs.Corners.{AreCorners, AreLinked, IsMeetingAt, NoneWrong, plan_of}
+use Rattle.mvt_polygon.specs.Corners.{AreCorners, AreLinked, IsMeetingAt, IsTold, plan_of, vertex_count}
 use Rattle.mvt_polygon.specs.Meeting.{IsMeetingOf}
 use Rattle.mvt_polygon.specs.Rings.{AreProperRings}
 use Rattle.mvt_polygon.specs.Sweep.{Tested}
 use Rattle.mvt_polygon.specs.declared.meeting.Meeting.{Meeting}
 use Rattle.mvt_polygon.specs.declared.sweep.corners.Corner.{Corner}
-use Rattle.mvt_polygon.proofs.CornerPlans.{together_meets, meeting_of_rings, none_of_rings}
-use Rattle.mvt_polygon.proofs.MeetingsTold.{none_map}
+use Rattle.mvt_polygon.specs.declared.sweep.corners.Pair.{Pair}
+use Rattle.mvt_polygon.proofs.CornerPlans.{together_meets, meeting_of_rings}
 
 -- The work
 
@@ -61,27 +59,36 @@ so_many_steps at many probes visits before after most work = record {
 
 -- What is found
 
+-- the edges that were found have vertices of the rings
+pub first_within : (rings : List (List Position)) (corners : List Corner) (found : Option Pair) → AreCorners rings corners → IfSome found (IsMeetingAt corners)
+    → IfSome found (λ pair. pair.first < vertex_count rings)
+first_within rings corners None are is = is
+first_within rings corners (Some pair) are is = omega (arith, are.count, is.in_order, is.known)
+
+-- so has the second
+pub second_within : (rings : List (List Position)) (corners : List Corner) (found : Option Pair) → AreCorners rings corners → IfSome found (IsMeetingAt corners)
+    → IfSome found (λ pair. pair.second < vertex_count rings)
+second_within rings corners None are is = is
+second_within rings corners (Some pair) are is = omega (arith, are.count, is.known)
+
+-- the meeting that is told is that of two edges
+abbrev pub IsToldOf : List (List Position) → Option Pair → Meeting → Type 0
+IsToldOf rings found meeting = (pair : Pair) × (found ≡ Some pair) × IsTold rings pair meeting
+
 -- a meeting of corners' edges is one of the rings
-pub some_told : (rings : List (List Position)) (corners : List Corner) (found : Option Meeting) → AreProperRings rings → AreCorners rings corners
-    → IfSome found (IsMeetingAt corners) → IfSome found (IsMeetingOf rings)
-some_told rings corners None proper are is = is
-some_told rings corners (Some meeting) proper are is = meeting_of_rings rings corners meeting proper are is
+pub some_told : (rings : List (List Position)) (corners : List Corner) (found : Option Pair) (result : Option Meeting) → AreProperRings rings → AreCorners rings corners
+    → IfSome found (IsMeetingAt corners) → IfSome result (IsToldOf rings found) → IfSome result (IsMeetingOf rings)
+some_told rings corners found None proper are is told = told
+some_told rings corners found (Some meeting) proper are is (pair, same, told) =
+    meeting_of_rings rings corners pair meeting proper are (subst (λ (it : Option Pair). IfSome it (IsMeetingAt corners)) same is) told
 
--- the meeting that the sweep answers, if it comes to an end
-pub swept_some : {E : Type 0} (rings : List (List Position)) (corners : List Corner) (result : Result (Option Meeting) E)
-    → AreProperRings rings → AreCorners rings corners → IfOk result (λ found. IfSome found (IsMeetingAt corners)) → IfOk result (λ found. IfSome found (IsMeetingOf rings))
-swept_some rings corners (Ok found) proper are is = some_told rings corners found proper are is
-swept_some rings corners (Err error) proper are is = is
-
--- where it answers none, no two edges of the rings meet wrongly
-pub swept_none : {E : Type 0} (rings : List (List Position)) (corners : List Corner) (result : Result (Option Meeting) E)
-    → AreProperRings rings → AreCorners rings corners → IfOk result (λ found. IfNone found (NoneWrong corners))
-    → IfOk result (λ found. IfNone found ((first second : EdgeNumber) (point : RationalPoint) → ¬ MeetsWrongly rings first second point))
-swept_none rings corners (Ok found) proper are is = none_map found (none_of_rings rings corners proper are) is
-swept_none rings corners (Err error) proper are is = is
+-- where none is told, none was found
+pub none_told : (found : Option Pair) (result : Option Meeting) (P : Type 0) → IfNone result (found ≡ None) → IfNone found P → IfNone result P
+none_told found None P same is = subst (λ (it : Option Pair). IfNone it P) same is
+none_told found (Some meeting) P same is = same
 
 -- of two corners at one position the edges meet, so that a meeting is found
-pub together_found : (corners : List Corner) (first second : ℕ) (found : Option Meeting) (P : Type 0) → AreLinked corners → AreTogether corners first second
+pub together_found : (corners : List Corner) (first second : ℕ) (found : Option Pair) (P : Type 0) → AreLinked corners → AreTogether corners first second
     → IfNone found (Tested (plan_of corners) first second × Tested (plan_of corners) second first) → IfNone found P
 together_found corners first second None P linked together tested = absurd (together_meets corners first second linked together tested.0)
 together_found corners first second (Some it) P linked together tested = tested

@@ -1,6 +1,6 @@
 -- How many edges a status has, and what that says of its work.
 use Rattle.std.proofs.Common.{◌≡◌, ◌≢◌, ◌<◌, ◌≤◌, ◌+◌, ◌*◌, ◌⊎◌, inl, inr, ℕ, zero, suc, List, [], ◌∷◌, drop, length, remove, take, ℤ, sym, subst, arith}
-use Rattle.std.proofs.lemmas.Bool.{cases_order}
+use Rattle.std.proofs.lemmas.Bool.{cases_eq, cases_order}
 use Rattle.std.proofs.lemmas.List.{length-append, length-drop, length-take}
 use Rattle.mvt_plane.specs.Counted.{Counted}
 use Rattle.mvt_polygon.specs.Chain.{Has, Each, Ordered}
@@ -13,19 +13,6 @@ use Rattle.mvt_status.specs.Counts.{AddsAtMost, bits}
 use Rattle.mvt_status.proofs.BinaryDigits.{no_more_digits}
 
 -- How many edges
-
--- two numbers are one or differ
-data IsOneOrOther (number other : ℕ) : Type 0 where
-  one : number ≡ other → IsOneOrOther number other
-  other : number ≢ other → IsOneOrOther number other
-
-one_or_other : (number that : ℕ) → IsOneOrOther number that
-one_or_other number that = either (cases_order number that)
-  where
-    either : (number ≡ that) ⊎ ((number < that) ⊎ (that < number)) → IsOneOrOther number that
-    either (inl same) = one same
-    either (inr (inl less)) = other (λ same. omega arith)
-    either (inr (inr more)) = other (λ same. omega arith)
 
 -- a list without the greatest number
 record LeavesOut (bound : ℕ) (edges : List ℕ) : Type 0 where
@@ -48,17 +35,17 @@ all_below bound (edge ∷ rest) within apart = let less = within.0 in let differ
 -- the greatest one is left out
 leave_out : (bound : ℕ) (edges : List ℕ) → Each (λ (edge : ℕ). edge < suc bound) edges → Ordered (λ (a b : ℕ). a ≢ b) edges → LeavesOut bound edges
 leave_out bound [] within apart = record { rest = []; shorter = omega arith; among = λ it here. here; differ = tt; below = tt }
-leave_out bound (edge ∷ rest) within apart = either (one_or_other bound edge) (leave_out bound rest within.1 apart.1)
+leave_out bound (edge ∷ rest) within apart = either (cases_eq bound edge) (leave_out bound rest within.1 apart.1)
   where
-    either : IsOneOrOther bound edge → LeavesOut bound rest → LeavesOut bound (edge ∷ rest)
-    either (one same) left = record {
+    either : (bound ≡ edge) ⊎ (bound ≢ edge) → LeavesOut bound rest → LeavesOut bound (edge ∷ rest)
+    either (inl same) left = record {
       rest = rest;
       shorter = omega arith;
       among = λ it here. inr here;
       differ = apart.1;
       below = all_below bound rest within.1 (subst (λ (it : ℕ). Each (λ (that : ℕ). it ≢ that) rest) (sym same) apart.0);
     }
-    either (other not) left = record {
+    either (inr not) left = record {
       rest = edge ∷ left.rest;
       shorter = let fewer = left.shorter in omega arith;
       among = λ it here. elim here [ inl own ↦ inl own | inr later ↦ inr (left.among it later) ];

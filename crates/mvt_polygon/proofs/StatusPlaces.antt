@@ -158,10 +158,6 @@ begin_over plan key vertex lower upper place edges more most is_plan swept event
     ∙ ap (λ (list : List ℕ). list ++ lower ∷ drop place (front ++ upper ∷ back)) parts.0 ∙ ap (λ (list : List ℕ). front ++ lower ∷ list) parts.1 in
     subst (IsSwept plan (key_of vertex)) (sym is) (begin_step plan key vertex lower upper edges front back is_plan swept event begins cut tested below above)
 
--- two that were tested, of which the one is told in another way
-pub back_tested : (plan : Plan) (read first second : ℕ) → read ≡ first → Tested plan read second × Tested plan second read → Tested plan first second × Tested plan second first
-back_tested plan read first second same tested = subst (λ (edge : ℕ). Tested plan edge second × Tested plan second edge) same tested
-
 -- two edges begin, in one order or the other
 pub begin_in_order : (plan : Plan) (key : ℤ) (vertex : Position) (first second : ℕ) (pair : ℕ × ℕ) (place : ℕ) (edges more most : List ℕ) → IsPlan plan → IsSwept plan key edges
     → IsEvent plan key vertex first second → (pair ≡ (first, second)) ⊎ (pair ≡ (second, first)) → BothBegin plan vertex pair.0 pair.1 → place ≤ length edges

@@ -18,19 +18,7 @@ use Rattle.mvt_plane.proofs.Gaps.{reach_positive, gap_between, after_trans, afte
 never : {a b : ℤ} → a ≤ℤ b → b <ℤ a → ⊥
 never at_most less = omega (arith, zs)
 
--- two edges that were tested were so the other way round
-pub tested_back : (plan : Plan) (first second : ℕ) → IsPlan plan → first < plan.count → second < plan.count → Tested plan first second → Tested plan second first
-tested_back plan first second is_plan known_first known_second tested point on_second on_first =
-    let meeting = tested point on_first on_second in
-    (meeting.0, is_plan.alike second first known_second known_first ∙ meeting.1, meeting.2)
-
--- and have no wrong meeting
-pub tested_is_right : (plan : Plan) (first second : ℕ) (point : RationalPoint) → Tested plan first second → ¬ IsWrong plan point first second
-tested_is_right plan first second point tested wrong =
-    let meeting = tested point wrong.on_first wrong.on_second in
-    wrong.apart meeting.0 meeting.1 meeting.2
-
--- so may two cases
+-- two cases may be told the other way round
 either_back : {A B : Type 0} → A ⊎ B → B ⊎ A
 either_back (inl one) = inr one
 either_back (inr other) = inl other

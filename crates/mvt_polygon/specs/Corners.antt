@@ -1,5 +1,5 @@
 -- The vertices of rings in one list. Each has the number of the edge that begins in it.
-use Rattle.std.specs.Prelude.{◌≡◌, ◌≢◌, ◌-◌, ◌+◌, ◌==◌, ◌<◌, cond, ℕ, List, length, map, take, slice_get, slice_index_or, Option, Some, None}
+use Rattle.std.specs.Prelude.{◌≡◌, ◌≢◌, ◌-◌, ◌+◌, ◌==◌, ◌<◌, ltb, cond, ℕ, List, length, map, take, slice_get, slice_index_or, Option, Some, None}
 use Rattle.std.specs.Int.Signed.{lt_z}
 use Rattle.std.specs.List.{sum}
 use Rattle.mvt_plane.specs.CommonPoint.{IsNamed}
@@ -8,31 +8,36 @@ use Rattle.mvt_plane.specs.Measure.{key_of}
 use Rattle.mvt_plane.specs.Meeting.{EdgeNumber}
 use Rattle.mvt_plane.specs.Position.{Position, IsPosition, origin}
 use Rattle.mvt_plane.specs.RationalPoint.{RationalPoint, IsBounded}
-use Rattle.mvt_plane.specs.Ring.{next_round}
 use Rattle.mvt_plane.specs.declared.edge.Edge.{Edge}
 use Rattle.mvt_polygon.specs.Meeting.{first_of, second_of}
 use Rattle.mvt_polygon.specs.Sweep.{Plan, IsWrong}
 use Rattle.mvt_polygon.specs.declared.meeting.Meeting.{Meeting}
 use Rattle.mvt_polygon.specs.declared.sweep.corners.Corner.{Corner}
+use Rattle.mvt_polygon.specs.declared.sweep.corners.Pair.{Pair}
 
 -- how many vertices rings have
 abbrev pub vertex_count : List (List Position) → ℕ
 vertex_count rings = sum (map length rings)
 
--- the number before this one, going round: before 0 comes the last one
-abbrev pub previous_round : ℕ → ℕ → ℕ
-previous_round count number = cond (number == 0) (count - 1) (number - 1)
+-- in a list of so many the number of the last one for the first, of the first for the last, and for the others their own
+abbrev pub far_end_of : ℕ → ℕ → ℕ
+far_end_of count number = cond (number == 0) (count - 1) (cond (number + 1 == count) 0 number)
 
 -- Corners of rings
 
--- The corner of this number is one of the rings: behind those of the rings before it, in the order of its ring
-pub record IsCornerOf (rings : List (List Position)) (number : ℕ) (it : Corner) : Type 0 where
+-- Of all vertices, numbered ring by ring, the one of this number is the vertex of the second number in the ring of the first
+pub record IsNumbered (rings : List (List Position)) (number : ℕ) (place : EdgeNumber) : Type 0 where
   pub ring : List Position
-  pub there : slice_get rings it.ring ≡ Some ring
-  pub here : slice_get ring it.edge ≡ Some it.position
-  pub numbered : number ≡ vertex_count (take it.ring rings) + it.edge
-  pub next : it.next ≡ vertex_count (take it.ring rings) + next_round (length ring) it.edge
-  pub previous : it.previous ≡ vertex_count (take it.ring rings) + previous_round (length ring) it.edge
+  pub there : slice_get rings place.ring ≡ Some ring
+  pub within : place.edge < length ring
+  pub numbered : number ≡ vertex_count (take place.ring rings) + place.edge
+
+-- The corner of this number is the vertex of the rings that has it
+pub record IsCornerOf (rings : List (List Position)) (number : ℕ) (it : Corner) : Type 0 where
+  pub place : EdgeNumber
+  pub is : IsNumbered rings number place
+  pub here : slice_get is.ring place.edge ≡ Some it.position
+  pub far_end : it.far_end ≡ vertex_count (take place.ring rings) + far_end_of (length is.ring) place.edge
 
 -- these are all corners of the rings
 pub record AreCorners (rings : List (List Position)) (corners : List Corner) : Type 0 where
@@ -43,7 +48,7 @@ pub record AreCorners (rings : List (List Position)) (corners : List Corner) : T
 
 -- what stands for a corner that isn't there
 abbrev pub no_corner : Corner
-no_corner = record { position = origin; next = 0; previous = 0; ring = 0; edge = 0 }
+no_corner = record { position = origin; far_end = 0 }
 
 -- the corner of this number
 abbrev pub corner_at : List Corner → ℕ → Corner
@@ -53,18 +58,26 @@ corner_at corners number = slice_index_or corners number no_corner
 abbrev pub position_at : List Corner → ℕ → Position
 position_at corners number = (corner_at corners number).position
 
+-- the number of the corner behind it in its ring, where its edge ends
+abbrev pub next_at : List Corner → ℕ → ℕ
+next_at corners number = cond (ltb (corner_at corners number).far_end number) (corner_at corners number).far_end (number + 1)
+
+-- and of the corner before it, whose edge ends in it
+abbrev pub previous_at : List Corner → ℕ → ℕ
+previous_at corners number = cond (ltb number (corner_at corners number).far_end) (corner_at corners number).far_end (number - 1)
+
 -- the edge that begins in it, as its ring goes
 abbrev pub edge_at : List Corner → ℕ → Edge
-edge_at corners number = record { a = position_at corners number; b = position_at corners (corner_at corners number).next }
+edge_at corners number = record { a = position_at corners number; b = position_at corners (next_at corners number) }
 
 -- next and previous lead round, in rings of three corners or more, none at the position of the next one
 pub record AreLinked (corners : List Corner) : Type 0 where
-  pub next_known : (number : ℕ) → number < length corners → (corner_at corners number).next < length corners
-  pub previous_known : (number : ℕ) → number < length corners → (corner_at corners number).previous < length corners
-  pub there_and_back : (number : ℕ) → number < length corners → (corner_at corners (corner_at corners number).next).previous ≡ number
-  pub back_and_there : (number : ℕ) → number < length corners → (corner_at corners (corner_at corners number).previous).next ≡ number
-  pub longer : (number : ℕ) → number < length corners → (corner_at corners (corner_at corners number).next).next ≢ number
-  pub apart : (number : ℕ) → number < length corners → position_at corners (corner_at corners number).next ≢ position_at corners number
+  pub next_known : (number : ℕ) → number < length corners → next_at corners number < length corners
+  pub previous_known : (number : ℕ) → number < length corners → previous_at corners number < length corners
+  pub there_and_back : (number : ℕ) → number < length corners → previous_at corners (next_at corners number) ≡ number
+  pub back_and_there : (number : ℕ) → number < length corners → next_at corners (previous_at corners number) ≡ number
+  pub longer : (number : ℕ) → number < length corners → next_at corners (next_at corners number) ≢ number
+  pub apart : (number : ℕ) → number < length corners → position_at corners (next_at corners number) ≢ position_at corners number
 
 -- their positions are in range
 abbrev pub AreInRange : List Corner → Type 0
@@ -79,33 +92,31 @@ segment_between one other = cond (lt_z (key_of one) (key_of other)) (segment one
 -- the vertex that two edges share as neighbours in a ring
 abbrev pub shared_at : List Corner → ℕ → ℕ → Option Position
 shared_at corners first second =
-    cond ((corner_at corners first).next == second) (Some (position_at corners second))
-    (cond ((corner_at corners second).next == first) (Some (position_at corners first)) None)
+    cond (next_at corners first == second) (Some (position_at corners second))
+    (cond (next_at corners second == first) (Some (position_at corners first)) None)
 
 -- the edges that begin in the corners
 abbrev pub plan_of : List Corner → Plan
 plan_of corners = record {
   count = length corners;
-  segment = λ (number : ℕ). segment_between (position_at corners number) (position_at corners (corner_at corners number).next);
+  segment = λ (number : ℕ). segment_between (position_at corners number) (position_at corners (next_at corners number));
   shared = shared_at corners;
 }
 
 -- Their meetings
 
--- the number of a corner's edge
-abbrev pub edge_number : Corner → EdgeNumber
-edge_number it = record { ring = it.ring; edge = it.edge }
+-- the two edges, in order, meet at the point that is named for them
+pub record IsMeetingAt (corners : List Corner) (pair : Pair) : Type 0 where
+  pub in_order : pair.first < pair.second
+  pub known : pair.second < length corners
+  pub named : IsNamed (shared_at corners pair.first pair.second) (edge_at corners pair.first) (edge_at corners pair.second) (Some pair.point)
+  pub bounded : IsBounded pair.point
 
--- the meeting is one of two of these edges, in order, at the point that is named for them
-pub record IsMeetingAt (corners : List Corner) (meeting : Meeting) : Type 0 where
-  pub first : ℕ
-  pub second : ℕ
-  pub in_order : first < second
-  pub known : second < length corners
-  pub is_first : first_of meeting ≡ edge_number (corner_at corners first)
-  pub is_second : second_of meeting ≡ edge_number (corner_at corners second)
-  pub named : IsNamed (shared_at corners first second) (edge_at corners first) (edge_at corners second) (Some meeting.point)
-  pub bounded : IsBounded meeting.point
+-- the meeting is this one, told by ring and ordinal
+pub record IsTold (rings : List (List Position)) (pair : Pair) (meeting : Meeting) : Type 0 where
+  pub first : IsNumbered rings pair.first (first_of meeting)
+  pub second : IsNumbered rings pair.second (second_of meeting)
+  pub point : meeting.point ≡ pair.point
 
 -- no two of these edges meet wrongly
 abbrev pub NoneWrong : List Corner → Type 0

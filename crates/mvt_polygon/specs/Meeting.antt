@@ -4,7 +4,7 @@ use Rattle.std.specs.Prelude.{◌≡◌, ◌↔◌, List, Option, Some}
 use Rattle.mvt_plane.specs.CommonPoint.{IsNamed}
 use Rattle.mvt_plane.specs.Meeting.{EdgeNumber, ComesBefore, IsEdgeOf, IsShared, MeetsWrongly}
 use Rattle.mvt_plane.specs.Position.{Position}
-use Rattle.mvt_plane.specs.RationalPoint.{RationalPoint, IsBounded}
+use Rattle.mvt_plane.specs.RationalPoint.{IsBounded}
 use Rattle.mvt_plane.specs.declared.edge.Edge.{Edge}
 use Rattle.mvt_polygon.specs.declared.meeting.Meeting.{Meeting}
 

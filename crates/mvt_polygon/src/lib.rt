@@ -9,6 +9,6 @@ mod rings;
 mod sweep;
 
 pub use meeting::{Meeting, find_meeting, find_meeting_with};
-pub use nesting::{NestFault, check_nesting};
+pub use nesting::{NestFault, check_nesting, check_nesting_once};
 pub use polygons::{groups, polygon_end};
 pub use rings::{RingFault, check_rings};

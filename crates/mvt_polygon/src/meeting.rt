@@ -1,20 +1,20 @@
 //! Edges that meet wrongly.
-ghost use Rattle.std.specs.Prelude.{◌≡◌, ◌+◌, ◌*◌, IfOk, IfNone, IfSome, []};
+ghost use Rattle.std.specs.Prelude.{◌≡◌, ◌+◌, ◌*◌, ◌<◌, IfOk, IfNone, IfSome, None, Some, []};
 ghost use Rattle.mvt_plane.specs.Meeting.{EdgeNumber, MeetsWrongly};
 ghost use Rattle.mvt_plane.specs.RationalPoint.{RationalPoint};
 ghost use Rattle.mvt_polygon.specs.CornerOrder.{AddsWork};
-ghost use Rattle.mvt_polygon.specs.Corners.{vertex_count};
+ghost use Rattle.mvt_polygon.specs.Corners.{IsNumbered, IsTold, vertex_count};
 ghost use Rattle.mvt_polygon.specs.Meeting.{IsMeetingOf};
 ghost use Rattle.mvt_polygon.specs.Rings.{rings_of, AreProperRings};
 ghost use Rattle.mvt_status.specs.Counts.{bits};
 
-use crate::sweep::{corners_of, meeting_at, one_position, order_of, sweep};
+use crate::sweep::{Pair, corners_of, meeting_at, numbers_of, one_position, order_of, sweep};
 use mvt_plane::{Count, Hpoint, Point};
 use mvt_status::{Status, TreeStatus};
 use std::alloc::{AllocError, Global};
 
 #[cfg(test)]
-mod tests;
+pub(crate) mod tests;
 
 /// Two edges that meet wrongly, the first of them before the second by ring and edge.
 #[derive(Clone, Copy, Debug, PartialEq, Eq)]
@@ -68,7 +68,44 @@ pub fn find_meeting_with<S: Status>(
     let corners = corners_of(alloc, rings)?;
     let order = order_of(alloc, &corners)?;
     if let Some((first, second)) = one_position(&corners, &order) {
-        return Ok(meeting_at(&corners, first, second, count));
+        return Ok(told(rings, meeting_at(&corners, first, second, count)));
     }
-    sweep(&corners, &order, status, count)
+    let order = numbers_of(alloc, order)?;
+    let found = sweep(&corners, &order, status, count)?;
+    Ok(told(rings, found))
+}
+
+/// The meeting that was found, if any, with its edges told by ring and ordinal.
+fn told(rings: &[Vec<Point>], found: Option<Pair>) -> Option<Meeting>
+    requires first { IfSome found (λ pair. pair.first < vertex_count (rings_of rings.now)) }
+    requires second { IfSome found (λ pair. pair.second < vertex_count (rings_of rings.now)) }
+    ensures none { IfNone result (found ≡ None) }
+    ensures some { IfSome result (λ meeting. (pair : Pair) × (found ≡ Some pair) × IsTold (rings_of rings.now) pair meeting) }
+{
+    let pair = found?;
+    let (first_ring, first_edge) = ring_and_ordinal(rings, pair.first);
+    let (second_ring, second_edge) = ring_and_ordinal(rings, pair.second);
+    Some(Meeting {
+        first_ring,
+        first_edge,
+        second_ring,
+        second_edge,
+        point: pair.point,
+    })
+}
+
+/// The ring of the vertex that has this number among all, and its ordinal there.
+fn ring_and_ordinal(rings: &[Vec<Point>], number: usize) -> (usize, usize)
+    requires { number < vertex_count (rings_of rings.now) }
+    ensures { IsNumbered (rings_of rings.now) number (record { ring = result.0; edge = result.1 }) }
+{
+    let mut left = number;
+    for ring in 0..rings.len() {
+        let vertices = rings[ring].len();
+        if left < vertices {
+            return (ring, left);
+        }
+        left -= vertices;
+    }
+    unreachable!()
 }

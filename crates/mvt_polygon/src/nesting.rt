@@ -5,10 +5,12 @@ ghost use Rattle.mvt_polygon.specs.Nesting.{IsNestFault, IsFirstNestFault, IsFir
 ghost use Rattle.mvt_polygon.specs.Rings.{rings_of};
 ghost use Rattle.mvt_polygon.specs.declared.nesting.NestFault.{NestFault};
 
+mod once;
 #[cfg(test)]
 mod tests;
 
 use mvt_plane::{Point, inside};
+pub use once::check_nesting_once;
 
 /// A vertex of a hole that isn't where it should be.
 #[derive(Clone, Copy, Debug, PartialEq, Eq)]

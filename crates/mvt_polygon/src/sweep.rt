@@ -1,7 +1,7 @@
 //! A sweep that finds edges that meet wrongly: a line goes over the plane from corner to corner, and of all edges
 //! only those are tested that become neighbours along it.
 ghost use Rattle.std.specs.Prelude.{◌≡◌, ◌+◌, ◌*◌, IfNone, IfSome, IfOk, [], length};
-ghost use Rattle.mvt_polygon.specs.CornerOrder.{AddsWork, IsOrder, IsStrict};
+ghost use Rattle.mvt_polygon.specs.CornerOrder.{AddsWork, IsOrder, IsStrict, with_keys};
 ghost use Rattle.mvt_polygon.specs.Corners.{AreInRange, AreLinked, IsMeetingAt, NoneWrong};
 ghost use Rattle.mvt_status.specs.Counts.{bits};
 
@@ -13,35 +13,33 @@ mod order;
 mod place;
 mod step;
 
-use crate::meeting::Meeting;
 use crate::sweep::step::go_over;
-pub(crate) use corners::{Corner, corners_of, meeting_at};
+pub(crate) use corners::{Corner, Pair, corners_of, meeting_at};
 use mvt_plane::Count;
 use mvt_status::Status;
-pub(crate) use order::{one_position, order_of};
+pub(crate) use order::{numbers_of, one_position, order_of};
 use std::alloc::AllocError;
 
 /// Goes over all corners in their order, of which no two are at one position. The status is empty at the call. The
 /// only error is that memory was refused.
 pub(crate) fn sweep<S: Status>(
     corners: &[Corner],
-    order: &[(i64, usize)],
+    order: &[usize],
     status: &mut S,
     count: &mut Count,
-) -> Result<Option<Meeting>, AllocError>
+) -> Result<Option<Pair>, AllocError>
     requires linked { AreLinked corners.now }
     requires in_range { AreInRange corners.now }
-    requires order { IsOrder corners.now order.now }
-    requires strict { IsStrict order.now }
+    requires order { IsOrder corners.now (with_keys corners.now order.now) }
+    requires strict { IsStrict (with_keys corners.now order.now) }
     requires empty { S.edges status.old ≡ [] }
     ensures none { IfOk result (λ found. IfNone found (NoneWrong corners.now)) }
     ensures some { IfOk result (λ found. IfSome found (IsMeetingAt corners.now)) }
     ensures counted { AddsWork (3 * length order.now) (length order.now * (2 * bits (length corners.now) + 2)) (length order.now * (10 * bits (length corners.now))) count.old count.new }
 {
     for at in 0..order.len() {
-        let (_, number) = order[at];
-        if let Some(meeting) = go_over(corners, number, status, count)? {
-            return Ok(Some(meeting));
+        if let Some(pair) = go_over(corners, order[at], status, count)? {
+            return Ok(Some(pair));
         }
     }
     Ok(None)

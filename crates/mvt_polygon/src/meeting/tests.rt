@@ -4,13 +4,13 @@ ghost use Rattle.mvt_plane.specs.Ring.{edges, next_round};
 ghost use Rattle.mvt_polygon.specs.Rings.{rings_of, AreProperRings};
 
 use super::{Meeting, find_meeting, find_meeting_with};
-use crate::sweep::corners::next_round;
 use mvt_plane::{Count, Edge, Point};
 use mvt_status::VecStatus;
 use std::alloc::{AllocError, Global};
 use std::process::Abort;
 
 mod generated;
+mod large;
 
 /// Rings through these coordinates.
 fn rings_at(
@@ -27,6 +27,15 @@ fn rings_at(
         rings.push(points)?;
     }
     Ok(rings)
+}
+
+/// The number behind this one, going round: behind the last one comes 0.
+fn next_round(count: usize, number: usize) -> usize
+    requires { number < count }
+    ensures value { result ≡ next_round count number }
+    ensures within { result < count }
+{
+    if number + 1 == count { 0 } else { number + 1 }
 }
 
 /// The edge of a ring that goes from the vertex of this number to the next one, the last to the first vertex.
@@ -59,7 +68,7 @@ fn is_drawn(ring: &[Point]) -> bool
 }
 
 /// Whether all rings are such.
-fn are_drawn(rings: &[Vec<Point>]) -> bool
+pub(crate) fn are_drawn(rings: &[Vec<Point>]) -> bool
     ensures { IsTrue result → AreProperRings (rings_of rings.now) }
 {
     for ring in rings {
@@ -223,21 +232,23 @@ fn overlaps(rt: HostRuntime) {
     assert!(&rt; meeting_at(&rt, alloc, &[&triangle, &triangle]).is_some());
 }
 
-/// A ring of 316 vertices like two combs, one above the other, with this vertex on the upper comb's 21st
-/// tooth.
-fn combs(alloc: Global, moved: (i32, i32)) -> Result<Vec<(i32, i32)>, AllocError> {
+/// A ring like two combs, one above the other, with so many teeth each and this vertex at the end of the upper
+/// comb's 21st one. 40 teeth make 316 vertices.
+fn combs(alloc: Global, teeth: u32, moved: (i32, i32)) -> Result<Vec<(i32, i32)>, AllocError>
+    requires { teeth ≤ 200000 }
+{
     let mut ring = Vec::new(alloc);
-    for tooth in 0..40_u8 {
-        let x = 4 * i32::from(tooth);
+    for tooth in 0..teeth {
+        let x = 4 * tooth as i32;
         ring.push((x, -20))?;
         ring.push((x + 2, -20))?;
-        if tooth < 39 {
+        if tooth + 1 < teeth {
             ring.push((x + 2, -10))?;
             ring.push((x + 4, -10))?;
         }
     }
-    for tooth in (0..40_u8).rev() {
-        let x = 4 * i32::from(tooth);
+    for tooth in (0..teeth).rev() {
+        let x = 4 * tooth as i32;
         ring.push((x + 2, 20))?;
         ring.push(if tooth == 20 { moved } else { (x, 20) })?;
         if tooth > 0 {
@@ -262,7 +273,7 @@ fn turned(alloc: Global, ring: &[(i32, i32)]) -> Result<Vec<(i32, i32)>, AllocEr
 fn two_combs(rt: HostRuntime) {
     let alloc = rt.alloc();
     for (moved, meets) in [((80, 20), false), ((77, 15), true)] {
-        let ring = combs(alloc, moved).expect(&rt, "memory");
+        let ring = combs(alloc, 40, moved).expect(&rt, "memory");
         assert_eq!(&rt; ring.len(), 316);
         assert_eq!(&rt; meeting_at(&rt, alloc, &[&ring]).is_some(), meets);
         let other = turned(alloc, &ring).expect(&rt, "memory");
@@ -274,7 +285,7 @@ fn two_combs(rt: HostRuntime) {
 #[test]
 fn work_of_two_combs(rt: HostRuntime) {
     let alloc = rt.alloc();
-    let ring = combs(alloc, (80, 20)).expect(&rt, "memory");
+    let ring = combs(alloc, 40, (80, 20)).expect(&rt, "memory");
     let (found, count, other) = counted_at(&rt, alloc, &[&ring]).expect(&rt, "memory");
     assert_eq!(&rt; found, None);
     assert!(&rt; (1..=948).contains(&count.tests()), "{count:?}");

@@ -1,11 +1,10 @@
 //! What happens where the line of a sweep comes to a corner in which both of its edges begin.
 ghost use Rattle.std.specs.Prelude.{◌≡◌, ◌<◌, ◌⊎◌, IfNone, IfSome, IfOk, length};
 ghost use Rattle.mvt_polygon.specs.CornerOrder.{AddsStep, AddsWork, IsNextCorner, IsSweptOver};
-ghost use Rattle.mvt_polygon.specs.Corners.{AreInRange, AreLinked, IsMeetingAt, corner_at, plan_of, position_at};
+ghost use Rattle.mvt_polygon.specs.Corners.{AreInRange, AreLinked, IsMeetingAt, plan_of, position_at, previous_at};
 ghost use Rattle.mvt_polygon.specs.Sweep.{BeginThere, BothBegin, Tested};
 
-use crate::meeting::Meeting;
-use crate::sweep::corners::{Corner, meeting_at};
+use crate::sweep::corners::{Corner, Pair, meeting_at, next_of, previous_of};
 use crate::sweep::neighbors::{meeting_above, meeting_below};
 use crate::sweep::place::place_of;
 use mvt_plane::{Count, orient};
@@ -18,27 +17,27 @@ pub(crate) fn begin<S: Status>(
     number: usize,
     status: &mut S,
     count: &mut Count,
-) -> Result<Option<Meeting>, AllocError>
+) -> Result<Option<Pair>, AllocError>
     requires linked { AreLinked corners.now }
     requires in_range { AreInRange corners.now }
     requires number { number < length corners.now }
-    requires next { IsNextCorner corners.now number (corner_at corners.now number).previous number (S.edges status.old) }
-    requires begin { BeginThere (plan_of corners.now) (position_at corners.now number) (corner_at corners.now number).previous number }
+    requires next { IsNextCorner corners.now number (previous_at corners.now number) number (S.edges status.old) }
+    requires begin { BeginThere (plan_of corners.now) (position_at corners.now number) (previous_at corners.now number) number }
     ensures none { IfOk result (λ found. IfNone found (IsSweptOver corners.now number (S.edges status.new))) }
     ensures some { IfOk result (λ found. IfSome found (IsMeetingAt corners.now)) }
     ensures counted { AddsStep 3 (length corners.now) count.old count.new }
 {
-    let previous = corners[number].previous;
-    if let Some(meeting) = meeting_at(corners, previous, number, count) {
-        return Ok(Some(meeting));
+    let previous = previous_of(corners, number);
+    if let Some(pair) = meeting_at(corners, previous, number, count) {
+        return Ok(Some(pair));
     }
     let (lower, upper) = in_order(corners, number, count);
     let place = place_of(corners, number, status, count);
-    if let Some(meeting) = meeting_below(corners, lower, place, status, count) {
-        return Ok(Some(meeting));
+    if let Some(pair) = meeting_below(corners, lower, place, status, count) {
+        return Ok(Some(pair));
     }
-    if let Some(meeting) = meeting_above(corners, upper, place, status, count) {
-        return Ok(Some(meeting));
+    if let Some(pair) = meeting_above(corners, upper, place, status, count) {
+        return Ok(Some(pair));
     }
     status.insert(place, upper, count)?;
     status.insert(place, lower, count)?;
@@ -51,19 +50,20 @@ fn in_order(corners: &[Corner], number: usize, count: &mut Count) -> (usize, usi
     requires linked { AreLinked corners.now }
     requires in_range { AreInRange corners.now }
     requires number { number < length corners.now }
-    requires begin { BeginThere (plan_of corners.now) (position_at corners.now number) (corner_at corners.now number).previous number }
-    requires tested { Tested (plan_of corners.now) (corner_at corners.now number).previous number }
-    ensures pair { (result ≡ ((corner_at corners.now number).previous, number)) ⊎ (result ≡ (number, (corner_at corners.now number).previous)) }
+    requires begin { BeginThere (plan_of corners.now) (position_at corners.now number) (previous_at corners.now number) number }
+    requires tested { Tested (plan_of corners.now) (previous_at corners.now number) number }
+    ensures pair { (result ≡ (previous_at corners.now number, number)) ⊎ (result ≡ (number, previous_at corners.now number)) }
     ensures begin { BothBegin (plan_of corners.now) (position_at corners.now number) result.0 result.1 }
     ensures counted { AddsWork 0 1 0 count.old count.new }
 {
-    let corner = corners[number];
-    let before = corners[corner.previous].position;
-    let behind = corners[corner.next].position;
+    let previous = previous_of(corners, number);
+    let position = corners[number].position;
+    let before = corners[previous].position;
+    let behind = corners[next_of(corners, number)].position;
     count.tick_probe();
-    if orient(corner.position, before, behind) > 0 {
-        (corner.previous, number)
+    if orient(position, before, behind) > 0 {
+        (previous, number)
     } else {
-        (number, corner.previous)
+        (number, previous)
     }
 }

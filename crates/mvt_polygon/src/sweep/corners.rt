@@ -1,27 +1,29 @@
 //! The vertices of rings in one list, each with the edge that begins in it.
 ghost use Rattle.std.specs.Prelude.{◌≡◌, ◌≢◌, ◌<◌, ◌^◌, IfOk, IfNone, IfSome, OnOk, suc, length, take};
-ghost use Rattle.mvt_plane.specs.Ring.{next_round};
 ghost use Rattle.mvt_polygon.specs.CornerOrder.{AddsWork};
-ghost use Rattle.mvt_polygon.specs.Corners.{AreCorners, AreLinked, IsMeetingAt, edge_at, plan_of, previous_round, shared_at, vertex_count};
+ghost use Rattle.mvt_polygon.specs.Corners.{AreCorners, AreLinked, IsMeetingAt, edge_at, far_end_of, next_at, plan_of, previous_at, shared_at, vertex_count};
 ghost use Rattle.mvt_polygon.specs.Rings.{rings_of};
 ghost use Rattle.mvt_polygon.specs.Sweep.{Tested};
 
-use crate::meeting::Meeting;
-use mvt_plane::{Count, Edge, Point, common};
+use mvt_plane::{Count, Edge, Hpoint, Point, common};
 use std::alloc::{AllocError, Global};
 
 /// A vertex of a ring. Its number in the list of all corners is also that of the edge that begins in it.
 #[derive(Clone, Copy)]
 pub(crate) struct Corner {
     pub(crate) position: Point,
-    /// The corner where its edge ends.
-    pub(crate) next: usize,
-    /// The corner whose edge ends here.
-    pub(crate) previous: usize,
-    /// The ordinal of its ring, counted from 0.
-    pub(crate) ring: usize,
-    /// Its ordinal in the ring, counted from 0.
-    pub(crate) edge: usize,
+    /// For the first corner of a ring the number of its last one, for the last one that of the first; for the
+    /// others their own.
+    pub(crate) far_end: usize,
+}
+
+/// Two edges that meet wrongly, by their numbers, the lesser one first.
+#[derive(Clone, Copy)]
+pub(crate) struct Pair {
+    pub(crate) first: usize,
+    pub(crate) second: usize,
+    /// The point that they have in common, as `common` names it for the first and the second edge.
+    pub(crate) point: Hpoint,
 }
 
 /// The corners of rings, ring by ring. The only error is that memory was refused, or that there are more of
@@ -64,31 +66,58 @@ fn add_corners(
     for edge in 0..vertices.len() {
         corners.push(Corner {
             position: vertices[edge],
-            next: before + next_round(vertices.len(), edge),
-            previous: before + previous_round(vertices.len(), edge),
-            ring,
-            edge,
+            far_end: before + far_end_of(vertices.len(), edge),
         })?;
     }
     Ok(())
 }
 
-/// The number behind this one, going round: behind the last one comes 0.
-pub(crate) fn next_round(count: usize, number: usize) -> usize
+/// In a ring of so many corners the number of the last one for the first, of the first for the last, and for the others
+/// their own.
+fn far_end_of(count: usize, number: usize) -> usize
     requires { number < count }
-    ensures value { result ≡ next_round count number }
+    ensures value { result ≡ far_end_of count number }
     ensures within { result < count }
 {
-    if number + 1 == count { 0 } else { number + 1 }
+    if number == 0 {
+        count - 1
+    } else if number + 1 == count {
+        0
+    } else {
+        number
+    }
 }
 
-/// The number before this one, going round: before 0 comes the last one.
-fn previous_round(count: usize, number: usize) -> usize
-    requires { number < count }
-    ensures value { result ≡ previous_round count number }
-    ensures within { result < count }
+/// The number of the corner behind this one in its ring, where its edge ends.
+#[inline]
+pub(crate) fn next_of(corners: &[Corner], number: usize) -> usize
+    requires linked { AreLinked corners.now }
+    requires known { number < length corners.now }
+    ensures value { result ≡ next_at corners.now number }
+    ensures within { result < length corners.now }
 {
-    if number == 0 { count - 1 } else { number - 1 }
+    let far_end = corners[number].far_end;
+    if far_end < number {
+        far_end
+    } else {
+        number + 1
+    }
+}
+
+/// The number of the corner before this one in its ring, whose edge ends in it.
+#[inline]
+pub(crate) fn previous_of(corners: &[Corner], number: usize) -> usize
+    requires linked { AreLinked corners.now }
+    requires known { number < length corners.now }
+    ensures value { result ≡ previous_at corners.now number }
+    ensures within { result < length corners.now }
+{
+    let far_end = corners[number].far_end;
+    if number < far_end {
+        far_end
+    } else {
+        number - 1
+    }
 }
 
 /// The wrong meeting of two different edges, if they have one: one test, of the edges in the order of their numbers.
@@ -97,7 +126,7 @@ pub(crate) fn meeting_at(
     one: usize,
     other: usize,
     count: &mut Count,
-) -> Option<Meeting>
+) -> Option<Pair>
     requires linked { AreLinked corners.now }
     requires one { one < length corners.now }
     requires other { other < length corners.now }
@@ -119,7 +148,7 @@ fn meeting_in_order(
     first: usize,
     second: usize,
     count: &mut Count,
-) -> Option<Meeting>
+) -> Option<Pair>
     requires linked { AreLinked corners.now }
     requires in_order { first < second }
     requires known { second < length corners.now }
@@ -134,38 +163,37 @@ fn meeting_in_order(
         shared,
         count,
     )?;
-    Some(Meeting {
-        first_ring: corners[first].ring,
-        first_edge: corners[first].edge,
-        second_ring: corners[second].ring,
-        second_edge: corners[second].edge,
+    Some(Pair {
+        first,
+        second,
         point,
     })
 }
 
 /// The edge that begins in the corner of this number.
+#[inline]
 fn edge_at(corners: &[Corner], number: usize) -> Edge
     requires linked { AreLinked corners.now }
     requires known { number < length corners.now }
     ensures { result ≡ edge_at corners.now number }
 {
-    let corner = corners[number];
     Edge {
-        a: corner.position,
-        b: corners[corner.next].position,
+        a: corners[number].position,
+        b: corners[next_of(corners, number)].position,
     }
 }
 
 /// The vertex that two edges share as neighbours in a ring.
 fn shared_at(corners: &[Corner], first: usize, second: usize) -> Option<Point>
+    requires linked { AreLinked corners.now }
     requires first { first < length corners.now }
     requires second { second < length corners.now }
     ensures { result ≡ shared_at corners.now first second }
 {
-    if corners[first].next == second {
+    if next_of(corners, first) == second {
         return Some(corners[second].position);
     }
-    if corners[second].next == first {
+    if next_of(corners, second) == first {
         return Some(corners[first].position);
     }
     None

@@ -2,11 +2,10 @@
 //! both end.
 ghost use Rattle.std.specs.Prelude.{◌<◌, IfNone, IfSome, IfOk, length};
 ghost use Rattle.mvt_polygon.specs.CornerOrder.{AddsStep, IsNextCorner, IsSweptOver};
-ghost use Rattle.mvt_polygon.specs.Corners.{AreInRange, AreLinked, IsMeetingAt, corner_at, plan_of, position_at};
+ghost use Rattle.mvt_polygon.specs.Corners.{AreInRange, AreLinked, IsMeetingAt, plan_of, position_at, previous_at};
 ghost use Rattle.mvt_polygon.specs.Sweep.{BothEnd, PassesOn};
 
-use crate::meeting::Meeting;
-use crate::sweep::corners::Corner;
+use crate::sweep::corners::{Corner, Pair};
 use crate::sweep::neighbors::{meeting_above, meeting_across, meeting_below};
 use crate::sweep::place::place_of;
 use mvt_plane::Count;
@@ -21,7 +20,7 @@ pub(crate) fn pass<S: Status>(
     beginning: usize,
     status: &mut S,
     count: &mut Count,
-) -> Result<Option<Meeting>, AllocError>
+) -> Result<Option<Pair>, AllocError>
     requires linked { AreLinked corners.now }
     requires in_range { AreInRange corners.now }
     requires number { number < length corners.now }
@@ -33,11 +32,11 @@ pub(crate) fn pass<S: Status>(
 {
     let place = place_of(corners, number, status, count);
     status.remove(place, count);
-    if let Some(meeting) = meeting_below(corners, beginning, place, status, count) {
-        return Ok(Some(meeting));
+    if let Some(pair) = meeting_below(corners, beginning, place, status, count) {
+        return Ok(Some(pair));
     }
-    if let Some(meeting) = meeting_above(corners, beginning, place, status, count) {
-        return Ok(Some(meeting));
+    if let Some(pair) = meeting_above(corners, beginning, place, status, count) {
+        return Ok(Some(pair));
     }
     status.insert(place, beginning, count)?;
     Ok(None)
@@ -49,12 +48,12 @@ pub(crate) fn end<S: Status>(
     number: usize,
     status: &mut S,
     count: &mut Count,
-) -> Option<Meeting>
+) -> Option<Pair>
     requires linked { AreLinked corners.now }
     requires in_range { AreInRange corners.now }
     requires number { number < length corners.now }
-    requires next { IsNextCorner corners.now number (corner_at corners.now number).previous number (S.edges status.old) }
-    requires ends { BothEnd (plan_of corners.now) (position_at corners.now number) (corner_at corners.now number).previous number }
+    requires next { IsNextCorner corners.now number (previous_at corners.now number) number (S.edges status.old) }
+    requires ends { BothEnd (plan_of corners.now) (position_at corners.now number) (previous_at corners.now number) number }
     ensures none { IfNone result (IsSweptOver corners.now number (S.edges status.new)) }
     ensures some { IfSome result (IsMeetingAt corners.now) }
     ensures counted { AddsStep 1 (length corners.now) count.old count.new }

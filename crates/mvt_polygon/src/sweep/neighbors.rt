@@ -6,8 +6,7 @@ ghost use Rattle.mvt_polygon.specs.Corners.{AreLinked, IsMeetingAt, plan_of};
 ghost use Rattle.mvt_polygon.specs.Sweep.{Tested};
 ghost use Rattle.mvt_status.specs.Counts.{bits};
 
-use crate::meeting::Meeting;
-use crate::sweep::corners::{Corner, meeting_at};
+use crate::sweep::corners::{Corner, Pair, meeting_at};
 use mvt_plane::Count;
 use mvt_status::Status;
 
@@ -18,7 +17,7 @@ pub(crate) fn meeting_below<S: Status>(
     place: usize,
     status: &S,
     count: &mut Count,
-) -> Option<Meeting>
+) -> Option<Pair>
     requires linked { AreLinked corners.now }
     requires edge { edge < length corners.now }
     requires place { place ≤ length (S.edges status.now) }
@@ -42,7 +41,7 @@ pub(crate) fn meeting_above<S: Status>(
     place: usize,
     status: &S,
     count: &mut Count,
-) -> Option<Meeting>
+) -> Option<Pair>
     requires linked { AreLinked corners.now }
     requires edge { edge < length corners.now }
     requires place { place ≤ length (S.edges status.now) }
@@ -65,7 +64,7 @@ pub(crate) fn meeting_across<S: Status>(
     place: usize,
     status: &S,
     count: &mut Count,
-) -> Option<Meeting>
+) -> Option<Pair>
     requires linked { AreLinked corners.now }
     requires place { place ≤ length (S.edges status.now) }
     requires few { length (S.edges status.now) ≤ length corners.now }

@@ -6,7 +6,7 @@ ghost use Rattle.mvt_polygon.specs.Corners.{AreInRange, AreLinked, plan_of, posi
 ghost use Rattle.mvt_polygon.specs.Sweep.{IsCut, IsUnder};
 ghost use Rattle.mvt_status.specs.Counts.{bits};
 
-use crate::sweep::corners::Corner;
+use crate::sweep::corners::{Corner, next_of};
 use mvt_plane::{Count, Point, orient, sweep_key};
 use mvt_status::Status;
 
@@ -38,17 +38,18 @@ pub(crate) fn place_of<S: Status>(
 }
 
 /// Whether an edge is below a position.
+#[inline]
 fn is_below(corners: &[Corner], edge: usize, position: Point) -> bool
     requires linked { AreLinked corners.now }
     requires in_range { AreInRange corners.now }
     requires edge { edge < length corners.now }
     ensures { IsTrue result ↔ IsUnder (plan_of corners.now) position edge }
 {
-    let corner = corners[edge];
-    let next = corners[corner.next].position;
-    if sweep_key(corner.position) < sweep_key(next) {
-        orient(corner.position, next, position) > 0
+    let from = corners[edge].position;
+    let to = corners[next_of(corners, edge)].position;
+    if sweep_key(from) < sweep_key(to) {
+        orient(from, to, position) > 0
     } else {
-        orient(next, corner.position, position) > 0
+        orient(to, from, position) > 0
     }
 }

@@ -1,18 +1,32 @@
 use Rattle.std.proofs.Common.{List, sym, ◌∙◌, subst}
 use Rattle.mvt_plane.specs.Meeting.{EdgeNumber, MeetsWrongly}
 use Rattle.mvt_plane.specs.RationalPoint.{RationalPoint}
-use Rattle.mvt_polygon.specs.CornerOrder.{AreTogether}
+use Rattle.mvt_polygon.specs.CornerOrder.{AreTogether, IsOrder, IsStrict}
 use Rattle.mvt_polygon.specs.Corners.{AreCorners}
 use Rattle.mvt_polygon.specs.Rings.{rings_of}
 use Rattle.mvt_polygon.specs.declared.sweep.corners.Corner.{Corner}
-use Rattle.mvt_polygon.proofs.CornerPlans.{linked_corners}
-use Rattle.mvt_polygon.proofs.MeetingsFound.{some_told, swept_some, swept_none, together_found}
+use Rattle.mvt_polygon.proofs.CornerPlans.{linked_corners, none_of_rings}
+use Rattle.mvt_polygon.proofs.MeetingsFound.{first_within, second_within, some_told, none_told, together_found}
+use Rattle.mvt_polygon.proofs.MeetingsTold.{none_map}
+use Rattle.mvt_polygon.proofs.NumbersInOrder.{order_kept, strict_kept}
 use Rattle.mvt_polygon.proofs.meeting.find_meeting_with.Goals as goal
 
 pub meeting_at-requires-clause-linked : goal.meeting_at-requires-clause-linked
 meeting_at-requires-clause-linked g c =
     let rings = rings_of c.args.rings.now in
     linked_corners rings c.deref-in-Some.result.now c.requires.rings (subst (AreCorners rings) (sym c.deref-in-Some.ensures.value) c.in_ok-corners.ensures)
+
+pub told-requires-clause-first : goal.told-requires-clause-first
+told-requires-clause-first g c =
+    let rings = rings_of c.args.rings.now in
+    let corners = c.deref-in-Some.result.now in
+    first_within rings corners c.meeting_at.result (subst (AreCorners rings) (sym c.deref-in-Some.ensures.value) c.in_ok-corners.ensures) c.meeting_at.ensures.some
+
+pub told-requires-clause-second : goal.told-requires-clause-second
+told-requires-clause-second g c =
+    let rings = rings_of c.args.rings.now in
+    let corners = c.deref-in-Some.result.now in
+    second_within rings corners c.meeting_at.result (subst (AreCorners rings) (sym c.deref-in-Some.ensures.value) c.in_ok-corners.ensures) c.meeting_at.ensures.some
 
 pub returns-in-Some-clause-none : goal.returns-in-Some-clause-none
 returns-in-Some-clause-none g c =
@@ -21,26 +35,53 @@ returns-in-Some-clause-none g c =
     let are = subst (AreCorners rings) (sym c.deref-in-Some.ensures.value) c.in_ok-corners.ensures in
     let together = subst (λ (its : List Corner). AreTogether its c.in-Some.first c.in-Some.second) (c.deref-2.ensures.value ∙ sym c.deref-in-Some.ensures.value)
     (rw c.in-Some.is at c.one_position.ensures.some) in
-    together_found corners c.in-Some.first c.in-Some.second c.meeting_at.result ((first second : EdgeNumber) (point : RationalPoint) → ¬ MeetsWrongly rings first second point)
-    (linked_corners rings corners c.requires.rings are) together c.meeting_at.ensures.none
+    let none = (first second : EdgeNumber) (point : RationalPoint) → ¬ MeetsWrongly rings first second point in
+    none_told c.meeting_at.result c.told.result none c.told.ensures.none
+    (together_found corners c.in-Some.first c.in-Some.second c.meeting_at.result none (linked_corners rings corners c.requires.rings are) together c.meeting_at.ensures.none)
 
 pub returns-in-Some-clause-some : goal.returns-in-Some-clause-some
 returns-in-Some-clause-some g c =
     let rings = rings_of c.args.rings.now in
-    some_told rings c.deref-in-Some.result.now c.meeting_at.result c.requires.rings (subst (AreCorners rings) (sym c.deref-in-Some.ensures.value) c.in_ok-corners.ensures)
-    c.meeting_at.ensures.some
+    some_told rings c.deref-in-Some.result.now c.meeting_at.result c.told.result c.requires.rings
+    (subst (AreCorners rings) (sym c.deref-in-Some.ensures.value) c.in_ok-corners.ensures)
+    c.meeting_at.ensures.some c.told.ensures.some
 
 pub sweep-requires-clause-linked : goal.sweep-requires-clause-linked
 sweep-requires-clause-linked g c =
     let rings = rings_of c.args.rings.now in
     linked_corners rings c.deref-4.result.now c.requires.rings (subst (AreCorners rings) (sym c.deref-4.ensures.value) c.in_ok-corners.ensures)
 
+pub told-requires-2-clause-first : goal.told-requires-2-clause-first
+told-requires-2-clause-first g c =
+    let rings = rings_of c.args.rings.now in
+    first_within rings c.deref-4.result.now c.in_ok-found.found (subst (AreCorners rings) (sym c.deref-4.ensures.value) c.in_ok-corners.ensures) c.in_ok-found.ensures.some
+
+pub told-requires-2-clause-second : goal.told-requires-2-clause-second
+told-requires-2-clause-second g c =
+    let rings = rings_of c.args.rings.now in
+    second_within rings c.deref-4.result.now c.in_ok-found.found (subst (AreCorners rings) (sym c.deref-4.ensures.value) c.in_ok-corners.ensures) c.in_ok-found.ensures.some
+
 pub returns-clause-none : goal.returns-clause-none
 returns-clause-none g c =
     let rings = rings_of c.args.rings.now in
-    swept_none rings c.deref-4.result.now c.sweep.result c.requires.rings (subst (AreCorners rings) (sym c.deref-4.ensures.value) c.in_ok-corners.ensures) c.sweep.ensures.none
+    let corners = c.deref-4.result.now in
+    let are = subst (AreCorners rings) (sym c.deref-4.ensures.value) c.in_ok-corners.ensures in
+    none_told c.in_ok-found.found c.told-2.result ((first second : EdgeNumber) (point : RationalPoint) → ¬ MeetsWrongly rings first second point) c.told-2.ensures.none
+    (none_map c.in_ok-found.found (none_of_rings rings corners c.requires.rings are) c.in_ok-found.ensures.none)
 
 pub returns-clause-some : goal.returns-clause-some
 returns-clause-some g c =
     let rings = rings_of c.args.rings.now in
-    swept_some rings c.deref-4.result.now c.sweep.result c.requires.rings (subst (AreCorners rings) (sym c.deref-4.ensures.value) c.in_ok-corners.ensures) c.sweep.ensures.some
+    some_told rings c.deref-4.result.now c.in_ok-found.found c.told-2.result c.requires.rings (subst (AreCorners rings) (sym c.deref-4.ensures.value) c.in_ok-corners.ensures)
+    c.in_ok-found.ensures.some c.told-2.ensures.some
+
+pub sweep-requires-clause-order : goal.sweep-requires-clause-order
+sweep-requires-clause-order g c =
+    let order = subst (λ (corners : List Corner). IsOrder corners c.in_ok-order.order.items) (c.deref.ensures.value ∙ sym c.deref-4.ensures.value) c.in_ok-order.ensures.order in
+    order_kept c.deref-4.result.now c.in_ok-order.order.items c.deref-5.result.now order (c.deref-5.ensures.value ∙ c.in_ok-order-2.ensures)
+
+pub sweep-requires-clause-strict : goal.sweep-requires-clause-strict
+sweep-requires-clause-strict g c =
+    let order = subst (λ (corners : List Corner). IsOrder corners c.in_ok-order.order.items) (c.deref.ensures.value ∙ sym c.deref-4.ensures.value) c.in_ok-order.ensures.order in
+    strict_kept c.deref-4.result.now c.in_ok-order.order.items c.deref-5.result.now order (c.deref-5.ensures.value ∙ c.in_ok-order-2.ensures)
+    (subst IsStrict c.deref-3.ensures.value (rw c.in_default.is at c.one_position.ensures.none))

@@ -1,8 +1,7 @@
 //! Meetings in generated rings: the sweep finds one where a test of all pairs of edges does.
 ghost use Rattle.mvt_polygon.specs.Rings.{rings_of, AreProperRings};
 
-use super::{Meeting, are_drawn, edge_of, meeting_in};
-use crate::sweep::corners::next_round;
+use super::{Meeting, are_drawn, edge_of, meeting_in, next_round};
 use mvt_plane::{Count, Edge, Hpoint, Point, common};
 use std::alloc::{AllocError, Global};
 use std::process::Abort;

@@ -1,6 +1,5 @@
-use Rattle.std.proofs.Common.{◌<◌, ℕ, List, length, slice_index_or, subst}
-use Rattle.std.proofs.lemmas.List.{get_or_default}
-use Rattle.mvt_polygon.specs.Corners.{corner_at, no_corner, plan_of, position_at}
+use Rattle.std.proofs.Common.{◌≡◌, ℕ, List, length, subst}
+use Rattle.mvt_polygon.specs.Corners.{plan_of, position_at, previous_at}
 use Rattle.mvt_polygon.specs.Sweep.{Tested}
 use Rattle.mvt_polygon.specs.declared.sweep.corners.Corner.{Corner}
 use Rattle.mvt_polygon.proofs.BeginSteps.{few_between, work_first, work_second, work_so_far}
@@ -10,13 +9,11 @@ use Rattle.mvt_polygon.proofs.StatusPlaces.{all_known, others_known, begin_in_or
 use Rattle.mvt_polygon.proofs.SweepSlabs.{split}
 use Rattle.mvt_polygon.proofs.sweep.begin.begin.Goals as goal
 
--- two edges that were tested, the one as the code reads it
-tested_read : (corners : List Corner) (number : ℕ) (it : Corner) → number < length corners
-    → Tested (plan_of corners) (slice_index_or corners number it).previous number × Tested (plan_of corners) number (slice_index_or corners number it).previous
-    → Tested (plan_of corners) (corner_at corners number).previous number × Tested (plan_of corners) number (corner_at corners number).previous
-tested_read corners number it within tested =
-    subst (λ (corner : Corner). Tested (plan_of corners) corner.previous number × Tested (plan_of corners) number corner.previous)
-    (get_or_default corners number it no_corner within) tested
+-- two edges that were tested, the one as the code has it
+tested_read : (corners : List Corner) (number previous : ℕ) → previous ≡ previous_at corners number
+    → Tested (plan_of corners) previous number × Tested (plan_of corners) number previous
+    → Tested (plan_of corners) (previous_at corners number) number × Tested (plan_of corners) number (previous_at corners number)
+tested_read corners number previous is tested = subst (λ (it : ℕ). Tested (plan_of corners) it number × Tested (plan_of corners) number it) is tested
 
 pub place_of-place-requires-clause-known : goal.place_of-place-requires-clause-known
 place_of-place-requires-clause-known g c = all_known (plan_of c.args.corners.now) c.requires.next.key (g.S.Status.edges c.args.status.now) c.requires.next.swept
@@ -28,7 +25,7 @@ place_of-place-requires-clause-few g c =
 
 pub place_of-place-requires-clause-cut : goal.place_of-place-requires-clause-cut
 place_of-place-requires-clause-cut g c =
-    split (plan_of c.args.corners.now) c.requires.next.key (position_at c.args.corners.now c.args.number) (corner_at c.args.corners.now c.args.number).previous c.args.number
+    split (plan_of c.args.corners.now) c.requires.next.key (position_at c.args.corners.now c.args.number) (previous_at c.args.corners.now c.args.number) c.args.number
     (g.S.Status.edges c.args.status.now) (plan_of_corners c.args.corners.now c.requires.linked c.requires.in_range) c.requires.next.swept c.requires.next.event
 
 pub meeting_below-requires-clause-few : goal.meeting_below-requires-clause-few
@@ -69,9 +66,9 @@ returns-in_err-insert-2-clause-counted g c =
     let is_plan = plan_of_corners corners c.requires.linked c.requires.in_range in
     let edges = g.S.Status.edges c.args.status.now in
     let few = few_swept (plan_of corners) c.requires.next.key edges is_plan c.requires.next.swept in
-    let tested = tested_read corners c.args.number c.index-corners-number.result c.requires.number c.in_default.ensures.none in
+    let tested = tested_read corners c.args.number c.previous_of-previous.result c.previous_of-previous.ensures.value c.in_default.ensures.none in
     work_second (length (g.S.Status.edges c.insert.new.self)) (length corners) c.args.count.now c.insert.new.count c.insert-2.new.count
-    (few_between (plan_of corners) c.requires.next.key (position_at corners c.args.number) (corner_at corners c.args.number).previous c.args.number c.in_order-lower.result
+    (few_between (plan_of corners) c.requires.next.key (position_at corners c.args.number) (previous_at corners c.args.number) c.args.number c.in_order-lower.result
     c.place_of-place.result
     edges (g.S.Status.edges c.insert.new.self) is_plan c.requires.next.swept c.requires.next.event c.in_order-lower.ensures.pair c.in_order-lower.ensures.begin
     c.place_of-place.ensures.within c.place_of-place.ensures.cut tested c.in_default-meeting_below.ensures.none c.in_default-meeting_above.ensures.none c.in_ok-insert.ensures.list)
@@ -84,8 +81,8 @@ pub returns-clause-none : goal.returns-clause-none
 returns-clause-none g c =
     let corners = c.args.corners.now in
     let is_plan = plan_of_corners corners c.requires.linked c.requires.in_range in
-    let tested = tested_read corners c.args.number c.index-corners-number.result c.requires.number c.in_default.ensures.none in
-    begin_in_order (plan_of corners) c.requires.next.key (position_at corners c.args.number) (corner_at corners c.args.number).previous c.args.number c.in_order-lower.result
+    let tested = tested_read corners c.args.number c.previous_of-previous.result c.previous_of-previous.ensures.value c.in_default.ensures.none in
+    begin_in_order (plan_of corners) c.requires.next.key (position_at corners c.args.number) (previous_at corners c.args.number) c.args.number c.in_order-lower.result
     c.place_of-place.result
     (g.S.Status.edges c.args.status.now) (g.S.Status.edges c.insert.new.self) (g.S.Status.edges c.insert-2.new.self) is_plan c.requires.next.swept c.requires.next.event
     c.in_order-lower.ensures.pair c.in_order-lower.ensures.begin c.place_of-place.ensures.within c.place_of-place.ensures.cut tested c.in_default-meeting_below.ensures.none
@@ -97,9 +94,9 @@ returns-clause-counted g c =
     let is_plan = plan_of_corners corners c.requires.linked c.requires.in_range in
     let edges = g.S.Status.edges c.args.status.now in
     let few = few_swept (plan_of corners) c.requires.next.key edges is_plan c.requires.next.swept in
-    let tested = tested_read corners c.args.number c.index-corners-number.result c.requires.number c.in_default.ensures.none in
+    let tested = tested_read corners c.args.number c.previous_of-previous.result c.previous_of-previous.ensures.value c.in_default.ensures.none in
     work_second (length (g.S.Status.edges c.insert.new.self)) (length corners) c.args.count.now c.insert.new.count c.insert-2.new.count
-    (few_between (plan_of corners) c.requires.next.key (position_at corners c.args.number) (corner_at corners c.args.number).previous c.args.number c.in_order-lower.result
+    (few_between (plan_of corners) c.requires.next.key (position_at corners c.args.number) (previous_at corners c.args.number) c.args.number c.in_order-lower.result
     c.place_of-place.result
     edges (g.S.Status.edges c.insert.new.self) is_plan c.requires.next.swept c.requires.next.event c.in_order-lower.ensures.pair c.in_order-lower.ensures.begin
     c.place_of-place.ensures.within c.place_of-place.ensures.cut tested c.in_default-meeting_below.ensures.none c.in_default-meeting_above.ensures.none c.in_ok-insert.ensures.list)

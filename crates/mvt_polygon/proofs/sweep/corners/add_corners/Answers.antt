@@ -1,7 +1,6 @@
 use Rattle.std.proofs.Common.{◌≡◌, ◌<◌, ◌+◌, ℕ, suc, take, length, refl, ◌∙◌, ap, subst, arith}
 use Rattle.std.proofs.lemmas.Option.{slice_get_read}
-use Rattle.mvt_plane.specs.Ring.{next_round}
-use Rattle.mvt_polygon.specs.Corners.{previous_round, vertex_count}
+use Rattle.mvt_polygon.specs.Corners.{far_end_of, vertex_count}
 use Rattle.mvt_polygon.specs.Rings.{rings_of}
 use Rattle.mvt_polygon.proofs.CornerNumbers.{AreFirst, first_more, first_of_whole, whole_of_first, count_step, corner_of_ring}
 use Rattle.mvt_polygon.proofs.RingsThere.{ring_there}
@@ -22,9 +21,8 @@ loop-edge-preserved c =
     let before : c.len-before.result ≡ vertex_count (take c.args.ring rings) = omega (arith, c.requires.before.count, c.len-before.ensures, c.args.corners.now.ok.0) in
     let within : c.loop-edge.edge < length ring.items = omega (arith, c.loop-edge-test.true, c.len-edge-end.ensures, ring.ok.0) in
     let here = slice_get_read ring.items (length ring.items) c.loop-edge.edge c.index.result.now refl within c.index.ensures in
-    let next = c.next_round.ensures.value ∙ ap (λ (n : ℕ). next_round n c.loop-edge.edge) (c.len.ensures ∙ ring.ok.0) in
-    let previous = c.previous_round.ensures.value ∙ ap (λ (n : ℕ). previous_round n c.loop-edge.edge) (c.len-in-loop-edge.ensures ∙ ring.ok.0) in
-    let is = corner_of_ring rings c.args.ring ring.items c.loop-edge.edge c.len-before.result c.next_round.result c.previous_round.result c.index.result.now there here before next previous in
+    let far_end = c.far_end_of.ensures.value ∙ ap (λ (n : ℕ). far_end_of n c.loop-edge.edge) (c.len.ensures ∙ ring.ok.0) in
+    let is = corner_of_ring rings c.args.ring ring.items c.loop-edge.edge c.len-before.result c.far_end_of.result c.index.result.now there within here before far_end in
     let many : c.len-before.result + (c.loop-edge.edge + 1) ≡ c.len-before.result + c.loop-edge.edge + 1 = omega arith in
     first_more rings (c.len-before.result + c.loop-edge.edge) (c.len-before.result + (c.loop-edge.edge + 1)) c.loop-edge.corners.items c.push.new.self.items _ c.loop-edge.invariant is many
     c.in_ok-push.ensures.items

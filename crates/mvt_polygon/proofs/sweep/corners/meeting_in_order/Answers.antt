@@ -2,7 +2,7 @@ use Rattle.std.proofs.Common.{IfNone, Option, sym, subst}
 use Rattle.mvt_plane.specs.CommonPoint.{IsNamed}
 use Rattle.mvt_polygon.specs.Corners.{plan_of}
 use Rattle.mvt_polygon.specs.Sweep.{Tested}
-use Rattle.mvt_polygon.specs.declared.meeting.Meeting.{Meeting}
+use Rattle.mvt_polygon.specs.declared.sweep.corners.Pair.{Pair}
 use Rattle.mvt_polygon.proofs.CornerPlans.{named_of_corners, tested_by_name}
 use Rattle.mvt_polygon.proofs.sweep.corners.meeting_in_order.Goals as goal
 
@@ -14,4 +14,4 @@ returns-in_err-point-clause-none c =
     let named = subst (IsNamed c.shared_at-shared.result c.edge_at.result c.edge_at-2.result) c.in_err-point.was c.common.ensures.point in
     let tested = tested_by_name corners first second
     (named_of_corners corners first second c.shared_at-shared.result c.edge_at.result c.edge_at-2.result _ c.shared_at-shared.ensures c.edge_at.ensures c.edge_at-2.ensures named) in
-    subst (λ (it : Option Meeting). IfNone it (Tested (plan_of corners) first second)) (sym c.from_residual.ensures) tested
+    subst (λ (it : Option Pair). IfNone it (Tested (plan_of corners) first second)) (sym c.from_residual.ensures) tested

@@ -1,5 +1,5 @@
 use Rattle.std.proofs.Common.{◌<◌, refl, take, drop, length, remove, ◌∷◌, ℕ, arith}
-use Rattle.mvt_polygon.specs.Corners.{plan_of, position_at, corner_at}
+use Rattle.mvt_polygon.specs.Corners.{plan_of, position_at, previous_at}
 use Rattle.mvt_polygon.proofs.ChainParts.{each_by_has}
 use Rattle.mvt_polygon.proofs.CornerPlans.{plan_of_corners}
 use Rattle.mvt_polygon.proofs.MeetingsTold.{none_map}
@@ -18,7 +18,7 @@ place_of-place-requires-clause-few g c =
 
 pub place_of-place-requires-clause-cut : goal.place_of-place-requires-clause-cut
 place_of-place-requires-clause-cut g c =
-    split (plan_of c.args.corners.now) c.requires.next.key (position_at c.args.corners.now c.args.number) (corner_at c.args.corners.now c.args.number).previous c.args.number
+    split (plan_of c.args.corners.now) c.requires.next.key (position_at c.args.corners.now c.args.number) (previous_at c.args.corners.now c.args.number) c.args.number
     (g.S.Status.edges c.args.status.now) (plan_of_corners c.args.corners.now c.requires.linked c.requires.in_range) c.requires.next.swept c.requires.next.event
 
 pub remove-requires : goal.remove-requires
@@ -26,7 +26,8 @@ remove-requires g c =
     let edges = g.S.Status.edges c.args.status.now in
     let place = c.place_of-place.result in
     let is_plan = plan_of_corners c.args.corners.now c.requires.linked c.requires.in_range in
-    let pair = ends_in_order (plan_of c.args.corners.now) c.requires.next.key (position_at c.args.corners.now c.args.number) (corner_at c.args.corners.now c.args.number).previous c.args.number
+    let pair = ends_in_order (plan_of c.args.corners.now) c.requires.next.key (position_at c.args.corners.now c.args.number) (previous_at c.args.corners.now c.args.number)
+    c.args.number
     edges (take place edges) (drop place edges) is_plan c.requires.next.swept c.requires.next.event c.requires.ends c.place_of-place.ensures.cut in
     (takes_out edges (remove edges place) place pair.one (pair.other ∷ pair.back) c.place_of-place.ensures.within pair.first refl).within
 
@@ -35,7 +36,8 @@ remove-requires-2 g c =
     let edges = g.S.Status.edges c.args.status.now in
     let place = c.place_of-place.result in
     let is_plan = plan_of_corners c.args.corners.now c.requires.linked c.requires.in_range in
-    let pair = ends_in_order (plan_of c.args.corners.now) c.requires.next.key (position_at c.args.corners.now c.args.number) (corner_at c.args.corners.now c.args.number).previous c.args.number
+    let pair = ends_in_order (plan_of c.args.corners.now) c.requires.next.key (position_at c.args.corners.now c.args.number) (previous_at c.args.corners.now c.args.number)
+    c.args.number
     edges (take place edges) (drop place edges) is_plan c.requires.next.swept c.requires.next.event c.requires.ends c.place_of-place.ensures.cut in
     let out = takes_out edges (g.S.Status.edges c.remove.new.self) place pair.one (pair.other ∷ pair.back) c.place_of-place.ensures.within pair.first c.remove.ensures.list in
     (takes_out (g.S.Status.edges c.remove.new.self) (remove (g.S.Status.edges c.remove.new.self) place) place pair.other pair.back out.fits out.rest refl).within
@@ -53,7 +55,8 @@ meeting_across-requires-clause-known g c =
     let edges = g.S.Status.edges c.args.status.now in
     let place = c.place_of-place.result in
     let is_plan = plan_of_corners c.args.corners.now c.requires.linked c.requires.in_range in
-    let pair = ends_in_order (plan_of c.args.corners.now) c.requires.next.key (position_at c.args.corners.now c.args.number) (corner_at c.args.corners.now c.args.number).previous c.args.number
+    let pair = ends_in_order (plan_of c.args.corners.now) c.requires.next.key (position_at c.args.corners.now c.args.number) (previous_at c.args.corners.now c.args.number)
+    c.args.number
     edges (take place edges) (drop place edges) is_plan c.requires.next.swept c.requires.next.event c.requires.ends c.place_of-place.ensures.cut in
     let out = takes_out edges (g.S.Status.edges c.remove.new.self) place pair.one (pair.other ∷ pair.back) c.place_of-place.ensures.within pair.first c.remove.ensures.list in
     let next = takes_out (g.S.Status.edges c.remove.new.self) (g.S.Status.edges c.remove-2.new.self) place pair.other pair.back out.fits out.rest c.remove-2.ensures.list in
@@ -65,7 +68,8 @@ meeting_across-requires-clause-differ g c =
     let edges = g.S.Status.edges c.args.status.now in
     let place = c.place_of-place.result in
     let is_plan = plan_of_corners c.args.corners.now c.requires.linked c.requires.in_range in
-    let pair = ends_in_order (plan_of c.args.corners.now) c.requires.next.key (position_at c.args.corners.now c.args.number) (corner_at c.args.corners.now c.args.number).previous c.args.number
+    let pair = ends_in_order (plan_of c.args.corners.now) c.requires.next.key (position_at c.args.corners.now c.args.number) (previous_at c.args.corners.now c.args.number)
+    c.args.number
     edges (take place edges) (drop place edges) is_plan c.requires.next.swept c.requires.next.event c.requires.ends c.place_of-place.ensures.cut in
     let out = takes_out edges (g.S.Status.edges c.remove.new.self) place pair.one (pair.other ∷ pair.back) c.place_of-place.ensures.within pair.first c.remove.ensures.list in
     let next = takes_out (g.S.Status.edges c.remove.new.self) (g.S.Status.edges c.remove-2.new.self) place pair.other pair.back out.fits out.rest c.remove-2.ensures.list in
@@ -76,7 +80,8 @@ returns-clause-none g c =
     let edges = g.S.Status.edges c.args.status.now in
     let place = c.place_of-place.result in
     let is_plan = plan_of_corners c.args.corners.now c.requires.linked c.requires.in_range in
-    let pair = ends_in_order (plan_of c.args.corners.now) c.requires.next.key (position_at c.args.corners.now c.args.number) (corner_at c.args.corners.now c.args.number).previous c.args.number
+    let pair = ends_in_order (plan_of c.args.corners.now) c.requires.next.key (position_at c.args.corners.now c.args.number) (previous_at c.args.corners.now c.args.number)
+    c.args.number
     edges (take place edges) (drop place edges) is_plan c.requires.next.swept c.requires.next.event c.requires.ends c.place_of-place.ensures.cut in
     let out = takes_out edges (g.S.Status.edges c.remove.new.self) place pair.one (pair.other ∷ pair.back) c.place_of-place.ensures.within pair.first c.remove.ensures.list in
     let next = takes_out (g.S.Status.edges c.remove.new.self) (g.S.Status.edges c.remove-2.new.self) place pair.other pair.back out.fits out.rest c.remove-2.ensures.list in

@@ -21,20 +21,22 @@ under it first second edge turn fits ends is =
 
 pub returns-then-sweep_key : goal.returns-then-sweep_key
 returns-then-sweep_key c =
-    let one = c.index-corners-edge.result.position in
-    let other = (slice_index_or c.args.corners.now c.index-corners-edge.result.next c.index-corners-corner.result).position in
+    let one = (slice_index_or c.args.corners.now c.args.edge c.index-corners-edge.result).position in
+    let other = (slice_index_or c.args.corners.now c.next_of.result c.index-corners-next_of.result).position in
     under c.args.position one other _ c.orient.result (record { sfits = c.orient.type_inv })
-    (segment_read c.args.corners.now c.args.edge c.index-corners-edge.result c.index-corners-corner.result c.requires.linked c.requires.edge c.index-corners-edge.is
+    (segment_read c.args.corners.now c.args.edge c.next_of.result c.index-corners-edge.result c.index-corners-next_of.result c.requires.linked c.requires.edge
+    c.next_of.ensures.value
     ∙ ap (λ (rises : Bool). cond rises (segment one other) (segment other one))
     (test_of_keys one other c.sweep_key.result c.sweep_key-2.result true (record { sfits = c.sweep_key.type_inv }) (record { sfits = c.sweep_key-2.type_inv }) c.sweep_key.ensures.value c.sweep_key-2.ensures.value c.if-sweep_key.true))
     c.orient.ensures
 
 pub returns-else-sweep_key : goal.returns-else-sweep_key
 returns-else-sweep_key c =
-    let one = c.index-corners-edge.result.position in
-    let other = (slice_index_or c.args.corners.now c.index-corners-edge.result.next c.index-corners-corner.result).position in
+    let one = (slice_index_or c.args.corners.now c.args.edge c.index-corners-edge.result).position in
+    let other = (slice_index_or c.args.corners.now c.next_of.result c.index-corners-next_of.result).position in
     under c.args.position other one _ c.orient-else-sweep_key.result (record { sfits = c.orient-else-sweep_key.type_inv })
-    (segment_read c.args.corners.now c.args.edge c.index-corners-edge.result c.index-corners-corner.result c.requires.linked c.requires.edge c.index-corners-edge.is
+    (segment_read c.args.corners.now c.args.edge c.next_of.result c.index-corners-edge.result c.index-corners-next_of.result c.requires.linked c.requires.edge
+    c.next_of.ensures.value
     ∙ ap (λ (rises : Bool). cond rises (segment one other) (segment other one))
     (test_of_keys one other c.sweep_key.result c.sweep_key-2.result false (record { sfits = c.sweep_key.type_inv }) (record { sfits = c.sweep_key-2.type_inv }) c.sweep_key.ensures.value c.sweep_key-2.ensures.value c.if-sweep_key.false))
     c.orient-else-sweep_key.ensures
