@@ -3,6 +3,8 @@ use crate::verdict::{Verdict, judge};
 use mvt_fault::{Fault, RingEdge};
 use std::test::Fail;
 
+mod large;
+
 /// A tile, the edges of which the first may be named, those of which the second may, each by ring and edge,
 /// and the point where they touch.
 struct Touch {
