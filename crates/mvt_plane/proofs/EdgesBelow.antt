@@ -63,7 +63,7 @@ under_end p a b order same most =
 -- ---- an edge passes below a position or doesn't
 
 -- the edge that goes back passes below the same positions
-below_back : (p a b : Position) → PassesBelow p (record { a = a; b = b }) → PassesBelow p (record { a = b; b = a })
+pub below_back : (p a b : Position) → PassesBelow p (record { a = a; b = b }) → PassesBelow p (record { a = b; b = a })
 below_back p a b below = record { parted = other_part below.parted; above = other_way below.above }
   where
     other_part : Differ (key_of a <ℤ key_of p) (key_of b <ℤ key_of p) → Differ (key_of b <ℤ key_of p) (key_of a <ℤ key_of p)
@@ -75,7 +75,7 @@ below_back p a b below = record { parted = other_part below.parted; above = othe
     other_way (inr it) = inl it
 
 -- one that rises past its key does exactly where the position is above it
-below_rising : (p a b : Position) → key_of a <ℤ key_of p → key_of p ≤ℤ key_of b → (pos 0 <ℤ orientation a b p) ↔ PassesBelow p (record { a = a; b = b })
+pub below_rising : (p a b : Position) → key_of a <ℤ key_of p → key_of p ≤ℤ key_of b → (pos 0 <ℤ orientation a b p) ↔ PassesBelow p (record { a = a; b = b })
 below_rising p a b begun ended = (there, λ below. back below.above)
   where
     there : pos 0 <ℤ orientation a b p → PassesBelow p (record { a = a; b = b })
@@ -89,7 +89,7 @@ below_rising p a b begun ended = (there, λ below. back below.above)
     back (inr it) = let falls = it.rising in absurd (omega (arith, zs))
 
 -- one whose ends both come before it by key, or both don't, doesn't
-below_apart : (p a b : Position) → (key_of a <ℤ key_of p) ↔ (key_of b <ℤ key_of p) → ¬ PassesBelow p (record { a = a; b = b })
+pub below_apart : (p a b : Position) → (key_of a <ℤ key_of p) ↔ (key_of b <ℤ key_of p) → ¬ PassesBelow p (record { a = a; b = b })
 below_apart p a b together below = refuse below.parted
   where
     refuse : Differ (key_of a <ℤ key_of p) (key_of b <ℤ key_of p) → ⊥
@@ -105,7 +105,7 @@ rising_or_not p a b begun ended = by_sign (le_or_lt (orientation a b p) (pos 0))
     by_sign (inr more) = yes ((below_rising p a b begun ended).0 more)
 
 -- any edge
-below_or_not : (p a b : Position) → Dec (PassesBelow p (record { a = a; b = b }))
+pub below_or_not : (p a b : Position) → Dec (PassesBelow p (record { a = a; b = b }))
 below_or_not p a b = by_keys (le_or_lt (key_of p) (key_of a)) (le_or_lt (key_of p) (key_of b))
   where
     turned : Dec (PassesBelow p (record { a = b; b = a })) → Dec (PassesBelow p (record { a = a; b = b }))

@@ -35,7 +35,7 @@ sum_between m n part w begun within = by_order (le_or_lt m n)
         inr (omega (arith, zs, whole), omega (arith, zs))
 
 -- the point of an edge at the position's x, where the edge goes to the right
-abbrev point_over : Position → Position → Position → RationalPoint
+abbrev pub point_over : Position → Position → Position → RationalPoint
 point_over p a b = record {
   x = p.x *ℤ (b.x -ℤ a.x);
   y = a.y *ℤ (b.x -ℤ a.x) +ℤ (b.y -ℤ a.y) *ℤ (p.x -ℤ a.x);
@@ -57,7 +57,7 @@ over_on_line p a b =
     tt
 
 -- it is on the edge, where the edge goes by the position's x
-over_on_edge : (p a b : Position) → a.x ≤ℤ p.x → p.x <ℤ b.x → LiesOn (point_over p a b) (record { a = a; b = b })
+pub over_on_edge : (p a b : Position) → a.x ≤ℤ p.x → p.x <ℤ b.x → LiesOn (point_over p a b) (record { a = a; b = b })
 over_on_edge p a b begun ended =
     let length : pos 0 ≤ℤ (b.x -ℤ a.x) = omega (arith, zs) in
     let before : p.x ≤ℤ b.x = omega (arith, zs) in

@@ -1,5 +1,6 @@
 pub mod Areas
 pub mod Beginnings
+pub mod BelowSlanted
 pub mod Blames
 pub mod Bounds
 pub mod ClearEdges
@@ -8,6 +9,7 @@ pub mod CommonPoints
 pub mod Courses
 pub mod CrossingLines
 pub mod Crossings
+pub mod DirectlyBelow
 pub mod DrawnFigures
 pub mod EdgeParity
 pub mod EdgeRows
@@ -48,6 +50,7 @@ pub mod Residues
 pub mod RingEdges
 pub mod SamePolygons
 pub mod Sides
+pub mod SlantedPlane
 pub mod SpelledRings
 pub mod Spellings
 pub mod Touching

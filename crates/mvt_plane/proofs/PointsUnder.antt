@@ -15,7 +15,7 @@ use Rattle.mvt_plane.proofs.RationalPoints.{begin_lies_on, end_lies_on, lies_on_
 -- ---- by sides
 
 -- by how much the line of an edge is above a rational point, times the edge's length in x
-abbrev above : Edge → RationalPoint → ℤ
+abbrev pub above : Edge → RationalPoint → ℤ
 above edge p = (edge.b.y -ℤ edge.a.y) *ℤ (p.x -ℤ edge.a.x *ℤ p.w) -ℤ (edge.b.x -ℤ edge.a.x) *ℤ (p.y -ℤ edge.a.y *ℤ p.w)
 
 -- so much is the edge's point at its x
@@ -97,6 +97,40 @@ passes_where_higher a b p positive begun ended = (there, back)
     back passes =
         lower_alike (record { a = a; b = b }) p passes.higher (point_over a b p) (less_by_scaled a.x b.x p.w p.x positive begun ended) passes.on_edge passes.same_x
         (over_lies a b p positive begun ended) (across_at (whole a) (whole b) p) passes.greater_y
+
+-- and where its line is above
+pub passes_where_above : (a b : Position) (p : RationalPoint) → pos 1 ≤ℤ p.w → (a.x *ℤ p.w) ≤ℤ p.x → p.x <ℤ (b.x *ℤ p.w)
+    → (pos 0 <ℤ above (record { a = a; b = b }) p) ↔ PassesOverPoint p (record { a = a; b = b })
+passes_where_above a b p positive begun ended = (λ up. tells.0 (there up), λ passes. back (tells.1 passes))
+  where
+    tells : IsLower p (point_over a b p) ↔ PassesOverPoint p (record { a = a; b = b })
+    tells = passes_where_higher a b p positive begun ended
+
+    on_edge : LiesOn (point_over a b p) (record { a = a; b = b })
+    on_edge = over_lies a b p positive begun ended
+
+    same : (b.x -ℤ a.x) *ℤ ((point_over a b p).y *ℤ p.w -ℤ p.y *ℤ (point_over a b p).w) ≡ (point_over a b p).w *ℤ above (record { a = a; b = b }) p
+    same = above_by_point (record { a = a; b = b }) p (point_over a b p) on_edge (across_at (whole a) (whole b) p)
+
+    length : pos 0 <ℤ (b.x -ℤ a.x)
+    length = let order = less_by_scaled a.x b.x p.w p.x positive begun ended in omega (arith, zs)
+
+    there : pos 0 <ℤ above (record { a = a; b = b }) p → IsLower p (point_over a b p)
+    there up = by_scale (b.x -ℤ a.x) _ _ (point_over a b p).w _ length on_edge.positive same up
+      where
+        by_scale : (far high low w z : ℤ) → pos 0 <ℤ far → pos 1 ≤ℤ w → far *ℤ (high -ℤ low) ≡ w *ℤ z → pos 0 <ℤ z → low <ℤ high
+        by_scale far high low w z far_sign w_sign same sign =
+            let product = mul_pos {a = w} {b = z} (omega (arith, zs)) sign in
+            let rise = factor_pos far (high -ℤ low) (omega (arith, zs)) (omega (arith, zs)) in
+            omega (arith, zs)
+
+    back : IsLower p (point_over a b p) → pos 0 <ℤ above (record { a = a; b = b }) p
+    back lower = by_scale (b.x -ℤ a.x) _ _ (point_over a b p).w _ length on_edge.positive same lower
+      where
+        by_scale : (far high low w z : ℤ) → pos 0 <ℤ far → pos 1 ≤ℤ w → far *ℤ (high -ℤ low) ≡ w *ℤ z → low <ℤ high → pos 0 <ℤ z
+        by_scale far high low w z far_sign w_sign same order =
+            let product = mul_pos {a = far} {b = high -ℤ low} far_sign (omega (arith, zs)) in
+            factor_pos w z (omega (arith, zs)) (omega (arith, zs))
 
 -- ---- the edge that goes back
 

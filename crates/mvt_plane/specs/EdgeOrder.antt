@@ -1,7 +1,8 @@
 -- The order of edges along a line that goes over the plane. All positions of one key, with rational ones, are such a line:
 -- the key is 2^32 times x, plus y. Coordinates are from -2^30 to 2^30, so no edge lies along one of these lines, and an edge
 -- meets a line in one point at most.
-use Rattle.std.specs.Prelude.{◌≡◌, ◌^◌, ◌⊎◌, ℤ, pos, ◌+ℤ◌, ◌-ℤ◌, ◌*ℤ◌, ◌<ℤ◌, ◌≤ℤ◌, Option, Some}
+use Rattle.std.specs.Prelude.{◌≡◌, ◌^◌, ◌⊎◌, cond, ℤ, pos, ◌+ℤ◌, ◌-ℤ◌, ◌*ℤ◌, ◌<ℤ◌, ◌≤ℤ◌, Option, Some}
+use Rattle.std.specs.Int.Signed.{lt_z}
 use Rattle.mvt_plane.specs.Measure.{key_of}
 use Rattle.mvt_plane.specs.Position.{Position}
 use Rattle.mvt_plane.specs.RationalPoint.{RationalPoint, LiesOn, IsAt}
@@ -17,6 +18,10 @@ pub record Segment : Type 0 where
 -- it has these ends
 abbrev pub segment : Position → Position → Segment
 segment low high = record { low = low; high = high }
+
+-- the edge between two positions, from the lesser key on
+abbrev pub segment_between : Position → Position → Segment
+segment_between one other = cond (lt_z (key_of one) (key_of other)) (segment one other) (segment other one)
 
 -- the edge that goes so
 abbrev pub edge_along : Segment → Edge

@@ -1,7 +1,8 @@
 //! The laws of edges that pass below a position (section 4.3.4.4).
 
 ghost use Rattle.std.specs.Prelude.{◌≡◌, ◌↔◌, ℕ, List, slice_get, Some};
-ghost use Rattle.mvt_plane.specs.Below.{HasOddBelow};
+ghost use Rattle.mvt_plane.specs.Apart.{IsClearOf};
+ghost use Rattle.mvt_plane.specs.Below.{HasOddBelow, IsDirectlyBelow};
 ghost use Rattle.mvt_plane.specs.Inside.{IsInside};
 ghost use Rattle.mvt_plane.specs.Position.{Position, IsPosition};
 ghost use Rattle.mvt_plane.specs.RationalPoint.{LiesOn, whole};
@@ -15,4 +16,14 @@ pub fn inside_by_edges_below()
         ((number : ℕ) (vertex : Position) → slice_get ring number ≡ Some vertex → IsPosition vertex) →
         ((number : ℕ) (edge : Edge) → slice_get (edges ring) number ≡ Some edge → ¬ LiesOn (whole position) edge) →
         IsInside position ring ↔ HasOddBelow position ring }
+{}
+
+/// Where an edge is directly below a position, and has nothing in common with a ring on which the position doesn't lie,
+/// an odd number of the ring's edges pass below the position exactly where they do below an end of the edge.
+/// All positions are in range.
+pub fn odd_as_below_the_edge()
+    ensures { (position : Position) (edge : Edge) (ring : List Position) → IsPosition position → IsPosition edge.a → IsPosition edge.b →
+        ((number : ℕ) (vertex : Position) → slice_get ring number ≡ Some vertex → IsPosition vertex) →
+        ((number : ℕ) (other : Edge) → slice_get (edges ring) number ≡ Some other → ¬ LiesOn (whole position) other) →
+        IsClearOf edge ring → IsDirectlyBelow position edge ring → HasOddBelow position ring ↔ HasOddBelow edge.a ring }
 {}
