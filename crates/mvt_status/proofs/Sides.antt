@@ -1,7 +1,7 @@
 -- Places in a list of edges that is what two sides and an edge between them have.
-use Rattle.std.proofs.Common.{◌≡◌, ℕ, ◌+◌, ◌-◌, ◌<◌, ◌≤◌, List, [], ◌∷◌, ◌++◌, length, length-append, take, drop, remove, slice_index, refl, ap, sym, subst, ◌∙◌, append_assoc, arith}
+use Rattle.std.proofs.Common.{◌≡◌, ℕ, ◌+◌, ◌-◌, ◌<◌, ◌≤◌, List, [], ◌∷◌, ◌++◌, length, length-append, take, drop, insert, remove, slice_index, refl, ap, sym, subst, ◌∙◌, append_assoc, arith}
 use Rattle.std.proofs.lemmas.List.{take-append-le, drop-append-le}
-use Rattle.std.proofs.lemmas.List.Edits.{remove-append_left, remove-append_right}
+use Rattle.std.proofs.lemmas.List.Edits.{insert-append_right, remove-append_left, remove-append_right}
 use Rattle.std.proofs.Math.Seq.{take-append-add, drop-append-add}
 
 -- what is put in behind the edge in the middle
@@ -77,3 +77,28 @@ pub take_out_middle : (left right part all next : List ℕ) (edge own at before 
 take_out_middle left right part all next edge own at before same many there some first is_own is =
     rw (is, sym same) (subst (λ (front : List ℕ). left ++ (front ++ remove right 0) ≡ remove (left ++ edge ∷ right) at) is_own
     (remove_between left (edge ∷ []) right next at before refl (sym many) there some first))
+
+-- an edge in the place of one behind a list
+put_behind : (front rest : List ℕ) (edge at many : ℕ) → length front ≡ many → many ≤ at → front ++ insert (remove rest (at - many)) (at - many) edge ≡ insert (remove (front ++ rest) at) at edge
+put_behind front rest edge at many is behind =
+    sym (ap (λ (left : List ℕ). insert left at edge) (remove-append_right front rest many at is behind) ∙ insert-append_right front (remove rest (at - many)) many at edge is behind)
+
+-- an edge in the place of that between two sides
+pub put_between : (left right all : List ℕ) (edge own at before : ℕ) → left ++ own ∷ right ≡ all → before ≡ length left → at ≡ before → left ++ edge ∷ right ≡ insert (remove all at) at edge
+put_between left right all edge own at before same many there =
+    let none : at - before ≡ 0 = omega arith in
+    let here : left ++ insert (remove (own ∷ right) (at - before)) (at - before) edge ≡ insert (remove (left ++ own ∷ right) at) at edge = put_behind left (own ∷ right) edge at before (sym many) (omega arith) in
+    let first : left ++ edge ∷ right ≡ left ++ insert (remove (own ∷ right) (at - before)) (at - before) edge = subst (λ (i : ℕ). left ++ edge ∷ right ≡ left ++ insert (remove (own ∷ right) i) i edge) (sym none) refl in
+    first ∙ here ∙ ap (λ (list : List ℕ). insert (remove list at) at edge) same
+
+-- and in the place of one on the right
+pub put_instead_right : (left right part all : List ℕ) (edge own at before : ℕ) → left ++ own ∷ right ≡ all → before ≡ length left → before < at
+    → part ≡ insert (remove right (at - before - 1)) (at - before - 1) edge → left ++ own ∷ part ≡ insert (remove all at) at edge
+put_instead_right left right part all edge own at before same many behind is =
+    let front : length (left ++ own ∷ []) ≡ before + 1 = omega (arith, length-append left (own ∷ [])) in
+    let place : at - (before + 1) ≡ at - before - 1 = omega arith in
+    let here : (left ++ own ∷ []) ++ insert (remove right (at - (before + 1))) (at - (before + 1)) edge ≡ insert (remove ((left ++ own ∷ []) ++ right) at) at edge
+    = put_behind (left ++ own ∷ []) right edge at (before + 1) front (omega arith) in
+    let its : part ≡ insert (remove right (at - (before + 1))) (at - (before + 1)) edge = subst (λ (i : ℕ). part ≡ insert (remove right i) i edge) (sym place) is in
+    sym (append_assoc left (own ∷ []) part) ∙ ap (λ (rest : List ℕ). (left ++ own ∷ []) ++ rest) its ∙ here
+    ∙ ap (λ (list : List ℕ). insert (remove list at) at edge) (append_assoc left (own ∷ []) right ∙ same)

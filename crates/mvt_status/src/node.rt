@@ -1,6 +1,6 @@
 //! Nodes of a tree: each holds an edge between those of its two sides, and no side is more than one level higher
 //! than the other.
-ghost use Rattle.std.specs.Prelude.{◌≡◌, ℕ, ◌+◌, ◌^◌, ◌<◌, ◌≤◌, suc, max, All, IfOk, IfSome, Some, ◌∷◌, [], ◌++◌, drop, length, remove, slice_index, take};
+ghost use Rattle.std.specs.Prelude.{◌≡◌, ℕ, ◌+◌, ◌^◌, ◌<◌, ◌≤◌, suc, max, All, IfOk, IfSome, Some, ◌∷◌, [], ◌++◌, drop, insert, length, remove, slice_index, take};
 ghost use Rattle.mvt_plane.specs.Counted.{ticked};
 ghost use Rattle.mvt_status.specs.Counts.{AddsAtMost};
 ghost use Rattle.mvt_status.specs.Split.{IsSplit};
@@ -359,6 +359,28 @@ pub(crate) fn remove_from(side: &mut Side, at: usize, count: &mut Count) -> Box<
     top.height = 1;
     join_over(left, side, right);
     out
+}
+
+/// Puts an edge in the place of the one that is there. Ticks a visit for each node on the way there.
+pub(crate) fn replace_in(side: &mut Side, at: usize, edge: usize, count: &mut Count)
+    requires { at < length (edges_of side.old) }
+    ensures edges { edges_of side.new ≡ insert (remove (edges_of side.old) at) at edge }
+    ensures height { height_of side.new ≡ height_of side.old }
+    ensures counted { AddsAtMost 0 (height_of side.old) count.old count.new }
+    ensures visited { ticked count.old.visits ≤ count.new.visits }
+    ensures filled { fewest (height_of side.old) ≤ suc (length (edges_of side.old)) }
+{
+    let Some(node) = side else { unreachable!() };
+    visit(count);
+    let top: &mut Node = node;
+    let before = size(&top.left);
+    if at < before {
+        replace_in(&mut top.left, at, edge, count);
+    } else if at == before {
+        top.edge = edge;
+    } else {
+        replace_in(&mut top.right, at - before - 1, edge, count);
+    }
 }
 
 /// The edge at a place. Ticks a visit for each node on the way there.

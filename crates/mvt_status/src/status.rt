@@ -1,4 +1,4 @@
-ghost use Rattle.std.specs.Prelude.{◌≡◌, ℕ, ◌*◌, ◌<◌, ◌≤◌, List, All, if◌then◌else◌, insert, is_ok, length, remove, slice_index};
+ghost use Rattle.std.specs.Prelude.{◌≡◌, ℕ, ◌*◌, ◌<◌, ◌≤◌, List, All, OnOk, if◌then◌else◌, insert, is_ok, length, remove, slice_index};
 ghost use Rattle.mvt_status.specs.Counts.{AddsAtMost, bits};
 ghost use Rattle.mvt_status.specs.Split.{IsSplit};
 
@@ -8,7 +8,7 @@ use std::alloc::AllocError;
 /// A list of numbers of edges, which a sweep keeps in their order along its line. `count` counts the work of each
 /// call. No call tests two edges for a common point, and only `split_point` compares edges with a position. A call
 /// visits at most twice as many nodes, and makes at most twice as many comparisons, as the length of the list at the
-/// call has binary digits (`bits`).
+/// call has binary digits (`bits`); `replace` may visit twice as many as the others.
 pub trait Status {
     ghost edges: { Self → List ℕ };
 
@@ -35,6 +35,16 @@ pub trait Status {
         ensures value { result ≡ slice_index (edges self.old) at }
         ensures list { edges self.new ≡ remove (edges self.old) at }
         ensures counted { AddsAtMost 0 (2 * bits (length (edges self.old))) count.old count.new };
+
+    /// Puts an edge in the place of the one that is there. The only error is that memory was refused.
+    fn replace(&mut self, at: usize, edge: usize, count: &mut Count) -> Result<(), AllocError>
+        requires { at < length (edges self.old) }
+        ensures list { OnOk result (edges self.new ≡ insert (remove (edges self.old) at) at edge) }
+        ensures counted { AddsAtMost 0 (4 * bits (length (edges self.old))) count.old count.new }
+    {
+        self.remove(at, count);
+        self.insert(at, edge, count)
+    }
 
     /// How many edges stand at the front of the list of which `below` is true, where it is false of all others.
     /// Each call of `below` counts as a probe.

@@ -86,6 +86,13 @@ pub(crate) fn edges_come_and_go<S: Status>(
     let edges = list(alloc, status, &mut count)?;
     assert_eq!(rt; (three, between), ((2, 9), 1));
     assert_eq!(rt; edges.as_slice(), [4, 5, 7].as_slice());
+    for (at, edge) in [(0, 1), (2, 8), (1, 6)] {
+        if at < status.len() {
+            status.replace(at, edge, &mut count)?;
+        }
+    }
+    let edges = list(alloc, status, &mut count)?;
+    assert_eq!(rt; edges.as_slice(), [1, 6, 8].as_slice());
     Ok(count)
 }
 

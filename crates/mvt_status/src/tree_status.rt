@@ -1,10 +1,10 @@
-ghost use Rattle.std.specs.Prelude.{◌≡◌, ℕ, ◌*◌, ◌<◌, ◌≤◌, All, [], if◌then◌else◌, insert, is_ok, length, remove, slice_index};
+ghost use Rattle.std.specs.Prelude.{◌≡◌, ℕ, ◌*◌, ◌<◌, ◌≤◌, All, [], IsOk, if◌then◌else◌, insert, is_ok, length, remove, slice_index};
 ghost use Rattle.mvt_status.specs.Counts.{AddsAtMost, bits};
 ghost use Rattle.mvt_status.specs.Split.{IsSplit};
 
 use crate::Status;
 use crate::node::{
-    Side, alone, edge_at, edge_of, insert_into, remove_from, renamed, size, split_of,
+    Side, alone, edge_at, edge_of, insert_into, remove_from, renamed, replace_in, size, split_of,
 };
 use mvt_plane::Count;
 use std::alloc::{AllocError, Global};
@@ -88,6 +88,16 @@ impl Status for TreeStatus {
         let edge = edge_of(&out);
         self.spare = Some(out);
         edge
+    }
+
+    fn replace(&mut self, at: usize, edge: usize, count: &mut Count) -> Result<(), AllocError>
+        requires { at < length self.old }
+        ensures never_refused { IsOk result }
+        ensures list { self.new ≡ insert (remove self.old at) at edge }
+        ensures counted { AddsAtMost 0 (2 * bits (length self.old)) count.old count.new }
+    {
+        replace_in(&mut self.root, at, edge, count);
+        Ok(())
     }
 
     fn split_point<F: Fn(usize) -> bool>(&self, below: &F, count: &mut Count) -> usize

@@ -9,7 +9,7 @@ mod generated;
 #[test]
 fn few_edges(rt: HostRuntime) -> Result<(), Fail> {
     let count = edges_come_and_go(&rt, rt.alloc(), &mut TreeStatus::new(rt.alloc()))?;
-    assert_eq!(&rt; (count.tests(), count.probes(), count.visits()), (0, 4, 16));
+    assert_eq!(&rt; (count.tests(), count.probes(), count.visits()), (0, 4, 26));
     Ok(())
 }
 

@@ -1,5 +1,3 @@
-use Rattle.std.proofs.Common.{◌∙◌, ap}
-use Rattle.mvt_status.specs.Tree.{edges_of}
 use Rattle.mvt_status.proofs.Heights.{visits_by_digits}
 use Rattle.mvt_status.proofs.tree_status.TreeStatusStatus.remove.Goals as goal
 
