@@ -51,14 +51,14 @@ previous_by_far_end count before number several within = grind (arith, nat_tests
 -- How many vertices the first rings have
 
 -- those of one ring before others
-count_cons : (first : List Position) (rest : List (List Position)) → vertex_count (first ∷ rest) ≡ length first + vertex_count rest
+pub count_cons : (first : List Position) (rest : List (List Position)) → vertex_count (first ∷ rest) ≡ length first + vertex_count rest
 count_cons first rest =
     let split : vertex_count (first ∷ rest) ≡ sum (length first ∷ []) + vertex_count rest = sum_by-append (λ (n : ℕ). n) (length first ∷ []) (map length rest) in
     let one : sum (length first ∷ []) ≡ length first = omega arith in
     omega arith
 
 -- the same of the first rings
-count_take : (first : List Position) (rest : List (List Position)) (number : ℕ) → vertex_count (take (suc number) (first ∷ rest)) ≡ length first + vertex_count (take number rest)
+pub count_take : (first : List Position) (rest : List (List Position)) (number : ℕ) → vertex_count (take (suc number) (first ∷ rest)) ≡ length first + vertex_count (take number rest)
 count_take first rest number = count_cons first (take number rest)
 
 -- one ring more
@@ -241,7 +241,7 @@ take_within : (rings : List (List Position)) (many number : ℕ) (ring : List Po
 take_within rings many number ring there = omega (arith, slice_get_within (take many rings) number ring there, length-take many rings)
 
 -- a number is below another, or is not
-less_or_not : (number other : ℕ) → (number < other) ⊎ (other ≤ number)
+pub less_or_not : (number other : ℕ) → (number < other) ⊎ (other ≤ number)
 less_or_not number other = either (cases_order number other)
   where
     either : (number ≡ other) ⊎ ((number < other) ⊎ (other < number)) → (number < other) ⊎ (other ≤ number)

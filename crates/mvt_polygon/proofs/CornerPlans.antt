@@ -36,7 +36,7 @@ abbrev previous_place : EdgeNumber → List Position → EdgeNumber
 previous_place place ring = record { ring = place.ring; edge = previous_round (length ring) place.edge }
 
 -- the corner behind a vertex is the next vertex
-next_numbered : (rings : List (List Position)) (corners : List Corner) (number : ℕ) (place : EdgeNumber) → AreProperRings rings → AreCorners rings corners
+pub next_numbered : (rings : List (List Position)) (corners : List Corner) (number : ℕ) (place : EdgeNumber) → AreProperRings rings → AreCorners rings corners
     → (is : IsNumbered rings number place)
     → IsNumbered rings (next_at corners number) (next_place place is.ring)
 next_numbered rings corners number place proper are is = record {
@@ -47,7 +47,7 @@ next_numbered rings corners number place proper are is = record {
 }
 
 -- the one before it the previous vertex
-previous_numbered : (rings : List (List Position)) (corners : List Corner) (number : ℕ) (place : EdgeNumber) → AreProperRings rings → AreCorners rings corners
+pub previous_numbered : (rings : List (List Position)) (corners : List Corner) (number : ℕ) (place : EdgeNumber) → AreProperRings rings → AreCorners rings corners
     → (is : IsNumbered rings number place)
     → IsNumbered rings (previous_at corners number) (previous_place place is.ring)
 previous_numbered rings corners number place proper are is = record {
@@ -261,7 +261,7 @@ together_meets corners first second linked together tested =
 -- Meetings
 
 -- the edge that begins in a corner of rings
-edge_of_corner : (rings : List (List Position)) (corners : List Corner) (number : ℕ) (place : EdgeNumber) → AreProperRings rings → AreCorners rings corners
+pub edge_of_corner : (rings : List (List Position)) (corners : List Corner) (number : ℕ) (place : EdgeNumber) → AreProperRings rings → AreCorners rings corners
     → IsNumbered rings number place
     → IsEdgeOf rings place (edge_at corners number)
 edge_of_corner rings corners number place proper are is =
@@ -330,14 +330,14 @@ meeting_of_rings rings corners pair meeting proper are is told =
     (subst (λ (point : RationalPoint). IsNamed shared one other (Some point)) (sym told.point) is.named) (subst IsBounded (sym told.point) is.bounded)
 
 -- an edge of rings begins in a corner
-record HasCorner (rings : List (List Position)) (corners : List Corner) (number : EdgeNumber) (it : Edge) : Type 0 where
-  at : ℕ
-  within : at < length corners
-  numbered : IsNumbered rings at number
-  its_edge : edge_at corners at ≡ it
+pub record HasCorner (rings : List (List Position)) (corners : List Corner) (number : EdgeNumber) (it : Edge) : Type 0 where
+  pub at : ℕ
+  pub within : at < length corners
+  pub numbered : IsNumbered rings at number
+  pub its_edge : edge_at corners at ≡ it
 
 -- each does
-corner_of_edge : (rings : List (List Position)) (corners : List Corner) (number : EdgeNumber) (it : Edge) → AreProperRings rings → AreCorners rings corners
+pub corner_of_edge : (rings : List (List Position)) (corners : List Corner) (number : EdgeNumber) (it : Edge) → AreProperRings rings → AreCorners rings corners
     → IsEdgeOf rings number it
     → HasCorner rings corners number it
 corner_of_edge rings corners number it proper are is =

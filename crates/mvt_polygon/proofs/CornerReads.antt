@@ -5,7 +5,8 @@ use Rattle.std.proofs.lemmas.List.{get_or_default}
 use Rattle.std.specs.Int.Signed.{lt_z}
 use Rattle.mvt_plane.specs.Measure.{key_of}
 use Rattle.mvt_plane.specs.Position.{Position}
-use Rattle.mvt_polygon.specs.Corners.{AreLinked, next_at, no_corner, plan_of, position_at, segment_between}
+use Rattle.mvt_plane.specs.EdgeOrder.{segment_between}
+use Rattle.mvt_polygon.specs.Corners.{AreLinked, next_at, no_corner, plan_of, position_at}
 use Rattle.mvt_polygon.specs.declared.sweep.corners.Corner.{Corner}
 
 -- a position that was read is that of the corner of this number

@@ -1,12 +1,12 @@
 -- The two edges of a corner: which of them end in it, which begin, and in which order.
 use Rattle.std.proofs.Common.{◌≡◌, ◌<◌, ◌⊎◌, inl, inr, ℕ, List, length, true, false, ℤ, pos, ◌<ℤ◌, sym, ◌∙◌, ap, subst, arith}
 use lib.Signed.{lt_z}
-use Rattle.mvt_plane.specs.EdgeOrder.{Segment}
+use Rattle.mvt_plane.specs.EdgeOrder.{Segment, segment_between}
 use Rattle.mvt_plane.specs.Measure.{key_of, orientation}
 use Rattle.mvt_plane.specs.Position.{Position}
 use Rattle.mvt_plane.proofs.Order.{zs, compare_ℤ}
 use Rattle.mvt_polygon.specs.CornerOrder.{IsNextCorner}
-use Rattle.mvt_polygon.specs.Corners.{AreInRange, AreLinked, plan_of, position_at, segment_between, next_at, previous_at}
+use Rattle.mvt_polygon.specs.Corners.{AreInRange, AreLinked, plan_of, position_at, next_at, previous_at}
 use Rattle.mvt_polygon.specs.Sweep.{BeginThere, BothBegin, BothEnd, PassesOn, Tested}
 use Rattle.mvt_polygon.specs.declared.sweep.corners.Corner.{Corner}
 use Rattle.mvt_polygon.proofs.CornerPlans.{plan_of_corners, when_ahead}

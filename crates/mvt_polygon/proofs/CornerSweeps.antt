@@ -169,6 +169,13 @@ swept_to_next corners order at its number edges in_order strict there over = rec
       subst (λ (k : ℤ). k <ℤ key) (in_order.keyed at its number there) (strict at place its key number other (omega arith) there here);
 }
 
+-- the line is at its key then
+pub next_key : (corners : List Corner) (order : List (ℤ × ℕ)) (at : ℕ) (its : ℤ) (number : ℕ) (edges : List ℕ) (in_order : IsOrder corners order) (strict : IsStrict order)
+    (there : slice_get order at ≡ Some (its, number)) (over : IsSweptOver corners number edges)
+    → (swept_to_next corners order at its number edges in_order strict there over).key ≡ key_of (position_at corners number)
+unfolding swept_to_next
+next_key corners order at its number edges in_order strict there over = refl
+
 -- behind the last corner no two edges meet wrongly
 pub swept_to_last : (corners : List Corner) (order : List (ℤ × ℕ)) (at : ℕ) (edges : List ℕ) → AreLinked corners → AreInRange corners → IsOrder corners order
     → IsSweptTo corners order at edges → length order ≤ at → NoneWrong corners

@@ -4,14 +4,14 @@ use Rattle.std.proofs.lemmas.Bool.{cases_order}
 use Rattle.std.proofs.lemmas.Option.{slice_get_within, slice_get-get_or}
 use Rattle.mvt_plane.specs.Counted.{Counted}
 use Rattle.mvt_plane.specs.Inside.{IsInside}
-use Rattle.mvt_plane.specs.Meeting.{EdgeNumber, IsShared, forward, backward, MeetsWrongly}
+use Rattle.mvt_plane.specs.Meeting.{EdgeNumber, IsShared, forward, backward}
 use Rattle.mvt_plane.specs.Nesting.{IsOutside, IsInHole}
 use Rattle.mvt_plane.specs.Position.{Position}
-use Rattle.mvt_plane.specs.RationalPoint.{RationalPoint}
 use Rattle.mvt_plane.specs.Apart.{HaveNothingInCommon}
 use Rattle.mvt_plane.proofs.OneVertex.{one_vertex_decides}
 use Rattle.mvt_polygon.specs.CornerOrder.{AddsWork}
 use Rattle.mvt_polygon.specs.Corners.{vertex_count}
+use Rattle.mvt_polygon.specs.Meeting.{NoMeeting}
 use Rattle.mvt_polygon.specs.Nesting.{one_polygon, IsNestFault, outside, in_hole, IsFirstOf, IsOfHole, IsOfVertex, IsHoleAround, IsFirstHoleAround}
 use Rattle.mvt_polygon.specs.declared.nesting.NestFault.{NestFault}
 use Rattle.mvt_polygon.specs.declared.nesting.NestFault.TheVariants.{Outside, InHole}
@@ -21,17 +21,13 @@ use Rattle.mvt_polygon.proofs.StatusCounts.{work_then, work_within}
 
 -- Rings without a wrong meeting
 
--- no two edges of the rings meet wrongly
-abbrev NoMeeting : List (List Position) → Type 0
-NoMeeting rings = (first second : EdgeNumber) (point : RationalPoint) → ¬ MeetsWrongly rings first second point
-
 -- edges of two rings share no vertex as neighbours
 none_shared : (rings : List (List Position)) (first second : EdgeNumber) (vertex : Position) → first.ring ≢ second.ring → ¬ IsShared rings first second vertex
 none_shared rings first second vertex differ (forward follows) = differ (sym follows.same)
 none_shared rings first second vertex differ (backward follows) = differ follows.same
 
 -- two of them have nothing in common
-nothing_in_common : (rings : List (List Position)) → NoMeeting rings → (number another : ℕ) (ring other : List Position) → number ≢ another → slice_get rings number ≡ Some ring
+pub nothing_in_common : (rings : List (List Position)) → NoMeeting rings → (number another : ℕ) (ring other : List Position) → number ≢ another → slice_get rings number ≡ Some ring
     → slice_get rings another ≡ Some other → HaveNothingInCommon ring other
 nothing_in_common rings none number another ring other differ there its_there = λ edge its_edge one two point here its_here on_one on_two.
     let first : EdgeNumber = record { ring = number; edge = edge } in

@@ -3,13 +3,12 @@ use Rattle.std.proofs.Common.{◌≡◌, ◌≢◌, ◌⊎◌, inl, inr, [], ◌
 use lib.Signed.{lt_z}
 use Rattle.std.proofs.lemmas.Bool.{cond-true, cond-false}
 use Rattle.std.proofs.lemmas.Int.{ints}
-use Rattle.mvt_plane.specs.EdgeOrder.{Segment, segment, IsRising, IsEndOf}
+use Rattle.mvt_plane.specs.EdgeOrder.{Segment, segment, IsRising, IsEndOf, segment_between}
 use Rattle.mvt_plane.specs.Measure.{key_of, orientation}
 use Rattle.mvt_plane.specs.Position.{Position, IsPosition}
 use Rattle.mvt_plane.proofs.Gaps.{same_key}
 use Rattle.mvt_plane.proofs.Order.{le_or_lt, antisym_ℤ}
 use Rattle.mvt_plane.proofs.Polynomials.{unknown, constant, ◌⊕◌, ◌⊖◌, ◌⊗◌, ring}
-use Rattle.mvt_polygon.specs.Corners.{segment_between}
 
 -- the edge between two positions goes one way or the other
 pub data IsBetweenThem (one other : Position) : Type 0 where

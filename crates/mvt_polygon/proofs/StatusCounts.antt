@@ -119,6 +119,12 @@ work_of_place edges corners few added =
     let digits = no_more_digits edges corners few in
     work_within (omega arith) (omega arith) (omega arith) (work_of_status added)
 
+-- to put one in the place of another
+pub work_of_both : (edges corners : ℕ) {before after : Counted} → edges ≤ corners → AddsAtMost 0 (4 * bits edges) before after → AddsWork 0 0 (4 * bits corners) before after
+work_of_both edges corners few added =
+    let digits = no_more_digits edges corners few in
+    work_within (omega arith) (omega arith) (omega arith) (work_of_status added)
+
 -- and to look for one
 pub work_of_split : (edges corners : ℕ) {before after : Counted} → edges ≤ corners → AddsAtMost (2 * bits edges) (2 * bits edges) before after
     → AddsWork 0 (2 * bits corners) (2 * bits corners) before after

@@ -1,5 +1,5 @@
 -- The places of a status before and behind an edit, and what stands beside them.
-use Rattle.std.proofs.Common.{◌≡◌, ◌≢◌, ℕ, zero, suc, ◌-◌, ◌<◌, ◌≤◌, ◌⊎◌, inl, inr, List, [], ◌∷◌, ◌++◌, drop, insert, length, remove, slice_index, take, ℤ, ◌<ℤ◌, ◌≤ℤ◌, refl, sym, ap, subst, ◌∙◌, arith}
+use Rattle.std.proofs.Common.{◌≡◌, ◌≢◌, ℕ, zero, suc, ◌+◌, ◌-◌, ◌<◌, ◌≤◌, ◌⊎◌, inl, inr, List, [], ◌∷◌, ◌++◌, drop, insert, length, remove, slice_index, take, ℤ, ◌<ℤ◌, ◌≤ℤ◌, refl, sym, ap, subst, ◌∙◌, arith}
 use Rattle.std.proofs.lemmas.Int.{ints}
 use Rattle.std.proofs.lemmas.List.{length-take-le, length-drop, get_or-take}
 use Rattle.mvt_plane.specs.Measure.{key_of}
@@ -128,18 +128,28 @@ takes_out edges fewer place it back within first removed =
 
 -- Steps
 
+-- what is behind the first of the rest
+rest_behind : (edges : List ℕ) (place it : ℕ) (back : List ℕ) → drop place edges ≡ it ∷ back → drop (suc place) edges ≡ back
+rest_behind [] zero it back same = absurd (cc)
+rest_behind [] (suc place) it back same = absurd (cc)
+rest_behind (first ∷ rest) zero it back same = ap (drop 1) same
+rest_behind (first ∷ rest) (suc place) it back same = rest_behind rest place it back same
+
 -- an edge takes the place of the one that ends
-pub pass_over : (plan : Plan) (key : ℤ) (vertex : Position) (ending beginning place : ℕ) (edges fewer more back : List ℕ) → IsPlan plan → IsSwept plan key edges
-    → IsEvent plan key vertex ending beginning → PassesOn plan vertex ending beginning → IsCut plan vertex edges (take place edges) (drop place edges)
-    → drop place edges ≡ ending ∷ back → TakesOut edges fewer place ending back → Joined (Tested plan) (take place fewer) (beginning ∷ [])
-    → Head (Tested plan) beginning (drop place fewer) → more ≡ insert fewer place beginning → IsSwept plan (key_of vertex) more
-pass_over plan key vertex ending beginning place edges fewer more back is_plan swept event passes cut first out below above inserted =
+pub pass_over : (plan : Plan) (key : ℤ) (vertex : Position) (ending beginning place : ℕ) (edges more back : List ℕ) → IsPlan plan → IsSwept plan key edges
+    → IsEvent plan key vertex ending beginning → PassesOn plan vertex ending beginning → place ≤ length edges → IsCut plan vertex edges (take place edges) (drop place edges)
+    → drop place edges ≡ ending ∷ back → Joined (Tested plan) (take place edges) (beginning ∷ []) → Head (Tested plan) beginning (drop (place + 1) edges)
+    → more ≡ insert (remove edges place) place beginning → IsSwept plan (key_of vertex) more
+pass_over plan key vertex ending beginning place edges more back is_plan swept event passes within cut first below above replaced =
+    let fewer = remove edges place in
+    let behind : place + 1 ≡ suc place = omega arith in
+    let out : TakesOut edges fewer place ending back = takes_out edges fewer place ending back within first refl in
     let is : more ≡ take place edges ++ beginning ∷ back =
-    inserted ∙ insert_between fewer place beginning out.fits ∙ ap (λ (front : List ℕ). front ++ beginning ∷ drop place fewer) out.front
+    replaced ∙ insert_between fewer place beginning out.fits ∙ ap (λ (front : List ℕ). front ++ beginning ∷ drop place fewer) out.front
     ∙ ap (λ (rest : List ℕ). take place edges ++ beginning ∷ rest) out.rest in
     subst (IsSwept plan (key_of vertex)) (sym is)
     (pass_step plan key vertex ending beginning edges (take place edges) back is_plan swept event passes (subst (IsCut plan vertex edges (take place edges)) first cut)
-    (subst (λ (front : List ℕ). Joined (Tested plan) front (beginning ∷ [])) out.front below) (subst (Head (Tested plan) beginning) out.rest above))
+    below (subst (Head (Tested plan) beginning) (ap (λ (at : ℕ). drop at edges) behind ∙ rest_behind edges place ending back first) above))
 
 -- two edges begin at the place
 pub begin_over : (plan : Plan) (key : ℤ) (vertex : Position) (lower upper place : ℕ) (edges more most : List ℕ) → IsPlan plan → IsSwept plan key edges → IsEvent plan key vertex lower upper
@@ -209,3 +219,17 @@ end_over plan key vertex place edges fewer fewest is_plan swept cut pair out out
     subst (IsSwept plan (key_of vertex)) (sym is)
     (end_step plan key vertex pair.one pair.other edges (take place edges) pair.back is_plan swept pair.event pair.ends (subst (IsCut plan vertex edges (take place edges)) pair.first cut)
     (subst (Joined (Tested plan) (take place edges)) out'.rest (subst (λ (list : List ℕ). Joined (Tested plan) list (drop place fewest)) front joined)))
+
+-- what is before the place where one is put in is kept
+kept_once : (edges more : List ℕ) (place it : ℕ) → place ≤ length edges → more ≡ insert edges place it → (take place more ≡ take place edges) × (place ≤ length more)
+kept_once edges more place it within inserted =
+    let front = take place edges in
+    let long : length front ≡ place = length-take-le place edges within in
+    let is : more ≡ front ++ it ∷ drop place edges = inserted ∙ insert_between edges place it within in
+    (ap (take place) is ∙ (parts_at front (it ∷ drop place edges) place long).0, subst (λ (list : List ℕ). place ≤ length list) (sym is) (fits_front front (it ∷ drop place edges) place long))
+
+-- also where two are
+pub kept_twice : (edges more most : List ℕ) (place lower upper : ℕ) → place ≤ length edges → more ≡ insert edges place upper → most ≡ insert more place lower → take place most ≡ take place edges
+kept_twice edges more most place lower upper within one other =
+    let first = kept_once edges more place upper within one in
+    (kept_once more most place lower first.1 other).0 ∙ first.0

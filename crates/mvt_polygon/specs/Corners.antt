@@ -1,10 +1,8 @@
 -- The vertices of rings in one list. Each has the number of the edge that begins in it.
 use Rattle.std.specs.Prelude.{◌≡◌, ◌≢◌, ◌-◌, ◌+◌, ◌==◌, ◌<◌, ltb, cond, ℕ, List, length, map, take, slice_get, slice_index_or, Option, Some, None}
-use Rattle.std.specs.Int.Signed.{lt_z}
 use Rattle.std.specs.List.{sum}
 use Rattle.mvt_plane.specs.CommonPoint.{IsNamed}
-use Rattle.mvt_plane.specs.EdgeOrder.{Segment, segment}
-use Rattle.mvt_plane.specs.Measure.{key_of}
+use Rattle.mvt_plane.specs.EdgeOrder.{segment_between}
 use Rattle.mvt_plane.specs.Meeting.{EdgeNumber}
 use Rattle.mvt_plane.specs.Position.{Position, IsPosition, origin}
 use Rattle.mvt_plane.specs.RationalPoint.{RationalPoint, IsBounded}
@@ -84,10 +82,6 @@ abbrev pub AreInRange : List Corner → Type 0
 AreInRange corners = (number : ℕ) → number < length corners → IsPosition (position_at corners number)
 
 -- Their edges, to be swept over
-
--- the edge between two positions, from the lesser key on
-abbrev pub segment_between : Position → Position → Segment
-segment_between one other = cond (lt_z (key_of one) (key_of other)) (segment one other) (segment other one)
 
 -- the vertex that two edges share as neighbours in a ring
 abbrev pub shared_at : List Corner → ℕ → ℕ → Option Position

@@ -1,8 +1,13 @@
 pub mod Chain
 pub mod CornerOrder
 pub mod Corners
+pub mod FrontEdges
 pub mod Meeting
 pub mod Nesting
+pub mod PolygonFault
 pub mod Polygons
+pub mod RingNotes
 pub mod Rings
+pub mod RingsBelow
+pub mod Steps
 pub mod Sweep

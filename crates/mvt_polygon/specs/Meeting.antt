@@ -4,7 +4,7 @@ use Rattle.std.specs.Prelude.{◌≡◌, ◌↔◌, List, Option, Some}
 use Rattle.mvt_plane.specs.CommonPoint.{IsNamed}
 use Rattle.mvt_plane.specs.Meeting.{EdgeNumber, ComesBefore, IsEdgeOf, IsShared, MeetsWrongly}
 use Rattle.mvt_plane.specs.Position.{Position}
-use Rattle.mvt_plane.specs.RationalPoint.{IsBounded}
+use Rattle.mvt_plane.specs.RationalPoint.{RationalPoint, IsBounded}
 use Rattle.mvt_plane.specs.declared.edge.Edge.{Edge}
 use Rattle.mvt_polygon.specs.declared.meeting.Meeting.{Meeting}
 
@@ -29,3 +29,7 @@ pub record IsMeetingOf (rings : List (List Position)) (meeting : Meeting) : Type
   pub shared : Option Position
   pub is_shared : (vertex : Position) → (shared ≡ Some vertex) ↔ IsShared rings (first_of meeting) (second_of meeting) vertex
   pub named : IsNamed shared one other (Some meeting.point)
+
+-- no two edges of the rings meet wrongly
+abbrev pub NoMeeting : List (List Position) → Type 0
+NoMeeting rings = (first second : EdgeNumber) (point : RationalPoint) → ¬ MeetsWrongly rings first second point

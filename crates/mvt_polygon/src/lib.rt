@@ -4,11 +4,13 @@
 
 mod meeting;
 mod nesting;
+mod polygon;
 mod polygons;
 mod rings;
 mod sweep;
 
 pub use meeting::{Meeting, find_meeting, find_meeting_with};
 pub use nesting::{NestFault, check_nesting, check_nesting_once};
+pub use polygon::{PolygonFault, check_polygon};
 pub use polygons::{groups, polygon_end};
 pub use rings::{RingFault, check_rings};

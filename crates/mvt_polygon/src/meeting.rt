@@ -76,7 +76,7 @@ pub fn find_meeting_with<S: Status>(
 }
 
 /// The meeting that was found, if any, with its edges told by ring and ordinal.
-fn told(rings: &[Vec<Point>], found: Option<Pair>) -> Option<Meeting>
+pub(crate) fn told(rings: &[Vec<Point>], found: Option<Pair>) -> Option<Meeting>
     requires first { IfSome found (λ pair. pair.first < vertex_count (rings_of rings.now)) }
     requires second { IfSome found (λ pair. pair.second < vertex_count (rings_of rings.now)) }
     ensures none { IfNone result (found ≡ None) }

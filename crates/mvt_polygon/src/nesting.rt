@@ -5,6 +5,8 @@ ghost use Rattle.mvt_polygon.specs.Nesting.{IsNestFault, IsFirstNestFault, IsFir
 ghost use Rattle.mvt_polygon.specs.Rings.{rings_of};
 ghost use Rattle.mvt_polygon.specs.declared.nesting.NestFault.{NestFault};
 
+pub(crate) mod around;
+pub(crate) mod noted;
 mod once;
 #[cfg(test)]
 mod tests;

@@ -9,15 +9,21 @@ mod begin;
 pub(crate) mod corners;
 mod event;
 mod neighbors;
+mod notes;
 mod order;
 mod place;
+mod rings;
+mod starts;
 mod step;
 
-use crate::sweep::step::go_over;
+use crate::sweep::step::{Step, go_over};
 pub(crate) use corners::{Corner, Pair, corners_of, meeting_at};
 use mvt_plane::Count;
 use mvt_status::Status;
+pub(crate) use notes::nothing_noted;
 pub(crate) use order::{numbers_of, one_position, order_of};
+pub(crate) use rings::sweep_rings;
+pub(crate) use starts::starts_of;
 use std::alloc::AllocError;
 
 /// Goes over all corners in their order, of which no two are at one position. The status is empty at the call. The
@@ -38,7 +44,7 @@ pub(crate) fn sweep<S: Status>(
     ensures counted { AddsWork (3 * length order.now) (length order.now * (2 * bits (length corners.now) + 2)) (length order.now * (10 * bits (length corners.now))) count.old count.new }
 {
     for at in 0..order.len() {
-        if let Some(pair) = go_over(corners, order[at], status, count)? {
+        if let Step::Meets(pair) = go_over(corners, order[at], status, count)? {
             return Ok(Some(pair));
         }
     }

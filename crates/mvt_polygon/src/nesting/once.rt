@@ -38,7 +38,7 @@ pub fn check_nesting_once(rings: &[Vec<Point>], count: &mut Count) -> Option<Nes
 
 /// Why the first vertex of a hole isn't where it should be: it isn't inside the exterior, or it is inside another hole, of
 /// which the first is told.
-fn fault_of_first_vertex(
+pub(super) fn fault_of_first_vertex(
     rings: &[Vec<Point>],
     ring: usize,
     position: Point,

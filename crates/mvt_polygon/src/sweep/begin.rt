@@ -2,11 +2,13 @@
 ghost use Rattle.std.specs.Prelude.{◌≡◌, ◌<◌, ◌⊎◌, IfNone, IfSome, IfOk, length};
 ghost use Rattle.mvt_polygon.specs.CornerOrder.{AddsStep, AddsWork, IsNextCorner, IsSweptOver};
 ghost use Rattle.mvt_polygon.specs.Corners.{AreInRange, AreLinked, IsMeetingAt, plan_of, position_at, previous_at};
+ghost use Rattle.mvt_polygon.specs.Steps.{IsStep};
 ghost use Rattle.mvt_polygon.specs.Sweep.{BeginThere, BothBegin, Tested};
 
-use crate::sweep::corners::{Corner, Pair, meeting_at, next_of, previous_of};
+use crate::sweep::corners::{Corner, meeting_at, next_of, previous_of};
 use crate::sweep::neighbors::{meeting_above, meeting_below};
 use crate::sweep::place::place_of;
+use crate::sweep::step::Step;
 use mvt_plane::{Count, orient};
 use mvt_status::Status;
 use std::alloc::AllocError;
@@ -17,31 +19,30 @@ pub(crate) fn begin<S: Status>(
     number: usize,
     status: &mut S,
     count: &mut Count,
-) -> Result<Option<Pair>, AllocError>
+) -> Result<Step, AllocError>
     requires linked { AreLinked corners.now }
     requires in_range { AreInRange corners.now }
     requires number { number < length corners.now }
     requires next { IsNextCorner corners.now number (previous_at corners.now number) number (S.edges status.old) }
     requires begin { BeginThere (plan_of corners.now) (position_at corners.now number) (previous_at corners.now number) number }
-    ensures none { IfOk result (λ found. IfNone found (IsSweptOver corners.now number (S.edges status.new))) }
-    ensures some { IfOk result (λ found. IfSome found (IsMeetingAt corners.now)) }
+    ensures step { IfOk result (IsStep corners.now number (S.edges status.old) (S.edges status.new)) }
     ensures counted { AddsStep 3 (length corners.now) count.old count.new }
 {
     let previous = previous_of(corners, number);
     if let Some(pair) = meeting_at(corners, previous, number, count) {
-        return Ok(Some(pair));
+        return Ok(Step::Meets(pair));
     }
     let (lower, upper) = in_order(corners, number, count);
     let place = place_of(corners, number, status, count);
     if let Some(pair) = meeting_below(corners, lower, place, status, count) {
-        return Ok(Some(pair));
+        return Ok(Step::Meets(pair));
     }
     if let Some(pair) = meeting_above(corners, upper, place, status, count) {
-        return Ok(Some(pair));
+        return Ok(Step::Meets(pair));
     }
     status.insert(place, upper, count)?;
     status.insert(place, lower, count)?;
-    Ok(None)
+    Ok(Step::Begins(place))
 }
 
 /// The two edges that begin in a corner, the lower one first. They were tested, so they don't go one way. Ticks a

@@ -31,14 +31,15 @@ pub(crate) fn pass<S: Status>(
     ensures counted { AddsStep 2 (length corners.now) count.old count.new }
 {
     let place = place_of(corners, number, status, count);
-    status.remove(place, count);
     if let Some(pair) = meeting_below(corners, beginning, place, status, count) {
         return Ok(Some(pair));
     }
-    if let Some(pair) = meeting_above(corners, beginning, place, status, count) {
+    // (an edge ends here, so there is one at this place)
+    prove!(place < corners.len());
+    if let Some(pair) = meeting_above(corners, beginning, place + 1, status, count) {
         return Ok(Some(pair));
     }
-    status.insert(place, beginning, count)?;
+    status.replace(place, beginning, count)?;
     Ok(None)
 }
 

@@ -1,7 +1,8 @@
 //! One step of a sweep: its line goes over the next corner.
-ghost use Rattle.std.specs.Prelude.{◌<◌, IfNone, IfSome, IfOk, length};
-ghost use Rattle.mvt_polygon.specs.CornerOrder.{AddsStep, IsNextCorner, IsSweptOver};
-ghost use Rattle.mvt_polygon.specs.Corners.{AreInRange, AreLinked, IsMeetingAt, previous_at};
+ghost use Rattle.std.specs.Prelude.{◌≡◌, ◌<◌, IfOk, length};
+ghost use Rattle.mvt_polygon.specs.CornerOrder.{AddsStep, IsNextCorner};
+ghost use Rattle.mvt_polygon.specs.Corners.{AreInRange, AreLinked, previous_at};
+ghost use Rattle.mvt_polygon.specs.Steps.{gone, IsStep};
 
 use crate::sweep::begin::begin;
 use crate::sweep::corners::{Corner, Pair, next_of, previous_of};
@@ -10,19 +11,29 @@ use mvt_plane::{Count, sweep_key};
 use mvt_status::Status;
 use std::alloc::AllocError;
 
+/// What came of a step.
+#[derive(Clone, Copy)]
+pub(crate) enum Step {
+    /// These two edges meet wrongly.
+    Meets(Pair),
+    /// Both edges of the corner began in it, behind so many edges of the status.
+    Begins(usize),
+    /// An edge of the corner ended in it.
+    Goes,
+}
+
 /// Goes over a corner, which is the next one that the line comes to.
 pub(crate) fn go_over<S: Status>(
     corners: &[Corner],
     number: usize,
     status: &mut S,
     count: &mut Count,
-) -> Result<Option<Pair>, AllocError>
+) -> Result<Step, AllocError>
     requires linked { AreLinked corners.now }
     requires in_range { AreInRange corners.now }
     requires number { number < length corners.now }
     requires next { IsNextCorner corners.now number (previous_at corners.now number) number (S.edges status.old) }
-    ensures none { IfOk result (λ found. IfNone found (IsSweptOver corners.now number (S.edges status.new))) }
-    ensures some { IfOk result (λ found. IfSome found (IsMeetingAt corners.now)) }
+    ensures step { IfOk result (IsStep corners.now number (S.edges status.old) (S.edges status.new)) }
     ensures counted { AddsStep 3 (length corners.now) count.old count.new }
 {
     let previous = previous_of(corners, number);
@@ -33,13 +44,23 @@ pub(crate) fn go_over<S: Status>(
     let goes_on = key < sweep_key(behind);
     if comes_from_before {
         if goes_on {
-            pass(corners, number, previous, number, status, count)
+            Ok(gone(pass(corners, number, previous, number, status, count)?))
         } else {
-            Ok(end(corners, number, status, count))
+            Ok(gone(end(corners, number, status, count)))
         }
     } else if goes_on {
         begin(corners, number, status, count)
     } else {
-        pass(corners, number, number, previous, status, count)
+        Ok(gone(pass(corners, number, number, previous, status, count)?))
+    }
+}
+
+/// The step over a corner in which an edge ended.
+fn gone(found: Option<Pair>) -> Step
+    ensures { result ≡ gone found }
+{
+    match found {
+        Some(pair) => Step::Meets(pair),
+        None => Step::Goes,
     }
 }

@@ -6,6 +6,7 @@ use Rattle.mvt_polygon.specs.Corners.{position_at}
 use Rattle.mvt_polygon.proofs.CornerSweeps.{swept_to_first, next_corner, swept_to_next, swept_to_last}
 use Rattle.mvt_polygon.proofs.MeetingsFound.{no_step, another_step, so_many_steps}
 use Rattle.mvt_polygon.proofs.NumbersInOrder.{number_there, with_keys_size}
+use Rattle.mvt_polygon.proofs.StepsEntered.{step_over}
 use Rattle.mvt_polygon.proofs.sweep.sweep.Goals as goal
 
 pub loop-at-init : goal.loop-at-init
@@ -38,8 +39,8 @@ returns-in_err-pair-clause-counted g c =
     (another_step c.loop-at.at (2 * bits (length c.args.corners.now) + 2) (10 * bits (length c.args.corners.now)) c.args.count.now c.loop-at.count c.go_over.new.count
     c.loop-at.invariant.counted c.go_over.ensures.counted)
 
-pub returns-in-Some-clause-counted : goal.returns-in-Some-clause-counted
-returns-in-Some-clause-counted g c =
+pub returns-in-Meets-clause-counted : goal.returns-in-Meets-clause-counted
+returns-in-Meets-clause-counted g c =
     so_many_steps (c.loop-at.at + 1) (length c.args.order.now) (2 * bits (length c.args.corners.now) + 2) (10 * bits (length c.args.corners.now)) c.args.count.now
     c.go_over.new.count (omega (arith, c.loop-at-test.true))
     (another_step c.loop-at.at (2 * bits (length c.args.corners.now) + 2) (10 * bits (length c.args.corners.now)) c.args.count.now c.loop-at.count c.go_over.new.count
@@ -53,7 +54,9 @@ loop-at-preserved g c =
     let there = number_there c.args.corners.now c.args.order.now c.loop-at.at c.loop-at-test.true in
     record {
       swept = swept_to_next c.args.corners.now order c.loop-at.at key number (g.S.Status.edges c.go_over.new.status) c.requires.order c.requires.strict
-          there (rw c.in_default.is at c.in_ok-pair.ensures.none);
+          there
+          (step_over c.args.corners.now number (g.S.Status.edges c.loop-at.status) (g.S.Status.edges c.go_over.new.status) c.in_ok-pair.field-0 c.in_ok-pair.ensures.step
+          c.in_default.not-Meets);
       counted = another_step c.loop-at.at (2 * bits (length c.args.corners.now) + 2) (10 * bits (length c.args.corners.now)) c.args.count.now c.loop-at.count c.go_over.new.count
           c.loop-at.invariant.counted c.go_over.ensures.counted;
     }

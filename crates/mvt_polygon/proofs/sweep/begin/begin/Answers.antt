@@ -5,7 +5,7 @@ use Rattle.mvt_polygon.specs.declared.sweep.corners.Corner.{Corner}
 use Rattle.mvt_polygon.proofs.BeginSteps.{few_between, work_first, work_second, work_so_far}
 use Rattle.mvt_polygon.proofs.CornerPlans.{plan_of_corners}
 use Rattle.mvt_polygon.proofs.StatusCounts.{few_swept}
-use Rattle.mvt_polygon.proofs.StatusPlaces.{all_known, others_known, begin_in_order}
+use Rattle.mvt_polygon.proofs.StatusPlaces.{all_known, others_known, begin_in_order, kept_twice}
 use Rattle.mvt_polygon.proofs.SweepSlabs.{split}
 use Rattle.mvt_polygon.proofs.sweep.begin.begin.Goals as goal
 
@@ -77,16 +77,24 @@ returns-in_err-insert-2-clause-counted g c =
     c.meeting_below.ensures.counted c.meeting_above.ensures.counted c.insert.ensures.counted)
     c.insert-2.ensures.counted
 
-pub returns-clause-none : goal.returns-clause-none
-returns-clause-none g c =
+pub returns-clause-step : goal.returns-clause-step
+returns-clause-step g c =
     let corners = c.args.corners.now in
     let is_plan = plan_of_corners corners c.requires.linked c.requires.in_range in
-    let tested = tested_read corners c.args.number c.previous_of-previous.result c.previous_of-previous.ensures.value c.in_default.ensures.none in
-    begin_in_order (plan_of corners) c.requires.next.key (position_at corners c.args.number) (previous_at corners c.args.number) c.args.number c.in_order-lower.result
-    c.place_of-place.result
-    (g.S.Status.edges c.args.status.now) (g.S.Status.edges c.insert.new.self) (g.S.Status.edges c.insert-2.new.self) is_plan c.requires.next.swept c.requires.next.event
-    c.in_order-lower.ensures.pair c.in_order-lower.ensures.begin c.place_of-place.ensures.within c.place_of-place.ensures.cut tested c.in_default-meeting_below.ensures.none
-    c.in_default-meeting_above.ensures.none c.in_ok-insert.ensures.list c.in_ok-insert-2.ensures.list
+    let tested = tested_read corners c.args.number c.previous_of-previous.result c.previous_of-previous.ensures.value c.in_default.ensures.none in (
+      begin_in_order (plan_of corners) c.requires.next.key (position_at corners c.args.number) (previous_at corners c.args.number) c.args.number c.in_order-lower.result
+          c.place_of-place.result
+          (g.S.Status.edges c.args.status.now) (g.S.Status.edges c.insert.new.self) (g.S.Status.edges c.insert-2.new.self) is_plan c.requires.next.swept c.requires.next.event
+          c.in_order-lower.ensures.pair c.in_order-lower.ensures.begin c.place_of-place.ensures.within c.place_of-place.ensures.cut tested c.in_default-meeting_below.ensures.none
+          c.in_default-meeting_above.ensures.none c.in_ok-insert.ensures.list c.in_ok-insert-2.ensures.list,
+      record {
+        begin = c.requires.begin;
+        within = c.place_of-place.ensures.within;
+        cut = c.place_of-place.ensures.cut;
+        kept = kept_twice (g.S.Status.edges c.args.status.now) (g.S.Status.edges c.insert.new.self) (g.S.Status.edges c.insert-2.new.self) c.place_of-place.result
+            c.in_order-lower.result.0 c.in_order-lower.result.1 c.place_of-place.ensures.within c.in_ok-insert.ensures.list c.in_ok-insert-2.ensures.list;
+      },
+    )
 
 pub returns-clause-counted : goal.returns-clause-counted
 returns-clause-counted g c =

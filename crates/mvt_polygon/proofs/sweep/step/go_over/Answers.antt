@@ -3,11 +3,14 @@ use Rattle.std.specs.Int.Signed.{lt_z}
 use Rattle.mvt_plane.specs.Measure.{key_of}
 use Rattle.mvt_plane.specs.Position.{Position}
 use Rattle.mvt_polygon.specs.CornerOrder.{IsNextCorner}
+use Rattle.mvt_polygon.specs.Steps.{IsStep}
+use Rattle.mvt_polygon.specs.declared.sweep.step.Step.{Step}
 use Rattle.mvt_polygon.specs.Corners.{next_at, plan_of, position_at, previous_at}
 use Rattle.mvt_polygon.specs.Sweep.{PassesOn}
 use Rattle.mvt_polygon.specs.declared.sweep.corners.Corner.{Corner}
 use Rattle.mvt_polygon.proofs.CornerReads.{position_read, test_of_keys}
 use Rattle.mvt_polygon.proofs.CornerSteps.{passes_on, passes_back, both_end, both_begin, next_back}
+use Rattle.mvt_polygon.proofs.StepsEntered.{entered_from_before, entered_from_behind, step_gone}
 use Rattle.mvt_polygon.proofs.sweep.step.go_over.Goals as goal
 
 -- a test of two corners, as the code reads them
@@ -93,3 +96,50 @@ pass-requires-else-goes_on-2-clause-passes g c =
     (test_of_keys (slice_index_or corners number c.index-corners-number.result).position (slice_index_or corners c.next_of.result c.index-corners-next_of.result).position
     c.sweep_key-key.result c.sweep_key-2.result false (record { sfits = c.sweep_key-key.type_inv }) (record { sfits = c.sweep_key-2.type_inv }) c.sweep_key-key.ensures.value
     c.sweep_key-2.ensures.value c.if-goes_on-2.false)))
+
+pub returns-in_ok-pass-clause-step : goal.returns-in_ok-pass-clause-step
+returns-in_ok-pass-clause-step g c =
+    let corners = c.args.corners.now in
+    let number = c.args.number in
+    let edges = g.S.Status.edges c.args.status.now in
+    let after = g.S.Status.edges c.pass.new.status in
+    subst (λ (step : Step). IsStep corners number edges after step) (sym c.gone.ensures)
+    (step_gone corners number edges after c.in_ok-pass.field-0 c.in_ok-pass.ensures.none c.in_ok-pass.ensures.some
+    (entered_from_before corners number
+    (test_read corners c.previous_of-previous.result number (previous_at corners number) number c.index-corners-previous.result c.index-corners-number.result true
+    (c.requires.linked.previous_known number c.requires.number) c.requires.number c.previous_of-previous.ensures.value refl
+    (test_of_keys (slice_index_or corners c.previous_of-previous.result c.index-corners-previous.result).position
+    (slice_index_or corners number c.index-corners-number.result).position
+    c.sweep_key.result c.sweep_key-key.result true (record { sfits = c.sweep_key.type_inv }) (record { sfits = c.sweep_key-key.type_inv }) c.sweep_key.ensures.value
+    c.sweep_key-key.ensures.value c.if-comes_from_before.true))))
+
+pub returns-else-goes_on-clause-step : goal.returns-else-goes_on-clause-step
+returns-else-goes_on-clause-step g c =
+    let corners = c.args.corners.now in
+    let number = c.args.number in
+    let edges = g.S.Status.edges c.args.status.now in
+    let after = g.S.Status.edges c.end.new.status in
+    subst (λ (step : Step). IsStep corners number edges after step) (sym c.gone-else-goes_on.ensures)
+    (step_gone corners number edges after c.end.result c.end.ensures.none c.end.ensures.some
+    (entered_from_before corners number
+    (test_read corners c.previous_of-previous.result number (previous_at corners number) number c.index-corners-previous.result c.index-corners-number.result true
+    (c.requires.linked.previous_known number c.requires.number) c.requires.number c.previous_of-previous.ensures.value refl
+    (test_of_keys (slice_index_or corners c.previous_of-previous.result c.index-corners-previous.result).position
+    (slice_index_or corners number c.index-corners-number.result).position
+    c.sweep_key.result c.sweep_key-key.result true (record { sfits = c.sweep_key.type_inv }) (record { sfits = c.sweep_key-key.type_inv }) c.sweep_key.ensures.value
+    c.sweep_key-key.ensures.value c.if-comes_from_before.true))))
+
+pub returns-in_ok-pass-2-clause-step : goal.returns-in_ok-pass-2-clause-step
+returns-in_ok-pass-2-clause-step g c =
+    let corners = c.args.corners.now in
+    let number = c.args.number in
+    let edges = g.S.Status.edges c.args.status.now in
+    let after = g.S.Status.edges c.pass-else-goes_on-2.new.status in
+    subst (λ (step : Step). IsStep corners number edges after step) (sym c.gone-else-goes_on-2.ensures)
+    (step_gone corners number edges after c.in_ok-pass-2.field-0 c.in_ok-pass-2.ensures.none c.in_ok-pass-2.ensures.some
+    (entered_from_behind corners number c.requires.linked c.requires.in_range c.requires.number
+    (test_read corners number c.next_of.result number (next_at corners number) c.index-corners-number.result c.index-corners-next_of.result false c.requires.number
+    (c.requires.linked.next_known number c.requires.number) refl c.next_of.ensures.value
+    (test_of_keys (slice_index_or corners number c.index-corners-number.result).position (slice_index_or corners c.next_of.result c.index-corners-next_of.result).position
+    c.sweep_key-key.result c.sweep_key-2.result false (record { sfits = c.sweep_key-key.type_inv }) (record { sfits = c.sweep_key-2.type_inv }) c.sweep_key-key.ensures.value
+    c.sweep_key-2.ensures.value c.if-goes_on-2.false))))

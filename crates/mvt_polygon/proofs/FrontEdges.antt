@@ -1,0 +1,164 @@
+-- Where two edges begin in a corner, the edges of the sweep below it are those that pass below it.
+use Rattle.std.proofs.Common.{◌≡◌, ◌≢◌, ◌⊎◌, inl, inr, ℕ, ◌<◌, List, ◌++◌, length, ℤ, pos, ◌<ℤ◌, ◌≤ℤ◌, sym, ◌∙◌, ap, subst, arith}
+use Rattle.mvt_plane.specs.Below.{IsNotAbove, IsAboveRising, PassesBelow}
+use Rattle.mvt_plane.specs.EdgeOrder.{Segment, segment, segment_between}
+use Rattle.mvt_plane.specs.Inside.{Differ}
+use Rattle.mvt_plane.specs.Measure.{key_of, orientation}
+use Rattle.mvt_plane.specs.Position.{Position}
+use Rattle.mvt_plane.proofs.Order.{zs, le_or_lt}
+use Rattle.mvt_polygon.specs.Chain.{Has, Ordered}
+use Rattle.mvt_polygon.specs.CornerOrder.{IsNextCorner}
+use Rattle.mvt_polygon.specs.Corners.{AreLinked, AreInRange, edge_at, next_at, plan_of, position_at, previous_at}
+use Rattle.mvt_polygon.specs.FrontEdges.{AreBelow}
+use Rattle.mvt_polygon.specs.Sweep.{Plan, IsPlan, IsSwept, IsEvent, IsActive, IsUnder, IsCut, IsSlab, BeginThere}
+use Rattle.mvt_polygon.specs.declared.sweep.corners.Corner.{Corner}
+use Rattle.mvt_polygon.proofs.ChainParts.{each_has, each_by_has, has_left, has_either, ordered_parts, ordered_map}
+use Rattle.mvt_polygon.proofs.CornerPlans.{plan_of_corners}
+use Rattle.mvt_polygon.proofs.SegmentEnds.{IsBetweenThem, up, down, between_them}
+use Rattle.mvt_polygon.proofs.SweepSlabs.{slab_of_all, swept_differ}
+
+-- an edge goes past the key of the vertex, from its lower end on, and is below the vertex
+record IsPassing (vertex : Position) (it : Segment) : Type 0 where
+  begun : key_of it.low <ℤ key_of vertex
+  lasts : key_of vertex ≤ℤ key_of it.high
+  under : pos 0 <ℤ orientation it.low it.high vertex
+
+-- an edge that does passes below the vertex
+below_by_passing : (vertex one other : Position) → IsPassing vertex (segment one other) → PassesBelow vertex (record { a = one; b = other })
+below_by_passing vertex one other it =
+    let begun = it.begun in
+    let lasts = it.lasts in
+    record {
+      parted = inl (begun, λ (ends : key_of other <ℤ key_of vertex). omega (arith, zs));
+      above = inl (record { rising = omega (arith, zs); above = it.under });
+    }
+
+-- and back, where the second end doesn't come before the first by key
+passing_by_below : (vertex one other : Position) → key_of one ≤ℤ key_of other → PassesBelow vertex (record { a = one; b = other }) → IsPassing vertex (segment one other)
+passing_by_below vertex one other order below = by_parts below.parted below.above
+  where
+    by_parts : Differ (key_of one <ℤ key_of vertex) (key_of other <ℤ key_of vertex) → IsAboveRising vertex one other ⊎ IsAboveRising vertex other one
+        → IsPassing vertex (segment one other)
+    by_parts parted (inr turned) = let falls = turned.rising in absurd (omega (arith, zs))
+    by_parts (inr (none, ends)) (inl its) = absurd (none (omega (arith, zs)))
+    by_parts (inl (begun, none)) (inl its) = record {
+      begun = begun;
+      lasts = elim (le_or_lt (key_of vertex) (key_of other)) [ inl lasts ↦ lasts | inr ends ↦ absurd (none ends) ];
+      under = its.above;
+    }
+
+-- the edge that goes back passes below the same positions
+turned_below : (vertex one other : Position) → PassesBelow vertex (record { a = one; b = other }) → PassesBelow vertex (record { a = other; b = one })
+turned_below vertex one other below = record { parted = other_part below.parted; above = other_way below.above }
+  where
+    other_part : Differ (key_of one <ℤ key_of vertex) (key_of other <ℤ key_of vertex) → Differ (key_of other <ℤ key_of vertex) (key_of one <ℤ key_of vertex)
+    other_part (inl (begun, none)) = inr (none, begun)
+    other_part (inr (none, begun)) = inl (begun, none)
+
+    other_way : IsAboveRising vertex one other ⊎ IsAboveRising vertex other one → IsAboveRising vertex other one ⊎ IsAboveRising vertex one other
+    other_way (inl it) = inr it
+    other_way (inr it) = inl it
+
+-- so it is with an edge whose ends are told in either order
+below_between : (vertex one other : Position) → IsPassing vertex (segment_between one other) → PassesBelow vertex (record { a = one; b = other })
+below_between vertex one other it = either (between_them one other)
+  where
+    either : IsBetweenThem one other → PassesBelow vertex (record { a = one; b = other })
+    either (up rises is) = below_by_passing vertex one other (subst (IsPassing vertex) is it)
+    either (down falls is) = turned_below vertex other one (below_by_passing vertex other one (subst (IsPassing vertex) is it))
+
+-- and back
+passing_between : (vertex one other : Position) → PassesBelow vertex (record { a = one; b = other }) → IsPassing vertex (segment_between one other)
+passing_between vertex one other below = either (between_them one other)
+  where
+    either : IsBetweenThem one other → IsPassing vertex (segment_between one other)
+    either (up rises is) = subst (IsPassing vertex) (sym is) (passing_by_below vertex one other (omega (arith, zs)) below)
+    either (down falls is) = subst (IsPassing vertex) (sym is) (passing_by_below vertex other one falls (turned_below vertex one other below))
+
+-- an edge that goes on up to the next vertex, and is below it, goes past it
+passing_active : (plan : Plan) (key : ℤ) (vertex : Position) (first second edge : ℕ) → IsEvent plan key vertex first second → IsActive plan key edge → IsUnder plan vertex edge
+    → IsPassing vertex (plan.segment edge)
+passing_active plan key vertex first second edge event active under =
+    let later = event.later in
+    let begun = active.begun in
+    let lasts = active.lasts in
+    record {
+      begun = omega (arith, zs);
+      lasts = elim (event.next_high edge active.known) [ inl ended ↦ absurd (omega (arith, zs)) | inr behind ↦ behind ];
+      under = under;
+    }
+
+-- an edge that begins in the vertex doesn't go past it
+none_begins : (plan : Plan) (vertex : Position) (edge : ℕ) → (plan.segment edge).low ≡ vertex → ¬ IsPassing vertex (plan.segment edge)
+none_begins plan vertex edge begins it =
+    let same = ap key_of begins in
+    let begun = it.begun in
+    omega (arith, zs)
+
+-- where both edges of the vertex begin there, one that goes past it went on before
+active_passing : (plan : Plan) (key : ℤ) (vertex : Position) (first second edge : ℕ) → IsEvent plan key vertex first second → BeginThere plan vertex first second → edge < plan.count
+    → IsPassing vertex (plan.segment edge) → IsActive plan key edge
+active_passing plan key vertex first second edge event begin known it =
+    let later = event.later in
+    let begun = it.begun in
+    let lasts = it.lasts in
+    record {
+      known = known;
+      begun = elim (event.next_low edge known) [ inl before ↦ before | inr behind ↦ absurd (omega (arith, zs)) ];
+      lasts = elim (event.next_high edge known) [ inl ended ↦ absurd (refuse (event.only_high edge known (omega (arith, zs)))) | inr behind ↦ omega (arith, zs) ];
+    }
+  where
+    refuse : (edge ≡ first) ⊎ (edge ≡ second) → ⊥
+    refuse (inl same) = none_begins plan vertex edge (ap (λ (at : ℕ). (plan.segment at).low) same ∙ begin.first_begins) it
+    refuse (inr same) = none_begins plan vertex edge (ap (λ (at : ℕ). (plan.segment at).low) same ∙ begin.second_begins) it
+
+-- so it is in the front
+in_front : (plan : Plan) (key : ℤ) (vertex : Position) (first second edge : ℕ) (edges front rest : List ℕ) → IsSwept plan key edges → IsEvent plan key vertex first second
+    → BeginThere plan vertex first second → IsCut plan vertex edges front rest → edge < plan.count → IsPassing vertex (plan.segment edge) → Has front edge
+in_front plan key vertex first second edge edges front rest swept event begin cut known it =
+    let there : Has edges edge = swept.whole edge (active_passing plan key vertex first second edge event begin known it) in
+    elim (has_either front rest edge (subst (λ (all : List ℕ). Has all edge) cut.whole there)) [
+      | inl here ↦ here
+      | inr behind ↦ absurd (each_has (λ (edge : ℕ). ¬ IsUnder plan vertex edge) rest edge cut.others behind it.under)
+    ]
+
+-- an edge of the front is one of the sweep
+front_active : (plan : Plan) (key : ℤ) (vertex : Position) (edge : ℕ) (edges front rest : List ℕ) → IsSwept plan key edges → IsCut plan vertex edges front rest → Has front edge
+    → IsActive plan key edge
+front_active plan key vertex edge edges front rest swept cut here =
+    swept.active edge (subst (λ (all : List ℕ). Has all edge) (sym cut.whole) (has_left front rest edge here))
+
+-- what is in order stays so where the rest is left out
+front_ordered : (R : ℕ → ℕ → Type 0) (edges front rest : List ℕ) → edges ≡ front ++ rest → Ordered R edges → Ordered R front
+front_ordered R edges front rest whole ordered = (ordered_parts R front rest (subst (Ordered R) whole ordered)).0
+
+-- the edges of the front pass below the corner, and no other edges do
+pub front_is_below : (corners : List Corner) (number : ℕ) (edges front rest : List ℕ) → AreLinked corners → AreInRange corners → number < length corners
+    → IsNextCorner corners number (previous_at corners number) number edges → BeginThere (plan_of corners) (position_at corners number) (previous_at corners number) number
+    → IsCut (plan_of corners) (position_at corners number) edges front rest → AreBelow corners (position_at corners number) front
+front_is_below corners number edges front rest linked in_range known next begin cut = record {
+  known = each_by_has (λ (edge : ℕ). edge < length corners) front (λ edge here. (active edge here).known);
+  once = front_ordered (λ (one other : ℕ). one ≢ other) edges front rest cut.whole (swept_differ plan next.key edges is_plan next.swept);
+  below = each_by_has (λ (edge : ℕ). PassesBelow vertex (edge_at corners edge)) front (λ edge here.
+      below_between vertex (position_at corners edge) (position_at corners (next_at corners edge))
+      (passing_active plan next.key vertex (previous_at corners number) number edge next.event (active edge here) (each_has (IsUnder plan vertex) front edge cut.below here)));
+  all = λ edge within passes.
+      in_front plan next.key vertex (previous_at corners number) number edge edges front rest next.swept next.event begin cut within
+      (passing_between vertex (position_at corners edge) (position_at corners (next_at corners edge)) passes);
+  rising = ordered_map (IsSlab plan next.key vertex) (λ (one other : ℕ). IsNotAbove vertex (edge_at corners one) (edge_at corners other)) front
+      (λ one other here there slab. slab.below.at_right)
+      (front_ordered (IsSlab plan next.key vertex) edges front rest cut.whole
+      (slab_of_all plan next.key vertex (previous_at corners number) number edges is_plan next.swept next.event));
+}
+  where
+    plan : Plan
+    plan = plan_of corners
+
+    vertex : Position
+    vertex = position_at corners number
+
+    is_plan : IsPlan (plan_of corners)
+    is_plan = plan_of_corners corners linked in_range
+
+    active : (edge : ℕ) → Has front edge → IsActive (plan_of corners) next.key edge
+    active edge here = front_active (plan_of corners) next.key (position_at corners number) edge edges front rest next.swept cut here

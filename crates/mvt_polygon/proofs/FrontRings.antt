@@ -1,0 +1,163 @@
+-- What the edges that pass below a position, by the numbers of their corners, tell of the rings.
+use Rattle.std.proofs.Common.{◌≡◌, ℕ, suc, ◌+◌, ◌-◌, ◌<◌, ◌⊎◌, inl, inr, ◌↔◌, Bool, true, false, IsTrue, List, [], ◌∷◌, length, take, slice_index, pos, refl, sym, ◌∙◌, ap, subst, arith}
+use Rattle.std.proofs.lemmas.Option.{same_Some, slice_get_within}
+use Rattle.mvt_plane.specs.Below.{IsNotAbove, PassesBelow}
+use Rattle.mvt_plane.specs.EdgeOrder.{segment_between}
+use Rattle.mvt_plane.specs.Measure.{key_of}
+use Rattle.mvt_plane.specs.Meeting.{EdgeNumber, IsEdgeOf}
+use Rattle.mvt_plane.specs.Position.{Position, IsPosition}
+use Rattle.mvt_plane.specs.Ring.{edges}
+use Rattle.mvt_plane.specs.declared.edge.Edge.{Edge}
+use Rattle.mvt_plane.proofs.EdgeParity.{test, test_tells, odd, odd_tells}
+use Rattle.mvt_plane.proofs.EdgesBelow.{below_or_not}
+use Rattle.mvt_plane.proofs.Gaps.{gap_to_itself}
+use Rattle.mvt_plane.proofs.InsideParity.{no_truth, parts_differ}
+use Rattle.mvt_plane.proofs.Order.{zs}
+use Rattle.mvt_polygon.specs.Chain.{Has, Ordered}
+use Rattle.mvt_polygon.specs.Corners.{AreCorners, AreInRange, IsNumbered, edge_at, position_at, vertex_count}
+use Rattle.mvt_polygon.specs.FrontEdges.{AreBelow}
+use Rattle.mvt_polygon.specs.RingNotes.{is_odd_number}
+use Rattle.mvt_polygon.specs.Rings.{AreProperRings}
+use Rattle.mvt_polygon.specs.RingsBelow.{AreRingsInRange, HaveNoneBelow, HaveOddBelow, IsRingBelow}
+use Rattle.mvt_polygon.specs.declared.sweep.corners.Corner.{Corner}
+use Rattle.mvt_polygon.proofs.ChainParts.{each_has, has_place}
+use Rattle.mvt_polygon.proofs.CornerNumbers.{numbered_within, vertex_at}
+use Rattle.mvt_polygon.proofs.CornerPlans.{corner_of_edge, edge_of_corner}
+use Rattle.mvt_polygon.proofs.FrontParity.{odd_from, odd_alike, is_in, in_by_has, has_by_in, odd_of_list, odd_of_all, odd_of_rings}
+
+-- Edges in the front
+
+-- an edge of rings that passes below the position is in the front
+front_has : (rings : List (List Position)) (corners : List Corner) (position : Position) (front : List ℕ) (number : EdgeNumber) (edge : Edge)
+    → AreProperRings rings → AreCorners rings corners → AreBelow corners position front → IsEdgeOf rings number edge → PassesBelow position edge → (at : ℕ) × (edge_at corners at ≡ edge) × Has front at
+front_has rings corners position front number edge proper are below is passes =
+    let it = corner_of_edge rings corners number edge proper are is in
+    (it.at, it.its_edge, below.all it.at it.within (subst (PassesBelow position) (sym it.its_edge) passes))
+
+-- no edge is in a front of none
+none_in : (front : List ℕ) (at : ℕ) → length front ≡ 0 → ¬ Has front at
+none_in [] at none has = has
+none_in (first ∷ rest) at none has = omega arith
+
+-- where the front has no edges, none passes below the position
+pub none_of_front : (rings : List (List Position)) (corners : List Corner) (position : Position) (front : List ℕ) → AreProperRings rings → AreCorners rings corners
+    → AreBelow corners position front → length front ≡ 0 → HaveNoneBelow position rings
+none_of_front rings corners position front proper are below none number edge is passes =
+    let found = front_has rings corners position front number edge proper are below is passes in
+    none_in front found.0 none found.2
+
+-- The last edge of the front
+
+-- it is the last one of those behind the first
+last_step : (first next : ℕ) (rest : List ℕ) → slice_index (first ∷ next ∷ rest) (length (first ∷ next ∷ rest) - 1) ≡ slice_index (next ∷ rest) (length (next ∷ rest) - 1)
+last_step first next rest =
+    let same : length (first ∷ next ∷ rest) - 1 ≡ suc (length (next ∷ rest) - 1) = omega arith in
+    ap (slice_index (first ∷ next ∷ rest)) same
+
+-- each number of an ordered list is the last one or comes before it
+last_behind : (R : ℕ → ℕ → Type 0) (xs : List ℕ) (it : ℕ) → Ordered R xs → Has xs it → (it ≡ slice_index xs (length xs - 1)) ⊎ R it (slice_index xs (length xs - 1))
+last_behind R [] it ordered has = absurd has
+last_behind R (last ∷ []) it ordered (inl same) = inl (sym same)
+last_behind R (last ∷ []) it ordered (inr more) = absurd more
+last_behind R (first ∷ next ∷ rest) it ordered (inl same) =
+    let last = has_place (next ∷ rest) (length (next ∷ rest) - 1) (omega arith) in
+    inr
+    (subst (R it) (sym (last_step first next rest))
+    (subst (λ (n : ℕ). R n (slice_index (next ∷ rest) (length (next ∷ rest) - 1))) same (each_has (R first) (next ∷ rest) _ ordered.0 last)))
+last_behind R (first ∷ next ∷ rest) it ordered (inr more) =
+    subst (λ (n : ℕ). (it ≡ n) ⊎ R it n) (sym (last_step first next rest)) (last_behind R (next ∷ rest) it ordered.1 more)
+
+-- an edge isn't above itself
+not_above_itself : (position : Position) (edge : Edge) → IsNotAbove position edge edge
+not_above_itself position edge = let none = gap_to_itself (segment_between edge.a edge.b) (key_of position) (pos 1) in omega (arith, zs, none)
+
+-- of the edges that pass below the position none is above the last one of the front
+pub ring_of_front : (rings : List (List Position)) (corners : List Corner) (position : Position) (front : List ℕ) (at : EdgeNumber)
+    → AreProperRings rings → AreCorners rings corners → AreBelow corners position front → 0 < length front → IsNumbered rings (slice_index front (length front - 1)) at → IsRingBelow position rings at.ring
+ring_of_front rings corners position front at proper are below some is = record {
+  number = at;
+  of_ring = refl;
+  edge = edge_at corners last;
+  there = edge_of_corner rings corners last at proper are is;
+  below = each_has (λ (edge : ℕ). PassesBelow position (edge_at corners edge)) front last below.below (has_place front (length front - 1) (omega arith));
+  none_above = none_above;
+}
+  where
+    last : ℕ
+    last = slice_index front (length front - 1)
+
+    either : (one : ℕ) → (one ≡ last) ⊎ IsNotAbove position (edge_at corners one) (edge_at corners last) → IsNotAbove position (edge_at corners one) (edge_at corners last)
+    either one (inl same) = subst (λ (n : ℕ). IsNotAbove position (edge_at corners n) (edge_at corners last)) (sym same) (not_above_itself position (edge_at corners last))
+    either one (inr above) = above
+
+    none_above : (another : EdgeNumber) (other : Edge) → IsEdgeOf rings another other → PassesBelow position other → IsNotAbove position other (edge_at corners last)
+    none_above another other its passes =
+        let found = front_has rings corners position front another other proper are below its passes in
+        subst (λ (edge : Edge). IsNotAbove position edge (edge_at corners last)) found.1
+        (either found.0 (last_behind (λ (one two : ℕ). IsNotAbove position (edge_at corners one) (edge_at corners two)) front found.0 below.rising found.2))
+
+-- Vertices
+
+-- where the corners are in range, all vertices are
+pub rings_in_range : (rings : List (List Position)) (corners : List Corner) → AreProperRings rings → AreCorners rings corners → AreInRange corners → AreRingsInRange rings
+rings_in_range rings corners proper are in_range number vertex ring position there here =
+    let place : EdgeNumber = record { ring = number; edge = vertex } in
+    let at = vertex_count (take number rings) + vertex in
+    let is : IsNumbered rings at place = record { ring = ring; there = there; within = slice_get_within ring vertex position here; numbered = refl } in
+    let it = vertex_at rings corners at place proper are is in
+    let same : position_at corners at ≡ position = same_Some (position_at corners at) position (sym it.here ∙ here) in
+    subst IsPosition same (in_range at (numbered_within rings corners at place are is))
+
+-- The parity of the front
+
+-- tests that hold together are the same
+same_tests : (one other : Bool) → (IsTrue one → IsTrue other) → (IsTrue other → IsTrue one) → one ≡ other
+same_tests true true there back = refl
+same_tests true false there back = absurd (no_truth (there refl))
+same_tests false true there back = absurd (no_truth (back refl))
+same_tests false false there back = refl
+
+-- where the test tells which edges pass below the position, its parity tells whether an odd number of all do
+all_tell : (position : Position) (tells : Edge → Bool) → ((edge : Edge) → IsTrue (tells edge) ↔ PassesBelow position edge) → (rings : List (List Position))
+    → IsTrue (odd_of_all tells rings) ↔ HaveOddBelow position rings
+all_tell position tells each [] = (no_truth, λ impossible. absurd impossible)
+all_tell position tells each (ring ∷ rest) =
+    parts_differ (odd tells (edges ring)) (odd_of_all tells rest) _ _ (odd_tells (PassesBelow position) tells each (edges ring))
+    (all_tell position tells each rest)
+
+-- an odd number of edges are in the front where an odd number of all the rings' edges pass below the position
+pub odd_of_front : (rings : List (List Position)) (corners : List Corner) (position : Position) (front : List ℕ) → AreProperRings rings → AreCorners rings corners
+    → AreBelow corners position front → IsTrue (is_odd_number (length front)) ↔ HaveOddBelow position rings
+odd_of_front rings corners position front proper are below =
+    let told = all_tell position tells each rings in (
+      λ is_odd. told.0 (subst IsTrue same is_odd),
+      λ have. subst IsTrue (sym same) (told.1 have),
+    )
+  where
+    tells : Edge → Bool
+    tells edge = test (below_or_not position edge.a edge.b)
+
+    each : (edge : Edge) → IsTrue (tells edge) ↔ PassesBelow position edge
+    each edge = test_tells (below_or_not position edge.a edge.b)
+
+    meets : ℕ → Bool
+    meets number = tells (edge_at corners number)
+
+    in_front : (number : ℕ) → number < length corners → is_in front number ≡ meets number
+    in_front number within =
+        same_tests (is_in front number) (meets number)
+        (λ there. (each (edge_at corners number)).1
+        (each_has (λ (edge : ℕ). PassesBelow position (edge_at corners edge)) front number below.below (has_by_in front number there)))
+        (λ passes. in_by_has front number below.once (below.all number within ((each (edge_at corners number)).0 passes)))
+
+    of_edge : (number : EdgeNumber) (edge : Edge) → IsEdgeOf rings number edge → meets (0 + (vertex_count (take number.ring rings) + number.edge)) ≡ tells edge
+    of_edge number edge is =
+        let it = corner_of_edge rings corners number edge proper are is in
+        let at : 0 + (vertex_count (take number.ring rings) + number.edge) ≡ it.at = omega (arith, it.numbered.numbered) in
+        ap meets at ∙ ap tells it.its_edge
+
+    same : is_odd_number (length front) ≡ odd_of_all tells rings
+    same =
+        odd_of_list front (length corners) below.known
+        ∙ odd_alike (is_in front) meets 0 (length corners) (λ number least most. in_front number (omega arith))
+        ∙ ap (odd_from meets 0) are.count ∙ odd_of_rings meets tells rings 0 of_edge

@@ -1,0 +1,220 @@
+-- Holes by what is noted of them: one around whose first vertex, by key, the exterior is alone has no fault, and any other has
+-- one of its first vertex, by number.
+use Rattle.std.proofs.Common.{◌≡◌, ◌≢◌, ◌↔◌, inl, inr, ℕ, suc, ◌<◌, List, [], ◌∷◌, length, get_or, slice_get, Option, Some, None, IfSome, IfNone, ◌≤ℤ◌, ◌<ℤ◌, refl, sym, ◌∙◌, ap, subst, arith}
+use Rattle.std.proofs.lemmas.Bool.{cases_order}
+use Rattle.std.proofs.lemmas.Option.{same_Some, slice_get_within, slice_get-get_or}
+use Rattle.mvt_plane.specs.Apart.{HaveNothingInCommon}
+use Rattle.mvt_plane.specs.Below.{PassesBelow, HasOddBelow}
+use Rattle.mvt_plane.specs.Inside.{Differ, HoldsOfOdd, IsInside}
+use Rattle.mvt_plane.specs.Measure.{key_of}
+use Rattle.mvt_plane.specs.Position.{Position}
+use Rattle.mvt_plane.specs.RationalPoint.{LiesOn, whole}
+use Rattle.mvt_plane.specs.Ring.{edges}
+use Rattle.mvt_plane.specs.declared.edge.Edge.{Edge}
+use Rattle.mvt_plane.proofs.EdgesBelow.{inside_by_edges_below}
+use Rattle.mvt_plane.proofs.OneVertex.{one_vertex_decides}
+use Rattle.mvt_plane.proofs.Order.{zs}
+use Rattle.mvt_plane.proofs.RationalPoints.{begin_lies_on}
+use Rattle.mvt_plane.proofs.RingEdges.{count_of_edges, ends_of_edge}
+use Rattle.mvt_polygon.specs.Meeting.{NoMeeting}
+use Rattle.mvt_polygon.specs.Nesting.{IsNestFault, outside, in_hole, IsFirstNestFault, IsOfHole, IsOfVertex, IsFirstOf}
+use Rattle.mvt_polygon.specs.RingNotes.{AreAllNoted, IsRingAround, IsExteriorAround, AreAround, AreAroundRing}
+use Rattle.mvt_polygon.specs.RingsBelow.{AreRingsInRange, IsFirstVertex}
+use Rattle.mvt_polygon.specs.declared.nesting.NestFault.{NestFault}
+use Rattle.mvt_polygon.specs.declared.nesting.NestFault.TheVariants.{Outside, InHole}
+use Rattle.mvt_polygon.specs.declared.nesting.around.Around.{Around}
+use Rattle.mvt_polygon.specs.declared.nesting.around.Around.TheVariants.{Nothing, Exterior, Others}
+use Rattle.mvt_polygon.proofs.NestFaults.{first_hole}
+use Rattle.mvt_polygon.proofs.NestOnce.{nothing_in_common, first_of_first_vertex}
+
+-- Below a ring's first vertex
+
+-- what holds of no edge doesn't hold of an odd number of them
+none_odd : (Holds : Edge → Type 0) (all : List Edge) → ((number : ℕ) (edge : Edge) → slice_get all number ≡ Some edge → ¬ Holds edge) → ¬ HoldsOfOdd Holds all
+none_odd Holds [] none holds = holds
+none_odd Holds (edge ∷ rest) none (inl one) = none 0 edge refl one.0
+none_odd Holds (edge ∷ rest) none (inr other) = none_odd Holds rest (λ number another there. none (suc number) another there) other.1
+
+-- an edge neither end of which comes before a position doesn't pass below it
+not_below : (position : Position) (edge : Edge) → key_of position ≤ℤ key_of edge.a → key_of position ≤ℤ key_of edge.b → ¬ PassesBelow position edge
+not_below position edge after behind below = refuse below.parted
+  where
+    refuse : Differ (key_of edge.a <ℤ key_of position) (key_of edge.b <ℤ key_of position) → ⊥
+    refuse (inl (one, none)) = omega (arith, zs)
+    refuse (inr (none, other)) = omega (arith, zs)
+
+-- no edge of a ring passes below the first vertex of it
+none_below_first : (ring : List Position) (position : Position)
+    → ((another : ℕ) (other : Position) → slice_get ring another ≡ Some other → key_of position ≤ℤ key_of other) → ¬ HasOddBelow position ring
+none_below_first ring position first = none_odd (PassesBelow position) (edges ring) (λ number edge there.
+    let ends = ends_of_edge ring number edge there in
+    not_below position edge (first _ edge.a ends.0) (first _ edge.b ends.1))
+
+-- Other rings
+
+-- a vertex lies on an edge of its ring
+vertex_on_edge : (ring : List Position) (vertex : ℕ) (position : Position) → slice_get ring vertex ≡ Some position
+    → (edge : Edge) × (slice_get (edges ring) vertex ≡ Some edge) × LiesOn (whole position) edge
+vertex_on_edge ring vertex position here =
+    let edge : Edge = get_or (edges ring) vertex (record { a = position; b = position }) in
+    let there : slice_get (edges ring) vertex ≡ Some edge = slice_get-get_or (edges ring) vertex (record { a = position; b = position })
+    (omega (arith, count_of_edges ring, slice_get_within ring vertex position here)) in
+    let begins : Some edge.a ≡ Some position = sym (ends_of_edge ring vertex edge there).0 ∙ here in
+    (edge, there, subst (λ (it : Position). LiesOn (whole it) edge) (same_Some edge.a position begins) (begin_lies_on edge))
+
+-- and on no edge of a ring that has nothing in common with its own
+off_edges : (ring other : List Position) → HaveNothingInCommon ring other → (vertex : ℕ) (position : Position) → slice_get ring vertex ≡ Some position
+    → (number : ℕ) (edge : Edge) → slice_get (edges other) number ≡ Some edge → ¬ LiesOn (whole position) edge
+off_edges ring other apart vertex position here number edge there =
+    let (its, is, lies) = vertex_on_edge ring vertex position here in
+    apart vertex number its edge (whole position) is there lies
+
+-- so any vertex is inside another ring exactly where an odd number of the other's edges pass below this one
+inside_as_below : (rings : List (List Position)) → NoMeeting rings → AreRingsInRange rings → (hole number : ℕ) (ring other : List Position) → hole ≢ number
+    → slice_get rings hole ≡ Some ring → slice_get rings number ≡ Some other → (first vertex : ℕ) (position its : Position) → slice_get ring first ≡ Some position
+    → slice_get ring vertex ≡ Some its → IsInside its other ↔ HasOddBelow position other
+inside_as_below rings none in_range hole number ring other differ there its_there first vertex position its here its_here =
+    let apart : HaveNothingInCommon ring other = nothing_in_common rings none hole number ring other differ there its_there in
+    let below : IsInside position other ↔ HasOddBelow position other = inside_by_edges_below position other (in_range hole first ring position there here)
+    (λ vertex it is. in_range number vertex other it its_there is) (off_edges ring other apart first position here) in (
+      λ inside. below.0 (one_vertex_decides ring other apart vertex first its position its_here here inside),
+      λ has. one_vertex_decides ring other apart first vertex position its here its_here (below.1 has),
+    )
+
+-- Holes
+
+-- the first vertex by key, in any spelling of its ring
+first_here : (rings : List (List Position)) (hole : ℕ) (position : Position) (first : IsFirstVertex rings hole position) (ring : List Position)
+    → slice_get rings hole ≡ Some ring → slice_get ring first.vertex ≡ Some position
+first_here rings hole position first ring there =
+    let same : first.vertices ≡ ring = same_Some first.vertices ring (sym first.there ∙ there) in
+    subst (λ (vertices : List Position). slice_get vertices first.vertex ≡ Some position) same first.here
+
+-- where the exterior is around it every vertex is inside that
+inside_exterior : (rings : List (List Position)) (hole vertex : ℕ) (its : Position) (ring exterior : List Position) → NoMeeting rings → AreRingsInRange rings → 0 < hole
+    → AreAroundRing rings hole Exterior → slice_get rings hole ≡ Some ring → slice_get ring vertex ≡ Some its → slice_get rings 0 ≡ Some exterior → IsInside its exterior
+inside_exterior rings hole vertex its ring exterior none in_range behind noted there here its_there =
+    let around = noted.are.exterior in
+    let first = noted.first in
+    let same : around.ring ≡ exterior = same_Some around.ring exterior (sym around.there ∙ its_there) in
+    let as_below : IsInside its exterior ↔ HasOddBelow noted.position exterior = inside_as_below rings none in_range hole 0 ring exterior (omega arith) there its_there
+    first.vertex vertex noted.position its (first_here rings hole noted.position first ring there) here in
+    as_below.1 (subst (HasOddBelow noted.position) same around.odd)
+
+-- and where it is alone none is inside another hole
+in_no_hole : (rings : List (List Position)) (hole vertex number : ℕ) (its : Position) (ring other : List Position) → NoMeeting rings → AreRingsInRange rings → 0 < number
+    → hole ≢ number → AreAroundRing rings hole Exterior → slice_get rings hole ≡ Some ring → slice_get ring vertex ≡ Some its → slice_get rings number ≡ Some other
+    → ¬ IsInside its other
+in_no_hole rings hole vertex number its ring other none in_range behind differ noted there here its_there inside =
+    let first = noted.first in
+    let as_below : IsInside its other ↔ HasOddBelow noted.position other = inside_as_below rings none in_range hole number ring other differ there its_there
+    first.vertex vertex noted.position its (first_here rings hole noted.position first ring there) here in
+    noted.are.alone number behind (record { ring = other; there = its_there; odd = as_below.0 inside })
+
+-- so where the exterior is noted no vertex has a fault
+pub hole_right : (rings : List (List Position)) (hole : ℕ) → NoMeeting rings → AreRingsInRange rings → 0 < hole → AreAroundRing rings hole Exterior
+    → (fault : NestFault) → IsOfHole hole fault → ¬ IsNestFault rings fault
+hole_right rings hole none in_range behind noted _ is (outside ring vertex it) =
+    it.outside (inside_exterior rings hole vertex it.position it.here.vertices it.exterior none in_range behind noted (ap (slice_get rings) (sym is) ∙ it.here.there)
+    it.here.here it.there)
+hole_right rings hole none in_range behind noted _ is (in_hole ring vertex other it) =
+    in_no_hole rings hole vertex other it.position it.here.vertices it.around none in_range it.other_hole.behind (λ same. it.different (sym (is ∙ same))) noted
+    (ap (slice_get rings) (sym is) ∙ it.here.there) it.here.here it.there it.inside
+
+-- where others are noted the exterior isn't alone around it
+not_alone : (rings : List (List Position)) (position : Position) (around : Around) → AreAround rings position around → ¬ (around ≡ Exterior)
+    → ¬ IsExteriorAround rings position
+not_alone rings position Nothing none not alone = none 0 alone.exterior
+not_alone rings position Exterior are not alone = not refl
+not_alone rings position (Others odd) are not alone = are.1 alone
+
+-- where the exterior is around a hole whose first vertex has no fault, it is alone
+alone_around : (rings : List (List Position)) (hole : ℕ) → NoMeeting rings → AreRingsInRange rings → 0 < hole → hole < length rings → (position : Position)
+    → (first : IsFirstVertex rings hole position) → ((fault : NestFault) → IsOfVertex hole 0 fault → ¬ IsNestFault rings fault) → (its : Position)
+    → slice_get first.vertices 0 ≡ Some its → IsRingAround rings position 0 → IsExteriorAround rings position
+alone_around rings hole none in_range behind before position first clear its here exterior = record { exterior = exterior; alone = alone }
+  where
+    own : (it : IsRingAround rings position hole) → ⊥
+    own it =
+        let same : it.ring ≡ first.vertices = same_Some it.ring first.vertices (sym it.there ∙ first.there) in
+        none_below_first first.vertices position first.first (subst (HasOddBelow position) same it.odd)
+
+    another : (number : ℕ) → 0 < number → hole ≢ number → ¬ IsRingAround rings position number
+    another number further differ it = clear (InHole hole 0 number) (refl, refl) (in_hole hole 0 number (record {
+      hole = record { behind = behind; before = before };
+      position = its;
+      here = record { vertices = first.vertices; there = first.there; here = here };
+      other_hole = record { behind = further; before = slice_get_within rings number it.ring it.there };
+      different = λ same. differ (sym same);
+      around = it.ring;
+      there = it.there;
+      inside = (inside_as_below rings none in_range hole number first.vertices it.ring differ first.there it.there first.vertex 0 position its first.here here).1 it.odd;
+    }))
+
+    alone : (number : ℕ) → 0 < number → ¬ IsRingAround rings position number
+    alone number further it = elim (cases_order hole number) [
+      | inl same ↦ own (subst (IsRingAround rings position) (sym same) it)
+      | inr (inl less) ↦ another number further (λ same. omega arith) it
+      | inr (inr more) ↦ another number further (λ same. omega arith) it
+    ]
+
+-- where anything else is noted the first vertex, by number, has one
+pub hole_wrong : (rings : List (List Position)) (hole : ℕ) (around : Around) → NoMeeting rings → AreRingsInRange rings → 0 < hole → hole < length rings
+    → AreAroundRing rings hole around → ¬ (around ≡ Exterior) → ¬ ((fault : NestFault) → IsOfVertex hole 0 fault → ¬ IsNestFault rings fault)
+hole_wrong rings hole around none in_range behind before noted not clear =
+    let first = noted.first in
+    let its : Position = get_or first.vertices 0 noted.position in
+    let within : first.vertex < length first.vertices = slice_get_within first.vertices first.vertex noted.position first.here in
+    let here : slice_get first.vertices 0 ≡ Some its = slice_get-get_or first.vertices 0 noted.position (omega arith) in
+    let exterior : List Position = get_or rings 0 first.vertices in
+    let there : slice_get rings 0 ≡ Some exterior = slice_get-get_or rings 0 first.vertices (omega arith) in
+    let as_below : IsInside its exterior ↔ HasOddBelow noted.position exterior = inside_as_below rings none in_range hole 0 first.vertices exterior (omega arith) first.there there
+    first.vertex 0 noted.position its first.here here in
+    clear (Outside hole 0) (refl, refl) (outside hole 0 (record {
+      hole = record { behind = behind; before = before };
+      position = its;
+      here = record { vertices = first.vertices; there = first.there; here = here };
+      exterior = exterior;
+      there = there;
+      outside = λ inside. not_alone rings noted.position around noted.are not
+          (alone_around rings hole none in_range behind before noted.position first clear its here (record { ring = exterior; there = there; odd = as_below.0 inside }));
+    }))
+
+-- What is read of a ring
+
+-- it is around it
+read_around : (rings : List (List Position)) (notes : List (Option Around)) (ring : ℕ) → AreAllNoted rings notes → ring < length rings
+    → (around : Around) × (get_or notes ring None ≡ Some around) × AreAroundRing rings ring around
+read_around rings notes ring all within =
+    let (around, there, are) = all ring within in
+    let read : slice_get notes ring ≡ Some (get_or notes ring None) = slice_get-get_or notes ring None (slice_get_within notes ring (Some around) there) in
+    (around, same_Some (get_or notes ring None) (Some around) (sym read ∙ there), are)
+
+-- where that is the exterior the hole has no fault
+pub read_right : (rings : List (List Position)) (notes : List (Option Around)) (hole : ℕ) → NoMeeting rings → AreRingsInRange rings → AreAllNoted rings notes → 0 < hole
+    → hole < length rings → get_or notes hole None ≡ Some Exterior → (fault : NestFault) → IsOfHole hole fault → ¬ IsNestFault rings fault
+read_right rings notes hole none in_range all behind before exterior =
+    let (around, read, are) = read_around rings notes hole all before in
+    let same : around ≡ Exterior = same_Some around Exterior (sym read ∙ exterior) in
+    hole_right rings hole none in_range behind (subst (AreAroundRing rings hole) same are)
+
+-- where it isn't its first vertex has one
+read_wrong : (rings : List (List Position)) (notes : List (Option Around)) (hole : ℕ) → NoMeeting rings → AreRingsInRange rings → AreAllNoted rings notes → 0 < hole
+    → hole < length rings → ¬ (get_or notes hole None ≡ Some Exterior) → ¬ ((fault : NestFault) → IsOfVertex hole 0 fault → ¬ IsNestFault rings fault)
+read_wrong rings notes hole none in_range all behind before not =
+    let (around, read, are) = read_around rings notes hole all before in
+    hole_wrong rings hole around none in_range behind before are (λ same. not (read ∙ ap Some same))
+
+-- so one is answered of it
+pub none_answered : (rings : List (List Position)) (notes : List (Option Around)) (hole : ℕ) (answer : Option NestFault) → NoMeeting rings → AreRingsInRange rings
+    → AreAllNoted rings notes → 0 < hole → hole < length rings → ¬ (get_or notes hole None ≡ Some Exterior)
+    → IfNone answer ((fault : NestFault) → IsOfVertex hole 0 fault → ¬ IsNestFault rings fault) → IfNone answer ((fault : NestFault) → ¬ IsNestFault rings fault)
+none_answered rings notes hole None none in_range all behind before not clear = absurd (read_wrong rings notes hole none in_range all behind before not clear)
+none_answered rings notes hole (Some fault) none in_range all behind before not clear = tt
+
+-- and is the first, where the holes before it have none
+pub first_answered : (rings : List (List Position)) (hole : ℕ) (answer : Option NestFault)
+    → ((before : ℕ) → before < hole → (fault : NestFault) → IsOfHole before fault → ¬ IsNestFault rings fault) → IfSome answer (IsFirstOf rings (IsOfVertex hole 0))
+    → IfSome answer (IsFirstNestFault rings)
+first_answered rings hole None none found = tt
+first_answered rings hole (Some fault) none found = first_hole rings hole fault none (first_of_first_vertex rings hole fault found)

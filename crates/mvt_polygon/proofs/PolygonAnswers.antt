@@ -1,0 +1,94 @@
+-- What is answered of a polygon, by what its sweep found.
+use Rattle.std.proofs.Common.{◌≡◌, ◌+◌, ◌*◌, ◌≤◌, ℕ, List, Option, Some, None, IfNone, IfSome, option_map, ◌++◌, drop, length, take, sym, ◌∙◌, ap, subst, arith}
+use Rattle.std.proofs.lemmas.List.{append-nil, drop_all, take_all}
+use Rattle.mvt_plane.specs.Counted.{Counted}
+use Rattle.mvt_plane.specs.Position.{Position}
+use Rattle.mvt_polygon.specs.CornerOrder.{AddsWork}
+use Rattle.mvt_polygon.specs.Corners.{IsMeetingAt}
+use Rattle.mvt_polygon.specs.Meeting.{IsMeetingOf, NoMeeting}
+use Rattle.mvt_polygon.specs.Nesting.{IsFirstNestFault, IsNestFault}
+use Rattle.mvt_polygon.specs.PolygonFault.{IsPolygonAnswer}
+use Rattle.mvt_polygon.specs.RingNotes.{AreAllNoted}
+use Rattle.mvt_polygon.specs.Steps.{IsSweptWithNotes}
+use Rattle.mvt_polygon.specs.declared.meeting.Meeting.{Meeting as MeetingOf}
+use Rattle.mvt_polygon.specs.declared.nesting.NestFault.{NestFault}
+use Rattle.mvt_polygon.specs.declared.nesting.around.Around.{Around}
+use Rattle.mvt_polygon.specs.declared.polygon.PolygonFault.{PolygonFault}
+use Rattle.mvt_polygon.specs.declared.polygon.PolygonFault.TheVariants.{Meeting, Nesting}
+use Rattle.mvt_polygon.specs.declared.sweep.corners.Corner.{Corner}
+use Rattle.mvt_polygon.specs.declared.sweep.corners.Pair.{Pair}
+
+-- What the sweep found
+
+-- edges that it found meet
+pub swept_meets : (rings : List (List Position)) (corners : List Corner) (notes : List (Option Around)) (found : Option Pair) → IsSweptWithNotes rings corners notes found
+    → IfSome found (IsMeetingAt corners)
+swept_meets rings corners notes None swept = tt
+swept_meets rings corners notes (Some pair) swept = swept
+
+-- where it found none, no edges do, and all rings are noted
+pub swept_clear : (rings : List (List Position)) (corners : List Corner) (notes : List (Option Around)) (found : Option Pair) (told : Option MeetingOf)
+    → IsSweptWithNotes rings corners notes found → told ≡ None → IfNone told (found ≡ None) → NoMeeting rings × AreAllNoted rings notes
+swept_clear rings corners notes found told swept none as_found =
+    let nothing : found ≡ None = subst (λ (it : Option MeetingOf). IfNone it (found ≡ None)) none as_found in
+    let whole = subst (IsSweptWithNotes rings corners notes) nothing swept in
+    (whole.1, whole.2)
+
+-- notes that the sweep wrote where the earlier ones stood, so many of so many
+pub written_back : (size : ℕ) (after before : List (Option Around)) → length after ≡ length before → size ≡ length before → take size (after ++ drop (length after) before) ≡ after
+written_back size after before same whole =
+    let fewer : length before ≤ length after = omega arith in
+    let enough : length after ≤ size = omega arith in
+    ap (λ (rest : List (Option Around)). take size (after ++ rest)) (drop_all (length after) before fewer) ∙ ap (take size) (append-nil after) ∙ take_all size after enough
+
+-- The answer
+
+-- where two corners are at one position
+pub met_answer : (rings : List (List Position)) (told : Option MeetingOf) (result : Option PolygonFault) → result ≡ option_map Meeting told → IfNone told ⊥ → IfSome told (IsMeetingOf rings)
+    → IsPolygonAnswer rings result
+met_answer rings None result same none is = absurd none
+met_answer rings (Some meeting) result same none is = subst (IsPolygonAnswer rings) (sym same) is
+
+-- where the sweep found a meeting
+pub told_answer : (rings : List (List Position)) (told : Option MeetingOf) (meeting : MeetingOf) (result : Option PolygonFault) → told ≡ Some meeting → result ≡ Some (Meeting meeting)
+    → IfSome told (IsMeetingOf rings) → IsPolygonAnswer rings result
+told_answer rings told meeting result one same is = subst (IsPolygonAnswer rings) (sym same) (subst (λ (it : Option MeetingOf). IfSome it (IsMeetingOf rings)) one is)
+
+-- where it found none
+pub nesting_answer : (rings : List (List Position)) (found : Option NestFault) (result : Option PolygonFault) → result ≡ option_map Nesting found → NoMeeting rings
+    → IfNone found ((fault : NestFault) → ¬ IsNestFault rings fault) → IfSome found (IsFirstNestFault rings) → IsPolygonAnswer rings result
+nesting_answer rings None result same clear none least = subst (IsPolygonAnswer rings) (sym same) (clear, none)
+nesting_answer rings (Some fault) result same clear none least = subst (IsPolygonAnswer rings) (sym same) (clear, least)
+
+-- The work
+
+-- more of each are no less
+no_less : (many few each : ℕ) → few ≤ each → many * few ≤ many * each
+no_less many few each most = grind arith
+
+-- that of the sweep, and a probe for each vertex
+pub whole_work : (vertices digits : ℕ) (before between after : Counted) → AddsWork (3 * vertices) (vertices * (2 * digits + 2)) (vertices * (12 * digits)) before between
+    → AddsWork 0 vertices 0 between after → AddsWork (3 * vertices) (vertices * (2 * digits + 3)) (vertices * (20 * digits)) before after
+whole_work vertices digits before between after swept probed =
+    let more : vertices * (2 * digits + 2) + vertices ≡ vertices * (2 * digits + 3) = grind arith in
+    let few : 12 * digits ≤ 20 * digits = omega arith in
+    record {
+      tests_added = omega (arith, swept.tests_added, probed.tests_added);
+      probes_added = omega (arith, swept.probes_added, probed.probes_added, more);
+      visits_added = omega (arith, swept.visits_added, probed.visits_added, no_less vertices (12 * digits) (20 * digits) few);
+      no_fewer_tests = omega (arith, swept.no_fewer_tests, probed.no_fewer_tests);
+      no_fewer_probes = omega (arith, swept.no_fewer_probes, probed.no_fewer_probes);
+      no_fewer_visits = omega (arith, swept.no_fewer_visits, probed.no_fewer_visits);
+    }
+
+-- that of the sweep alone
+pub sweep_work : (vertices digits : ℕ) (before after : Counted) → AddsWork (3 * vertices) (vertices * (2 * digits + 2)) (vertices * (12 * digits)) before after
+    → AddsWork (3 * vertices) (vertices * (2 * digits + 3)) (vertices * (20 * digits)) before after
+sweep_work vertices digits before after swept = whole_work vertices digits before after after swept (record {
+  tests_added = omega arith;
+  probes_added = omega arith;
+  visits_added = omega arith;
+  no_fewer_tests = omega arith;
+  no_fewer_probes = omega arith;
+  no_fewer_visits = omega arith;
+})

@@ -1,0 +1,14 @@
+-- The first fault of a polygon (Mapbox Vector Tile Specification 2.1, section 4.3.4.4).
+use Rattle.std.specs.Prelude.{List, Option, Some, None}
+use Rattle.mvt_plane.specs.Position.{Position}
+use Rattle.mvt_polygon.specs.Meeting.{IsMeetingOf, NoMeeting}
+use Rattle.mvt_polygon.specs.Nesting.{IsFirstNestFault, IsNestFault}
+use Rattle.mvt_polygon.specs.declared.nesting.NestFault.{NestFault}
+use Rattle.mvt_polygon.specs.declared.polygon.PolygonFault.{PolygonFault}
+use Rattle.mvt_polygon.specs.declared.polygon.PolygonFault.TheVariants.{Meeting, Nesting}
+
+-- the answer is a meeting, or where no edges meet wrongly the first fault of a hole, or where there is none either nothing
+abbrev pub IsPolygonAnswer : List (List Position) → Option PolygonFault → Type 0
+IsPolygonAnswer rings (Some (Meeting meeting)) = IsMeetingOf rings meeting
+IsPolygonAnswer rings (Some (Nesting fault)) = NoMeeting rings × IsFirstNestFault rings fault
+IsPolygonAnswer rings None = NoMeeting rings × ((fault : NestFault) → ¬ IsNestFault rings fault)

@@ -1,0 +1,107 @@
+//! The first fault of a polygon: edges that meet wrongly, or else a hole that isn't where it should be.
+ghost use Rattle.std.specs.Prelude.{◌≡◌, ◌+◌, ◌*◌, IfOk, option_map};
+ghost use Rattle.mvt_polygon.specs.CornerOrder.{AddsWork};
+ghost use Rattle.mvt_polygon.specs.Corners.{vertex_count};
+ghost use Rattle.mvt_polygon.specs.PolygonFault.{IsPolygonAnswer};
+ghost use Rattle.mvt_polygon.specs.Rings.{rings_of, AreProperRings};
+ghost use Rattle.mvt_polygon.specs.declared.polygon.PolygonFault.TheVariants as faults;
+ghost use Rattle.mvt_status.specs.Counts.{bits};
+
+use crate::meeting::{Meeting, find_meeting, told};
+use crate::nesting::NestFault;
+use crate::nesting::noted::fault_of_holes;
+use crate::sweep::{
+    Corner, corners_of, meeting_at, nothing_noted, numbers_of, one_position, order_of, starts_of,
+    sweep_rings,
+};
+use mvt_plane::{Count, Point};
+use mvt_status::TreeStatus;
+use std::alloc::{AllocError, Global};
+
+#[cfg(test)]
+mod tests;
+
+/// What is wrong with a polygon.
+#[derive(Clone, Copy, Debug, PartialEq, Eq)]
+pub enum PolygonFault {
+    /// Two of its edges meet wrongly.
+    Meeting(Meeting),
+    /// No edges do, but a hole isn't where it should be.
+    Nesting(NestFault),
+}
+
+/// The first fault of the polygon of these rings: a meeting, as `find_meeting` answers, or else what `check_nesting` answers, or
+/// None where there is neither (Mapbox Vector Tile Specification 2.1, section 4.3.4.4). The first ring is the exterior, the
+/// others are the holes. Each ring is to have three vertices or more, none at the position of the next one. One sweep decides
+/// both: where its line comes to a ring, the edges below tell which rings are around it. So of n vertices it makes at most
+/// 3 * n tests of two edges, n * (2 * bits(n) + 3) comparisons of an edge with a vertex and n * 20 * bits(n) visits of the
+/// status's nodes, as `count` has it, also where rings are many. A polygon of one ring has no holes, so nothing is noted of it. The only error is that memory was refused.
+pub fn check_polygon(
+    alloc: Global,
+    rings: &[Vec<Point>],
+    count: &mut Count,
+) -> Result<Option<PolygonFault>, AllocError>
+    requires { AreProperRings (rings_of rings.now) }
+    ensures answer { IfOk result (IsPolygonAnswer (rings_of rings.now)) }
+    ensures counted { let vertices = vertex_count (rings_of rings.now) in AddsWork (3 * vertices) (vertices * (2 * bits vertices + 3)) (vertices * (20 * bits vertices)) count.old count.new }
+{
+    if rings.len() == 1 {
+        return Ok(fault_of_meeting(find_meeting(alloc, rings, count)?));
+    }
+    check_with_holes(alloc, rings, count)
+}
+
+/// The same, by notes of the rings.
+fn check_with_holes(
+    alloc: Global,
+    rings: &[Vec<Point>],
+    count: &mut Count,
+) -> Result<Option<PolygonFault>, AllocError>
+    requires { AreProperRings (rings_of rings.now) }
+    ensures answer { IfOk result (IsPolygonAnswer (rings_of rings.now)) }
+    ensures counted { let vertices = vertex_count (rings_of rings.now) in AddsWork (3 * vertices) (vertices * (2 * bits vertices + 3)) (vertices * (20 * bits vertices)) count.old count.new }
+{
+    let corners = corners_of(alloc, rings)?;
+    let order = order_of(alloc, &corners)?;
+    if let Some((first, second)) = one_position(&corners, &order) {
+        let found = told(rings, meeting_at(&corners, first, second, count));
+        return Ok(fault_of_meeting(found));
+    }
+    let order = numbers_of(alloc, order)?;
+    let starts = starts_of(alloc, rings)?;
+    let mut notes = nothing_noted(alloc, rings)?;
+    let mut status = TreeStatus::new(alloc);
+    let found = sweep_rings(
+        rings,
+        &starts,
+        &corners,
+        &order,
+        &mut notes,
+        &mut status,
+        count,
+    )?;
+    Ok(match told(rings, found) {
+        Some(meeting) => Some(PolygonFault::Meeting(meeting)),
+        None => fault_of_nesting(fault_of_holes(rings, &notes, count)),
+    })
+}
+
+/// The fault where a meeting was found.
+fn fault_of_meeting(found: Option<Meeting>) -> Option<PolygonFault>
+    ensures { result ≡ option_map faults.Meeting found }
+{
+    match found {
+        Some(meeting) => Some(PolygonFault::Meeting(meeting)),
+        None => None,
+    }
+}
+
+/// The fault where a hole was found that isn't where it should be.
+fn fault_of_nesting(found: Option<NestFault>) -> Option<PolygonFault>
+    ensures { result ≡ option_map faults.Nesting found }
+{
+    match found {
+        Some(fault) => Some(PolygonFault::Nesting(fault)),
+        None => None,
+    }
+}
