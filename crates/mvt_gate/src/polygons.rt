@@ -6,11 +6,11 @@ ghost use Rattle.mvt_confirm.specs.Valid.{AreValidRings, IsValidPolygon};
 ghost use Rattle.mvt_plane.specs.Geometry.{HasRings};
 ghost use Rattle.mvt_plane.specs.Ring.{ArePolygonRings};
 ghost use Rattle.mvt_polygon.specs.Rings.{rings_of, AreProperRings};
-ghost use Rattle.mvt_gate.specs.Polygons.{AreApart, IsFirstOfRings, AreValidBefore, AreWithin, IsRingWithin, fault_of_hole, fault_of_meeting, rings_at};
+ghost use Rattle.mvt_gate.specs.Polygons.{IsFirstOfRings, AreValidBefore, AreWithin, IsRingWithin, fault_of_hole, fault_of_meeting, rings_at};
 
 use mvt_fault::{Fault, RingEdge};
 use mvt_plane::{Count, Point};
-use mvt_polygon::{Meeting, NestFault, check_nesting, check_rings, find_meeting, polygon_end};
+use mvt_polygon::{Meeting, NestFault, PolygonFault, check_polygon, check_rings, polygon_end};
 use std::alloc::{AllocError, Global};
 
 /// The first fault of the rings that the geometry of a feature draws, or None where they are those of valid
@@ -102,45 +102,10 @@ fn polygon_fault(
     ensures valid { IfOk result (λ found. IfNone found (IsValidPolygon (rings_of rings.now) (rings_at place))) }
     ensures least { IfOk result (λ found. IfSome found (IsFirstOfRings (rings_of rings.now) place.layer place.feature)) }
 {
-    match meeting_fault(alloc, rings, count, place)? {
-        Some(fault) => Ok(Some(fault)),
-        None => Ok(hole_fault(rings, place)),
-    }
-}
-
-/// The fault of two edges of the polygon that meet wrongly, or None where there are no such edges.
-fn meeting_fault(
-    alloc: Global,
-    rings: &[Vec<Point>],
-    count: &mut Count,
-    place: PolygonPlace,
-) -> Result<Option<Fault>, AllocError>
-    requires polygon { IsPolygonOf (rings_of rings.now) place.polygon (rings_at place) }
-    requires within { place.after ≤ length rings.now }
-    requires drawn { AreProperRings (rings_of rings.now) }
-    requires before { AreValidBefore (rings_of rings.now) place.polygon }
-    ensures apart { IfOk result (λ found. IfNone found (AreApart (rings_of rings.now) (rings_at place))) }
-    ensures least { IfOk result (λ found. IfSome found (IsFirstOfRings (rings_of rings.now) place.layer place.feature)) }
-{
-    match find_meeting(alloc, &rings[place.exterior..place.after], count)? {
-        Some(meeting) => Ok(Some(tell_meeting(place, meeting))),
+    match check_polygon(alloc, &rings[place.exterior..place.after], count)? {
+        Some(PolygonFault::Meeting(meeting)) => Ok(Some(tell_meeting(place, meeting))),
+        Some(PolygonFault::Nesting(fault)) => Ok(Some(tell_hole(place, fault))),
         None => Ok(None),
-    }
-}
-
-/// The first fault of the holes of the polygon, or None where all of them are where they should be. No two
-/// of its edges meet wrongly.
-fn hole_fault(rings: &[Vec<Point>], place: PolygonPlace) -> Option<Fault>
-    requires polygon { IsPolygonOf (rings_of rings.now) place.polygon (rings_at place) }
-    requires within { place.after ≤ length rings.now }
-    requires before { AreValidBefore (rings_of rings.now) place.polygon }
-    requires apart { AreApart (rings_of rings.now) (rings_at place) }
-    ensures valid { IfNone result (IsValidPolygon (rings_of rings.now) (rings_at place)) }
-    ensures least { IfSome result (IsFirstOfRings (rings_of rings.now) place.layer place.feature) }
-{
-    match check_nesting(&rings[place.exterior..place.after]) {
-        Some(fault) => Some(tell_hole(place, fault)),
-        None => None,
     }
 }
 
