@@ -1,7 +1,7 @@
 #!/usr/bin/env python3
 """Writes polygons of many vertices as tiles of one feature into a folder, all or those named: shapes.py FOLDER [NAME..].
 
-A name is a shape and its number of vertices, as comb_1000. Each run writes the same bytes.
+A name is a shape and its number of vertices, as comb_1000, or its size, as triangle_holes_64_mib. Each run writes the same bytes.
 """
 import math
 import sys
@@ -104,8 +104,40 @@ def holes(vertices):
     return [[(-1, -1), (side, -1), (side, side), (-1, side)]] + scattered(vertices // SMALL, True)
 
 
-SHAPES = {it.__name__: it for it in (comb, lying_comb, star, coast, small_polygons, holes, late_meeting)}
+def nested_holes(vertices):
+    """An exterior, and holes each of which is inside all before it, so that all but the first are in the wrong place."""
+    rings = []
+    for i in range(vertices // 4):
+        far = vertices - i
+        ring = [(i, i), (far, i), (far, far), (i, far)]
+        rings.append(ring if i == 0 else ring[::-1])
+    return rings
+
+
+# The least hole: a triangle behind another one, which began so far away.
+def triangle_hole(x, y):
+    moves = [(x, y), (0, 1), (1, -1)]
+    return packed([command(MOVE_TO, 1), *parameters(moves[:1]), command(LINE_TO, 2), *parameters(moves[1:]), command(CLOSE_PATH, 1)])
+
+
+def triangle_holes(size):
+    """One exterior with as many of the smallest holes as fit, in rows to the right and back."""
+    row = math.isqrt(size // len(triangle_hole(0, 0)))
+    side = 3 * row + 3
+    rows = [triangle_hole(2, 0) * (row - 1) + triangle_hole(-1, 3), triangle_hole(-4, 0) * (row - 1) + triangle_hole(-1, 3)]
+    geometry = [packed(drawn([[(0, 0), (side, 0), (side, side), (0, side)]])), triangle_hole(1, 1 - side)]
+    left = size - 64 - sum(map(len, geometry))
+    for i in range(row):
+        if len(rows[i % 2]) > left:
+            break
+        geometry.append(rows[i % 2])
+        left -= len(rows[i % 2])
+    return field(3, DELIMITED, NAMED + field(2, DELIMITED, feature(POLYGON, b"".join(geometry))))
+
+
+SHAPES = {it.__name__: it for it in (comb, lying_comb, star, coast, small_polygons, holes, nested_holes, late_meeting)}
 INPUTS = {f"{name}_{count}": lambda shape=shape, count=count: tile(shape(count)) for name, shape in SHAPES.items() for count in COUNTS}
+INPUTS["triangle_holes_64_mib"] = lambda: triangle_holes(64 << 20)
 
 if __name__ == "__main__":
     write_inputs(INPUTS, sys.argv[1], sys.argv[2:])
