@@ -122,7 +122,7 @@ passes_alike position point edge column other alike back_alike = by_keys (le_or_
 -- so an odd number of a ring's edges pass below the position where the point is inside the slanted ring
 pub odd_alike : (position : Position) (point : RationalPoint) (ring : List Position) → IsInColumn position point
     → ((number : ℕ) (edge : Edge) → slice_get (edges ring) number ≡ Some edge
-        → HasOtherKeys (key_of position) edge × AreAlike position point edge.a edge.b × AreAlike position point edge.b edge.a)
+    → HasOtherKeys (key_of position) edge × AreAlike position point edge.a edge.b × AreAlike position point edge.b edge.a)
     → HasOddBelow position ring ↔ IsPointInside point (map slant ring)
 odd_alike position point ring column each =
     let tells = odd_mapped (PassesBelow position) (PassesOverPoint point) slant_edge (edges ring) same in

@@ -19,7 +19,7 @@ pub fn inside_by_edges_below()
 {}
 
 /// Where an edge is directly below a position, and has nothing in common with a ring on which the position doesn't lie,
-/// an odd number of the ring's edges pass below the position exactly where they do below an end of the edge.
+/// an odd number of the ring's edges pass below the position exactly where they do below the edge's first end.
 /// All positions are in range.
 pub fn odd_as_below_the_edge()
     ensures { (position : Position) (edge : Edge) (ring : List Position) → IsPosition position → IsPosition edge.a → IsPosition edge.b →
