@@ -114,7 +114,7 @@ def nested_holes(vertices):
     return rings
 
 
-# The least hole: a triangle behind another one, which began so far away.
+# The smallest hole, a triangle, so far from where the one before it ended.
 def triangle_hole(x, y):
     moves = [(x, y), (0, 1), (1, -1)]
     return packed([command(MOVE_TO, 1), *parameters(moves[:1]), command(LINE_TO, 2), *parameters(moves[1:]), command(CLOSE_PATH, 1)])
@@ -135,9 +135,22 @@ def triangle_holes(size):
     return field(3, DELIMITED, NAMED + field(2, DELIMITED, feature(POLYGON, b"".join(geometry))))
 
 
+def zigzag(size):
+    """A ring of two bytes a vertex that goes from side to side on its way up: one line meets nearly all of its edges."""
+    dice = Dice(2)
+    turns = [x for _ in range(4096) for x in (dice.between(0, 15), dice.between(40, 55))]
+    steps = packed(parameters([(to - x, 1) for x, to in zip(turns, turns[1:] + turns[:1])]))
+    blocks = (size - 128) // len(steps)
+    height = blocks * len(turns)
+    begin = packed([command(MOVE_TO, 1), *parameters([(turns[0], 0)]), command(LINE_TO, height + 2)])
+    end = packed([*parameters([(-1 - turns[0], 1), (0, -2 - height)]), command(CLOSE_PATH, 1)])
+    return field(3, DELIMITED, NAMED + field(2, DELIMITED, feature(POLYGON, begin + steps * blocks + end)))
+
+
 SHAPES = {it.__name__: it for it in (comb, lying_comb, star, coast, small_polygons, holes, nested_holes, late_meeting)}
 INPUTS = {f"{name}_{count}": lambda shape=shape, count=count: tile(shape(count)) for name, shape in SHAPES.items() for count in COUNTS}
 INPUTS["triangle_holes_64_mib"] = lambda: triangle_holes(64 << 20)
+INPUTS["zigzag_64_mib"] = lambda: zigzag(64 << 20)
 
 if __name__ == "__main__":
     write_inputs(INPUTS, sys.argv[1], sys.argv[2:])
