@@ -91,7 +91,7 @@ edge_goes_on walk left unclosed some (over closed is) ends = absurd (cc)
 -- Places
 
 -- a list's rest from a place on, where that begins with something
-rest_at : {X : Type 0} (xs rest : List X) (i : ℕ) (x : X) → drop i xs ≡ x ∷ rest → (suc i ≤ length xs) × (slice_get xs i ≡ Some x) × (drop (suc i) xs ≡ rest)
+pub rest_at : {X : Type 0} (xs rest : List X) (i : ℕ) (x : X) → drop i xs ≡ x ∷ rest → (suc i ≤ length xs) × (slice_get xs i ≡ Some x) × (drop (suc i) xs ≡ rest)
 rest_at [] rest zero x is = absurd (cc)
 rest_at [] rest (suc i) x is = absurd (cc)
 rest_at (y ∷ xs) rest zero x is = (omega arith, (cc), (cc))

@@ -9,34 +9,24 @@ use Rattle.mvt_plane.specs.Examples.{rings_from, square, crossed, triangle, touc
 use Rattle.mvt_plane.specs.Polygon.{IsExterior, NoExterior, IsExteriorOf, first, next, PolygonRings, IsPolygon, IsRingOf}
 use Rattle.mvt_plane.specs.Position.{Position}
 use Rattle.mvt_confirm.specs.PolygonFault.{IsPolygonOf}
+use Rattle.mvt_plane.proofs.PolygonNumbers.{none_from_next, none_in_nothing}
 
 -- Stretches of rings
-
--- none of no rings is an exterior
-none_of_none : (rings : List (List Position)) (number : ℕ) → NoExterior rings number number
-none_of_none rings number other behind before = absurd (omega arith)
 
 -- nor of a ring that isn't one
 none_of_one : (rings : List (List Position)) (hole : ℕ) → ¬ IsExterior rings hole → NoExterior rings hole (suc hole)
 none_of_one rings hole none number behind before exterior = none (subst (IsExterior rings) (omega arith) exterior)
 
--- nor of those and a ring more
-none_of_more : (rings : List (List Position)) (from to : ℕ) → ¬ IsExterior rings from → NoExterior rings (suc from) to → NoExterior rings from to
-none_of_more rings from to here none number behind before = elim (cases_lt from number) [
-  | inl later ↦ none number later before
-  | inr earlier ↦ λ exterior. here (subst (IsExterior rings) (omega arith) exterior)
-]
-
 -- Polygons up to the last ring
 
 -- the first one, where the first ring alone is an exterior
 first_to_last : (rings : List (List Position)) → 0 < length rings → IsExterior rings 0 → NoExterior rings 1 (length rings) → IsPolygon rings 0 (rings_from 0 (length rings))
-first_to_last rings some exterior holes = record { begins = first 0 exterior (none_of_none rings 0); further = some; holes = holes; ends = inl refl }
+first_to_last rings some exterior holes = record { begins = first 0 exterior (none_in_nothing rings 0); further = some; holes = holes; ends = inl refl }
 
 -- the second one, where the first two rings alone are exteriors
 second_to_last : (rings : List (List Position)) → 1 < length rings → IsExterior rings 0 → IsExterior rings 1 → NoExterior rings 2 (length rings) → IsPolygon rings 1 (rings_from 1 (length rings))
 second_to_last rings some before exterior holes = record {
-  begins = next 0 0 1 (first 0 before (none_of_none rings 0)) (omega arith) exterior (none_of_none rings 1);
+  begins = next 0 0 1 (first 0 before (none_in_nothing rings 0)) (omega arith) exterior (none_in_nothing rings 1);
   further = some;
   holes = holes;
   ends = inl refl;
@@ -83,15 +73,15 @@ one_of_two rings middle polygon it before behind other = elim (cases_lt it.exter
 pub triangle_polygon : IsPolygonOf (triangle ∷ []) 0 (rings_from 0 1)
 triangle_polygon = record {
   sound = search rules;
-  there = first_to_last (triangle ∷ []) (omega arith) (record { ring = triangle; there = refl; positive = omega (arith, ints) }) (none_of_none (triangle ∷ []) 1);
+  there = first_to_last (triangle ∷ []) (omega arith) (record { ring = triangle; there = refl; positive = omega (arith, ints) }) (none_in_nothing (triangle ∷ []) 1);
 }
 
 -- so is the first of two squares
 pub first_square : IsPolygon (square ∷ square ∷ []) 0 (rings_from 0 1)
 first_square = record {
-  begins = first 0 (record { ring = square; there = refl; positive = omega (arith, ints) }) (none_of_none (square ∷ square ∷ []) 0);
+  begins = first 0 (record { ring = square; there = refl; positive = omega (arith, ints) }) (none_in_nothing (square ∷ square ∷ []) 0);
   further = omega arith;
-  holes = none_of_none (square ∷ square ∷ []) 1;
+  holes = none_in_nothing (square ∷ square ∷ []) 1;
   ends = inr (record { ring = square; there = refl; positive = omega (arith, ints) });
 }
 
@@ -100,14 +90,14 @@ pub second_square : IsPolygonOf (square ∷ square ∷ []) 1 (rings_from 1 2)
 second_square = record {
   sound = search rules;
   there = second_to_last (square ∷ square ∷ []) (omega arith) (record { ring = square; there = refl; positive = omega (arith, ints) })
-      (record { ring = square; there = refl; positive = omega (arith, ints) }) (none_of_none (square ∷ square ∷ []) 2);
+      (record { ring = square; there = refl; positive = omega (arith, ints) }) (none_in_nothing (square ∷ square ∷ []) 2);
 }
 
 -- so is the one that crosses itself
 pub crossed_polygon : IsPolygonOf (crossed ∷ []) 0 (rings_from 0 1)
 crossed_polygon = record {
   sound = search rules;
-  there = first_to_last (crossed ∷ []) (omega arith) (record { ring = crossed; there = refl; positive = omega (arith, ints) }) (none_of_none (crossed ∷ []) 1);
+  there = first_to_last (crossed ∷ []) (omega arith) (record { ring = crossed; there = refl; positive = omega (arith, ints) }) (none_in_nothing (crossed ∷ []) 1);
 }
 
 -- the same behind another
@@ -115,7 +105,7 @@ pub crossed_second : IsPolygonOf (square ∷ crossed ∷ []) 1 (rings_from 1 2)
 crossed_second = record {
   sound = search rules;
   there = second_to_last (square ∷ crossed ∷ []) (omega arith) (record { ring = square; there = refl; positive = omega (arith, ints) })
-      (record { ring = crossed; there = refl; positive = omega (arith, ints) }) (none_of_none (square ∷ crossed ∷ []) 2);
+      (record { ring = crossed; there = refl; positive = omega (arith, ints) }) (none_in_nothing (square ∷ crossed ∷ []) 2);
 }
 
 -- a hole at the square's edge
@@ -152,5 +142,5 @@ two_holes_second = record {
   sound = search rules;
   there = second_to_last (square ∷ hole_in_hole) (omega arith) (record { ring = square; there = refl; positive = omega (arith, ints) })
       (record { ring = _; there = refl; positive = omega (arith, ints) })
-      (none_of_more (square ∷ hole_in_hole) 2 4 (search rules) (none_of_one (square ∷ hole_in_hole) 3 (search rules)));
+      (none_from_next (square ∷ hole_in_hole) 2 4 (search rules) (none_of_one (square ∷ hole_in_hole) 3 (search rules)));
 }

@@ -13,6 +13,7 @@ use Rattle.mvt_confirm.proofs.ExampleFaults.{crossing_shown, vertex_outside, ver
 use Rattle.mvt_confirm.proofs.ExamplePolygons.{no_other_polygon, triangle_polygon}
 use Rattle.mvt_confirm.proofs.InvalidRings.{ring_is_invalid, meeting_is_invalid, outside_is_invalid, in_hole_is_invalid}
 use Rattle.mvt_confirm.specs.Valid.{IsValidPolygon, AreValidRings}
+use Rattle.mvt_plane.proofs.ExampleNeighbours.{neighbours_round}
 
 -- The triangle
 
@@ -56,19 +57,15 @@ turned first second point apart meets = apart (meets_either_way (triangle ∷ []
 not_zero_one : (point : RationalPoint) → ¬ MeetsWrongly (triangle ∷ []) (edge_number 0 0) (edge_number 0 1) point
 not_zero_one point = search rules
 
--- nor with the last one, which it follows
-not_zero_two : (point : RationalPoint) → ¬ MeetsWrongly (triangle ∷ []) (edge_number 0 0) (edge_number 0 2) point
-not_zero_two point = search rules
-
 -- no two of its edges do
 edges_apart : (first second : ℕ) (point : RationalPoint) → ¬ MeetsWrongly (triangle ∷ []) (edge_number 0 first) (edge_number 0 second) point
 edges_apart zero zero point meets = meets.different refl
 edges_apart zero (suc zero) point meets = not_zero_one point meets
-edges_apart zero (suc (suc zero)) point meets = not_zero_two point meets
+edges_apart zero (suc (suc zero)) point meets = neighbours_round point meets
 edges_apart (suc zero) zero point meets = turned 0 1 point (not_zero_one point) meets
 edges_apart (suc zero) (suc zero) point meets = meets.different refl
 edges_apart (suc zero) (suc (suc zero)) point meets = not_one_two point meets
-edges_apart (suc (suc zero)) zero point meets = turned 0 2 point (not_zero_two point) meets
+edges_apart (suc (suc zero)) zero point meets = turned 0 2 point (neighbours_round point) meets
 edges_apart (suc (suc zero)) (suc zero) point meets = turned 1 2 point (not_one_two point) meets
 edges_apart (suc (suc zero)) (suc (suc zero)) point meets = meets.different refl
 edges_apart (suc (suc (suc first))) second point meets = no_fourth first meets.one meets.one_there

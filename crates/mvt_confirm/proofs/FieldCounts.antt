@@ -10,7 +10,7 @@ use Rattle.mvt_wire.specs.WireFault.{count_of, count_known}
 use Rattle.mvt_wire.specs.declared.cause.WireCause.{WireCause}
 use Rattle.mvt_wire.specs.declared.schema.Message.{Message}
 use Rattle.mvt_wire.proofs.Messages.{whole_or_defect}
-use Rattle.mvt_confirm.proofs.Walking.{IsWalking, IsWalking-more, IsWalking-defect}
+use Rattle.mvt_wire.proofs.Walking.{IsWalking, IsWalking-more, IsWalking-defect}
 
 -- one more where a test says yes, and the same where it says no
 abbrev pub Counts : Bool → ℕ → ℕ → Type 0

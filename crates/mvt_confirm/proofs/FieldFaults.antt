@@ -1,5 +1,5 @@
 -- The faults of a message's fields, one field behind others.
-use Rattle.std.proofs.Common.{◌≡◌, ◌≢◌, ℕ, ◌↔◌, nat_lt, IsTrue, Bool, true, false, ◌⊎◌, inl, inr, List, [], ◌∷◌, ◌++◌, Some, refl, sym, ◌∙◌, ap, subst, arith, append_assoc}
+use Rattle.std.proofs.Common.{◌≡◌, ◌≢◌, ℕ, ◌↔◌, nat_lt, IsTrue, Bool, true, false, ◌⊎◌, inl, inr, List, [], ◌∷◌, ◌++◌, Some, refl, sym, ◌∙◌, ap, subst, arith}
 use Rattle.std.proofs.lemmas.Bool.{lt-ltb}
 use Rattle.mvt_wire.specs.Field.{Entry}
 use Rattle.mvt_wire.specs.Message.{IsMessage}
@@ -12,7 +12,8 @@ use Rattle.mvt_wire.specs.declared.schema.Message.{Message}
 use Rattle.mvt_wire.proofs.Messages.{one_list, whole_or_defect}
 use Rattle.mvt_confirm.proofs.FieldCounts.{of_number-own, of_number-other}
 use Rattle.mvt_confirm.proofs.PackedWalk.{fault_ahead}
-use Rattle.mvt_confirm.proofs.Walking.{IsWalking, IsWalking-more, IsWalking-defect, IsWalking-whole}
+use Rattle.mvt_wire.proofs.Walking.{IsWalking, IsWalking-more, IsWalking-defect, IsWalking-whole}
+use Rattle.mvt_wire.proofs.LastFields.{LastFault, FieldFault-last, FieldFault-earlier}
 
 -- a fault of a field names its number
 pub names_field : (rule : FieldRule) (stood : Bool) (entry : Entry) (cause : WireCause) → EntryFault rule stood entry cause → cause.field ≡ entry.number
@@ -33,50 +34,6 @@ pub stands_in-other : (field_number : ℕ) (entries : List Entry) (entry : Entry
 stands_in-other field_number entries entry other =
     ap (nat_lt 0) (of_number-other field_number entries entry other)
 
--- a list with one more at its end, parted: at the last one, or before it
-abbrev pub PartsLast : List Entry → List Entry → Entry → Entry → Type 0
-PartsLast entries before last entry = ((before ≡ entries) × (entry ≡ last)) ⊎ ((rest : List Entry) × (entries ≡ before ++ entry ∷ rest))
-
-part_last : (entries before : List Entry) (last entry : Entry) (after : List Entry) → entries ++ last ∷ [] ≡ before ++ entry ∷ after → PartsLast entries before last entry
-part_last [] [] last entry after is = inl (refl, (cc))
-part_last [] (b ∷ []) last entry after is = absurd (cc)
-part_last [] (b ∷ c ∷ before) last entry after is = absurd (cc)
-part_last (e ∷ entries) [] last entry after is = inr (entries, (cc))
-part_last (e ∷ entries) (b ∷ before) last entry after is =
-    let head : e ≡ b = cc in
-    let tail : entries ++ last ∷ [] ≡ before ++ entry ∷ after = cc in
-    elim (part_last entries before last entry after tail) [
-      | inl both ↦ let front : before ≡ entries = both.0 in inl ((cc), both.1)
-      | inr inner ↦ let middle : entries ≡ before ++ entry ∷ inner.0 = inner.1 in inr (inner.0, (cc))
-    ]
-
--- a fault of the last field
-abbrev pub LastFault : Message → List Entry → Entry → WireCause → Type 0
-LastFault message entries last cause = (rule : FieldRule) × (rule_of message last.number ≡ Some rule) × EntryFault rule (stands_in last.number entries) last cause
-
--- a fault of the fields is one of those before the last, or of the last
-fault_parted : (message : Message) (entries : List Entry) (last : Entry) (cause : WireCause) → FieldFault message (entries ++ last ∷ []) cause → FieldFault message entries cause ⊎ LastFault message entries last cause
-fault_parted message entries last cause fault = elim (part_last entries fault.before last fault.entry fault.after fault.split) [
-  | inr inner ↦ inl (record { before = fault.before; entry = fault.entry; after = inner.0; split = inner.1; rule = fault.rule; known = fault.known; fault = fault.fault })
-  | inl both ↦ inr (
-    fault.rule,
-    subst (λ (e : Entry). rule_of message e.number ≡ Some fault.rule) both.1 fault.known,
-    subst (λ (e : Entry). EntryFault fault.rule (stands_in e.number entries) e cause) both.1
-        (subst (λ (before : List Entry). EntryFault fault.rule (stands_in fault.entry.number before) fault.entry cause) both.0 fault.fault),
-  )
-]
-
-fault_kept : (message : Message) (entries : List Entry) (last : Entry) (cause : WireCause) → FieldFault message entries cause → FieldFault message (entries ++ last ∷ []) cause
-fault_kept message entries last cause fault = record {
-  before = fault.before;
-  entry = fault.entry;
-  after = fault.after ++ last ∷ [];
-  split = ap (λ (list : List Entry). list ++ last ∷ []) fault.split ∙ append_assoc fault.before (fault.entry ∷ fault.after) (last ∷ []);
-  rule = fault.rule;
-  known = fault.known;
-  fault = fault.fault;
-}
-
 module _ (bytes : List ℕ) (from : ℕ) (message : Message) (cause : WireCause) where
   -- whether the fault is one of the fields that were passed
   pub record IsLooking (walk : Walk) (stood found : Bool) : Type 0 where
@@ -92,8 +49,8 @@ module _ (bytes : List ℕ) (from : ℕ) (message : Message) (cause : WireCause)
     walked = IsWalking-more bytes from old new so_far.entries entry so_far.walked given;
     stands = so_far.stands ∙ sym (stands_in-other cause.field so_far.entries entry other);
     same = (
-      λ here. fault_kept message so_far.entries entry cause (so_far.same.0 here),
-      λ fault. elim (fault_parted message so_far.entries entry cause fault) [
+      λ here. FieldFault-earlier message so_far.entries entry cause (so_far.same.0 here),
+      λ fault. elim (FieldFault-last message so_far.entries entry cause fault) [
         | inl earlier ↦ so_far.same.1 earlier
         | inr own ↦ absurd (other (sym (names_field own.0 (stands_in entry.number so_far.entries) entry cause own.2)))
       ],
@@ -127,10 +84,10 @@ module _ (bytes : List ℕ) (from : ℕ) (message : Message) (cause : WireCause)
       stands = sym (stands_in-own cause.field so_far.entries entry own);
       same = (
         λ here. elim (tells.0 here) [
-          | inl earlier ↦ fault_kept message so_far.entries entry cause (so_far.same.0 earlier)
+          | inl earlier ↦ FieldFault-earlier message so_far.entries entry cause (so_far.same.0 earlier)
           | inr fault ↦ new_fault fault
         ],
-        λ fault. tells.1 (elim (fault_parted message so_far.entries entry cause fault) [
+        λ fault. tells.1 (elim (FieldFault-last message so_far.entries entry cause fault) [
           | inl earlier ↦ inl (so_far.same.1 earlier)
           | inr last ↦ inr (last_fault last)
         ]),

@@ -5,8 +5,7 @@ use Rattle.mvt_confirm.specs.Commands.{Goes, Faults, IsCommandOf, IsNoCommand, o
 use Rattle.mvt_fault.specs.Code.{command_code}
 use Rattle.mvt_fault.specs.declared.command.CommandCode.{CommandCode}
 use Rattle.mvt_fault.specs.declared.command.CommandCode.TheVariants.{OtherCommand, NoStep}
-use Rattle.mvt_plane.proofs.Parameters.{unzigzag-zigzag}
-use Rattle.mvt_plane.proofs.Readers.{leads_on, blamed_there, command_leads, other_command_there, other_count_there, greatest_there, outside_there}
+use Rattle.mvt_plane.proofs.Readers.{leads_on, blamed_there, command_leads, other_command_there, other_count_there, greatest_there, outside_there, stays_inside}
 use Rattle.mvt_plane.specs.CommandFault.{greatest_parameter, y_of_step, Applies, greatest_y, y_outside, no_step, LeavesRange}
 use Rattle.mvt_plane.specs.Drawing.{Leg, to_point, to_next, State, points_command, line_command, step_x, step_y, all_drawn, start, least, IsMove, GoesElsewhere, moved, behind, next, unzigzag, not_due, not_allowed, IsFirst}
 use Rattle.mvt_plane.specs.Figure.{GeometryType, command_integer, move_to, line_to}
@@ -105,12 +104,6 @@ y_goes geometry_type leg beside to x number move there elsewhere numbers at next
     (subst (λ (n : ℕ). IsMove beside.y n × GoesElsewhere leg x n) (sym here) (move, elsewhere))))
 
 -- Steps that stay
-
--- a number that leads to a coordinate doesn't leave the range
-stays_inside : (from : ℤ) (n : ℕ) → IsCoordinate (from +ℤ unzigzag n) → LeavesRange from n → ⊥
-stays_inside from n inside leaves =
-    let step : unzigzag n ≡ leaves.0 = ap unzigzag (sym leaves.1) ∙ unzigzag-zigzag leaves.0 in
-    leaves.2 (subst (λ (d : ℤ). IsCoordinate (from +ℤ d)) step inside)
 
 -- the codes that apply to a y
 y_code_is : (id : ℕ) (from : ℤ) (x n code : ℕ) → Applies (y_of_step id from x) n code → (n ≡ greatest_parameter) ⊎ LeavesRange from n ⊎ (code ≡ 406)

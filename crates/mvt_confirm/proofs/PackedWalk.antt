@@ -9,16 +9,8 @@ use Rattle.mvt_wire.specs.declared.cause.WireCode.{WireCode}
 use Rattle.mvt_wire.specs.declared.cause.WireCode.TheVariants.{OutOfRange}
 use Rattle.mvt_wire.proofs.Varints.{one_end, varint_or_defect}
 use Rattle.mvt_confirm.specs.Packed.{IsBadAt}
-
--- varints go forward
-forward : (part : List ℕ) (from to : ℕ) (numbers : List ℕ) → VarintList part from numbers to → from ≤ to
-forward part from to [] list = omega arith
-forward part from to (n ∷ numbers) list = let ahead = list.1.forward in let rest = forward part list.0 to numbers list.2 in omega arith
-
--- one more varint
-VarintList-push : (part : List ℕ) (from at next n : ℕ) (numbers : List ℕ) → VarintList part from numbers at → SpellsVarint part at next n → VarintList part from (numbers ++ n ∷ []) next
-VarintList-push part from at next n [] list spelled = (next, subst (λ (place : ℕ). SpellsVarint part place next n) (sym list) spelled, refl)
-VarintList-push part from at next n (m ∷ numbers) list spelled = (list.0, list.1, VarintList-push part list.0 at next n numbers list.2 spelled)
+use Rattle.mvt_wire.proofs.PackedLists.{varints_forward}
+use Rattle.mvt_wire.proofs.NumberPlaces.{list-push}
 
 -- from a place on, varints lead to another where something is wrong
 pub record IsAhead (part : List ℕ) (at place : ℕ) (code : WireCode) : Type 0 where
@@ -48,7 +40,7 @@ ahead_more part at next n place code spelled less ahead = by ahead.numbers ahead
 pub IsPassing-more : (part : List ℕ) (place : ℕ) (code : WireCode) (at next n : ℕ) → IsPassing part place code at → at < place → SpellsVarint part at next n → IsPassing part place code next
 IsPassing-more part place code at next n so_far less spelled = record {
   numbers = so_far.numbers ++ n ∷ [];
-  passed = VarintList-push part 0 at next n so_far.numbers so_far.passed spelled;
+  passed = list-push part 0 so_far.numbers at next n so_far.passed spelled;
   within = spelled.within;
   ahead = λ ahead. ahead_more part at next n place code spelled less (so_far.ahead ahead);
 }
@@ -71,7 +63,7 @@ IsPassing-past part place code at so_far other past ahead = elim (cases_lt at pl
   | inl less ↦
       let end = past less in
       no_further part at place code less (λ next n spelled. let forward = spelled.forward in let within = spelled.within in omega arith) (so_far.ahead ahead)
-  | inr not_less ↦ let there = so_far.ahead ahead in let onward = forward part at place there.numbers there.before in other (omega arith)
+  | inr not_less ↦ let there = so_far.ahead ahead in let onward = varints_forward part at place there.numbers there.before in other (omega arith)
 ]
 
 -- the walk came to the place: what is wrong is what is wrong there

@@ -1,13 +1,13 @@
 -- What one more field changes of what is asked of the messages that a message embeds, and where these lie.
-use Rattle.std.proofs.Common.{◌≡◌, ◌↔◌, ℕ, ◌+◌, ◌-◌, ◌≤◌, ◌==◌, inl, inr, List, ◌∷◌, length, map, filter_map, All, Option, Some, None, refl, sym, ◌∙◌, ap, subst, arith}
+use Rattle.std.proofs.Common.{◌≡◌, ◌↔◌, ℕ, ◌≤◌, ◌==◌, inl, inr, List, ◌∷◌, length, map, filter_map, All, Option, Some, None, refl, sym, ap, subst, arith}
 use Rattle.std.specs.List.{cons_option}
 use Rattle.std.proofs.lemmas.Bool.{cases_eq, eq-eqb, ne_eqb, cond-true, cond-false}
-use Rattle.std.proofs.lemmas.List.Edits.{length-between}
 use Rattle.std.proofs.lemmas.List.Elements.{All-cons, All-head, All-tail}
-use Rattle.mvt_wire.specs.Field.{Content, varint, eight_bytes, delimited, four_bytes, Entry, IsPayload}
+use Rattle.mvt_wire.specs.Field.{Entry}
 use Rattle.mvt_wire.specs.Scope.{fields_of, Span, span_of, spans_of}
 use Rattle.mvt_wire.specs.Walk.{Walk, GivesField}
 use Rattle.mvt_confirm.specs.Walking.{Embeds}
+use Rattle.mvt_wire.proofs.Payloads.{payload_within}
 
 module _ (Stands : Span → Type 0) where
   -- a stretch more, or none
@@ -49,21 +49,10 @@ module _ (Stands : Span → Type 0) where
   pub part_refused : (field_number : ℕ) (entry : Entry) → ¬ Embeds field_number Stands entry → (rest : List Entry) → ¬ All Stands (spans_of field_number (entry ∷ rest))
   part_refused field_number entry not rest all = not ((split field_number entry rest).0 all).0
 
--- a payload of wire type 2 lies within its message
-payload_inside : (bytes : List ℕ) (from to : ℕ) (content : Content) (span : Span) → IsPayload bytes from to content → span_of content ≡ Some span → (span.from ≤ span.to) × (span.to ≤ length bytes)
-payload_inside bytes from to (varint value at) span payload there = absurd (cc)
-payload_inside bytes from to (eight_bytes part) span payload there = absurd (cc)
-payload_inside bytes from to (delimited start part) span payload there =
-    let size : length part ≡ to - start = ap length payload.4 ∙ length-between bytes start to payload.3 in
-    let starts : start ≡ span.from = cc in
-    let ends : start + length part ≡ span.to = cc in
-    (omega arith, omega arith)
-payload_inside bytes from to (four_bytes part) span payload there = absurd (cc)
-
 -- and so within all the bytes
 pub lies_within : (size : ℕ) (old new : Walk) (entry : Entry) → GivesField old new entry → length old.bytes ≤ size → (span : Span) → span_of entry.content ≡ Some span → (span.from ≤ span.to) × (span.to ≤ size)
 lies_within size old new entry given front span there =
-    let inside = payload_inside old.bytes given.spelled.key_end new.at entry.content span given.spelled.payload there in
+    let inside = payload_within old.bytes given.spelled.key_end new.at entry.content span given.spelled.payload there in
     (inside.0, omega (arith, inside.1))
 
 -- a field that embeds a stretch is as the stretch is

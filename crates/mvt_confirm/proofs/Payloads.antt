@@ -1,21 +1,12 @@
 -- Where the payloads of a message's fields lie, one field behind others.
-use Rattle.std.proofs.Common.{◌≡◌, ◌≢◌, ℕ, suc, zero, ◌+◌, ◌-◌, ◌≤◌, ◌==◌, List, [], ◌∷◌, ◌++◌, length, take, map, filter_map, slice_get, Some, None, inl, inr, refl, sym, ◌∙◌, ap, subst, arith, append-nil, length-take}
+use Rattle.std.proofs.Common.{◌≡◌, ◌≢◌, ℕ, suc, zero, ◌≤◌, ◌==◌, List, [], ◌∷◌, ◌++◌, length, take, map, filter_map, slice_get, Some, None, inl, inr, refl, sym, ◌∙◌, ap, subst, arith, append-nil, length-take}
 use Rattle.std.proofs.lemmas.Bool.{cases_eq, eq-eqb, ne_eqb, cond-true, cond-false}
-use Rattle.std.proofs.lemmas.List.{map-append}
-use Rattle.std.proofs.lemmas.List.Edits.{length-between}
-use Rattle.std.proofs.lemmas.List.Elements.{filter-append, filter_map-append}
-use Rattle.mvt_wire.specs.Field.{Content, varint, eight_bytes, delimited, four_bytes, Entry, IsPayload, IsField}
-use Rattle.mvt_wire.specs.Scope.{fields_of, contents_of, Span, span_of, spans_of, IsPart}
+use Rattle.mvt_wire.specs.Field.{Entry, IsField}
+use Rattle.mvt_wire.specs.Scope.{Span, span_of, spans_of, IsPart}
 use Rattle.mvt_wire.specs.Walk.{Walk, GivesField}
 use Rattle.mvt_wire.proofs.Messages.{one_list}
-use Rattle.mvt_confirm.proofs.Walking.{IsWalking}
-
--- the payloads in two parts of a field list
-spans_of-append : (field_number : ℕ) (xs ys : List Entry) → spans_of field_number (xs ++ ys) ≡ spans_of field_number xs ++ spans_of field_number ys
-spans_of-append field_number xs ys =
-    ap (λ (entries : List Entry). filter_map span_of (map (λ (entry : Entry). entry.content) entries)) (filter-append (λ (entry : Entry). entry.number == field_number) xs ys)
-    ∙ ap (filter_map span_of) (map-append (λ (entry : Entry). entry.content) (fields_of field_number xs) (fields_of field_number ys))
-    ∙ filter_map-append span_of (contents_of field_number xs) (contents_of field_number ys)
+use Rattle.mvt_wire.proofs.Walking.{IsWalking}
+use Rattle.mvt_wire.proofs.Payloads.{spans_of-append, payload_within}
 
 -- a field of the number is added, with a payload of wire type 2
 pub spans_of-push : (field_number : ℕ) (entries : List Entry) (entry : Entry) (span : Span) → entry.number ≡ field_number → span_of entry.content ≡ Some span
@@ -47,28 +38,11 @@ spans_of-same field_number entries entry none =
     ] in
     spans_of-append field_number entries (entry ∷ []) ∙ ap (λ (rest : List Span). spans_of field_number entries ++ rest) alone ∙ append-nil (spans_of field_number entries)
 
--- what stands behind a list, and before that
-pub slice_get-last : {X : Type 0} (xs : List X) (y : X) → slice_get (xs ++ y ∷ []) (length xs) ≡ Some y
-slice_get-last [] y = refl
-slice_get-last (x ∷ xs) y = slice_get-last xs y
-
 pub slice_get-other : {X : Type 0} (xs : List X) (y : X) (i : ℕ) → i ≢ length xs → slice_get (xs ++ y ∷ []) i ≡ slice_get xs i
 slice_get-other [] y zero other = absurd (other refl)
 slice_get-other [] y (suc i) other = refl
 slice_get-other (x ∷ xs) y zero other = refl
 slice_get-other (x ∷ xs) y (suc i) other = slice_get-other xs y i (λ same. other (omega arith))
-
--- a payload of wire type 2 lies within its message
-payload_within : (message : List ℕ) (from to : ℕ) (content : Content) (span : Span) → IsPayload message from to content → span_of content ≡ Some span
-    → (span.from ≤ span.to) × (span.to ≤ length message)
-payload_within message from to (varint value at) span payload there = absurd (cc)
-payload_within message from to (eight_bytes part) span payload there = absurd (cc)
-payload_within message from to (delimited start part) span payload there =
-    let size : length part ≡ to - start = ap length payload.4 ∙ length-between message start to payload.3 in
-    let starts : start ≡ span.from = cc in
-    let ends : start + length part ≡ span.to = cc in
-    (omega arith, omega arith)
-payload_within message from to (four_bytes part) span payload there = absurd (cc)
 
 -- a stretch of the bytes
 pub record Within (bytes : List ℕ) (span : Span) : Type 0 where

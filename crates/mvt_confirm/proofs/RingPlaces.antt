@@ -13,6 +13,7 @@ use Rattle.mvt_plane.specs.Polygon.{IsExterior, NoExterior, IsExteriorOf, first,
 use Rattle.mvt_plane.specs.Position.{Position}
 use Rattle.mvt_plane.specs.Ring.{doubled_area, ArePolygonRings}
 use Rattle.mvt_plane.proofs.PolygonNumbers.{none_to_next, none_in_nothing, polygon_of_ring}
+use Rattle.mvt_plane.proofs.SamePolygons.{exterior_of_polygon}
 
 -- Exteriors that were passed
 
@@ -111,16 +112,11 @@ hole_place rings ring exteriors polygon last able within (some_passed number is 
     let same : number ≡ polygon = omega arith in
     place_there rings ring polygon last able within (subst (λ it. IsExteriorOf rings it last) same begins) (omega arith) (none_to_next rings (suc last) ring none hole)
 
--- the exterior of a polygon is one
-exterior_of : (rings : List (List Position)) (polygon exterior : ℕ) → IsExteriorOf rings polygon exterior → IsExterior rings exterior
-exterior_of rings _ _ (first exterior is_exterior none) = is_exterior
-exterior_of rings _ _ (next polygon before exterior begins less is_exterior none) = is_exterior
-
 -- and there is a last one
 pub hole_behind_none : (rings : List (List Position)) (ring exteriors last : ℕ) → ArePolygonRings rings → ring < length rings → IsCounted rings ring exteriors last → ¬ IsExterior rings ring
     → ¬ (exteriors ≡ 0)
 hole_behind_none rings ring exteriors last able within (none_yet is none) hole no_exterior =
     let home = polygon_of_ring rings ring able within in
     let from = home.3.from in
-    none_to_next rings 0 ring none hole home.1.exterior (omega arith) (omega arith) (exterior_of rings home.0 home.1.exterior home.2.begins)
+    none_to_next rings 0 ring none hole home.1.exterior (omega arith) (omega arith) (exterior_of_polygon rings home.0 home.1.exterior home.2.begins)
 hole_behind_none rings ring exteriors last able within (some_passed polygon is begins less none) hole no_exterior = omega arith

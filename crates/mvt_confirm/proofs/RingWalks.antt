@@ -2,8 +2,7 @@
 use Rattle.std.proofs.Common.{◌≡◌, ◌↔◌, ℕ, zero, suc, ◌-◌, ◌<◌, ◌==◌, true≢false, ℤ, pos, ◌+ℤ◌, Bool, true, false, IsTrue, ◌∷◌, [], List, length, Some, slice_get, refl, sym, ap, ◌∙◌, subst, arith}
 use Rattle.std.proofs.lemmas.Int.{ints}
 use Rattle.mvt_confirm.specs.Corners.{CornerWalk, RingsLeft, EndsCorners, IsFirstVertex}
-use Rattle.mvt_confirm.specs.Rings.{GivesRing, IsClosed, IsMeasured}
-use Rattle.mvt_confirm.specs.declared.rings.Measure.{Measure}
+use Rattle.mvt_confirm.specs.Rings.{IsClosed, IsMeasured}
 use Rattle.mvt_plane.specs.Figure.{cursor}
 use Rattle.mvt_plane.specs.Position.{Position}
 use Rattle.mvt_plane.specs.Ring.{edge_area, edges_through, area_of_edges, doubled_area}

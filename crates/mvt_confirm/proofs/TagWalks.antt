@@ -1,5 +1,5 @@
 -- A walk over the tags of a feature: which of them a step gives, and where they end.
-use Rattle.std.proofs.Common.{◌≡◌, ◌↔◌, ℕ, zero, suc, ◌+◌, ◌*◌, ◌≤◌, ◌<◌, Bool, true, false, not, IsTrue, List, [], ◌∷◌, length, take, drop, slice_get, Option, Some, None, IfSome, IfNone, is_some, inl, inr, refl, sym, ◌∙◌, ap, subst, arith, length-drop}
+use Rattle.std.proofs.Common.{◌≡◌, ◌↔◌, ℕ, suc, ◌+◌, ◌*◌, ◌<◌, Bool, true, false, not, IsTrue, List, [], length, take, drop, slice_get, Option, Some, None, IfSome, IfNone, is_some, inl, inr, refl, sym, ◌∙◌, ap, subst, arith, length-drop}
 use Rattle.std.proofs.lemmas.Bool.{cases_eq}
 use Rattle.std.proofs.lemmas.Option.{slice_get_past, slice_get_within}
 use Rattle.mvt_wire.specs.Numbers.{NumberWalk, NumbersLeft, NumbersEnd, GivesNumber}
@@ -8,13 +8,7 @@ use Rattle.mvt_wire.specs.Tile.{FeatureRecord, IsFeature}
 use Rattle.mvt_wire.specs.declared.cause.WireCause.{WireCause}
 use Rattle.mvt_wire.proofs.SmallNumbers.{tags_end}
 use Rattle.mvt_confirm.specs.Tags.{HasPassed}
-
--- a list's rest from a place on, where that begins with something
-rest_at : {X : Type 0} (xs rest : List X) (i : ℕ) (x : X) → drop i xs ≡ x ∷ rest → (suc i ≤ length xs) × (slice_get xs i ≡ Some x) × (drop (suc i) xs ≡ rest)
-rest_at [] rest zero x is = absurd (cc)
-rest_at [] rest (suc i) x is = absurd (cc)
-rest_at (y ∷ xs) rest zero x is = (omega arith, (cc), (cc))
-rest_at (y ∷ xs) rest (suc i) x is = let more = rest_at xs rest i x is in (omega (arith, more.0), more.1, more.2)
+use Rattle.mvt_confirm.proofs.EdgeWalks.{rest_at}
 
 -- what a step gives is the next of them
 pub next_given : (tags : List ℕ) (old new : NumberWalk) (passed n : ℕ) → HasPassed tags old passed → GivesNumber old new n

@@ -1,5 +1,5 @@
 -- Rings as wholes, as a walk over their vertices tells of them (Mapbox Vector Tile Specification 2.1, section 4.3.4.4).
-use Rattle.std.specs.Prelude.{◌≡◌, ℕ, ◌-◌, ◌↔◌, List, ◌∷◌, length, slice_get, Some, IsTrue}
+use Rattle.std.specs.Prelude.{◌≡◌, ◌-◌, ◌↔◌, List, ◌∷◌, length, slice_get, Some, IsTrue}
 use Rattle.mvt_confirm.specs.Corners.{CornerWalk, RingsLeft}
 use Rattle.mvt_confirm.specs.declared.rings.Measure.{Measure}
 use Rattle.mvt_plane.specs.Position.{Position}

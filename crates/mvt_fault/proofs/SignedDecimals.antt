@@ -32,11 +32,6 @@ signed_digits_value-signed_decimal (pos n) width =
     signed_digits_value-numeral (decimal n) written.0 ∙ ap pos written.1
 signed_digits_value-signed_decimal (negsuc n) width = ap (λ (m : ℕ). neg_ℤ (pos m)) (decimal_is_IsNumeral_wide (suc n) (omega (arith, ints, width))).1
 
--- two numbers of 128 bits with the same digits are the same
-pub signed_decimal_injective_wide : (y z : ℤ) → HasWidth y → HasWidth z → signed_decimal y ≡ signed_decimal z → y ≡ z
-signed_decimal_injective_wide y z width other same =
-    sym (signed_digits_value-signed_decimal y width) ∙ ap (signed_digits_value 10) same ∙ signed_digits_value-signed_decimal z other
-
 -- further digits make no number smaller
 le_value_after : (n : ℕ) (ds : List ℕ) → n ≤ digits_value_after 10 n ds
 le_value_after n [] = omega arith

@@ -1,12 +1,13 @@
 -- In each state a number of 32 bits is allowed, or a code is to blame for it: the first that applies to what is due.
-use Rattle.std.proofs.Common.{◌≡◌, ◌≢◌, ℕ, ◌/◌, ◌%◌, ◌^◌, ◌<◌, ◌⊎◌, inl, inr, ℤ, pos, negsuc, ◌+ℤ◌, neg_ℤ, Some, refl, sym, ◌∙◌, ap, subst, arith}
+use Rattle.std.proofs.Common.{◌≡◌, ◌≢◌, ℕ, ◌/◌, ◌%◌, ◌^◌, ◌<◌, ◌⊎◌, inl, inr, ℤ, pos, ◌+ℤ◌, neg_ℤ, Some, refl, sym, subst, arith}
 use Rattle.std.proofs.lemmas.Int.{ints, by_lt_z}
 use Rattle.std.proofs.lemmas.Bool.{cases_eq, cases_lt}
 use Rattle.mvt_plane.specs.Position.{Position, IsCoordinate}
-use Rattle.mvt_plane.specs.Figure.{GeometryType, move_to, line_to, close_path, command_integer, IsParameter}
+use Rattle.mvt_plane.specs.Figure.{GeometryType, move_to, line_to, close_path, command_integer}
 use Rattle.mvt_plane.specs.CommandFault.{Part, command, x_of_step, y_of_step, greatest_parameter, LeavesRange, Applies, other_command, other_count, greatest_x, greatest_y, x_outside, y_outside, no_step}
-use Rattle.mvt_plane.proofs.Parameters.{unzigzag-zigzag, zigzag-unzigzag, parity, unzigzag_even, unzigzag_odd}
+use Rattle.mvt_plane.proofs.Parameters.{zigzag-unzigzag}
 use Rattle.mvt_plane.specs.Drawing.{Leg, to_point, to_first, to_next, State, points_command, path_command, line_command, close_command, step_x, step_y, all_drawn, due, id_of, least, IsCommand, IsMove, IsAllowed, unzigzag, IsFirst, IsBlamed, not_due, not_allowed}
+use Rattle.mvt_plane.proofs.Readers.{is_parameter, greatest_moves_not, stays_inside}
 
 -- what a code says of a number where a part is due
 abbrev Sense : Part → ℕ → ℕ → Type 0
@@ -55,29 +56,9 @@ is_coordinate z = by_lt_z z (neg_ℤ (pos (2 ^ 30)))
     (λ below. inr (λ inside. omega (arith, ints)))
     (λ above. by_lt_z (pos (2 ^ 30)) z (λ beyond. inr (λ inside. omega (arith, ints))) (λ within. inl (above, within)))
 
--- each parameter of 32 bits but the greatest stands for a step
-is_parameter : (n : ℕ) → n < 2 ^ 32 → n ≢ greatest_parameter → IsParameter (unzigzag n)
-is_parameter n small other = elim (parity n) [
-  | inl even ↦ let value : unzigzag n ≡ pos even.0 = ap unzigzag even.1 ∙ unzigzag_even even.0 in let k = even.0 in let twice = even.1 in (omega (arith, ints), omega (arith, ints))
-  | inr odd ↦ let value : unzigzag n ≡ negsuc odd.0 = ap unzigzag odd.1 ∙ unzigzag_odd odd.0 in let k = odd.0 in let twice = odd.1 in (omega (arith, ints), omega (arith, ints))
-]
-
--- the greatest one doesn't
-greatest_moves_not : (from : ℤ) (n : ℕ) → n ≡ greatest_parameter → IsMove from n → ⊥
-greatest_moves_not from n greatest move =
-    let value : unzigzag n ≡ negsuc 2147483647 = ap unzigzag greatest in
-    let least_step = move.parameter in
-    omega (arith, ints)
-
 -- a parameter leads out of range where its number does
 leaves_range : (from : ℤ) (n : ℕ) → (IsCoordinate (from +ℤ unzigzag n) → ⊥) → LeavesRange from n
 leaves_range from n outside = (unzigzag n, zigzag-unzigzag n, outside)
-
--- and not where its number leads to a coordinate
-stays_inside : (from : ℤ) (n : ℕ) → IsCoordinate (from +ℤ unzigzag n) → LeavesRange from n → ⊥
-stays_inside from n inside leaves =
-    let step : unzigzag n ≡ leaves.0 = ap unzigzag (sym leaves.1) ∙ unzigzag-zigzag leaves.0 in
-    leaves.2 (subst (λ (d : ℤ). IsCoordinate (from +ℤ d)) step inside)
 
 -- a parameter leads to a coordinate, or is the greatest, or leads out of range
 data Judged (from : ℤ) (n : ℕ) : Type 0 where

@@ -1,8 +1,7 @@
 -- Two lines that aren't parallel have one rational point in common.
-use Rattle.std.proofs.Common.{◌≡◌, [], ◌∷◌, ℤ, pos, ◌-ℤ◌, ◌*ℤ◌, sym, ◌∙◌}
-use Rattle.std.proofs.Math.IntN.{one, *ℤ-one}
+use Rattle.std.proofs.Common.{◌≡◌, [], ◌∷◌, ℤ, pos, ◌-ℤ◌, ◌*ℤ◌}
 use Rattle.mvt_plane.specs.Position.{Position}
-use Rattle.mvt_plane.specs.RationalPoint.{RationalPoint, IsAt, whole}
+use Rattle.mvt_plane.specs.RationalPoint.{RationalPoint, whole}
 use Rattle.mvt_plane.specs.CommonPoint.{cross_product}
 use Rattle.mvt_plane.specs.Measure.{orientation}
 use Rattle.mvt_plane.specs.declared.edge.Edge.{Edge}
@@ -128,8 +127,3 @@ side_by_line edge position on_line =
     ring_from (edge.a.x ∷ edge.a.y ∷ edge.b.x ∷ edge.b.y ∷ position.x ∷ position.y ∷ [])
     ((BX ⊖ AX) ⊗ (Y ⊖ AY) ⊖ (BY ⊖ AY) ⊗ (X ⊖ AX)) (constant (pos 0))
     (given (constant (pos 1)) ((BX ⊖ AX) ⊗ (Y ⊖ AY ⊗ constant (pos 1))) ((BY ⊖ AY) ⊗ (X ⊖ AX ⊗ constant (pos 1))) ∷ []) (on_line, tt) tt
-
--- what is the same point as a position is at this position
-pub at_by_same : (point : RationalPoint) (position : Position) → IsSame point (whole position) → IsAt point position
-unfolding one
-at_by_same point position same = record { x = sym (*ℤ-one point.x) ∙ same.x; y = sym (*ℤ-one point.y) ∙ same.y }

@@ -6,7 +6,7 @@ use Rattle.mvt_plane.specs.Geometry.{type_number, HasFigure, BreaksCommands}
 use Rattle.mvt_plane.specs.Reading.{IsWhole}
 
 -- no two types have one number
-one_type : (geometry_type other : GeometryType) → type_number geometry_type ≡ type_number other → geometry_type ≡ other
+pub one_type : (geometry_type other : GeometryType) → type_number geometry_type ≡ type_number other → geometry_type ≡ other
 one_type point point same = refl
 one_type point line_string same = absurd (omega arith)
 one_type point polygon same = absurd (omega arith)

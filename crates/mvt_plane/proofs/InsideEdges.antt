@@ -6,6 +6,7 @@ use Rattle.mvt_plane.specs.RationalPoint.{RationalPoint, LiesOn, IsBetween}
 use Rattle.mvt_plane.specs.Inside.{Differ, PassesOver}
 use Rattle.mvt_plane.proofs.Polynomials.{unknown, ◌⊕◌, ◌⊖◌, ◌⊗◌, constant, given, ring, ring_from}
 use Rattle.mvt_plane.proofs.Order.{zs, le_or_lt, mono_le_right, mono_le, turn_le, cancel_lt, mono_lt, mul_nonneg, mul_nonpos_nonneg}
+use Rattle.mvt_plane.proofs.Lines.{between_back}
 
 -- ---- the rectangles
 
@@ -113,11 +114,6 @@ greater_tells p a b q order on_edge same_x greater =
     cancel_lt q.w (rectangle a b p) (rectangle a p b) (omega (arith, zs)) (omega (arith, zs, mono_lt length greater))
 
 -- ---- the edge that goes back
-
--- a number that is between two others is between them in their other order
-between_back : (from to z : ℤ) → IsBetween from to z → IsBetween to from z
-between_back from to z (inl up) = inr up
-between_back from to z (inr down) = inl down
 
 -- a point on an edge is on the edge that goes back
 on_edge_back : (q : RationalPoint) (a b : Position) → LiesOn q (record { a = a; b = b }) → LiesOn q (record { a = b; b = a })

@@ -63,10 +63,6 @@ neg-mul_ℤ a b = ring (a ∷ b ∷ []) (negated (unknown 0) ⊗ unknown 1) (neg
 pub mul-neg_ℤ : (a b : ℤ) → a *ℤ neg_ℤ b ≡ neg_ℤ (a *ℤ b)
 mul-neg_ℤ a b = ring (a ∷ b ∷ []) (unknown 0 ⊗ negated (unknown 1)) (negated (unknown 0 ⊗ unknown 1)) tt
 
--- two signs go
-pub neg-mul-neg_ℤ : (a b : ℤ) → neg_ℤ a *ℤ neg_ℤ b ≡ a *ℤ b
-neg-mul-neg_ℤ a b = ring (a ∷ b ∷ []) (negated (unknown 0) ⊗ negated (unknown 1)) (unknown 0 ⊗ unknown 1) tt
-
 -- a factor goes into a difference
 pub mul-sub_ℤ : (a b c : ℤ) → a *ℤ (b -ℤ c) ≡ a *ℤ b -ℤ a *ℤ c
 mul-sub_ℤ a b c = ring (a ∷ b ∷ c ∷ []) (unknown 0 ⊗ (unknown 1 ⊖ unknown 2)) (unknown 0 ⊗ unknown 1 ⊖ unknown 0 ⊗ unknown 2) tt
@@ -105,19 +101,6 @@ mul_neg_pos {a} {b} left right =
     let turned : pos 0 <ℤ neg_ℤ a = omega (arith, zs) in
     omega (arith, zs, mul_pos turned right, neg-mul_ℤ a b)
 
--- a positive number times a negative one
-pub mul_pos_neg : {a b : ℤ} → pos 0 <ℤ a → b <ℤ pos 0 → (a *ℤ b) <ℤ pos 0
-mul_pos_neg {a} {b} left right =
-    let turned : pos 0 <ℤ neg_ℤ b = omega (arith, zs) in
-    omega (arith, zs, mul_pos left turned, mul-neg_ℤ a b)
-
--- negative times negative
-pub mul_neg : {a b : ℤ} → a <ℤ pos 0 → b <ℤ pos 0 → pos 0 <ℤ (a *ℤ b)
-mul_neg {a} {b} left right =
-    let first : pos 0 <ℤ neg_ℤ a = omega (arith, zs) in
-    let second : pos 0 <ℤ neg_ℤ b = omega (arith, zs) in
-    omega (arith, zs, mul_pos first second, neg-mul-neg_ℤ a b)
-
 -- not positive times not negative
 pub mul_nonpos_nonneg : {a b : ℤ} → a ≤ℤ pos 0 → pos 0 ≤ℤ b → (a *ℤ b) ≤ℤ pos 0
 mul_nonpos_nonneg {a} {b} left right =
@@ -129,23 +112,6 @@ pub mul_nonneg_nonpos : {a b : ℤ} → pos 0 ≤ℤ a → b ≤ℤ pos 0 → (a
 mul_nonneg_nonpos {a} {b} left right =
     let turned : pos 0 ≤ℤ neg_ℤ b = omega (arith, zs) in
     omega (arith, zs, mul_nonneg left turned, mul-neg_ℤ a b)
-
--- neither is positive
-pub mul_nonpos : {a b : ℤ} → a ≤ℤ pos 0 → b ≤ℤ pos 0 → pos 0 ≤ℤ (a *ℤ b)
-mul_nonpos {a} {b} left right =
-    let first : pos 0 ≤ℤ neg_ℤ a = omega (arith, zs) in
-    let second : pos 0 ≤ℤ neg_ℤ b = omega (arith, zs) in
-    omega (arith, zs, mul_nonneg first second, neg-mul-neg_ℤ a b)
-
--- a square isn't negative
-pub square_nonneg : (a : ℤ) → pos 0 ≤ℤ (a *ℤ a)
-square_nonneg a = by_lt_z a (pos 0) (λ below. omega (arith, zs, mul_neg below below)) (λ above. mul_nonneg above above)
-
--- nor 0, but for that of 0
-pub square_pos : (a : ℤ) → ¬ (a ≡ pos 0) → pos 0 <ℤ (a *ℤ a)
-square_pos a apart = by_lt_z a (pos 0) (λ below. mul_neg below below) (λ at_least.
-    let above : pos 0 <ℤ a = omega (arith, zs) in
-    mul_pos above above)
 
 -- ---- an inequality times a factor
 
@@ -167,12 +133,6 @@ turn_le {c} {a} {b} sign order =
     let rise : pos 0 ≤ℤ (b -ℤ a) = omega (arith, zs) in
     omega (arith, zs, mul_nonpos_nonneg sign rise, mul-sub_ℤ c b a)
 
--- a negative factor turns the strict order
-pub turn_lt : {c a b : ℤ} → c <ℤ pos 0 → a <ℤ b → (c *ℤ b) <ℤ (c *ℤ a)
-turn_lt {c} {a} {b} sign order =
-    let rise : pos 0 <ℤ (b -ℤ a) = omega (arith, zs) in
-    omega (arith, zs, mul_neg_pos sign rise, mul-sub_ℤ c b a)
-
 -- the same with the factor behind
 pub mono_le_right : {a b c : ℤ} → a ≤ℤ b → pos 0 ≤ℤ c → (a *ℤ c) ≤ℤ (b *ℤ c)
 mono_le_right {a} {b} {c} order sign = omega (arith, zs, mono_le sign order, *ℤ_comm a c, *ℤ_comm b c)
@@ -180,12 +140,6 @@ mono_le_right {a} {b} {c} order sign = omega (arith, zs, mono_le sign order, *�
 -- the same with the factor behind
 pub mono_lt_right : {a b c : ℤ} → a <ℤ b → pos 0 <ℤ c → (a *ℤ c) <ℤ (b *ℤ c)
 mono_lt_right {a} {b} {c} order sign = omega (arith, zs, mono_lt sign order, *ℤ_comm a c, *ℤ_comm b c)
-
--- two inequalities of numbers that aren't negative
-pub mul_le : {a b c d : ℤ} → pos 0 ≤ℤ a → a ≤ℤ b → pos 0 ≤ℤ c → c ≤ℤ d → (a *ℤ c) ≤ℤ (b *ℤ d)
-mul_le {a} {b} {c} {d} left order right other =
-    let top : pos 0 ≤ℤ b = omega (arith, zs) in
-    omega (arith, zs, mono_le_right order right, mono_le top other)
 
 -- ---- a factor is dropped
 
@@ -227,18 +181,6 @@ cancel_apart c a b apart same =
     let none = cancel_zero c (a -ℤ b) apart (mul-sub_ℤ c a b ∙ omega (arith, zs)) in
     omega (arith, zs)
 
--- numbers other than 0 have a product other than 0
-pub product_apart : (a b : ℤ) → ¬ (a ≡ pos 0) → ¬ (b ≡ pos 0) → ¬ (a *ℤ b ≡ pos 0)
-product_apart a b left right none = right (cancel_zero a b left none)
-
--- a square that is 0 is that of 0
-pub square_zero : (a : ℤ) → a *ℤ a ≡ pos 0 → a ≡ pos 0
-square_zero a none = by_square (is_zero a)
-  where
-    by_square : Dec (a ≡ pos 0) → a ≡ pos 0
-    by_square (yes same) = same
-    by_square (no apart) = cancel_zero a a apart none
-
 -- ---- the sign of a factor, from that of a product with a positive number
 
 -- positive
@@ -258,14 +200,6 @@ pub factor_nonpos : (c a : ℤ) → pos 0 <ℤ c → (c *ℤ a) ≤ℤ pos 0 →
 factor_nonpos c a sign product = cancel_le c a (pos 0) sign (omega (arith, zs, *ℤ-zero c))
 
 -- ---- orders under negation
-
--- a negation turns the order
-pub neg_le : {a b : ℤ} → a ≤ℤ b → neg_ℤ b ≤ℤ neg_ℤ a
-neg_le order = omega (arith, zs)
-
--- and the strict order
-pub neg_lt : {a b : ℤ} → a <ℤ b → neg_ℤ b <ℤ neg_ℤ a
-neg_lt order = omega (arith, zs)
 
 -- orders both ways
 pub antisym_ℤ : {a b : ℤ} → a ≤ℤ b → b ≤ℤ a → a ≡ b

@@ -11,6 +11,7 @@ use Rattle.mvt_plane.proofs.Lines.{between_follows, turned_line, position_on_lin
 use Rattle.mvt_plane.proofs.Order.{zs, le_or_lt, is_zero, cancel_le, cancel_zero}
 use Rattle.mvt_plane.proofs.Polynomials.{unknown, constant, negated, ◌⊖◌, ◌⊗◌, given, ring_from}
 use Rattle.mvt_plane.proofs.RationalPoints.{IsSame, same_back, same_point, is_at_same, is_common_same, lies_on_reversed, reversed, begin_lies_on, end_lies_on, times_one, both_decide}
+use Rattle.mvt_plane.proofs.Weights.{flip_lies}
 
 -- ---- parallel edges
 
@@ -248,16 +249,12 @@ abbrev flipped_vertex : Option Position → Option Position
 flipped_vertex None = None
 flipped_vertex (Some vertex) = Some (flipped vertex)
 
--- what lies on an edge still does
-lies_on_flipped : (point : RationalPoint) (edge : Edge) → LiesOn point edge → LiesOn (flipped_point point) (flipped_edge edge)
-lies_on_flipped point edge lies = record { positive = lies.positive; on_line = sym lies.on_line; x_between = lies.y_between; y_between = lies.x_between }
-
 -- what is common still is, where the shared vertices correspond
 is_common_flipped : (shared other : Option Position) (first second : Edge) (point : RationalPoint) → ((vertex : Position) → other ≡ Some vertex → shared ≡ Some (flipped vertex)) → IsCommon shared first second point → IsCommon other (flipped_edge first) (flipped_edge second) (flipped_point point)
 is_common_flipped shared other first second point back common =
     record {
-      on_first = lies_on_flipped point first common.on_first;
-      on_second = lies_on_flipped point second common.on_second;
+      on_first = flip_lies point first common.on_first;
+      on_second = flip_lies point second common.on_second;
       apart = λ vertex there at. common.apart (flipped vertex) (back vertex there) (record { x = at.y; y = at.x });
     }
 

@@ -45,7 +45,7 @@ none_to_next rings from to none here number behind before = elim (cases_lt numbe
 ]
 
 -- none at a number, and none behind it
-none_from_next : (rings : List (List Position)) (from to : ℕ) → ¬ IsExterior rings from → NoExterior rings (suc from) to → NoExterior rings from to
+pub none_from_next : (rings : List (List Position)) (from to : ℕ) → ¬ IsExterior rings from → NoExterior rings (suc from) to → NoExterior rings from to
 none_from_next rings from to here none number behind before = elim (cases_lt from number) [
   | inl later ↦ none number later before
   | inr earlier ↦ λ exterior. here (subst (IsExterior rings) (omega arith) exterior)

@@ -353,24 +353,3 @@ pub ring_from : (unknowns : List ℤ) (p q : Polynomial) (all : List Given) → 
 ring_from unknowns p q all hold same = no_difference _ _ (ring unknowns (p ⊖ q) (combined all) same ∙ combined_none unknowns all hold)
 
 -- ---- examples
-
--- a product of a sum and a difference
-difference_of_squares : (x y : ℤ) → (x +ℤ y) *ℤ (x -ℤ y) ≡ x *ℤ x -ℤ y *ℤ y
-difference_of_squares x y =
-    let X = unknown 0 in
-    let Y = unknown 1 in
-    ring (x ∷ y ∷ []) ((X ⊕ Y) ⊗ (X ⊖ Y)) (X ⊗ X ⊖ Y ⊗ Y) tt
-
--- Cramer's rule: what solves two linear equations, times their determinant
-cramer_first : (a b c d e f x y : ℤ) → a *ℤ x +ℤ b *ℤ y ≡ e → c *ℤ x +ℤ d *ℤ y ≡ f → (a *ℤ d -ℤ b *ℤ c) *ℤ x ≡ e *ℤ d -ℤ b *ℤ f
-cramer_first a b c d e f x y first second =
-    let A = unknown 0 in
-    let B = unknown 1 in
-    let C = unknown 2 in
-    let D = unknown 3 in
-    let E = unknown 4 in
-    let F = unknown 5 in
-    let X = unknown 6 in
-    let Y = unknown 7 in
-    ring_from (a ∷ b ∷ c ∷ d ∷ e ∷ f ∷ x ∷ y ∷ []) ((A ⊗ D ⊖ B ⊗ C) ⊗ X) (E ⊗ D ⊖ B ⊗ F)
-    (given D (A ⊗ X ⊕ B ⊗ Y) E ∷ given (negated B) (C ⊗ X ⊕ D ⊗ Y) F ∷ []) (first, (second, tt)) tt

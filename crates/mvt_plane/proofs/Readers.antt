@@ -142,7 +142,7 @@ pub is_parameter : (n : ℕ) → n < 2 ^ 32 → n ≢ greatest_parameter → IsP
 is_parameter n small other = parameter_of (unzigzag n) (subst (λ (m : ℕ). m < greatest_parameter) (sym (zigzag-unzigzag n)) (omega arith))
 
 -- the greatest doesn't
-greatest_moves_not : (from : ℤ) (n : ℕ) → n ≡ greatest_parameter → IsMove from n → ⊥
+pub greatest_moves_not : (from : ℤ) (n : ℕ) → n ≡ greatest_parameter → IsMove from n → ⊥
 greatest_moves_not from n greatest move =
     let value : unzigzag n ≡ negsuc 2147483647 = ap unzigzag greatest in
     let least_step = move.parameter in
@@ -155,7 +155,7 @@ zero_parameter from n stays =
     sym (zigzag-unzigzag n) ∙ ap zigzag none
 
 -- a number that leads to a coordinate doesn't leave the range
-stays_inside : (from : ℤ) (n : ℕ) → IsCoordinate (from +ℤ unzigzag n) → LeavesRange from n → ⊥
+pub stays_inside : (from : ℤ) (n : ℕ) → IsCoordinate (from +ℤ unzigzag n) → LeavesRange from n → ⊥
 stays_inside from n inside leaves =
     let step : unzigzag n ≡ leaves.0 = ap unzigzag (sym leaves.1) ∙ unzigzag-zigzag leaves.0 in
     leaves.2 (subst (λ (d : ℤ). IsCoordinate (from +ℤ d)) step inside)

@@ -24,7 +24,7 @@ same_last rings to one other before_one before_other is_one is_other none_from_o
 ]
 
 -- the exterior of a polygon is one
-exterior_of_polygon : (rings : List (List Position)) (polygon exterior : ℕ) → IsExteriorOf rings polygon exterior → IsExterior rings exterior
+pub exterior_of_polygon : (rings : List (List Position)) (polygon exterior : ℕ) → IsExteriorOf rings polygon exterior → IsExterior rings exterior
 exterior_of_polygon rings _ _ (first exterior is_exterior none) = is_exterior
 exterior_of_polygon rings _ _ (next polygon before exterior begins less is_exterior none) = is_exterior
 

@@ -21,42 +21,11 @@ slant p = record { x = key_of p; y = neg_ℤ p.y }
 abbrev pub slant_edge : Edge → Edge
 slant_edge edge = record { a = slant edge.a; b = slant edge.b }
 
--- where a rational point goes
-abbrev pub slant_point : RationalPoint → RationalPoint
-slant_point point = record { x = point.x *ℤ pos (2 ^ 32) +ℤ point.y; y = neg_ℤ point.y; w = point.w }
-
 -- the rational point that goes to this one
 abbrev pub unslant : RationalPoint → RationalPoint
 unslant point = record { x = point.x +ℤ point.y; y = neg_ℤ (point.y *ℤ pos (2 ^ 32)); w = point.w *ℤ pos (2 ^ 32) }
 
 -- ---- points on edges
-
--- a point of an edge stays the same mean of its ends
-weights_slanted : (point : RationalPoint) (edge : Edge) → Weights point edge → Weights (slant_point point) (slant_edge edge)
-weights_slanted point edge weights =
-    let M = unknown 0 in
-    let N = unknown 1 in
-    let AX = unknown 2 in
-    let AY = unknown 3 in
-    let BX = unknown 4 in
-    let BY = unknown 5 in
-    let X = unknown 6 in
-    let Y = unknown 7 in
-    let W = unknown 8 in
-    let k = constant (pos (2 ^ 32)) in
-    let all = weights.of_a ∷ weights.of_b ∷ edge.a.x ∷ edge.a.y ∷ edge.b.x ∷ edge.b.y ∷ point.x ∷ point.y ∷ point.w ∷ [] in
-    record {
-      of_a = weights.of_a;
-      of_b = weights.of_b;
-      a_sign = weights.a_sign;
-      b_sign = weights.b_sign;
-      some = weights.some;
-      x = ring_from all ((M ⊕ N) ⊗ (X ⊗ k ⊕ Y)) ((M ⊗ (AX ⊗ k ⊕ AY) ⊕ N ⊗ (BX ⊗ k ⊕ BY)) ⊗ W)
-          (given k ((M ⊕ N) ⊗ X) ((M ⊗ AX ⊕ N ⊗ BX) ⊗ W) ∷ given (constant (pos 1)) ((M ⊕ N) ⊗ Y) ((M ⊗ AY ⊕ N ⊗ BY) ⊗ W) ∷ [])
-          (weights.x, (weights.y, tt)) tt;
-      y = ring_from all ((M ⊕ N) ⊗ negated Y) ((M ⊗ negated AY ⊕ N ⊗ negated BY) ⊗ W)
-          (given (negated (constant (pos 1))) ((M ⊕ N) ⊗ Y) ((M ⊗ AY ⊕ N ⊗ BY) ⊗ W) ∷ []) (weights.y, tt) tt;
-    }
 
 -- so does a point of a slanted edge, on the way back
 weights_unslanted : (point : RationalPoint) (edge : Edge) → Weights point (slant_edge edge) → Weights (unslant point) edge
@@ -85,10 +54,6 @@ weights_unslanted point edge weights =
       y = ring_from all ((M ⊕ N) ⊗ negated (Y ⊗ k)) ((M ⊗ AY ⊕ N ⊗ BY) ⊗ (W ⊗ k))
           (given (negated k) ((M ⊕ N) ⊗ Y) ((M ⊗ negated AY ⊕ N ⊗ negated BY) ⊗ W) ∷ []) (weights.y, tt) tt;
     }
-
--- a point of an edge goes to a point of the slanted edge
-pub lies_slanted : (point : RationalPoint) (edge : Edge) → LiesOn point edge → LiesOn (slant_point point) (slant_edge edge)
-lies_slanted point edge lies = lies_by_weights (slant_point point) (slant_edge edge) lies.positive (weights_slanted point edge (weights_of point edge lies))
 
 -- a point of a slanted edge comes from a point of the edge
 pub lies_unslanted : (point : RationalPoint) (edge : Edge) → LiesOn point (slant_edge edge) → LiesOn (unslant point) edge

@@ -6,6 +6,7 @@ use Rattle.mvt_plane.specs.RationalPoint.{RationalPoint, LiesOn, IsBetween}
 use Rattle.mvt_plane.specs.declared.edge.Edge.{Edge}
 use Rattle.mvt_plane.proofs.Polynomials.{unknown, constant, negated, ◌⊕◌, ◌⊖◌, ◌⊗◌, ring, ring_from, given}
 use Rattle.mvt_plane.proofs.Order.{zs, le_or_lt, is_zero, sign_cases, mul_nonpos_nonneg, mul_nonneg_nonpos, mul_pos, mul_nonneg, mono_lt_right, factor_nonneg, factor_nonpos, cancel_eq}
+use Rattle.mvt_plane.proofs.Lines.{between_back}
 
 -- the point is the mean of the edge's ends with these weights
 pub record Weights (point : RationalPoint) (edge : Edge) : Type 0 where
@@ -32,7 +33,7 @@ flipped_point point = record { x = point.y; y = point.x; w = point.w }
 abbrev turned : Edge → Edge
 turned edge = record { a = edge.b; b = edge.a }
 
-flip_lies : (point : RationalPoint) (edge : Edge) → LiesOn point edge → LiesOn (flipped_point point) (flipped_edge edge)
+pub flip_lies : (point : RationalPoint) (edge : Edge) → LiesOn point edge → LiesOn (flipped_point point) (flipped_edge edge)
 flip_lies point edge lies = record { positive = lies.positive; on_line = sym lies.on_line; x_between = lies.y_between; y_between = lies.x_between }
 
 flip_weights : (point : RationalPoint) (edge : Edge) → Weights (flipped_point point) (flipped_edge edge) → Weights point edge
@@ -45,11 +46,6 @@ flip_weights point edge weights = record {
   x = weights.y;
   y = weights.x;
 }
-
--- between two numbers in either order
-swap_between : (from to z : ℤ) → IsBetween from to z → IsBetween to from z
-swap_between from to z (inl up) = inr up
-swap_between from to z (inr down) = inl down
 
 -- a line is the same from its other end
 turn_line : (ax ay bx by w x y : ℤ) → (bx -ℤ ax) *ℤ (y -ℤ ay *ℤ w) ≡ (by -ℤ ay) *ℤ (x -ℤ ax *ℤ w)
@@ -69,8 +65,8 @@ pub turn_lies : (point : RationalPoint) (edge : Edge) → LiesOn point edge → 
 turn_lies point edge lies = record {
   positive = lies.positive;
   on_line = turn_line edge.a.x edge.a.y edge.b.x edge.b.y point.w point.x point.y lies.on_line;
-  x_between = swap_between _ _ _ lies.x_between;
-  y_between = swap_between _ _ _ lies.y_between;
+  x_between = between_back _ _ _ lies.x_between;
+  y_between = between_back _ _ _ lies.y_between;
 }
 
 -- a sum of the weighted ends, from the other end

@@ -59,7 +59,7 @@ between-same A B low from (n ∷ numbers) to ordered there back stand =
     )
 
 -- one more varint behind a list
-list-push : (part : List ℕ) (from : ℕ) (numbers : List ℕ) (at next n : ℕ) → VarintList part from numbers at → SpellsVarint part at next n → VarintList part from (numbers ++ n ∷ []) next
+pub list-push : (part : List ℕ) (from : ℕ) (numbers : List ℕ) (at next n : ℕ) → VarintList part from numbers at → SpellsVarint part at next n → VarintList part from (numbers ++ n ∷ []) next
 list-push part from [] at next n list spelled = (next, subst (λ (place : ℕ). SpellsVarint part place next n) (sym list) spelled, refl)
 list-push part from (m ∷ numbers) at next n list spelled = (list.0, list.1, list-push part list.0 numbers at next n list.2 spelled)
 

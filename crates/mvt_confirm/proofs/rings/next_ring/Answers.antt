@@ -1,9 +1,7 @@
-use Rattle.std.proofs.Common.{◌≡◌, ◌∷◌, ◌-◌, ◌*◌, ◌^◌, ◌<◌, ◌==◌, ℤ, ◌+ℤ◌, to_z, Bool, List, subst, arith}
+use Rattle.std.proofs.Common.{◌≡◌, ◌∷◌, ℤ, ◌+ℤ◌, to_z, Bool, subst, arith}
 use Rattle.std.specs.Int.{w128}
 use Rattle.mvt_confirm.proofs.RingWalks.{IsAmidRing, amid_ring_goes_on, at_first_vertex, at_next_vertex, ring_told, some_left}
 use Rattle.mvt_plane.proofs.Bounds.{fitting}
-use Rattle.mvt_plane.specs.Bound.{IsWithin}
-use Rattle.mvt_plane.specs.Position.{Position}
 use Rattle.mvt_plane.specs.Ring.{edge_area}
 use Rattle.mvt_confirm.proofs.rings.next_ring.Goals as goal
 

@@ -1,8 +1,9 @@
 use Rattle.std.proofs.Common.{[], ◌∷◌, ◌++◌, take}
 use Rattle.std.proofs.lemmas.Result.{IfErr-at_err, IfOk-at_ok}
 use Rattle.mvt_wire.specs.Field.{entry_of}
-use Rattle.mvt_confirm.proofs.Walking.{IsWalking-more, IsWalking-its_defect, IsWalking-no_defect}
+use Rattle.mvt_confirm.proofs.Walking.{IsWalking-its_defect, IsWalking-no_defect}
 use Rattle.mvt_confirm.proofs.wire_fault.defect.has_defect.Goals as goal
+use Rattle.mvt_wire.proofs.Walking.{IsWalking-more}
 
 pub returns-in-Err : goal.returns-in-Err
 returns-in-Err c =
