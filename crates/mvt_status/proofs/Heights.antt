@@ -1,5 +1,5 @@
 -- How high a side of a node can be, for as many edges as it has.
-use Rattle.std.proofs.Common.{◌≡◌, ℕ, zero, suc, max, ◌+◌, ◌*◌, ◌^◌, ◌<◌, ◌≤◌, inl, inr, Box, Global, List, length, Option, None, refl, ap, subst, arith}
+use Rattle.std.proofs.Common.{◌≡◌, ℕ, zero, suc, max, ◌+◌, ◌*◌, ◌^◌, ◌<◌, ◌≤◌, inl, inr, Box, Global, List, length, length-append, ◌∷◌, ◌++◌, ◌∙◌, sym, Option, Some, None, IfSome, refl, ap, subst, arith}
 use Rattle.std.proofs.lemmas.Bool.{cases_lt}
 use Rattle.std.proofs.Math.Nat.{pow-suc}
 use Rattle.mvt_plane.specs.Counted.{Counted}
@@ -85,6 +85,19 @@ probes_by_digits height edges all before after same added filled =
       no_fewer_visits = added.no_fewer_visits;
       visits_added = omega (arith, added.visits_added, within);
     }
+
+-- a side of no level has no edge
+no_level : (side : Option (Box (List ℕ × ℕ) Global)) → IfSome side (λ _. 0 < height_of side) → height_of side ≡ 0 → length (edges_of side) ≡ 0
+no_level None some none = refl
+no_level (Some node) some none = absurd (omega (arith, some))
+
+-- a node of one level has one edge
+pub edge_alone : (left right : Option (Box (List ℕ × ℕ) Global)) (edge size height : ℕ) (edges : List ℕ) → edges_of left ++ edge ∷ edges_of right ≡ edges → IsNode left right size height
+    → height ≡ 1 → IfSome left (λ _. 0 < height_of left) → IfSome right (λ _. 0 < height_of right) → length edges ≡ 1
+edge_alone left right edge size height edges same node low left_some right_some =
+    let left_none = no_level left left_some (omega (arith, node.measured)) in
+    let right_none = no_level right right_some (omega (arith, node.measured)) in
+    sym (ap length same) ∙ omega (arith, length-append (edges_of left) (edge ∷ edges_of right), left_none, right_none)
 
 -- a node with nothing on either side
 pub node_alone : (left right : Option (Box (List ℕ × ℕ) Global)) → left ≡ None → right ≡ None → IsNode left right 1 1

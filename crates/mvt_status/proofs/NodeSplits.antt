@@ -1,9 +1,11 @@
 -- The split of a node's edges, from the answer of the test on its own edge and the split of one side.
-use Rattle.std.proofs.Common.{◌≡◌, ℕ, suc, ◌+◌, ◌-◌, ◌<◌, ◌≤◌, Bool, true, false, true≢false, All, inl, inr, List, ◌∷◌, ◌++◌, length, length-append, slice_index, ap, sym, subst, ◌∙◌, arith}
+use Rattle.std.proofs.Common.{◌≡◌, ℕ, zero, suc, Option, Some, get_or, slice_get, unwrap_or, refl, ◌+◌, ◌-◌, ◌<◌, ◌≤◌, Bool, true, false, true≢false, All, inl, inr, List, [], ◌∷◌, ◌++◌, length, length-append, slice_index, ap, sym, subst, ◌∙◌, arith}
 use Rattle.std.proofs.lemmas.Bool.{cases_lt}
+use Rattle.std.proofs.lemmas.Option.{slice_get-get_or, unwrap_or-slice_get}
 use Rattle.std.proofs.lemmas.List.{get_or_append_left, get_or-append-add}
 use Rattle.std.proofs.Math.Seq.{get_or-append_seam}
-use Rattle.mvt_status.specs.Split.{IsSplit}
+use Rattle.mvt_status.specs.Split.{AreBeside, IsSplit, before}
+use Rattle.mvt_status.specs.declared.status.Split.{Split}
 
 -- what is true of all edges of a node is true of its own
 pub of_middle : (P : ℕ → Type 0) (left right edges : List ℕ) (edge : ℕ) → left ++ edge ∷ right ≡ edges → All P edges → P edge
@@ -111,3 +113,57 @@ from_the_left answers left right edges edge point answer same answered is (other
         | inr later ↦ split.rest i (omega arith) below answer there
       ];
     }
+
+-- edges of a list behind another, and of one in front of another
+past : (left rest : List ℕ) (i : ℕ) → slice_get (left ++ rest) (length left + i) ≡ slice_get rest i
+past [] rest i = ap (slice_get rest) (omega arith)
+past (edge ∷ left) rest i =
+    let at : length (edge ∷ left) + i ≡ suc (length left + i) = omega arith in
+    ap (slice_get (edge ∷ left ++ rest)) at ∙ past left rest i
+
+in_front : (left rest : List ℕ) (i : ℕ) → i < length left → slice_get (left ++ rest) i ≡ slice_get left i
+in_front [] rest i within = absurd (omega arith)
+in_front (edge ∷ left) rest zero within = refl
+in_front (edge ∷ left) rest (suc i) within = in_front left rest i (omega arith)
+
+-- the edge in front of a split on the right side, or that of the node
+front_on_the_right : (left right edges : List ℕ) (edge many point : ℕ) → left ++ edge ∷ right ≡ edges → many ≡ length left → point ≤ length right
+    → Some (unwrap_or (before right point) edge) ≡ before edges (many + 1 + point)
+front_on_the_right left right edges edge many zero same counted within =
+    let at : many + 1 + 0 ≡ suc (length left + 0) = omega arith in
+    sym (past left (edge ∷ right) 0) ∙ ap (λ (all : List ℕ). slice_get all (length left + 0)) same ∙ sym (ap (before edges) at)
+front_on_the_right left right edges edge many (suc point) same counted within =
+    let at : many + 1 + suc point ≡ suc (length left + suc point) = omega arith in
+    let some : slice_get right point ≡ Some (get_or right point edge) = slice_get-get_or right point edge (omega arith) in
+    ap Some (unwrap_or-slice_get right point edge) ∙ sym some
+    ∙ sym (past left (edge ∷ right) (suc point)) ∙ ap (λ (all : List ℕ). slice_get all (length left + suc point)) same ∙ sym (ap (before edges) at)
+
+-- the edges beside a split on the right side of a node
+pub beside_on_the_right : (left right edges : List ℕ) (edge many own : ℕ) (split : Split) → left ++ edge ∷ right ≡ edges → many ≡ length left → split.point ≤ length right
+    → AreBeside right split → own ≡ unwrap_or split.front edge → AreBeside edges (record { point = many + 1 + split.point; front = Some own; behind = split.behind })
+beside_on_the_right left right edges edge many own split same counted within beside is = record {
+  front = ap Some (is ∙ ap (λ (front : Option ℕ). unwrap_or front edge) beside.front) ∙ front_on_the_right left right edges edge many split.point same counted within;
+  behind = beside.behind ∙ sym (past left (edge ∷ right) (suc split.point)) ∙ ap (λ (all : List ℕ). slice_get all (length left + suc split.point)) same
+      ∙ ap (slice_get edges) (omega arith);
+}
+
+-- the edge in front of a split on the left side
+front_on_the_left : (left rest edges : List ℕ) (point : ℕ) → left ++ rest ≡ edges → point ≤ length left → before left point ≡ before edges point
+front_on_the_left left rest edges zero same within = refl
+front_on_the_left left rest edges (suc point) same within = sym (in_front left rest point (omega arith)) ∙ ap (λ (all : List ℕ). slice_get all point) same
+
+-- the edge behind it, or that of the node
+behind_on_the_left : (left right : List ℕ) (edge point : ℕ) → point ≤ length left → Some (unwrap_or (slice_get left point) edge) ≡ slice_get (left ++ edge ∷ right) point
+behind_on_the_left [] right edge zero within = refl
+behind_on_the_left [] right edge (suc point) within = absurd (omega arith)
+behind_on_the_left (first ∷ left) right edge zero within = refl
+behind_on_the_left (first ∷ left) right edge (suc point) within = behind_on_the_left left right edge point (omega arith)
+
+-- the edges beside a split on the left side of a node
+pub beside_on_the_left : (left right edges : List ℕ) (edge own : ℕ) (split : Split) → left ++ edge ∷ right ≡ edges → split.point ≤ length left
+    → AreBeside left split → own ≡ unwrap_or split.behind edge → AreBeside edges (record { point = split.point; front = split.front; behind = Some own })
+beside_on_the_left left right edges edge own split same within beside is = record {
+  front = beside.front ∙ front_on_the_left left (edge ∷ right) edges split.point same within;
+  behind = ap Some (is ∙ ap (λ (behind : Option ℕ). unwrap_or behind edge) beside.behind) ∙ behind_on_the_left left right edge split.point within
+      ∙ ap (λ (all : List ℕ). slice_get all split.point) same;
+}

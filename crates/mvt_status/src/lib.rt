@@ -10,6 +10,6 @@ mod tests;
 mod tree_status;
 mod vec_status;
 
-pub use status::Status;
+pub use status::{Split, Status};
 pub use tree_status::TreeStatus;
 pub use vec_status::VecStatus;

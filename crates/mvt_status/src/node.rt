@@ -1,11 +1,13 @@
 //! Nodes of a tree: each holds an edge between those of its two sides, and no side is more than one level higher
 //! than the other.
-ghost use Rattle.std.specs.Prelude.{◌≡◌, ℕ, ◌+◌, ◌^◌, ◌<◌, ◌≤◌, suc, max, All, IfOk, IfSome, Some, ◌∷◌, [], ◌++◌, drop, insert, length, remove, slice_index, take};
+ghost use Rattle.std.specs.Prelude.{◌≡◌, ℕ, ◌+◌, ◌^◌, ◌<◌, ◌≤◌, suc, max, IfOk, IfSome, Some, ◌∷◌, [], ◌++◌, drop, insert, length, remove, slice_index, take};
 ghost use Rattle.mvt_plane.specs.Counted.{ticked};
 ghost use Rattle.mvt_status.specs.Counts.{AddsAtMost};
-ghost use Rattle.mvt_status.specs.Split.{IsSplit};
 ghost use Rattle.mvt_status.specs.Tree.{DifferByAtMost, IsHeightOfBoth, edges_of, fewest, height_of};
 
+mod lookup;
+
+pub(crate) use lookup::{edge_at, split_of};
 use mvt_plane::Count;
 use std::alloc::{AllocError, Global};
 use std::marker::Model;
@@ -56,6 +58,7 @@ pub(crate) fn size(side: &Side) -> usize
 pub(crate) fn height(side: &Side) -> u8
     ensures value { result ≡ height_of side.now }
     ensures filled { fewest (height_of side.now) ≤ suc (length (edges_of side.now)) }
+    ensures some { IfSome side.now (λ _. 0 < height_of side.now) }
 {
     match side {
         None => 0,
@@ -198,7 +201,8 @@ fn lean_left(left: Side, middle: Box<Node>, right: Side) -> Box<Node>
 /// Nothing to run: each side has enough edges for its levels.
 #[inline(always)]
 fn is_filled(side: &Side)
-    ensures { fewest (height_of side.now) ≤ suc (length (edges_of side.now)) }
+    ensures filled { fewest (height_of side.now) ≤ suc (length (edges_of side.now)) }
+    ensures some { IfSome side.now (λ _. 0 < height_of side.now) }
 {
     height(side);
 }
@@ -303,6 +307,87 @@ pub(crate) fn insert_into(side: &mut Side, at: usize, new: Box<Node>, count: &mu
     join_over(left, side, right);
 }
 
+/// A node of one edge, with two others below it where they are put in front of the edge at a place.
+fn three_of(node: Box<Node>, at: usize, lower: Box<Node>, upper: Box<Node>) -> Box<Node>
+    requires within { at ≤ 1 }
+    requires one { length node.value.0 ≡ 1 }
+    requires low { node.value.1 ≡ 1 }
+    requires lower_one { length lower.value.0 ≡ 1 }
+    requires lower_low { lower.value.1 ≡ 1 }
+    requires upper_one { length upper.value.0 ≡ 1 }
+    requires upper_low { upper.value.1 ≡ 1 }
+    ensures edges { result.value.0 ≡ take at node.value.0 ++ ((lower.value.0 ++ upper.value.0) ++ drop at node.value.0) }
+    ensures height { result.value.1 ≡ 2 }
+{
+    if at == 0 {
+        close(Some(lower), upper, Some(node))
+    } else {
+        close(Some(node), lower, Some(upper))
+    }
+}
+
+/// Puts two nodes of one edge in front of the edge at a place, and ticks a visit for each node on the way there.
+pub(crate) fn insert_two_into(
+    side: &mut Side,
+    at: usize,
+    lower: Box<Node>,
+    upper: Box<Node>,
+    count: &mut Count,
+)
+    requires within { at ≤ length (edges_of side.old) }
+    requires lower_one { length lower.value.0 ≡ 1 }
+    requires lower_low { lower.value.1 ≡ 1 }
+    requires upper_one { length upper.value.0 ≡ 1 }
+    requires upper_low { upper.value.1 ≡ 1 }
+    requires room { length (edges_of side.old) + 2 < 2 ^ 64 }
+    ensures edges { edges_of side.new ≡ take at (edges_of side.old) ++ ((lower.value.0 ++ upper.value.0) ++ drop at (edges_of side.old)) }
+    ensures not_lower { height_of side.old ≤ height_of side.new }
+    ensures at_most_one_higher { height_of side.new ≤ max (height_of side.old + 1) 2 }
+    ensures counted { AddsAtMost 0 (height_of side.old) count.old count.new }
+    ensures visited { IfSome side.old (λ _. ticked count.old.visits ≤ count.new.visits) }
+    ensures filled { fewest (height_of side.old) ≤ suc (length (edges_of side.old)) }
+{
+    let Some(node) = side else {
+        *side = Some(close(None, lower, Some(upper)));
+        return;
+    };
+    visit(count);
+    let top: &mut Node = node;
+    if top.height == 1 {
+        is_filled(&top.left);
+        is_filled(&top.right);
+        let Some(node) = side.take() else {
+            unreachable!()
+        };
+        *side = Some(three_of(node, at, lower, upper));
+        return;
+    }
+    let before = size(&top.left);
+    if at <= before {
+        let level = height(&top.left);
+        insert_two_into(&mut top.left, at, lower, upper, count);
+        top.size += 2;
+        if height(&top.left) == level {
+            return;
+        }
+    } else {
+        let level = height(&top.right);
+        insert_two_into(&mut top.right, at - before - 1, lower, upper, count);
+        top.size += 2;
+        if height(&top.right) == level {
+            return;
+        }
+    }
+    if let Some(level) = level_over(&top.left, &top.right) {
+        top.height = level;
+        return;
+    }
+    let (left, right) = (top.left.take(), top.right.take());
+    top.size = 1;
+    top.height = 1;
+    join_over(left, side, right);
+}
+
 /// Takes the edge at a place out, and answers it in a node by itself. Ticks a visit for each node on the way to the
 /// place and to the edge that takes it.
 pub(crate) fn remove_from(side: &mut Side, at: usize, count: &mut Count) -> Box<Node>
@@ -380,51 +465,6 @@ pub(crate) fn replace_in(side: &mut Side, at: usize, edge: usize, count: &mut Co
         top.edge = edge;
     } else {
         replace_in(&mut top.right, at - before - 1, edge, count);
-    }
-}
-
-/// The edge at a place. Ticks a visit for each node on the way there.
-pub(crate) fn edge_at(side: &Side, at: usize, count: &mut Count) -> usize
-    requires { at < length (edges_of side.now) }
-    ensures value { result ≡ slice_index (edges_of side.now) at }
-    ensures counted { AddsAtMost 0 (height_of side.now) count.old count.new }
-    ensures visited { ticked count.old.visits ≤ count.new.visits }
-    ensures filled { fewest (height_of side.now) ≤ suc (length (edges_of side.now)) }
-{
-    let Some(node) = side else { unreachable!() };
-    let node: &Node = node;
-    visit(count);
-    let before = size(&node.left);
-    if at < before {
-        edge_at(&node.left, at, count)
-    } else if at == before {
-        node.edge
-    } else {
-        edge_at(&node.right, at - before - 1, count)
-    }
-}
-
-/// How many edges of which `below` is true stand at the front. Ticks a visit and a probe for each node on the way
-/// there.
-pub(crate) fn split_of<F: Fn(usize) -> bool>(side: &Side, below: &F, count: &mut Count) -> usize
-    requires callable { All (F.pre below.now) (edges_of side.now) }
-    requires splits { (point : ℕ) × IsSplit (F.post below.now) (edges_of side.now) point }
-    ensures split { IsSplit (F.post below.now) (edges_of side.now) result }
-    ensures counted { AddsAtMost (height_of side.now) (height_of side.now) count.old count.new }
-    ensures visited { IfSome side.now (λ _. ticked count.old.visits ≤ count.new.visits) }
-    ensures probed { IfSome side.now (λ _. ticked count.old.probes ≤ count.new.probes) }
-    ensures filled { fewest (height_of side.now) ≤ suc (length (edges_of side.now)) }
-{
-    let Some(node) = side else { return 0 };
-    let node: &Node = node;
-    visit(count);
-    probe(count);
-    if below(node.edge) {
-        // (the sum is no more than the node's own size)
-        prove!(node.size <= usize::MAX);
-        size(&node.left) + 1 + split_of(&node.right, below, count)
-    } else {
-        split_of(&node.left, below, count)
     }
 }
 

@@ -1,14 +1,26 @@
-ghost use Rattle.std.specs.Prelude.{◌≡◌, ℕ, ◌*◌, ◌<◌, ◌≤◌, List, All, OnOk, if◌then◌else◌, insert, is_ok, length, remove, slice_index};
+ghost use Rattle.std.specs.Prelude.{◌≡◌, ℕ, suc, ◌*◌, ◌<◌, ◌≤◌, List, All, if◌then◌else◌, insert, is_ok, length, remove, slice_index};
 ghost use Rattle.mvt_status.specs.Counts.{AddsAtMost, bits};
-ghost use Rattle.mvt_status.specs.Split.{IsSplit};
+ghost use Rattle.mvt_status.specs.Split.{AreBeside, IsSplit};
 
 use mvt_plane::Count;
 use std::alloc::AllocError;
 
+/// Where a status splits.
+#[derive(Clone, Copy, Debug, PartialEq, Eq)]
+pub struct Split {
+    /// How many edges stand in front.
+    pub point: usize,
+    /// The edge in front of the split, if there is one.
+    pub front: Option<usize>,
+    /// The edge behind it, if there is one.
+    pub behind: Option<usize>,
+}
+
 /// A list of numbers of edges, which a sweep keeps in their order along its line. `count` counts the work of each
-/// call. No call tests two edges for a common point, and only `split_point` compares edges with a position. A call
-/// visits at most twice as many nodes, and makes at most twice as many comparisons, as the length of the list at the
-/// call has binary digits (`bits`); `replace` may visit twice as many as the others.
+/// call. No call tests two edges for a common point, and only `split_point` and `split_around` compare edges with a
+/// position. A call visits at most twice as many nodes, and makes at most twice as many comparisons, as the length of
+/// the list at the call has binary digits (`bits`); `replace` may visit twice as many as the others, `split_around` and
+/// `insert_two` three times as many.
 pub trait Status {
     ghost edges: { Self → List ℕ };
 
@@ -29,6 +41,27 @@ pub trait Status {
         ensures list { edges self.new ≡ (if is_ok result then insert (edges self.old) at edge else edges self.old) }
         ensures counted { AddsAtMost 0 (2 * bits (length (edges self.old))) count.old count.new };
 
+    /// Puts two edges at a place, the lower one first, in front of the one that was there. The only error is that memory
+    /// was refused. The list is then as it was.
+    fn insert_two(
+        &mut self,
+        at: usize,
+        lower: usize,
+        upper: usize,
+        count: &mut Count,
+    ) -> Result<(), AllocError>
+        requires { at ≤ length (edges self.old) }
+        ensures list { edges self.new ≡ (if is_ok result then insert (insert (edges self.old) at upper) at lower else edges self.old) }
+        ensures counted { AddsAtMost 0 (6 * bits (suc (length (edges self.old)))) count.old count.new }
+    {
+        self.insert(at, upper, count)?;
+        let placed = self.insert(at, lower, count);
+        if placed.is_err() {
+            self.remove(at, count);
+        }
+        placed
+    }
+
     /// Takes the edge at a place out of the list.
     fn remove(&mut self, at: usize, count: &mut Count) -> usize
         requires { at < length (edges self.old) }
@@ -36,10 +69,11 @@ pub trait Status {
         ensures list { edges self.new ≡ remove (edges self.old) at }
         ensures counted { AddsAtMost 0 (2 * bits (length (edges self.old))) count.old count.new };
 
-    /// Puts an edge in the place of the one that is there. The only error is that memory was refused.
+    /// Puts an edge in the place of the one that is there. The only error is that memory was refused. The list
+    /// is then without the edge that was there.
     fn replace(&mut self, at: usize, edge: usize, count: &mut Count) -> Result<(), AllocError>
         requires { at < length (edges self.old) }
-        ensures list { OnOk result (edges self.new ≡ insert (remove (edges self.old) at) at edge) }
+        ensures list { edges self.new ≡ (if is_ok result then insert (remove (edges self.old) at) at edge else remove (edges self.old) at) }
         ensures counted { AddsAtMost 0 (4 * bits (length (edges self.old))) count.old count.new }
     {
         self.remove(at, count);
@@ -53,4 +87,30 @@ pub trait Status {
         requires splits { (point : ℕ) × IsSplit (F.post below.now) (edges self.now) point }
         ensures split { IsSplit (F.post below.now) (edges self.now) result }
         ensures counted { AddsAtMost (2 * bits (length (edges self.now))) (2 * bits (length (edges self.now))) count.old count.new };
+
+    /// The split point, as `split_point` answers it, with the edges in front of it and behind it.
+    fn split_around<F: Fn(usize) -> bool>(&self, below: &F, count: &mut Count) -> Split
+        requires callable { All (F.pre below.now) (edges self.now) }
+        requires splits { (point : ℕ) × IsSplit (F.post below.now) (edges self.now) point }
+        ensures split { IsSplit (F.post below.now) (edges self.now) result.point }
+        ensures beside { AreBeside (edges self.now) result }
+        ensures counted { AddsAtMost (2 * bits (length (edges self.now))) (6 * bits (length (edges self.now))) count.old count.new }
+    {
+        let point = self.split_point(below, count);
+        let front = if 0 < point {
+            Some(self.get(point - 1, count))
+        } else {
+            None
+        };
+        let behind = if point < self.len() {
+            Some(self.get(point, count))
+        } else {
+            None
+        };
+        Split {
+            point,
+            front,
+            behind,
+        }
+    }
 }

@@ -1,11 +1,12 @@
-ghost use Rattle.std.specs.Prelude.{◌≡◌, ℕ, ◌*◌, ◌<◌, ◌≤◌, All, [], IsOk, if◌then◌else◌, insert, is_ok, length, remove, slice_index};
+ghost use Rattle.std.specs.Prelude.{◌≡◌, ℕ, suc, ◌*◌, ◌<◌, ◌≤◌, All, [], IsOk, if◌then◌else◌, insert, is_ok, length, remove, slice_index};
 ghost use Rattle.mvt_status.specs.Counts.{AddsAtMost, bits};
-ghost use Rattle.mvt_status.specs.Split.{IsSplit};
+ghost use Rattle.mvt_status.specs.Split.{AreBeside, IsSplit};
 
-use crate::Status;
 use crate::node::{
-    Side, alone, edge_at, edge_of, insert_into, remove_from, renamed, replace_in, size, split_of,
+    Side, alone, edge_at, edge_of, insert_into, insert_two_into, remove_from, renamed, replace_in,
+    size, split_of,
 };
+use crate::{Split, Status};
 use mvt_plane::Count;
 use std::alloc::{AllocError, Global};
 use std::marker::Model;
@@ -78,6 +79,29 @@ impl Status for TreeStatus {
         Ok(())
     }
 
+    fn insert_two(
+        &mut self,
+        at: usize,
+        lower: usize,
+        upper: usize,
+        count: &mut Count,
+    ) -> Result<(), AllocError>
+        requires { at ≤ length self.old }
+        ensures list { self.new ≡ (if is_ok result then insert (insert self.old at upper) at lower else self.old) }
+        ensures counted { AddsAtMost 0 (2 * bits (suc (length self.old))) count.old count.new }
+    {
+        if self.len() >= usize::MAX - 1 {
+            return Err(AllocError);
+        }
+        let upper = alone(self.alloc, upper)?;
+        let lower = match self.spare.take() {
+            Some(node) => renamed(node, lower),
+            None => alone(self.alloc, lower)?,
+        };
+        insert_two_into(&mut self.root, at, lower, upper, count);
+        Ok(())
+    }
+
     fn remove(&mut self, at: usize, count: &mut Count) -> usize
         requires { at < length self.old }
         ensures value { result ≡ slice_index self.old at }
@@ -104,6 +128,16 @@ impl Status for TreeStatus {
         requires callable { All (F.pre below.now) self.now }
         requires splits { (point : ℕ) × IsSplit (F.post below.now) self.now point }
         ensures split { IsSplit (F.post below.now) self.now result }
+        ensures counted { AddsAtMost (2 * bits (length self.now)) (2 * bits (length self.now)) count.old count.new }
+    {
+        split_of(&self.root, below, count).point
+    }
+
+    fn split_around<F: Fn(usize) -> bool>(&self, below: &F, count: &mut Count) -> Split
+        requires callable { All (F.pre below.now) self.now }
+        requires splits { (point : ℕ) × IsSplit (F.post below.now) self.now point }
+        ensures split { IsSplit (F.post below.now) self.now result.point }
+        ensures beside { AreBeside self.now result }
         ensures counted { AddsAtMost (2 * bits (length self.now)) (2 * bits (length self.now)) count.old count.new }
     {
         split_of(&self.root, below, count)

@@ -9,7 +9,7 @@ use Rattle.mvt_status.proofs.node.+remove_from.Goals.{then-at-before+else-height
 pub invariant_of-top : goal.invariant_of-top
 invariant_of-top t c =
     with_one_less _ _ _ _ _ _ _ _ c.top.invariant (omega (arith, c.top.invariant.counted, ap length c.remove_from-out.ensures.edges, length-remove (edges_of c.top.inside.left) c.args.at (omega (arith, c.size-before.ensures, c.if-at-before.true))))
-    refl (omega (arith, c.height.ensures.value, c.height-level.ensures.value, c.if-height-level.true)) refl c.height.ensures.filled c.is_filled.ensures
+    refl (omega (arith, c.height.ensures.value, c.height-level.ensures.value, c.if-height-level.true)) refl c.height.ensures.filled c.is_filled.ensures.filled
 
 pub invariant_of-top-in_default-right : goal.invariant_of-top-in_default-right
 invariant_of-top-in_default-right t c = node_alone _ _ c.take-left.ensures.after c.in_default-right.is
@@ -45,7 +45,7 @@ invariant_of-top-then-height-level-2 t c =
       | else-at-before-2 further ↦ rw further.top-inside-is refl
     ] in
     with_one_less _ _ _ _ _ _ _ _ c.top.invariant counted as_high left_level
-    (omega (arith, c.height-else-at-before.ensures.value, c.height-level-else-at-before.ensures.value, c.if-height-level-2.true)) c.is_filled-else-at-before.ensures c.height-else-at-before.ensures.filled
+    (omega (arith, c.height-else-at-before.ensures.value, c.height-level-else-at-before.ensures.value, c.if-height-level-2.true)) c.is_filled-else-at-before.ensures.filled c.height-else-at-before.ensures.filled
 
 pub returns-then-height-level-2-clause-edges : goal.returns-then-height-level-2-clause-edges
 returns-then-height-level-2-clause-edges t c =

@@ -1,5 +1,5 @@
 use Rattle.mvt_status.specs.Tree.{height_of}
-use Rattle.mvt_status.proofs.node.+edge_at.Given as goal
+use Rattle.mvt_status.proofs.node.lookup.+edge_at.Given as goal
 
 -- levels that are left
 abbrev pub decreases-edge_at : goal.decreases-edge_at

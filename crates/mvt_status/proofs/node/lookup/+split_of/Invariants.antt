@@ -1,5 +1,5 @@
 use Rattle.mvt_status.specs.Tree.{height_of}
-use Rattle.mvt_status.proofs.node.+split_of.Given as goal
+use Rattle.mvt_status.proofs.node.lookup.+split_of.Given as goal
 
 -- levels that are left
 abbrev pub decreases-split_of : goal.decreases-split_of

@@ -1,0 +1,16 @@
+-- An element put into a list and taken out again.
+use Rattle.std.proofs.Common.{◌≡◌, ℕ, zero, suc, ◌≤◌, List, [], ◌∷◌, ◌++◌, drop, take, insert, length, remove, refl, ap, arith}
+
+-- the list is then as it was
+pub remove_inserted : (list : List ℕ) (at it : ℕ) → at ≤ length list → remove (insert list at it) at ≡ list
+remove_inserted [] zero it within = refl
+remove_inserted [] (suc at) it within = absurd (omega arith)
+remove_inserted (first ∷ rest) zero it within = refl
+remove_inserted (first ∷ rest) (suc at) it within = ap (λ (back : List ℕ). first ∷ back) (remove_inserted rest at it (omega arith))
+
+-- two elements put in one after the other, the second in front of the first
+pub insert_both : (list : List ℕ) (at first second : ℕ) → at ≤ length list → take at list ++ (((first ∷ []) ++ (second ∷ [])) ++ drop at list) ≡ insert (insert list at second) at first
+insert_both [] zero first second within = refl
+insert_both [] (suc at) first second within = absurd (omega arith)
+insert_both (own ∷ rest) zero first second within = refl
+insert_both (own ∷ rest) (suc at) first second within = ap (λ (back : List ℕ). own ∷ back) (insert_both rest at first second (omega arith))

@@ -1,0 +1,15 @@
+use Rattle.std.proofs.Common.{suc, length, arith}
+use Rattle.mvt_status.proofs.BinaryDigits.{no_more_digits}
+use Rattle.mvt_status.proofs.Heights.{visits_by_digits}
+use Rattle.mvt_status.proofs.tree_status.TreeStatusStatus.insert_two.Goals as goal
+
+pub returns-clause-counted : goal.returns-clause-counted
+returns-clause-counted c =
+    let added = visits_by_digits _ _ _ _ _ c.self.view_is c.insert_two_into.ensures.counted c.insert_two_into.ensures.filled in
+    record {
+      tests = added.tests;
+      no_fewer_probes = added.no_fewer_probes;
+      probes_added = added.probes_added;
+      no_fewer_visits = added.no_fewer_visits;
+      visits_added = omega (arith, added.visits_added, no_more_digits (length c.args.self.now) (suc (length c.args.self.now)) (omega arith));
+    }
