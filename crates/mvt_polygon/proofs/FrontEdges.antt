@@ -6,6 +6,7 @@ use Rattle.mvt_plane.specs.Inside.{Differ}
 use Rattle.mvt_plane.specs.Measure.{key_of, orientation}
 use Rattle.mvt_plane.specs.Position.{Position}
 use Rattle.mvt_plane.proofs.Order.{zs, le_or_lt}
+use Rattle.mvt_plane.proofs.EdgesBelow.{below_back}
 use Rattle.mvt_polygon.specs.Chain.{Has, Ordered}
 use Rattle.mvt_polygon.specs.CornerOrder.{IsNextCorner}
 use Rattle.mvt_polygon.specs.Corners.{AreLinked, AreInRange, edge_at, next_at, plan_of, position_at, previous_at}
@@ -47,25 +48,13 @@ passing_by_below vertex one other order below = by_parts below.parted below.abov
       under = its.above;
     }
 
--- the edge that goes back passes below the same positions
-turned_below : (vertex one other : Position) → PassesBelow vertex (record { a = one; b = other }) → PassesBelow vertex (record { a = other; b = one })
-turned_below vertex one other below = record { parted = other_part below.parted; above = other_way below.above }
-  where
-    other_part : Differ (key_of one <ℤ key_of vertex) (key_of other <ℤ key_of vertex) → Differ (key_of other <ℤ key_of vertex) (key_of one <ℤ key_of vertex)
-    other_part (inl (begun, none)) = inr (none, begun)
-    other_part (inr (none, begun)) = inl (begun, none)
-
-    other_way : IsAboveRising vertex one other ⊎ IsAboveRising vertex other one → IsAboveRising vertex other one ⊎ IsAboveRising vertex one other
-    other_way (inl it) = inr it
-    other_way (inr it) = inl it
-
 -- so it is with an edge whose ends are told in either order
 below_between : (vertex one other : Position) → IsPassing vertex (segment_between one other) → PassesBelow vertex (record { a = one; b = other })
 below_between vertex one other it = either (between_them one other)
   where
     either : IsBetweenThem one other → PassesBelow vertex (record { a = one; b = other })
     either (up rises is) = below_by_passing vertex one other (subst (IsPassing vertex) is it)
-    either (down falls is) = turned_below vertex other one (below_by_passing vertex other one (subst (IsPassing vertex) is it))
+    either (down falls is) = below_back vertex other one (below_by_passing vertex other one (subst (IsPassing vertex) is it))
 
 -- and back
 passing_between : (vertex one other : Position) → PassesBelow vertex (record { a = one; b = other }) → IsPassing vertex (segment_between one other)
@@ -73,7 +62,7 @@ passing_between vertex one other below = either (between_them one other)
   where
     either : IsBetweenThem one other → IsPassing vertex (segment_between one other)
     either (up rises is) = subst (IsPassing vertex) (sym is) (passing_by_below vertex one other (omega (arith, zs)) below)
-    either (down falls is) = subst (IsPassing vertex) (sym is) (passing_by_below vertex other one falls (turned_below vertex one other below))
+    either (down falls is) = subst (IsPassing vertex) (sym is) (passing_by_below vertex other one falls (below_back vertex one other below))
 
 -- an edge that goes on up to the next vertex, and is below it, goes past it
 passing_active : (plan : Plan) (key : ℤ) (vertex : Position) (first second edge : ℕ) → IsEvent plan key vertex first second → IsActive plan key edge → IsUnder plan vertex edge

@@ -22,7 +22,6 @@ pub mod PolygonList
 pub mod RingFaults
 pub mod RingNotings
 pub mod RingParities
-pub mod RingStarts
 pub mod RingsAround
 pub mod RingsNoted
 pub mod RingsSwept

@@ -1,54 +1,33 @@
 -- Holes by what is noted of them: one around whose first vertex, by key, the exterior is alone has no fault, and any other has
 -- one of its first vertex, by number.
-use Rattle.std.proofs.Common.{◌≡◌, ◌≢◌, ◌↔◌, inl, inr, ℕ, suc, ◌<◌, List, [], ◌∷◌, length, get_or, slice_get, Option, Some, None, IfSome, IfNone, ◌≤ℤ◌, ◌<ℤ◌, refl, sym, ◌∙◌, ap, subst, arith}
+use Rattle.std.proofs.Common.{◌≡◌, ◌≢◌, ◌+◌, ◌-◌, ◌↔◌, inl, inr, ℕ, suc, ◌<◌, List, [], length, get_or, take, slice_get, Option, Some, None, IfSome, IfNone, refl, sym, ◌∙◌, ap, subst, arith}
 use Rattle.std.proofs.lemmas.Bool.{cases_order}
 use Rattle.std.proofs.lemmas.Option.{same_Some, slice_get_within, slice_get-get_or}
 use Rattle.mvt_plane.specs.Apart.{HaveNothingInCommon}
-use Rattle.mvt_plane.specs.Below.{PassesBelow, HasOddBelow}
-use Rattle.mvt_plane.specs.Inside.{Differ, HoldsOfOdd, IsInside}
-use Rattle.mvt_plane.specs.Measure.{key_of}
+use Rattle.mvt_plane.specs.Below.{HasOddBelow}
+use Rattle.mvt_plane.specs.Inside.{IsInside}
 use Rattle.mvt_plane.specs.Position.{Position}
 use Rattle.mvt_plane.specs.RationalPoint.{LiesOn, whole}
 use Rattle.mvt_plane.specs.Ring.{edges}
 use Rattle.mvt_plane.specs.declared.edge.Edge.{Edge}
 use Rattle.mvt_plane.proofs.EdgesBelow.{inside_by_edges_below}
 use Rattle.mvt_plane.proofs.OneVertex.{one_vertex_decides}
-use Rattle.mvt_plane.proofs.Order.{zs}
 use Rattle.mvt_plane.proofs.RationalPoints.{begin_lies_on}
 use Rattle.mvt_plane.proofs.RingEdges.{count_of_edges, ends_of_edge}
+use Rattle.mvt_polygon.specs.Corners.{IsNumbered, vertex_count}
 use Rattle.mvt_polygon.specs.Meeting.{NoMeeting}
 use Rattle.mvt_polygon.specs.Nesting.{IsNestFault, outside, in_hole, IsFirstNestFault, IsOfHole, IsOfVertex, IsFirstOf}
 use Rattle.mvt_polygon.specs.RingNotes.{AreAllNoted, IsRingAround, IsExteriorAround, AreAround, AreAroundRing}
-use Rattle.mvt_polygon.specs.RingsBelow.{AreRingsInRange, IsFirstVertex}
+use Rattle.mvt_polygon.specs.Rings.{AreProperRings}
+use Rattle.mvt_polygon.specs.RingsBelow.{AreRingsInRange, IsLeastVertex}
 use Rattle.mvt_polygon.specs.declared.nesting.NestFault.{NestFault}
 use Rattle.mvt_polygon.specs.declared.nesting.NestFault.TheVariants.{Outside, InHole}
 use Rattle.mvt_polygon.specs.declared.nesting.around.Around.{Around}
 use Rattle.mvt_polygon.specs.declared.nesting.around.Around.TheVariants.{Nothing, Exterior, Others}
+use Rattle.mvt_polygon.proofs.CornerNumbers.{count_step, count_within}
 use Rattle.mvt_polygon.proofs.NestFaults.{first_hole}
+use Rattle.mvt_polygon.proofs.RingsAround.{no_odd_of_ring}
 use Rattle.mvt_polygon.proofs.NestOnce.{nothing_in_common, first_of_first_vertex}
-
--- Below a ring's first vertex
-
--- what holds of no edge doesn't hold of an odd number of them
-none_odd : (Holds : Edge → Type 0) (all : List Edge) → ((number : ℕ) (edge : Edge) → slice_get all number ≡ Some edge → ¬ Holds edge) → ¬ HoldsOfOdd Holds all
-none_odd Holds [] none holds = holds
-none_odd Holds (edge ∷ rest) none (inl one) = none 0 edge refl one.0
-none_odd Holds (edge ∷ rest) none (inr other) = none_odd Holds rest (λ number another there. none (suc number) another there) other.1
-
--- an edge neither end of which comes before a position doesn't pass below it
-not_below : (position : Position) (edge : Edge) → key_of position ≤ℤ key_of edge.a → key_of position ≤ℤ key_of edge.b → ¬ PassesBelow position edge
-not_below position edge after behind below = refuse below.parted
-  where
-    refuse : Differ (key_of edge.a <ℤ key_of position) (key_of edge.b <ℤ key_of position) → ⊥
-    refuse (inl (one, none)) = omega (arith, zs)
-    refuse (inr (none, other)) = omega (arith, zs)
-
--- no edge of a ring passes below the first vertex of it
-none_below_first : (ring : List Position) (position : Position)
-    → ((another : ℕ) (other : Position) → slice_get ring another ≡ Some other → key_of position ≤ℤ key_of other) → ¬ HasOddBelow position ring
-none_below_first ring position first = none_odd (PassesBelow position) (edges ring) (λ number edge there.
-    let ends = ends_of_edge ring number edge there in
-    not_below position edge (first _ edge.a ends.0) (first _ edge.b ends.1))
 
 -- Other rings
 
@@ -84,7 +63,7 @@ inside_as_below rings none in_range hole number ring other differ there its_ther
 -- Holes
 
 -- the first vertex by key, in any spelling of its ring
-first_here : (rings : List (List Position)) (hole : ℕ) (position : Position) (first : IsFirstVertex rings hole position) (ring : List Position)
+first_here : (rings : List (List Position)) (hole : ℕ) (position : Position) (first : IsLeastVertex rings hole position) (ring : List Position)
     → slice_get rings hole ≡ Some ring → slice_get ring first.vertex ≡ Some position
 first_here rings hole position first ring there =
     let same : first.vertices ≡ ring = same_Some first.vertices ring (sym first.there ∙ there) in
@@ -130,14 +109,14 @@ not_alone rings position (Others odd) are not alone = are.1 alone
 
 -- where the exterior is around a hole whose first vertex has no fault, it is alone
 alone_around : (rings : List (List Position)) (hole : ℕ) → NoMeeting rings → AreRingsInRange rings → 0 < hole → hole < length rings → (position : Position)
-    → (first : IsFirstVertex rings hole position) → ((fault : NestFault) → IsOfVertex hole 0 fault → ¬ IsNestFault rings fault) → (its : Position)
+    → (first : IsLeastVertex rings hole position) → ((fault : NestFault) → IsOfVertex hole 0 fault → ¬ IsNestFault rings fault) → (its : Position)
     → slice_get first.vertices 0 ≡ Some its → IsRingAround rings position 0 → IsExteriorAround rings position
 alone_around rings hole none in_range behind before position first clear its here exterior = record { exterior = exterior; alone = alone }
   where
     own : (it : IsRingAround rings position hole) → ⊥
     own it =
         let same : it.ring ≡ first.vertices = same_Some it.ring first.vertices (sym it.there ∙ first.there) in
-        none_below_first first.vertices position first.first (subst (HasOddBelow position) same it.odd)
+        no_odd_of_ring position first.vertices first.first (subst (HasOddBelow position) same it.odd)
 
     another : (number : ℕ) → 0 < number → hole ≢ number → ¬ IsRingAround rings position number
     another number further differ it = clear (InHole hole 0 number) (refl, refl) (in_hole hole 0 number (record {
@@ -182,35 +161,54 @@ hole_wrong rings hole around none in_range behind before noted not clear =
 
 -- What is read of a ring
 
--- it is around it
-read_around : (rings : List (List Position)) (notes : List (Option Around)) (ring : ℕ) → AreAllNoted rings notes → ring < length rings
-    → (around : Around) × (get_or notes ring None ≡ Some around) × AreAroundRing rings ring around
-read_around rings notes ring all within =
-    let (around, there, are) = all ring within in
-    let read : slice_get notes ring ≡ Some (get_or notes ring None) = slice_get-get_or notes ring None (slice_get_within notes ring (Some around) there) in
-    (around, same_Some (get_or notes ring None) (Some around) (sym read ∙ there), are)
+-- the number of its first vertex, behind those of the ring before it
+pub next_first : (rings : List (List Position)) (ring first : ℕ) (before : List Position) → 0 < ring → first ≡ vertex_count (take (ring - 1) rings) → slice_get rings (ring - 1) ≡ Some before
+    → first + length before ≡ vertex_count (take ring rings)
+next_first rings ring first before some begins there =
+    let next : suc (ring - 1) ≡ ring = omega (arith, some) in
+    omega (arith, begins, count_step rings (ring - 1) before there, ap (λ (n : ℕ). vertex_count (take n rings)) next)
+
+-- it is there
+pub first_within : (rings : List (List Position)) (ring first : ℕ) → AreProperRings rings → ring < length rings → first ≡ vertex_count (take ring rings) → first < vertex_count rings
+first_within rings ring first proper within begins =
+    let there : slice_get rings ring ≡ Some (get_or rings ring []) = slice_get-get_or rings ring [] within in
+    omega (arith, begins, proper.several ring (get_or rings ring []) there, count_within rings ring (get_or rings ring []) there)
+
+-- it is around it, as is noted of its first vertex
+read_around : (rings : List (List Position)) (notes : List (Option Around)) (ring first : ℕ) → AreProperRings rings → AreAllNoted rings notes → ring < length rings
+    → first ≡ vertex_count (take ring rings) → (around : Around) × (get_or notes first None ≡ Some around) × AreAroundRing rings ring around
+read_around rings notes ring first proper all within begins =
+    let vertices = get_or rings ring [] in
+    let there : slice_get rings ring ≡ Some (get_or rings ring []) = slice_get-get_or rings ring [] within in
+    let is : IsNumbered rings first (record { ring = ring; edge = 0 }) =
+    record { ring = get_or rings ring []; there = there; within = omega (arith, proper.several ring vertices there); numbered = omega (arith, begins) } in
+    let (around, noted, are) = all first (record { ring = ring; edge = 0 }) is in
+    let read : slice_get notes first ≡ Some (get_or notes first None) = slice_get-get_or notes first None (slice_get_within notes first (Some around) noted) in
+    (around, same_Some (get_or notes first None) (Some around) (sym read ∙ noted), are)
 
 -- where that is the exterior the hole has no fault
-pub read_right : (rings : List (List Position)) (notes : List (Option Around)) (hole : ℕ) → NoMeeting rings → AreRingsInRange rings → AreAllNoted rings notes → 0 < hole
-    → hole < length rings → get_or notes hole None ≡ Some Exterior → (fault : NestFault) → IsOfHole hole fault → ¬ IsNestFault rings fault
-read_right rings notes hole none in_range all behind before exterior =
-    let (around, read, are) = read_around rings notes hole all before in
+pub read_right : (rings : List (List Position)) (notes : List (Option Around)) (hole first : ℕ) → AreProperRings rings → NoMeeting rings → AreRingsInRange rings → AreAllNoted rings notes
+    → 0 < hole → hole < length rings → first ≡ vertex_count (take hole rings) → get_or notes first None ≡ Some Exterior → (fault : NestFault) → IsOfHole hole fault → ¬ IsNestFault rings fault
+read_right rings notes hole first proper none in_range all behind before begins exterior =
+    let (around, read, are) = read_around rings notes hole first proper all before begins in
     let same : around ≡ Exterior = same_Some around Exterior (sym read ∙ exterior) in
     hole_right rings hole none in_range behind (subst (AreAroundRing rings hole) same are)
 
 -- where it isn't its first vertex has one
-read_wrong : (rings : List (List Position)) (notes : List (Option Around)) (hole : ℕ) → NoMeeting rings → AreRingsInRange rings → AreAllNoted rings notes → 0 < hole
-    → hole < length rings → ¬ (get_or notes hole None ≡ Some Exterior) → ¬ ((fault : NestFault) → IsOfVertex hole 0 fault → ¬ IsNestFault rings fault)
-read_wrong rings notes hole none in_range all behind before not =
-    let (around, read, are) = read_around rings notes hole all before in
+read_wrong : (rings : List (List Position)) (notes : List (Option Around)) (hole first : ℕ) → AreProperRings rings → NoMeeting rings → AreRingsInRange rings → AreAllNoted rings notes
+    → 0 < hole → hole < length rings → first ≡ vertex_count (take hole rings) → ¬ (get_or notes first None ≡ Some Exterior)
+    → ¬ ((fault : NestFault) → IsOfVertex hole 0 fault → ¬ IsNestFault rings fault)
+read_wrong rings notes hole first proper none in_range all behind before begins not =
+    let (around, read, are) = read_around rings notes hole first proper all before begins in
     hole_wrong rings hole around none in_range behind before are (λ same. not (read ∙ ap Some same))
 
 -- so one is answered of it
-pub none_answered : (rings : List (List Position)) (notes : List (Option Around)) (hole : ℕ) (answer : Option NestFault) → NoMeeting rings → AreRingsInRange rings
-    → AreAllNoted rings notes → 0 < hole → hole < length rings → ¬ (get_or notes hole None ≡ Some Exterior)
+pub none_answered : (rings : List (List Position)) (notes : List (Option Around)) (hole first : ℕ) (answer : Option NestFault) → AreProperRings rings → NoMeeting rings → AreRingsInRange rings
+    → AreAllNoted rings notes → 0 < hole → hole < length rings → first ≡ vertex_count (take hole rings) → ¬ (get_or notes first None ≡ Some Exterior)
     → IfNone answer ((fault : NestFault) → IsOfVertex hole 0 fault → ¬ IsNestFault rings fault) → IfNone answer ((fault : NestFault) → ¬ IsNestFault rings fault)
-none_answered rings notes hole None none in_range all behind before not clear = absurd (read_wrong rings notes hole none in_range all behind before not clear)
-none_answered rings notes hole (Some fault) none in_range all behind before not clear = tt
+none_answered rings notes hole first None proper none in_range all behind before begins not clear =
+    absurd (read_wrong rings notes hole first proper none in_range all behind before begins not clear)
+none_answered rings notes hole first (Some fault) proper none in_range all behind before begins not clear = tt
 
 -- and is the first, where the holes before it have none
 pub first_answered : (rings : List (List Position)) (hole : ℕ) (answer : Option NestFault)

@@ -67,22 +67,22 @@ no_less : (many few each : ℕ) → few ≤ each → many * few ≤ many * each
 no_less many few each most = grind arith
 
 -- that of the sweep, and a probe for each vertex
-pub whole_work : (vertices digits : ℕ) (before between after : Counted) → AddsWork (3 * vertices) (vertices * (2 * digits + 2)) (vertices * (12 * digits)) before between
+pub whole_work : (vertices digits : ℕ) (before between after : Counted) → AddsWork (3 * vertices) (vertices * (2 * digits + 2)) (vertices * (14 * digits)) before between
     → AddsWork 0 vertices 0 between after → AddsWork (3 * vertices) (vertices * (2 * digits + 3)) (vertices * (20 * digits)) before after
 whole_work vertices digits before between after swept probed =
     let more : vertices * (2 * digits + 2) + vertices ≡ vertices * (2 * digits + 3) = grind arith in
-    let few : 12 * digits ≤ 20 * digits = omega arith in
+    let few : 14 * digits ≤ 20 * digits = omega arith in
     record {
       tests_added = omega (arith, swept.tests_added, probed.tests_added);
       probes_added = omega (arith, swept.probes_added, probed.probes_added, more);
-      visits_added = omega (arith, swept.visits_added, probed.visits_added, no_less vertices (12 * digits) (20 * digits) few);
+      visits_added = omega (arith, swept.visits_added, probed.visits_added, no_less vertices (14 * digits) (20 * digits) few);
       no_fewer_tests = omega (arith, swept.no_fewer_tests, probed.no_fewer_tests);
       no_fewer_probes = omega (arith, swept.no_fewer_probes, probed.no_fewer_probes);
       no_fewer_visits = omega (arith, swept.no_fewer_visits, probed.no_fewer_visits);
     }
 
 -- that of the sweep alone
-pub sweep_work : (vertices digits : ℕ) (before after : Counted) → AddsWork (3 * vertices) (vertices * (2 * digits + 2)) (vertices * (12 * digits)) before after
+pub sweep_work : (vertices digits : ℕ) (before after : Counted) → AddsWork (3 * vertices) (vertices * (2 * digits + 2)) (vertices * (14 * digits)) before after
     → AddsWork (3 * vertices) (vertices * (2 * digits + 3)) (vertices * (20 * digits)) before after
 sweep_work vertices digits before after swept = whole_work vertices digits before after after swept (record {
   tests_added = omega arith;

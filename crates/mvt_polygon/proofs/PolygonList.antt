@@ -7,7 +7,7 @@ use Rattle.mvt_plane.specs.Position.{Position}
 use Rattle.mvt_plane.specs.Ring.{doubled_area, ArePolygonRings}
 use Rattle.mvt_plane.specs.Polygon.{IsExterior, NoExterior, IsExteriorOf, first, next, PolygonRings, IsPolygon}
 use Rattle.mvt_plane.proofs.PolygonNumbers.{polygon_of_ring}
-use Rattle.mvt_plane.proofs.SamePolygons.{one_polygon}
+use Rattle.mvt_plane.proofs.SamePolygons.{one_polygon, exterior_of_polygon}
 use Rattle.mvt_polygon.specs.Polygons.{ArePolygons}
 
 -- Lists
@@ -32,15 +32,10 @@ is_last (x ∷ xs) y = is_last xs y
 
 -- Exteriors
 
--- that of a polygon is one
-exterior_of : (rings : List (List Position)) (polygon exterior : ℕ) → IsExteriorOf rings polygon exterior → IsExterior rings exterior
-exterior_of rings _ _ (first exterior is_exterior none) = is_exterior
-exterior_of rings _ _ (next polygon before exterior begins less is_exterior none) = is_exterior
-
 -- and one of the rings
 exterior_there : (rings : List (List Position)) (polygon exterior : ℕ) → IsExteriorOf rings polygon exterior → exterior < length rings
 exterior_there rings polygon exterior begins =
-    let is_exterior = exterior_of rings polygon exterior begins in
+    let is_exterior = exterior_of_polygon rings polygon exterior begins in
     slice_get_within rings exterior is_exterior.ring is_exterior.there
 
 -- a ring of positive area is one, and no other
@@ -67,7 +62,7 @@ first_begins rings able some =
     let it = home.1 in
     let from : it.exterior ≤ 0 = home.3.from in
     let same : it.exterior ≡ 0 = omega arith in
-    first 0 (subst (IsExterior rings) same (exterior_of rings home.0 it.exterior home.2.begins)) (λ number behind before exterior. omega arith)
+    first 0 (subst (IsExterior rings) same (exterior_of_polygon rings home.0 it.exterior home.2.begins)) (λ number behind before exterior. omega arith)
 
 -- the next exterior is that of the next polygon
 next_begins : (rings : List (List Position)) (polygon exterior after : ℕ) → IsPolygon rings polygon (record { exterior = exterior; after = after }) → (after ≡ length rings) ⊎ IsExteriorOf rings (suc polygon) after

@@ -20,7 +20,7 @@ use Rattle.mvt_plane.proofs.RationalPoints.{begin_lies_on}
 use Rattle.mvt_plane.proofs.RingEdges.{count_of_edges, ends_of_edge}
 use Rattle.mvt_polygon.specs.Meeting.{NoMeeting}
 use Rattle.mvt_polygon.specs.RingNotes.{is_odd, with_ring, around_above, IsRingAround, IsNothingAround, IsExteriorAround, AreAround, AreAroundRing}
-use Rattle.mvt_polygon.specs.RingsBelow.{AreRingsInRange, HaveOddBelow, HaveNoneBelow, IsRingBelow, IsFirstVertex}
+use Rattle.mvt_polygon.specs.RingsBelow.{AreRingsInRange, HaveOddBelow, HaveNoneBelow, IsRingBelow, IsLeastVertex}
 use Rattle.mvt_polygon.specs.declared.nesting.around.Around.{Around}
 use Rattle.mvt_polygon.specs.declared.nesting.around.Around.TheVariants.{Nothing, Exterior, Others}
 use Rattle.mvt_polygon.proofs.NestOnce.{nothing_in_common}
@@ -35,7 +35,7 @@ none_odd Holds (edge ∷ rest) none (inl (it, _)) = none 0 edge refl it
 none_odd Holds (edge ∷ rest) none (inr (_, further)) = none_odd Holds rest (λ number other there. none (suc number) other there) further
 
 -- the position comes before all vertices of the ring, by key
-abbrev ComesFirst : Position → List Position → Type 0
+abbrev pub ComesFirst : Position → List Position → Type 0
 ComesFirst position ring = (number : ℕ) (vertex : Position) → slice_get ring number ≡ Some vertex → key_of position ≤ℤ key_of vertex
 
 -- no edge passes below a position before both of its ends
@@ -54,7 +54,7 @@ none_of_ring position ring first number edge there =
     none_before position edge (first _ edge.a ends.0) (first _ edge.b ends.1)
 
 -- nor an odd number
-no_odd_of_ring : (position : Position) (ring : List Position) → ComesFirst position ring → ¬ HasOddBelow position ring
+pub no_odd_of_ring : (position : Position) (ring : List Position) → ComesFirst position ring → ¬ HasOddBelow position ring
 no_odd_of_ring position ring first = none_odd (PassesBelow position) (edges ring) (none_of_ring position ring first)
 
 -- an edge that passes below a position has an end before it, by key
@@ -66,14 +66,14 @@ end_before position low edge below begin end = by_end below.parted
     by_end (inr (_, less)) = omega (arith, zs)
 
 -- the first vertex of a ring comes before its vertices
-first_of_ring : (rings : List (List Position)) (ring : ℕ) (position : Position) (vertices : List Position) → IsFirstVertex rings ring position → slice_get rings ring ≡ Some vertices
+first_of_ring : (rings : List (List Position)) (ring : ℕ) (position : Position) (vertices : List Position) → IsLeastVertex rings ring position → slice_get rings ring ≡ Some vertices
     → ComesFirst position vertices
 first_of_ring rings ring position vertices first there =
     let same : first.vertices ≡ vertices = same_Some first.vertices vertices (sym first.there ∙ there) in
     subst (λ (its : List Position). ComesFirst position its) same first.first
 
 -- and is one of them
-vertex_of_ring : (rings : List (List Position)) (ring : ℕ) (position : Position) (vertices : List Position) (first : IsFirstVertex rings ring position) → slice_get rings ring ≡ Some vertices
+vertex_of_ring : (rings : List (List Position)) (ring : ℕ) (position : Position) (vertices : List Position) (first : IsLeastVertex rings ring position) → slice_get rings ring ≡ Some vertices
     → slice_get vertices first.vertex ≡ Some position
 vertex_of_ring rings ring position vertices first there =
     let same : first.vertices ≡ vertices = same_Some first.vertices vertices (sym first.there ∙ there) in
@@ -82,7 +82,7 @@ vertex_of_ring rings ring position vertices first there =
 -- ---- nothing below
 
 -- where no edge passes below a ring's first vertex, no ring is around it
-pub nothing_around : (rings : List (List Position)) (ring : ℕ) (position : Position) → IsFirstVertex rings ring position → HaveNoneBelow position rings → AreAroundRing rings ring Nothing
+pub nothing_around : (rings : List (List Position)) (ring : ℕ) (position : Position) → IsLeastVertex rings ring position → HaveNoneBelow position rings → AreAroundRing rings ring Nothing
 nothing_around rings ring position first none = record {
   position = position;
   first = first;
@@ -245,16 +245,16 @@ vertices_alike ring other nothing in_range its_range one two vertex another here
 record IsAbove (rings : List (List Position)) (ring below : ℕ) (position other : Position) : Type 0 where
   none : NoMeeting rings
   in_range : AreRingsInRange rings
-  first : IsFirstVertex rings ring position
+  first : IsLeastVertex rings ring position
   under : IsRingBelow position rings below
-  its_first : IsFirstVertex rings below other
+  its_first : IsLeastVertex rings below other
   its_ring : List Position
   there : slice_get rings below ≡ Some its_ring
   here : slice_get (edges its_ring) under.number.edge ≡ Some under.edge
 
 -- the ring below is there
-above_there : (rings : List (List Position)) (ring below : ℕ) (position other : Position) → NoMeeting rings → AreRingsInRange rings → IsFirstVertex rings ring position
-    → IsRingBelow position rings below → IsFirstVertex rings below other → IsAbove rings ring below position other
+above_there : (rings : List (List Position)) (ring below : ℕ) (position other : Position) → NoMeeting rings → AreRingsInRange rings → IsLeastVertex rings ring position
+    → IsRingBelow position rings below → IsLeastVertex rings below other → IsAbove rings ring below position other
 above_there rings ring below position other none in_range first under its_first = record {
   none = none;
   in_range = in_range;
@@ -265,12 +265,6 @@ above_there rings ring below position other none in_range first under its_first 
   there = subst (λ (number : ℕ). slice_get rings number ≡ Some under.there.ring) under.of_ring under.there.there;
   here = under.there.here;
 }
-
--- it is another ring
-different_rings : (rings : List (List Position)) (ring below : ℕ) (position other : Position) → IsAbove rings ring below position other → ring ≢ below
-different_rings rings ring below position other it same =
-    let there : slice_get rings ring ≡ Some it.its_ring = subst (λ (number : ℕ). slice_get rings number ≡ Some it.its_ring) (sym same) it.there in
-    none_of_ring position it.its_ring (first_of_ring rings ring position it.its_ring it.first there) it.under.number.edge it.under.edge it.here it.under.below
 
 -- its first vertex comes before the other's, by key
 first_before : (rings : List (List Position)) (ring below : ℕ) (position other : Position) → IsAbove rings ring below position other → key_of other <ℤ key_of position
@@ -391,7 +385,7 @@ ring_tells rings position number ring there = (
 
 -- what is noted of a ring whose first vertex is directly above an edge of another
 pub around_directly_above : (rings : List (List Position)) (ring below : ℕ) (position : Position) (around : Around) (odd : Bool) → NoMeeting rings → AreRingsInRange rings
-    → IsFirstVertex rings ring position → IsRingBelow position rings below → AreAroundRing rings below around → IsTrue odd ↔ HaveOddBelow position rings
+    → IsLeastVertex rings ring position → IsRingBelow position rings below → AreAroundRing rings below around → IsTrue odd ↔ HaveOddBelow position rings
     → AreAroundRing rings ring (around_above around below odd)
 around_directly_above rings ring below position around odd none in_range first under noted tells =
     let other : Position = noted.position in

@@ -1,8 +1,8 @@
 -- The sweep over rings, from one corner to the next.
-use Rattle.std.proofs.Common.{◌≡◌, ◌⊎◌, inl, inr, ℕ, ◌+◌, ◌-◌, ◌*◌, ◌<◌, ◌≤◌, List, [], get_or, length, take, slice_get, slice_index, Option, Some, None, ℤ, ◌≤ℤ◌, refl, sym, ap, subst, ◌∙◌, arith}
+use Rattle.std.proofs.Common.{◌≡◌, ◌⊎◌, inl, inr, ℕ, ◌+◌, ◌-◌, ◌*◌, ◌<◌, ◌≤◌, List, [], length, slice_get, slice_index, Option, Some, None, ℤ, ◌≤ℤ◌, sym, ap, subst, ◌∙◌, arith}
 use Rattle.std.proofs.lemmas.Bool.{cases_order}
 use Rattle.std.proofs.lemmas.Int.{ints}
-use Rattle.std.proofs.lemmas.Option.{same_Some, none-some, slice_get_within, slice_get-get_or}
+use Rattle.std.proofs.lemmas.Option.{same_Some, none-some, slice_get_within}
 use Rattle.mvt_plane.specs.Counted.{Counted}
 use Rattle.mvt_plane.specs.Measure.{key_of}
 use Rattle.mvt_plane.specs.Meeting.{EdgeNumber}
@@ -10,7 +10,7 @@ use Rattle.mvt_plane.specs.Position.{Position}
 use Rattle.mvt_status.specs.Counts.{bits}
 use Rattle.mvt_status.proofs.BinaryDigits.{no_more_digits}
 use Rattle.mvt_polygon.specs.CornerOrder.{AddsWork, IsOrder, IsStrict, IsSweptOver, IsSweptTo}
-use Rattle.mvt_polygon.specs.Corners.{AreCorners, AreInRange, AreLinked, IsNumbered, NoneWrong, plan_of, position_at, vertex_count}
+use Rattle.mvt_polygon.specs.Corners.{AreCorners, AreInRange, AreLinked, IsNumbered, NoneWrong, plan_of, position_at}
 use Rattle.mvt_polygon.specs.Meeting.{NoMeeting}
 use Rattle.mvt_polygon.specs.RingNotes.{AreAllNoted, IsNotedOf, IsNothingNoted, IsNoting}
 use Rattle.mvt_polygon.specs.Rings.{AreProperRings}
@@ -29,15 +29,14 @@ pub record AreRingsSwept (rings : List (List Position)) (corners : List Corner) 
   pub noted : IsNotedTo rings corners swept.key notes
 
 -- before the first corner nothing is noted
-pub rings_to_first : (rings : List (List Position)) (corners : List Corner) (order : List (ℤ × ℕ)) (edges : List ℕ) (notes : List (Option Around)) → AreLinked corners → AreInRange corners
-    → IsOrder corners order → edges ≡ [] → IsNothingNoted rings notes → AreRingsSwept rings corners order 0 edges notes
-rings_to_first rings corners order edges notes linked in_range in_order empty nothing = record {
+pub rings_to_first : (rings : List (List Position)) (corners : List Corner) (order : List (ℤ × ℕ)) (edges : List ℕ) (notes : List (Option Around)) → AreCorners rings corners → AreLinked corners → AreInRange corners
+    → IsOrder corners order → edges ≡ [] → IsNothingNoted (length corners) notes → AreRingsSwept rings corners order 0 edges notes
+rings_to_first rings corners order edges notes are linked in_range in_order empty nothing = record {
   swept = first;
   noted = record {
     size = nothing.count;
-    right = λ none ring around there.
-        absurd (none-some around
-        (same_Some None (Some around) (sym (nothing.none ring (omega (arith, nothing.count, slice_get_within notes ring (Some around) there))) ∙ there)));
+    alike = λ one other at its is their same. nothing_of one at is ∙ sym (nothing_of other its their);
+    right = λ none number at around is there. absurd (none-some around (same_Some None (Some around) (sym (nothing_of number at is) ∙ there)));
     there = λ number within early.
         let place = in_order.all number within in
         let late = first.ahead place.0 (key_of (position_at corners number)) number (omega arith) place.1 in
@@ -47,6 +46,9 @@ rings_to_first rings corners order edges notes linked in_range in_order empty no
   where
     first : IsSweptTo corners order 0 edges
     first = swept_to_first corners order edges linked in_range in_order empty
+
+    nothing_of : (number : ℕ) (at : EdgeNumber) → IsNumbered rings number at → slice_get notes number ≡ Some None
+    nothing_of number at is = nothing.none number (numbered_within rings corners number at are is)
 
 -- no corner's key is between the line and the next corner
 pub next_ahead : (corners : List Corner) (order : List (ℤ × ℕ)) (at : ℕ) (its : ℤ) (number : ℕ) (edges : List ℕ) → IsOrder corners order → IsStrict order
@@ -69,7 +71,7 @@ next_ahead corners order at its number edges in_order strict swept there other i
 pub rings_to_begun : (rings : List (List Position)) (corners : List Corner) (order : List (ℤ × ℕ)) (at : ℕ) (its : ℤ) (number place : ℕ) (before after : List ℕ) (notes more : List (Option Around))
     → AreProperRings rings → AreCorners rings corners → AreLinked corners → AreInRange corners → IsOrder corners order → IsStrict order
     → slice_get order at ≡ Some (its, number) → AreRingsSwept rings corners order at before notes → IsSweptOver corners number after → IsBegun corners number place before after
-    → ((it : EdgeNumber) → IsNumbered rings number it → IsNoting rings after place it notes more)
+    → ((it : EdgeNumber) → IsNumbered rings number it → IsNoting rings after place number it notes more)
     → AreRingsSwept rings corners order (at + 1) after more
 rings_to_begun rings corners order at its number place before after notes more proper are linked in_range in_order strict there so_far over begun noting = record {
   swept = swept_to_next corners order at its number after in_order strict there over;
@@ -94,7 +96,7 @@ rings_to_entered rings corners order at its number before after notes proper are
 -- of the ring of the edge below something is noted
 pub rings_below : (rings : List (List Position)) (corners : List Corner) (order : List (ℤ × ℕ)) (at number place : ℕ) (before after : List ℕ) (notes : List (Option Around))
     → AreProperRings rings → AreCorners rings corners → AreLinked corners → AreRingsSwept rings corners order at before notes → IsBegun corners number place before after → 0 < place
-    → (slice_index after (place - 1) < vertex_count rings) × IsNotedOf rings notes (slice_index after (place - 1))
+    → (slice_index after (place - 1) < length corners) × IsNotedOf notes (slice_index after (place - 1))
 rings_below rings corners order at number place before after notes proper are linked so_far begun some =
     below_noted rings corners so_far.swept.key notes number place before after proper are linked so_far.noted so_far.swept.swept begun some
 
@@ -111,29 +113,24 @@ rings_to_last rings corners order at edges notes proper are linked in_range in_o
     apart = none_of_rings rings corners proper are none
 
     all : AreAllNoted rings notes
-    all ring within =
-        let vertices : List Position = get_or rings ring [] in
-        let there : slice_get rings ring ≡ Some (get_or rings ring []) = slice_get-get_or rings ring [] within in
-        let several = proper.several ring (get_or rings ring []) there in
-        let number = vertex_count (take ring rings) + 0 in
-        let is : IsNumbered rings number (record { ring = ring; edge = 0 }) = record { ring = get_or rings ring []; there = there; within = omega (arith, several); numbered = refl } in
-        let inside = numbered_within rings corners number (record { ring = ring; edge = 0 }) are is in
+    all number at is =
+        let inside = numbered_within rings corners number at are is in
         let place = in_order.all number inside in
         let early = slice_get_within order place.0 (key_of (position_at corners number), number) place.1 in
         let passed = so_far.swept.passed place.0 (key_of (position_at corners number)) number (omega (arith, early, last)) place.1 in
-        let found = so_far.noted.there number inside passed (record { ring = ring; edge = 0 }) is in
-        (found.0, found.1, so_far.noted.right apart ring found.0 found.1)
+        let found = so_far.noted.there number inside passed in
+        (found.0, found.1, so_far.noted.right apart number at found.0 is found.1)
 
 -- the work of a step and of a note
 pub work_noted : (corners : List Corner) (number : ℕ) (edges : List ℕ) (before between after : Counted) → AreLinked corners → AreInRange corners → IsSweptOver corners number edges
-    → AddsWork 3 (2 * bits (length corners) + 2) (10 * bits (length corners)) before between → AddsWork 0 0 (2 * bits (length edges)) between after
-    → AddsWork 3 (2 * bits (length corners) + 2) (12 * bits (length corners)) before after
+    → AddsWork 3 (2 * bits (length corners) + 2) (12 * bits (length corners)) before between → AddsWork 0 0 (2 * bits (length edges)) between after
+    → AddsWork 3 (2 * bits (length corners) + 2) (14 * bits (length corners)) before after
 work_noted corners number edges before between after linked in_range over step note =
     let few = few_swept (plan_of corners) (key_of (position_at corners number)) edges (plan_of_corners corners linked in_range) over in
     let digits = no_more_digits (length edges) (length corners) few in
     work_within (omega arith) (omega arith) (omega (arith, digits)) (work_then step note)
 
 -- and of a step alone
-pub work_gone : (corners : ℕ) (before after : Counted) → AddsWork 3 (2 * bits corners + 2) (10 * bits corners) before after
-    → AddsWork 3 (2 * bits corners + 2) (12 * bits corners) before after
+pub work_gone : (corners : ℕ) (before after : Counted) → AddsWork 3 (2 * bits corners + 2) (12 * bits corners) before after
+    → AddsWork 3 (2 * bits corners + 2) (14 * bits corners) before after
 work_gone corners before after step = work_within (omega arith) (omega arith) (omega arith) step

@@ -125,9 +125,15 @@ work_of_both edges corners few added =
     let digits = no_more_digits edges corners few in
     work_within (omega arith) (omega arith) (omega arith) (work_of_status added)
 
--- and to look for one
-pub work_of_split : (edges corners : ℕ) {before after : Counted} → edges ≤ corners → AddsAtMost (2 * bits edges) (2 * bits edges) before after
-    → AddsWork 0 (2 * bits corners) (2 * bits corners) before after
+-- to look for one, with those beside it
+pub work_of_split : (edges corners : ℕ) {before after : Counted} → edges ≤ corners → AddsAtMost (2 * bits edges) (6 * bits edges) before after
+    → AddsWork 0 (2 * bits corners) (6 * bits corners) before after
 work_of_split edges corners few added =
     let digits = no_more_digits edges corners few in
+    work_within (omega arith) (omega arith) (omega arith) (work_of_status added)
+
+-- and to put two in
+pub work_of_two : (edges corners : ℕ) {before after : Counted} → suc edges ≤ corners → AddsAtMost 0 (6 * bits (suc edges)) before after → AddsWork 0 0 (6 * bits corners) before after
+work_of_two edges corners few added =
+    let digits = no_more_digits (suc edges) corners few in
     work_within (omega arith) (omega arith) (omega arith) (work_of_status added)

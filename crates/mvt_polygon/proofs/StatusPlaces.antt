@@ -1,10 +1,12 @@
 -- The places of a status before and behind an edit, and what stands beside them.
-use Rattle.std.proofs.Common.{◌≡◌, ◌≢◌, ℕ, zero, suc, ◌+◌, ◌-◌, ◌<◌, ◌≤◌, ◌⊎◌, inl, inr, List, [], ◌∷◌, ◌++◌, drop, insert, length, remove, slice_index, take, ℤ, ◌<ℤ◌, ◌≤ℤ◌, refl, sym, ap, subst, ◌∙◌, arith}
+use Rattle.std.proofs.Common.{◌≡◌, ◌≢◌, ℕ, zero, suc, ◌+◌, ◌-◌, ◌<◌, ◌≤◌, ◌⊎◌, inl, inr, IfSome, List, [], ◌∷◌, ◌++◌, Option, Some, None, drop, insert, slice_get, length, remove, slice_index, take, ℤ, ◌<ℤ◌, ◌≤ℤ◌, refl, sym, ap, subst, ◌∙◌, arith}
 use Rattle.std.proofs.lemmas.Int.{ints}
 use Rattle.std.proofs.lemmas.List.{length-take-le, length-drop, get_or-take}
+use Rattle.std.proofs.lemmas.Option.{get_or_from_slice_get}
 use Rattle.mvt_plane.specs.Measure.{key_of}
 use Rattle.mvt_plane.specs.Position.{Position}
 use Rattle.mvt_polygon.specs.Chain.{Has, Each, Head, Joined, Ordered}
+use Rattle.mvt_status.specs.Split.{before}
 use Rattle.mvt_polygon.specs.Sweep.{Plan, IsPlan, Tested, IsSwept, IsEvent, BothBegin, PassesOn, BothEnd, IsCut}
 use Rattle.mvt_polygon.proofs.ChainParts.{each_has, each_by_has, has_left, has_right, has_either, has_place, ordered_parts, take_drop, insert_between, remove_behind, drop_first, joined_before}
 use Rattle.mvt_polygon.proofs.SweepSteps.{begin_step, pass_step, end_found, end_step}
@@ -22,6 +24,63 @@ pub joined_at : (R : ℕ → ℕ → Type 0) (edges back : List ℕ) (at below :
 joined_at R edges back at below some within is holds =
     subst (λ (place : ℕ). Joined R (take place edges) back) (omega arith)
     (joined_before R edges back (at - 1) (omega arith) (subst (λ (edge : ℕ). Head R edge back) is holds))
+
+-- the same of the first from a place on, if there is one
+head_behind : (R : ℕ → ℕ → Type 0) (edges : List ℕ) (at it : ℕ) (behind : Option ℕ) → behind ≡ slice_get edges at → IfSome behind (R it) → Head R it (drop at edges)
+head_behind R edges at it behind is holds = there edges at (subst (λ (found : Option ℕ). IfSome found (R it)) is holds)
+  where
+    there : (edges : List ℕ) (at : ℕ) → IfSome (slice_get edges at) (R it) → Head R it (drop at edges)
+    there [] zero holds = tt
+    there [] (suc at) holds = tt
+    there (first ∷ rest) zero holds = holds
+    there (first ∷ rest) (suc at) holds = there rest at holds
+
+-- and of the last before the place
+joined_before_place : (R : ℕ → ℕ → Type 0) (edges back : List ℕ) (at : ℕ) (front : Option ℕ) → at ≤ length edges → front ≡ before edges at
+    → IfSome front (λ below. Head R below back) → Joined R (take at edges) back
+joined_before_place R edges back at front within is holds = there edges at within (subst (λ (found : Option ℕ). IfSome found (λ below. Head R below back)) is holds)
+  where
+    there : (edges : List ℕ) (at : ℕ) → at ≤ length edges → IfSome (before edges at) (λ below. Head R below back) → Joined R (take at edges) back
+    there edges zero within holds = tt
+    there [] (suc at) within holds = absurd (omega arith)
+    there (first ∷ rest) (suc zero) within holds = holds
+    there (first ∷ []) (suc (suc at)) within holds = absurd (omega arith)
+    there (first ∷ next ∷ rest) (suc (suc at)) within holds = there (next ∷ rest) (suc at) (omega arith) holds
+
+-- what is true of each edge is so of the one behind a place
+pub each_behind : (P : ℕ → Type 0) (edges : List ℕ) (at : ℕ) (behind : Option ℕ) → Each P edges → behind ≡ slice_get edges at → IfSome behind P
+each_behind P edges at behind all is = subst (λ (found : Option ℕ). IfSome found P) (sym is) (there edges at all)
+  where
+    there : (edges : List ℕ) (at : ℕ) → Each P edges → IfSome (slice_get edges at) P
+    there [] at all = tt
+    there (first ∷ rest) zero all = all.0
+    there (first ∷ rest) (suc at) all = there rest at all.1
+
+-- and of the one before it
+pub each_before : (P : ℕ → Type 0) (edges : List ℕ) (at : ℕ) (front : Option ℕ) → Each P edges → front ≡ before edges at → IfSome front P
+each_before P edges zero front all is = subst (λ (found : Option ℕ). IfSome found P) (sym is) tt
+each_before P edges (suc at) front all is = each_behind P edges at front all is
+
+-- where it is told, there is one
+pub front_at : (edges : List ℕ) (at front : ℕ) → at ≤ length edges → Some front ≡ before edges at → (0 < at) × (front ≡ slice_index edges (at - 1))
+front_at edges zero front within is = absurd cc
+front_at edges (suc at) front within is =
+    (omega arith, subst (λ (place : ℕ). front ≡ slice_index edges place) (omega arith) (sym (get_or_from_slice_get edges at front 0 (sym is))))
+
+some_map : {P Q : ℕ → Type 0} (found : Option ℕ) → ((it : ℕ) → P it → Q it) → IfSome found P → IfSome found Q
+some_map None follows holds = tt
+some_map (Some it) follows holds = follows it holds
+
+-- an edge that was tested with the one before a place
+pub tested_before : (plan : Plan) (edges : List ℕ) (at edge : ℕ) (front : Option ℕ) → at ≤ length edges → front ≡ before edges at
+    → IfSome front (λ other. Tested plan edge other × Tested plan other edge) → Joined (Tested plan) (take at edges) (edge ∷ [])
+tested_before plan edges at edge front within is both =
+    joined_before_place (Tested plan) edges (edge ∷ []) at front within is (some_map front (λ it tested. tested.1) both)
+
+-- and with the one behind it
+pub tested_behind : (plan : Plan) (edges : List ℕ) (at edge : ℕ) (behind : Option ℕ) → behind ≡ slice_get edges at
+    → IfSome behind (λ other. Tested plan edge other × Tested plan other edge) → Head (Tested plan) edge (drop at edges)
+tested_behind plan edges at edge behind is both = head_behind (Tested plan) edges at edge behind is (some_map behind (λ it tested. tested.0) both)
 
 -- behind all there is none
 drop_end : (edges : List ℕ) (at : ℕ) → length edges ≤ at → drop at edges ≡ []
@@ -46,6 +105,16 @@ apart_at edges at some within differ =
     all.2 (slice_index edges (at - 1)) (slice_index edges at)
     (subst (Has (take at edges)) (get_or-take at edges (at - 1) 0 (omega arith)) (has_place (take at edges) (at - 1) (omega (arith, length-take-le at edges (omega arith)))))
     (subst (λ (list : List ℕ). Has list (slice_index edges at)) (sym (drop_first edges at within)) (inl refl))
+
+-- lists that are alike up to a place have one edge before it
+before_taken : (edges : List ℕ) (at : ℕ) → before (take at edges) at ≡ before edges at
+before_taken edges zero = refl
+before_taken [] (suc at) = refl
+before_taken (first ∷ rest) (suc zero) = refl
+before_taken (first ∷ rest) (suc (suc at)) = before_taken rest (suc at)
+
+pub before_kept : (edges fewer : List ℕ) (at : ℕ) → take at edges ≡ take at fewer → before edges at ≡ before fewer at
+before_kept edges fewer at alike = sym (before_taken edges at) ∙ ap (λ (list : List ℕ). before list at) alike ∙ before_taken fewer at
 
 -- Edges of the status
 

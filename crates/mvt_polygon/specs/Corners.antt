@@ -8,6 +8,7 @@ use Rattle.mvt_plane.specs.Position.{Position, IsPosition, origin}
 use Rattle.mvt_plane.specs.RationalPoint.{RationalPoint, IsBounded}
 use Rattle.mvt_plane.specs.declared.edge.Edge.{Edge}
 use Rattle.mvt_polygon.specs.Meeting.{first_of, second_of}
+use Rattle.mvt_polygon.specs.Rings.{AreProperRings}
 use Rattle.mvt_polygon.specs.Sweep.{Plan, IsWrong}
 use Rattle.mvt_polygon.specs.declared.meeting.Meeting.{Meeting}
 use Rattle.mvt_polygon.specs.declared.sweep.corners.Corner.{Corner}
@@ -41,6 +42,12 @@ pub record IsCornerOf (rings : List (List Position)) (number : ℕ) (it : Corner
 pub record AreCorners (rings : List (List Position)) (corners : List Corner) : Type 0 where
   pub count : length corners ≡ vertex_count rings
   pub each : (number : ℕ) (it : Corner) → slice_get corners number ≡ Some it → IsCornerOf rings number it
+
+-- these are all corners of proper rings
+pub record AreOfRings (corners : List Corner) : Type 0 where
+  pub rings : List (List Position)
+  pub proper : AreProperRings rings
+  pub are : AreCorners rings corners
 
 -- Corners by themselves
 

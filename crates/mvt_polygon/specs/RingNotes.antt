@@ -1,10 +1,10 @@
 -- What a sweep notes of each ring of a polygon: which other rings are around it.
-use Rattle.std.specs.Prelude.{◌≡◌, ◌≢◌, ℕ, suc, zero, ◌-◌, ◌<◌, Bool, true, false, not, cond, IsTrue, ◌↔◌, List, length, slice_get, slice_index, take, Option, Some, None}
+use Rattle.std.specs.Prelude.{◌≡◌, ◌≢◌, ℕ, suc, zero, ◌-◌, ◌<◌, Bool, true, false, not, cond, IsTrue, ◌↔◌, List, length, slice_get, slice_index, Option, Some, None}
 use Rattle.mvt_plane.specs.Below.{HasOddBelow}
 use Rattle.mvt_plane.specs.Meeting.{EdgeNumber}
 use Rattle.mvt_plane.specs.Position.{Position}
-use Rattle.mvt_polygon.specs.Corners.{IsNumbered, vertex_count}
-use Rattle.mvt_polygon.specs.RingsBelow.{HaveOddBelow, IsFirstVertex}
+use Rattle.mvt_polygon.specs.Corners.{IsNumbered}
+use Rattle.mvt_polygon.specs.RingsBelow.{HaveOddBelow, IsLeastVertex}
 use Rattle.mvt_polygon.specs.declared.nesting.around.Around.{Around}
 use Rattle.mvt_polygon.specs.declared.nesting.around.Around.TheVariants.{Nothing, Exterior, Others}
 
@@ -59,41 +59,36 @@ AreAround rings position (Others odd) = (¬ IsNothingAround rings position) × (
 -- they are around the ring of this number: around its first vertex
 pub record AreAroundRing (rings : List (List Position)) (ring : ℕ) (around : Around) : Type 0 where
   pub position : Position
-  pub first : IsFirstVertex rings ring position
+  pub first : IsLeastVertex rings ring position
   pub odd : IsTrue (is_odd around) ↔ HaveOddBelow position rings
   pub are : AreAround rings position around
 
--- of each ring it is noted which rings are around it
+-- of each vertex it is noted which rings are around its ring
 abbrev pub AreAllNoted : List (List Position) → List (Option Around) → Type 0
-AreAllNoted rings notes = (ring : ℕ) → ring < length rings → (around : Around) × (slice_get notes ring ≡ Some (Some around)) × AreAroundRing rings ring around
+AreAllNoted rings notes = (number : ℕ) (at : EdgeNumber) → IsNumbered rings number at → (around : Around) × (slice_get notes number ≡ Some (Some around)) × AreAroundRing rings at.ring around
 
 -- One step
 
--- the numbers of the rings' first corners among all
-pub record AreStarts (rings : List (List Position)) (starts : List ℕ) : Type 0 where
-  pub count : length starts ≡ length rings
-  pub each : (ring start : ℕ) → slice_get starts ring ≡ Some start → start ≡ vertex_count (take ring rings)
+-- nothing is noted of any of so many vertices
+pub record IsNothingNoted (many : ℕ) (notes : List (Option Around)) : Type 0 where
+  pub count : length notes ≡ many
+  pub none : (number : ℕ) → number < many → slice_get notes number ≡ Some None
 
--- nothing is noted of any ring
-pub record IsNothingNoted (rings : List (List Position)) (notes : List (Option Around)) : Type 0 where
-  pub count : length notes ≡ length rings
-  pub none : (ring : ℕ) → ring < length rings → slice_get notes ring ≡ Some None
+-- something is noted of the vertex of this number
+abbrev pub IsNotedOf : List (Option Around) → ℕ → Type 0
+IsNotedOf notes number = (around : Around) × (slice_get notes number ≡ Some (Some around))
 
--- something is noted of the ring that has the edge of this number
-abbrev pub IsNotedOf : List (List Position) → List (Option Around) → ℕ → Type 0
-IsNotedOf rings notes edge = (at : EdgeNumber) → IsNumbered rings edge at → (around : Around) × (slice_get notes at.ring ≡ Some (Some around))
-
--- of this ring it is noted what is around it, and of the others what it was before
-pub record IsNoted (ring : ℕ) (around : Around) (before after : List (Option Around)) : Type 0 where
-  pub here : slice_get after ring ≡ Some (Some around)
-  pub others : (other : ℕ) → other ≢ ring → slice_get after other ≡ slice_get before other
+-- of all vertices of this ring it is noted what is around it, and of the others what it was before
+pub record IsNoted (rings : List (List Position)) (ring : ℕ) (around : Around) (before after : List (Option Around)) : Type 0 where
+  pub here : (number : ℕ) (at : EdgeNumber) → IsNumbered rings number at → at.ring ≡ ring → slice_get after number ≡ Some (Some around)
+  pub others : (number : ℕ) (at : EdgeNumber) → IsNumbered rings number at → at.ring ≢ ring → slice_get after number ≡ slice_get before number
   pub count : length after ≡ length before
 
 -- The line comes to a corner in which both edges begin, behind so many of the edges that it meets. If nothing is noted of the
--- corner's ring, what is around it is noted.
-pub data IsNoting (rings : List (List Position)) (edges : List ℕ) (place : ℕ) (at : EdgeNumber) (before after : List (Option Around)) : Type 0 where
-  known : (around : Around) → slice_get before at.ring ≡ Some (Some around) → after ≡ before → IsNoting rings edges place at before after
-  nothing_below : slice_get before at.ring ≡ Some None → place ≡ 0 → IsNoted at.ring Nothing before after → IsNoting rings edges place at before after
-  above : slice_get before at.ring ≡ Some None → 0 < place → (below : EdgeNumber) → IsNumbered rings (slice_index edges (place - 1)) below
-      → (around : Around) → slice_get before below.ring ≡ Some (Some around)
-      → IsNoted at.ring (around_above around below.ring (is_odd_number place)) before after → IsNoting rings edges place at before after
+-- corner, what is around its ring is noted.
+pub data IsNoting (rings : List (List Position)) (edges : List ℕ) (place number : ℕ) (at : EdgeNumber) (before after : List (Option Around)) : Type 0 where
+  known : (around : Around) → slice_get before number ≡ Some (Some around) → after ≡ before → IsNoting rings edges place number at before after
+  nothing_below : slice_get before number ≡ Some None → place ≡ 0 → IsNoted rings at.ring Nothing before after → IsNoting rings edges place number at before after
+  above : slice_get before number ≡ Some None → 0 < place → (below : EdgeNumber) → IsNumbered rings (slice_index edges (place - 1)) below
+      → (around : Around) → slice_get before (slice_index edges (place - 1)) ≡ Some (Some around)
+      → IsNoted rings at.ring (around_above around below.ring (is_odd_number place)) before after → IsNoting rings edges place number at before after

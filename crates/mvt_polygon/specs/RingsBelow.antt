@@ -30,7 +30,7 @@ pub record IsRingBelow (position : Position) (rings : List (List Position)) (rin
   pub none_above : (another : EdgeNumber) (other : Edge) → IsEdgeOf rings another other → PassesBelow position other → IsNotAbove position other edge
 
 -- the vertex of a ring that the line of a sweep comes to first: the one of least key
-pub record IsFirstVertex (rings : List (List Position)) (ring : ℕ) (position : Position) : Type 0 where
+pub record IsLeastVertex (rings : List (List Position)) (ring : ℕ) (position : Position) : Type 0 where
   pub vertices : List Position
   pub there : slice_get rings ring ≡ Some vertices
   pub vertex : ℕ

@@ -11,8 +11,7 @@ use crate::meeting::{Meeting, find_meeting, told};
 use crate::nesting::NestFault;
 use crate::nesting::noted::fault_of_holes;
 use crate::sweep::{
-    Corner, corners_of, meeting_at, nothing_noted, numbers_of, one_position, order_of, starts_of,
-    sweep_rings,
+    Corner, corners_of, meeting_at, nothing_noted, numbers_of, one_position, order_of, sweep_rings,
 };
 use mvt_plane::{Count, Point};
 use mvt_status::TreeStatus;
@@ -68,18 +67,9 @@ fn check_with_holes(
         return Ok(fault_of_meeting(found));
     }
     let order = numbers_of(alloc, order)?;
-    let starts = starts_of(alloc, rings)?;
-    let mut notes = nothing_noted(alloc, rings)?;
+    let mut notes = nothing_noted(alloc, &corners)?;
     let mut status = TreeStatus::new(alloc);
-    let found = sweep_rings(
-        rings,
-        &starts,
-        &corners,
-        &order,
-        &mut notes,
-        &mut status,
-        count,
-    )?;
+    let found = sweep_rings(rings, &corners, &order, &mut notes, &mut status, count)?;
     Ok(match told(rings, found) {
         Some(meeting) => Some(PolygonFault::Meeting(meeting)),
         None => fault_of_nesting(fault_of_holes(rings, &notes, count)),

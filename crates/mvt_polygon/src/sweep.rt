@@ -13,7 +13,6 @@ mod notes;
 mod order;
 mod place;
 mod rings;
-mod starts;
 mod step;
 
 use crate::sweep::step::{Step, go_over};
@@ -23,7 +22,6 @@ use mvt_status::Status;
 pub(crate) use notes::nothing_noted;
 pub(crate) use order::{numbers_of, one_position, order_of};
 pub(crate) use rings::sweep_rings;
-pub(crate) use starts::starts_of;
 use std::alloc::AllocError;
 
 /// Goes over all corners in their order, of which no two are at one position. The status is empty at the call. The
@@ -41,7 +39,7 @@ pub(crate) fn sweep<S: Status>(
     requires empty { S.edges status.old ≡ [] }
     ensures none { IfOk result (λ found. IfNone found (NoneWrong corners.now)) }
     ensures some { IfOk result (λ found. IfSome found (IsMeetingAt corners.now)) }
-    ensures counted { AddsWork (3 * length order.now) (length order.now * (2 * bits (length corners.now) + 2)) (length order.now * (10 * bits (length corners.now))) count.old count.new }
+    ensures counted { AddsWork (3 * length order.now) (length order.now * (2 * bits (length corners.now) + 2)) (length order.now * (12 * bits (length corners.now))) count.old count.new }
 {
     for at in 0..order.len() {
         if let Step::Meets(pair) = go_over(corners, order[at], status, count)? {

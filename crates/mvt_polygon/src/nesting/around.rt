@@ -1,5 +1,5 @@
 //! Which rings of a polygon are around another one.
-ghost use Rattle.std.specs.Prelude.{◌≡◌};
+ghost use Rattle.std.specs.Prelude.{◌≡◌, ◌==◌, ℕ};
 ghost use Rattle.mvt_polygon.specs.RingNotes.{around_above, is_odd};
 
 /// Which other rings of its polygon are around a ring.
@@ -30,16 +30,16 @@ impl Around {
 }
 
 /// The rings around one whose first vertex, as a sweep goes, is directly above an edge of another ring: those around the
-/// other one, and the ring of this number, which is the other one, too where the number of all is odd or even only so.
-pub(crate) fn around_above(around: Around, below: usize, odd: bool) -> Around
-    ensures { result ≡ around_above around below odd }
+/// other one, and the other one, too where the number of all is odd or even only so. It is told whether that is the exterior.
+pub(crate) fn around_above(around: Around, exterior: bool, odd: bool) -> Around
+    ensures { (below : ℕ) → exterior ≡ (below == 0) → result ≡ around_above around below odd }
 {
     if odd == around.is_odd() {
         return around;
     }
     match around {
         Around::Nothing => {
-            if below == 0 {
+            if exterior {
                 Around::Exterior
             } else {
                 Around::Others { odd }

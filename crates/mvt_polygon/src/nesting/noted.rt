@@ -1,5 +1,5 @@
 //! Holes that aren't where they should be, by what a sweep noted of each ring.
-ghost use Rattle.std.specs.Prelude.{◌≡◌, ◌↔◌, IsTrue, IfNone, IfSome, Some, length};
+ghost use Rattle.std.specs.Prelude.{◌≡◌, ◌↔◌, ◌<◌, ◌^◌, IsTrue, IfNone, IfSome, Some, length};
 ghost use Rattle.mvt_polygon.specs.CornerOrder.{AddsWork};
 ghost use Rattle.mvt_polygon.specs.Corners.{vertex_count};
 ghost use Rattle.mvt_polygon.specs.Meeting.{NoMeeting};
@@ -16,7 +16,7 @@ use crate::nesting::once::fault_of_first_vertex;
 use mvt_plane::{Count, Point};
 
 /// What `check_nesting` answers of the rings of a polygon, where no two of their edges meet wrongly and it is noted of each
-/// which other rings are around it. Only of the hole that it answers the first vertex is held against the edges of all
+/// vertex which other rings are around its ring. Only of the hole that it answers the first vertex is held against the edges of all
 /// rings, with a probe for each. It takes no memory.
 pub(crate) fn fault_of_holes(
     rings: &[Vec<Point>],
@@ -26,14 +26,17 @@ pub(crate) fn fault_of_holes(
     requires proper { AreProperRings (rings_of rings.now) }
     requires none_meet { NoMeeting (rings_of rings.now) }
     requires in_range { AreRingsInRange (rings_of rings.now) }
-    requires size { length notes.now ≡ length rings.now }
+    requires few { vertex_count (rings_of rings.now) < 2 ^ 64 }
+    requires size { length notes.now ≡ vertex_count (rings_of rings.now) }
     requires noted { AreAllNoted (rings_of rings.now) notes.now }
     ensures none { IfNone result ((fault : NestFault) → ¬ IsNestFault (rings_of rings.now) fault) }
     ensures least { IfSome result (IsFirstNestFault (rings_of rings.now)) }
     ensures counted { AddsWork 0 (vertex_count (rings_of rings.now)) 0 count.old count.new }
 {
+    let mut first = 0;
     for ring in 1..rings.len() {
-        if !is_right(notes[ring]) {
+        first += rings[ring - 1].len();
+        if !is_right(notes[first]) {
             return fault_of_first_vertex(rings, ring, rings[ring][0], count);
         }
     }

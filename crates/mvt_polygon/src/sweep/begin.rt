@@ -6,7 +6,7 @@ ghost use Rattle.mvt_polygon.specs.Steps.{IsStep};
 ghost use Rattle.mvt_polygon.specs.Sweep.{BeginThere, BothBegin, Tested};
 
 use crate::sweep::corners::{Corner, meeting_at, next_of, previous_of};
-use crate::sweep::neighbors::{meeting_above, meeting_below};
+use crate::sweep::neighbors::meeting_with;
 use crate::sweep::place::place_of;
 use crate::sweep::step::Step;
 use mvt_plane::{Count, orient};
@@ -34,15 +34,14 @@ pub(crate) fn begin<S: Status>(
     }
     let (lower, upper) = in_order(corners, number, count);
     let place = place_of(corners, number, status, count);
-    if let Some(pair) = meeting_below(corners, lower, place, status, count) {
+    if let Some(pair) = meeting_with(corners, lower, place.front, count) {
         return Ok(Step::Meets(pair));
     }
-    if let Some(pair) = meeting_above(corners, upper, place, status, count) {
+    if let Some(pair) = meeting_with(corners, upper, place.behind, count) {
         return Ok(Step::Meets(pair));
     }
-    status.insert(place, upper, count)?;
-    status.insert(place, lower, count)?;
-    Ok(Step::Begins(place))
+    status.insert_two(place.point, lower, upper, count)?;
+    Ok(Step::Begins(place.point))
 }
 
 /// The two edges that begin in a corner, the lower one first. They were tested, so they don't go one way. Ticks a

@@ -6,7 +6,7 @@ ghost use Rattle.mvt_polygon.specs.Corners.{AreInRange, AreLinked, IsMeetingAt, 
 ghost use Rattle.mvt_polygon.specs.Sweep.{BothEnd, PassesOn};
 
 use crate::sweep::corners::{Corner, Pair};
-use crate::sweep::neighbors::{meeting_above, meeting_across, meeting_below};
+use crate::sweep::neighbors::{meeting_above, meeting_across, meeting_with};
 use crate::sweep::place::place_of;
 use mvt_plane::Count;
 use mvt_status::Status;
@@ -31,15 +31,15 @@ pub(crate) fn pass<S: Status>(
     ensures counted { AddsStep 2 (length corners.now) count.old count.new }
 {
     let place = place_of(corners, number, status, count);
-    if let Some(pair) = meeting_below(corners, beginning, place, status, count) {
+    if let Some(pair) = meeting_with(corners, beginning, place.front, count) {
         return Ok(Some(pair));
     }
     // (an edge ends here, so there is one at this place)
-    prove!(place < corners.len());
-    if let Some(pair) = meeting_above(corners, beginning, place + 1, status, count) {
+    prove!(place.point < corners.len());
+    if let Some(pair) = meeting_above(corners, beginning, place.point + 1, status, count) {
         return Ok(Some(pair));
     }
-    status.replace(place, beginning, count)?;
+    status.replace(place.point, beginning, count)?;
     Ok(None)
 }
 
@@ -60,7 +60,7 @@ pub(crate) fn end<S: Status>(
     ensures counted { AddsStep 1 (length corners.now) count.old count.new }
 {
     let place = place_of(corners, number, status, count);
-    status.remove(place, count);
-    status.remove(place, count);
-    meeting_across(corners, place, status, count)
+    status.remove(place.point, count);
+    status.remove(place.point, count);
+    meeting_across(corners, place.front, place.point, status, count)
 }

@@ -1,37 +1,31 @@
 //! Tests of edges that became neighbours in the status.
-ghost use Rattle.std.specs.Prelude.{◌≢◌, ◌*◌, ◌<◌, ◌≤◌, IfNone, IfSome, [], ◌∷◌, drop, length, take};
+ghost use Rattle.std.specs.Prelude.{◌≡◌, ◌≢◌, ◌*◌, ◌<◌, ◌≤◌, IfNone, IfSome, drop, length, take};
 ghost use Rattle.mvt_polygon.specs.Chain.{Each, Head, Joined, Ordered};
 ghost use Rattle.mvt_polygon.specs.CornerOrder.{AddsWork};
 ghost use Rattle.mvt_polygon.specs.Corners.{AreLinked, IsMeetingAt, plan_of};
 ghost use Rattle.mvt_polygon.specs.Sweep.{Tested};
 ghost use Rattle.mvt_status.specs.Counts.{bits};
+ghost use Rattle.mvt_status.specs.Split.{before};
 
 use crate::sweep::corners::{Corner, Pair, meeting_at};
 use mvt_plane::Count;
 use mvt_status::Status;
 
-/// The wrong meeting of an edge with the one that comes before this place of the status.
-pub(crate) fn meeting_below<S: Status>(
+/// The wrong meeting of an edge with one beside it, where there is one.
+pub(crate) fn meeting_with(
     corners: &[Corner],
     edge: usize,
-    place: usize,
-    status: &S,
+    beside: Option<usize>,
     count: &mut Count,
 ) -> Option<Pair>
     requires linked { AreLinked corners.now }
     requires edge { edge < length corners.now }
-    requires place { place ≤ length (S.edges status.now) }
-    requires few { length (S.edges status.now) ≤ length corners.now }
-    requires known { Each (λ other. (other < length corners.now) × (other ≢ edge)) (S.edges status.now) }
-    ensures none { IfNone result (Joined (Tested (plan_of corners.now)) (take place (S.edges status.now)) (edge ∷ [])) }
+    requires known { IfSome beside (λ other. (other < length corners.now) × (other ≢ edge)) }
+    ensures none { IfNone result (IfSome beside (λ other. Tested (plan_of corners.now) edge other × Tested (plan_of corners.now) other edge)) }
     ensures some { IfSome result (IsMeetingAt corners.now) }
-    ensures counted { AddsWork 1 0 (2 * bits (length corners.now)) count.old count.new }
+    ensures counted { AddsWork 1 0 0 count.old count.new }
 {
-    if place == 0 {
-        return None;
-    }
-    let below = status.get(place - 1, count);
-    meeting_at(corners, below, edge, count)
+    meeting_at(corners, edge, beside?, count)
 }
 
 /// The wrong meeting of an edge with the one at this place of the status.
@@ -58,29 +52,28 @@ pub(crate) fn meeting_above<S: Status>(
     meeting_at(corners, edge, above, count)
 }
 
-/// The wrong meeting of the two edges before and at this place of the status.
+/// The wrong meeting of the edge below this place of the status, if there is one, with the one at it.
 pub(crate) fn meeting_across<S: Status>(
     corners: &[Corner],
+    below: Option<usize>,
     place: usize,
     status: &S,
     count: &mut Count,
 ) -> Option<Pair>
     requires linked { AreLinked corners.now }
+    requires below { below ≡ before (S.edges status.now) place }
     requires place { place ≤ length (S.edges status.now) }
     requires few { length (S.edges status.now) ≤ length corners.now }
     requires known { Each (λ edge. edge < length corners.now) (S.edges status.now) }
     requires differ { Ordered (λ first second. first ≢ second) (S.edges status.now) }
     ensures none { IfNone result (Joined (Tested (plan_of corners.now)) (take place (S.edges status.now)) (drop place (S.edges status.now))) }
     ensures some { IfSome result (IsMeetingAt corners.now) }
-    ensures counted { AddsWork 1 0 (4 * bits (length corners.now)) count.old count.new }
+    ensures counted { AddsWork 1 0 (2 * bits (length corners.now)) count.old count.new }
 {
-    if place == 0 {
-        return None;
-    }
+    let below = below?;
     if place == status.len() {
         return None;
     }
-    let below = status.get(place - 1, count);
     let above = status.get(place, count);
     meeting_at(corners, below, above, count)
 }

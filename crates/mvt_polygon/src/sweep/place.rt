@@ -5,27 +5,29 @@ ghost use Rattle.mvt_polygon.specs.CornerOrder.{AddsWork};
 ghost use Rattle.mvt_polygon.specs.Corners.{AreInRange, AreLinked, plan_of, position_at};
 ghost use Rattle.mvt_polygon.specs.Sweep.{IsCut, IsUnder};
 ghost use Rattle.mvt_status.specs.Counts.{bits};
+ghost use Rattle.mvt_status.specs.Split.{AreBeside};
 
 use crate::sweep::corners::{Corner, next_of};
 use mvt_plane::{Count, Point, orient, sweep_key};
-use mvt_status::Status;
+use mvt_status::{Split, Status};
 
-/// How many edges of the status are below a corner. They come before the others.
+/// How many edges of the status are below a corner, which come before the others, and the two edges beside it.
 pub(crate) fn place_of<S: Status>(
     corners: &[Corner],
     number: usize,
     status: &S,
     count: &mut Count,
-) -> usize
+) -> Split
     requires linked { AreLinked corners.now }
     requires in_range { AreInRange corners.now }
     requires number { number < length corners.now }
     requires known { Each (λ edge. edge < length corners.now) (S.edges status.now) }
     requires few { length (S.edges status.now) ≤ length corners.now }
     requires cut { (front : List ℕ) × (rest : List ℕ) × IsCut (plan_of corners.now) (position_at corners.now number) (S.edges status.now) front rest }
-    ensures within { result ≤ length (S.edges status.now) }
-    ensures cut { IsCut (plan_of corners.now) (position_at corners.now number) (S.edges status.now) (take result (S.edges status.now)) (drop result (S.edges status.now)) }
-    ensures counted { AddsWork 0 (2 * bits (length corners.now)) (2 * bits (length corners.now)) count.old count.new }
+    ensures within { result.point ≤ length (S.edges status.now) }
+    ensures cut { IsCut (plan_of corners.now) (position_at corners.now number) (S.edges status.now) (take result.point (S.edges status.now)) (drop result.point (S.edges status.now)) }
+    ensures beside { AreBeside (S.edges status.now) result }
+    ensures counted { AddsWork 0 (2 * bits (length corners.now)) (6 * bits (length corners.now)) count.old count.new }
 {
     let position = corners[number].position;
     let below = |edge: usize| -> bool
@@ -34,7 +36,7 @@ pub(crate) fn place_of<S: Status>(
         requires edge { edge < length corners.now }
         ensures { IsTrue result ↔ IsUnder (plan_of corners.entry.now) position edge }
     { is_below(corners, edge, position) };
-    status.split_point(&below, count)
+    status.split_around(&below, count)
 }
 
 /// Whether an edge is below a position.

@@ -2,7 +2,7 @@
 ghost use Rattle.std.specs.Prelude.{◌≡◌, ◌+◌, ◌*◌, [], length, IfOk};
 ghost use Rattle.mvt_polygon.specs.CornerOrder.{AddsWork, IsOrder, IsStrict, with_keys};
 ghost use Rattle.mvt_polygon.specs.Corners.{AreCorners, AreInRange, AreLinked};
-ghost use Rattle.mvt_polygon.specs.RingNotes.{AreStarts, IsNothingNoted};
+ghost use Rattle.mvt_polygon.specs.RingNotes.{IsNothingNoted};
 ghost use Rattle.mvt_polygon.specs.Rings.{rings_of, AreProperRings};
 ghost use Rattle.mvt_polygon.specs.Steps.{IsSweptWithNotes};
 ghost use Rattle.mvt_status.specs.Counts.{bits};
@@ -16,10 +16,10 @@ use mvt_status::Status;
 use std::alloc::AllocError;
 
 /// Goes over all corners in their order, as `sweep` does, and notes of each ring which other rings are around it, where the
-/// line comes to the ring. The only error is that memory was refused.
+/// line comes to the ring. The note stands with each corner of the ring, so that it is read by the number of an edge.
+/// The only error is that memory was refused.
 pub(crate) fn sweep_rings<S: Status>(
     rings: &[Vec<Point>],
-    starts: &[usize],
     corners: &[Corner],
     order: &[usize],
     notes: &mut [Option<Around>],
@@ -28,21 +28,20 @@ pub(crate) fn sweep_rings<S: Status>(
 ) -> Result<Option<Pair>, AllocError>
     requires proper { AreProperRings (rings_of rings.now) }
     requires corners { AreCorners (rings_of rings.now) corners.now }
-    requires starts { AreStarts (rings_of rings.now) starts.now }
-    requires nothing { IsNothingNoted (rings_of rings.now) notes.old }
+    requires nothing { IsNothingNoted (length corners.now) notes.old }
     requires linked { AreLinked corners.now }
     requires in_range { AreInRange corners.now }
     requires order { IsOrder corners.now (with_keys corners.now order.now) }
     requires strict { IsStrict (with_keys corners.now order.now) }
     requires empty { S.edges status.old ≡ [] }
     ensures swept { IfOk result (IsSweptWithNotes (rings_of rings.now) corners.now notes.new) }
-    ensures counted { AddsWork (3 * length order.now) (length order.now * (2 * bits (length corners.now) + 2)) (length order.now * (12 * bits (length corners.now))) count.old count.new }
+    ensures counted { AddsWork (3 * length order.now) (length order.now * (2 * bits (length corners.now) + 2)) (length order.now * (14 * bits (length corners.now))) count.old count.new }
 {
     for at in 0..order.len() {
         match go_over(corners, order[at], status, count)? {
             Step::Meets(pair) => return Ok(Some(pair)),
             Step::Begins(place) => {
-                note_ring(rings, starts, notes, order[at], place, status, count);
+                note_ring(rings, corners, notes, order[at], place, status, count);
             }
             Step::Goes => {}
         }

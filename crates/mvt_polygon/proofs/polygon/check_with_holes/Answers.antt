@@ -10,7 +10,6 @@ use Rattle.mvt_polygon.proofs.FrontRings.{rings_in_range}
 use Rattle.mvt_polygon.proofs.MeetingsFound.{first_within, second_within, some_told, none_told, together_found}
 use Rattle.mvt_polygon.proofs.NumbersInOrder.{order_kept, strict_kept}
 use Rattle.mvt_polygon.proofs.PolygonAnswers.{met_answer, nesting_answer, swept_clear, swept_meets, told_answer, whole_work, sweep_work, written_back}
-use Rattle.mvt_polygon.proofs.RingsThere.{count_of_rings}
 use Rattle.mvt_status.specs.Counts.{bits}
 use Rattle.mvt_polygon.proofs.polygon.check_with_holes.Goals as goal
 use Rattle.mvt_polygon.proofs.polygon.check_with_holes.Goals.{in-Some-told, in-None}
@@ -83,7 +82,7 @@ fault_of_holes-requires-clause-size c =
     let kept : length c.sweep_rings.new.notes ≡ length c.deref_mut.result.now = c.sweep_rings.auto.notes in
     let before : length c.sweep_rings.new.notes ≡ length c.in_ok-notes.notes.items = kept ∙ ap length c.deref_mut.ensures.value in
     let back = written_back c.in_ok-notes.notes.len c.sweep_rings.new.notes c.in_ok-notes.notes.items before c.in_ok-notes.notes.ok.0 in
-    ap length (c.deref-in-None.ensures.value ∙ back) ∙ before ∙ c.in_ok-notes.ensures.count ∙ count_of_rings c.args.rings.now
+    ap length (c.deref-in-None.ensures.value ∙ back) ∙ before ∙ c.in_ok-notes.ensures.count ∙ ap length c.deref-4.ensures.value ∙ c.in_ok-corners.ensures.count
 
 pub fault_of_holes-requires-clause-noted : goal.fault_of_holes-requires-clause-noted
 fault_of_holes-requires-clause-noted c =
@@ -121,8 +120,8 @@ returns-clause-counted c =
     let order_size : length c.deref-6.result.now ≡ vertices =
     ap length (c.deref-6.ensures.value ∙ c.in_ok-order-2.ensures) ∙ length-map c.in_ok-order.order.items (λ (pair : ℤ × ℕ). pair.1) ∙ c.in_ok-order.ensures.whole
     ∙ ap length (c.deref.ensures.value ∙ sym c.deref-5.ensures.value) ∙ are.count in
-    let sweep = subst (λ (n : ℕ). AddsWork (3 * n) (n * (2 * bits (length corners) + 2)) (n * (12 * bits (length corners))) c.args.count.now between) order_size c.sweep_rings.ensures.counted in
-    let swept = subst (λ (n : ℕ). AddsWork (3 * vertices) (vertices * (2 * bits n + 2)) (vertices * (12 * bits n)) c.args.count.now between) are.count sweep in
+    let sweep = subst (λ (n : ℕ). AddsWork (3 * n) (n * (2 * bits (length corners) + 2)) (n * (14 * bits (length corners))) c.args.count.now between) order_size c.sweep_rings.ensures.counted in
+    let swept = subst (λ (n : ℕ). AddsWork (3 * vertices) (vertices * (2 * bits n + 2)) (vertices * (14 * bits n)) c.args.count.now between) are.count sweep in
     elim c.match-told.branch [
       | in-Some-told w ↦ subst (AddsWork (3 * vertices) (vertices * (2 * bits vertices + 3)) (vertices * (20 * bits vertices)) c.args.count.now) (sym w.count-is)
           (sweep_work vertices (bits vertices) c.args.count.now between swept)

@@ -12,7 +12,7 @@ use Rattle.mvt_polygon.proofs.sweep.sweep.Goals as goal
 pub loop-at-init : goal.loop-at-init
 loop-at-init g c = record {
   swept = swept_to_first c.args.corners.now (with_keys c.args.corners.now c.args.order.now) (g.S.Status.edges c.args.status.now) c.requires.linked c.requires.in_range c.requires.order c.requires.empty;
-  counted = no_step (2 * bits (length c.args.corners.now) + 2) (10 * bits (length c.args.corners.now)) c.args.count.now;
+  counted = no_step (2 * bits (length c.args.corners.now) + 2) (12 * bits (length c.args.corners.now)) c.args.count.now;
 }
 
 pub go_over-requires-clause-number : goal.go_over-requires-clause-number
@@ -34,16 +34,16 @@ go_over-requires-clause-next g c =
 
 pub returns-in_err-pair-clause-counted : goal.returns-in_err-pair-clause-counted
 returns-in_err-pair-clause-counted g c =
-    so_many_steps (c.loop-at.at + 1) (length c.args.order.now) (2 * bits (length c.args.corners.now) + 2) (10 * bits (length c.args.corners.now)) c.args.count.now
+    so_many_steps (c.loop-at.at + 1) (length c.args.order.now) (2 * bits (length c.args.corners.now) + 2) (12 * bits (length c.args.corners.now)) c.args.count.now
     c.go_over.new.count (omega (arith, c.loop-at-test.true))
-    (another_step c.loop-at.at (2 * bits (length c.args.corners.now) + 2) (10 * bits (length c.args.corners.now)) c.args.count.now c.loop-at.count c.go_over.new.count
+    (another_step c.loop-at.at (2 * bits (length c.args.corners.now) + 2) (12 * bits (length c.args.corners.now)) c.args.count.now c.loop-at.count c.go_over.new.count
     c.loop-at.invariant.counted c.go_over.ensures.counted)
 
 pub returns-in-Meets-clause-counted : goal.returns-in-Meets-clause-counted
 returns-in-Meets-clause-counted g c =
-    so_many_steps (c.loop-at.at + 1) (length c.args.order.now) (2 * bits (length c.args.corners.now) + 2) (10 * bits (length c.args.corners.now)) c.args.count.now
+    so_many_steps (c.loop-at.at + 1) (length c.args.order.now) (2 * bits (length c.args.corners.now) + 2) (12 * bits (length c.args.corners.now)) c.args.count.now
     c.go_over.new.count (omega (arith, c.loop-at-test.true))
-    (another_step c.loop-at.at (2 * bits (length c.args.corners.now) + 2) (10 * bits (length c.args.corners.now)) c.args.count.now c.loop-at.count c.go_over.new.count
+    (another_step c.loop-at.at (2 * bits (length c.args.corners.now) + 2) (12 * bits (length c.args.corners.now)) c.args.count.now c.loop-at.count c.go_over.new.count
     c.loop-at.invariant.counted c.go_over.ensures.counted)
 
 pub loop-at-preserved : goal.loop-at-preserved
@@ -57,7 +57,7 @@ loop-at-preserved g c =
           there
           (step_over c.args.corners.now number (g.S.Status.edges c.loop-at.status) (g.S.Status.edges c.go_over.new.status) c.in_ok-pair.field-0 c.in_ok-pair.ensures.step
           c.in_default.not-Meets);
-      counted = another_step c.loop-at.at (2 * bits (length c.args.corners.now) + 2) (10 * bits (length c.args.corners.now)) c.args.count.now c.loop-at.count c.go_over.new.count
+      counted = another_step c.loop-at.at (2 * bits (length c.args.corners.now) + 2) (12 * bits (length c.args.corners.now)) c.args.count.now c.loop-at.count c.go_over.new.count
           c.loop-at.invariant.counted c.go_over.ensures.counted;
     }
 
@@ -68,5 +68,5 @@ returns-clause-none g c =
 
 pub returns-clause-counted : goal.returns-clause-counted
 returns-clause-counted g c =
-    so_many_steps c.loop-at.at (length c.args.order.now) (2 * bits (length c.args.corners.now) + 2) (10 * bits (length c.args.corners.now)) c.args.count.now c.loop-at.count
+    so_many_steps c.loop-at.at (length c.args.order.now) (2 * bits (length c.args.corners.now) + 2) (12 * bits (length c.args.corners.now)) c.args.count.now c.loop-at.count
     c.loop-at.auto.at-end c.loop-at.invariant.counted

@@ -7,5 +7,5 @@ use Rattle.mvt_polygon.proofs.sweep.sweep.Given as goal
 abbrev pub invariant-loop-at : goal.invariant-loop-at
 invariant-loop-at g l = record {
   swept : IsSweptTo l.corners (with_keys l.corners l.order) l.at (g.S.Status.edges l.status);
-  counted : AddsWork (3 * l.at) (l.at * (2 * bits (length l.corners) + 2)) (l.at * (10 * bits (length l.corners))) l.fn.count l.count;
+  counted : AddsWork (3 * l.at) (l.at * (2 * bits (length l.corners) + 2)) (l.at * (12 * bits (length l.corners))) l.fn.count l.count;
 }

@@ -44,15 +44,15 @@ cut_of plan here there edges point same split =
     (subst (λ (position : Position). IsSplit (Answers plan position) edges point) same split) in
     record { whole = take_drop edges point; below = parts.0; others = parts.1 }
 
-pub split_point-requires-clause-splits : goal.split_point-requires-clause-splits
-split_point-requires-clause-splits g c =
+pub split_around-requires-clause-splits : goal.split_around-requires-clause-splits
+split_around-requires-clause-splits g c =
     splits _ (slice_index_or c.args.corners.now c.args.number c.index-corners-number.result).position _ (g.S.Status.edges c.args.status.now)
     (ap (λ (corner : Corner). corner.position) (get_or_default c.args.corners.now c.args.number c.index-corners-number.result no_corner c.requires.number)) c.requires.cut
 
 pub returns-clause-cut : goal.returns-clause-cut
 returns-clause-cut g c =
-    cut_of _ (slice_index_or c.args.corners.now c.args.number c.index-corners-number.result).position _ (g.S.Status.edges c.args.status.now) c.split_point.result
-    (ap (λ (corner : Corner). corner.position) (get_or_default c.args.corners.now c.args.number c.index-corners-number.result no_corner c.requires.number)) c.split_point.ensures.split
+    cut_of _ (slice_index_or c.args.corners.now c.args.number c.index-corners-number.result).position _ (g.S.Status.edges c.args.status.now) c.split_around.result.point
+    (ap (λ (corner : Corner). corner.position) (get_or_default c.args.corners.now c.args.number c.index-corners-number.result no_corner c.requires.number)) c.split_around.ensures.split
 
 pub returns-clause-counted : goal.returns-clause-counted
-returns-clause-counted g c = work_of_split (length (g.S.Status.edges c.args.status.now)) (length c.args.corners.now) c.requires.few c.split_point.ensures.counted
+returns-clause-counted g c = work_of_split (length (g.S.Status.edges c.args.status.now)) (length c.args.corners.now) c.requires.few c.split_around.ensures.counted

@@ -1,4 +1,4 @@
-use Rattle.std.proofs.Common.{◌+◌, ◌*◌, ◌<◌, ℕ, length, sym, subst, arith, slice_index_or}
+use Rattle.std.proofs.Common.{◌+◌, ◌*◌, length, sym, subst, arith, slice_index_or}
 use Rattle.mvt_plane.specs.Counted.{Counted}
 use Rattle.mvt_plane.specs.Measure.{key_of}
 use Rattle.mvt_status.specs.Counts.{bits}
@@ -15,9 +15,9 @@ use Rattle.mvt_polygon.proofs.sweep.rings.sweep_rings.Goals.{in-Begins, in-Goes}
 
 pub loop-at-init : goal.loop-at-init
 loop-at-init g c = record {
-  swept = rings_to_first (rings_of c.args.rings.now) c.args.corners.now (with_keys c.args.corners.now c.args.order.now) (g.S.Status.edges c.args.status.now) c.args.notes.now c.requires.linked
+  swept = rings_to_first (rings_of c.args.rings.now) c.args.corners.now (with_keys c.args.corners.now c.args.order.now) (g.S.Status.edges c.args.status.now) c.args.notes.now c.requires.corners c.requires.linked
       c.requires.in_range c.requires.order c.requires.empty c.requires.nothing;
-  counted = no_step (2 * bits (length c.args.corners.now) + 2) (12 * bits (length c.args.corners.now)) c.args.count.now;
+  counted = no_step (2 * bits (length c.args.corners.now) + 2) (14 * bits (length c.args.corners.now)) c.args.count.now;
 }
 
 pub go_over-requires-clause-number : goal.go_over-requires-clause-number
@@ -33,23 +33,25 @@ go_over-requires-clause-next g c =
 
 pub returns-in_err-pair-clause-counted : goal.returns-in_err-pair-clause-counted
 returns-in_err-pair-clause-counted g c =
-    so_many_steps (c.loop-at.at + 1) (length c.args.order.now) (2 * bits (length c.args.corners.now) + 2) (12 * bits (length c.args.corners.now)) c.args.count.now
+    so_many_steps (c.loop-at.at + 1) (length c.args.order.now) (2 * bits (length c.args.corners.now) + 2) (14 * bits (length c.args.corners.now)) c.args.count.now
     c.go_over.new.count (omega (arith, c.loop-at-test.true))
-    (another_step c.loop-at.at (2 * bits (length c.args.corners.now) + 2) (12 * bits (length c.args.corners.now)) c.args.count.now c.loop-at.count c.go_over.new.count
+    (another_step c.loop-at.at (2 * bits (length c.args.corners.now) + 2) (14 * bits (length c.args.corners.now)) c.args.count.now c.loop-at.count c.go_over.new.count
     c.loop-at.invariant.counted (work_gone (length c.args.corners.now) c.loop-at.count c.go_over.new.count c.go_over.ensures.counted))
 
 pub returns-in-Meets-clause-counted : goal.returns-in-Meets-clause-counted
 returns-in-Meets-clause-counted g c =
-    so_many_steps (c.loop-at.at + 1) (length c.args.order.now) (2 * bits (length c.args.corners.now) + 2) (12 * bits (length c.args.corners.now)) c.args.count.now
+    so_many_steps (c.loop-at.at + 1) (length c.args.order.now) (2 * bits (length c.args.corners.now) + 2) (14 * bits (length c.args.corners.now)) c.args.count.now
     c.go_over.new.count (omega (arith, c.loop-at-test.true))
-    (another_step c.loop-at.at (2 * bits (length c.args.corners.now) + 2) (12 * bits (length c.args.corners.now)) c.args.count.now c.loop-at.count c.go_over.new.count
+    (another_step c.loop-at.at (2 * bits (length c.args.corners.now) + 2) (14 * bits (length c.args.corners.now)) c.args.count.now c.loop-at.count c.go_over.new.count
     c.loop-at.invariant.counted (work_gone (length c.args.corners.now) c.loop-at.count c.go_over.new.count c.go_over.ensures.counted))
+
+pub note_ring-requires-clause-size : goal.note_ring-requires-clause-size
+note_ring-requires-clause-size g c = c.loop-at.invariant.swept.noted.size
 
 pub note_ring-requires-clause-number : goal.note_ring-requires-clause-number
 note_ring-requires-clause-number g c =
     let number = slice_index_or c.args.order.now c.loop-at.at 0 in
-    subst (λ (count : ℕ). number < count) c.requires.corners.count
-    (c.requires.order.known c.loop-at.at (key_of (position_at c.args.corners.now number)) number (number_there c.args.corners.now c.args.order.now c.loop-at.at c.loop-at-test.true))
+    c.requires.order.known c.loop-at.at (key_of (position_at c.args.corners.now number)) number (number_there c.args.corners.now c.args.order.now c.loop-at.at c.loop-at-test.true)
 
 pub note_ring-requires-clause-below : goal.note_ring-requires-clause-below
 note_ring-requires-clause-below g c =
@@ -80,8 +82,8 @@ loop-at-preserved g c =
             swept = subst (AreRingsSwept rings corners order (at + 1) after) (sym w.notes-is)
                 (rings_to_begun rings corners order at key number w.in-Begins.place before after c.loop-at.notes w.note_ring.new.notes c.requires.proper c.requires.corners c.requires.linked
                 c.requires.in_range c.requires.order c.requires.strict there c.loop-at.invariant.swept step.0 step.1 w.note_ring.ensures.noted);
-            counted = subst (λ (count : Counted). AddsWork (3 * (at + 1)) ((at + 1) * (2 * bits many + 2)) ((at + 1) * (12 * bits many)) c.args.count.now count) (sym w.count-is)
-                (another_step at (2 * bits many + 2) (12 * bits many) c.args.count.now c.loop-at.count w.note_ring.new.count c.loop-at.invariant.counted
+            counted = subst (λ (count : Counted). AddsWork (3 * (at + 1)) ((at + 1) * (2 * bits many + 2)) ((at + 1) * (14 * bits many)) c.args.count.now count) (sym w.count-is)
+                (another_step at (2 * bits many + 2) (14 * bits many) c.args.count.now c.loop-at.count w.note_ring.new.count c.loop-at.invariant.counted
                 (work_noted corners number after c.loop-at.count c.go_over.new.count w.note_ring.new.count c.requires.linked c.requires.in_range step.0 c.go_over.ensures.counted
                 w.note_ring.ensures.counted));
           }
@@ -91,8 +93,8 @@ loop-at-preserved g c =
             swept = subst (AreRingsSwept rings corners order (at + 1) after) (sym w.notes-is)
                 (rings_to_entered rings corners order at key number before after c.loop-at.notes c.requires.proper c.requires.corners c.requires.linked c.requires.order c.requires.strict
                 there c.loop-at.invariant.swept step.0 step.1);
-            counted = subst (λ (count : Counted). AddsWork (3 * (at + 1)) ((at + 1) * (2 * bits many + 2)) ((at + 1) * (12 * bits many)) c.args.count.now count) (sym w.count-is)
-                (another_step at (2 * bits many + 2) (12 * bits many) c.args.count.now c.loop-at.count c.go_over.new.count c.loop-at.invariant.counted
+            counted = subst (λ (count : Counted). AddsWork (3 * (at + 1)) ((at + 1) * (2 * bits many + 2)) ((at + 1) * (14 * bits many)) c.args.count.now count) (sym w.count-is)
+                (another_step at (2 * bits many + 2) (14 * bits many) c.args.count.now c.loop-at.count c.go_over.new.count c.loop-at.invariant.counted
                 (work_gone many c.loop-at.count c.go_over.new.count c.go_over.ensures.counted));
           }
     ]
@@ -105,5 +107,5 @@ returns-clause-swept g c =
 
 pub returns-clause-counted : goal.returns-clause-counted
 returns-clause-counted g c =
-    so_many_steps c.loop-at.at (length c.args.order.now) (2 * bits (length c.args.corners.now) + 2) (12 * bits (length c.args.corners.now)) c.args.count.now c.loop-at.count
+    so_many_steps c.loop-at.at (length c.args.order.now) (2 * bits (length c.args.corners.now) + 2) (14 * bits (length c.args.corners.now)) c.args.count.now c.loop-at.count
     c.loop-at.auto.at-end c.loop-at.invariant.counted
