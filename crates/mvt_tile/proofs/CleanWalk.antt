@@ -9,8 +9,9 @@ use Rattle.mvt_wire.specs.Walk.{Walk, IsOver, GivesField}
 use Rattle.mvt_tile.specs.First.{AreClean}
 use Rattle.mvt_tile.proofs.Filters.{contents_of-append, picked-push, picked-other}
 use Rattle.mvt_tile.proofs.ReadingWalk.{IsWalking-front, IsWalking-over}
-use Rattle.mvt_tile.proofs.Spans.{AreClean-push, slice_get-append, slice_get-last, slice_get-some}
-use Rattle.mvt_tile.proofs.Walking.{IsWalking, IsWalking-more}
+use Rattle.mvt_tile.proofs.Spans.{AreClean-push, slice_get-append, slice_get-some}
+use Rattle.mvt_wire.proofs.Walking.{IsWalking, IsWalking-more}
+use Rattle.mvt_wire.proofs.Payloads.{slice_get-last}
 
 -- the fields that were passed, and how many messages they hold, all of them clean
 pub record CleanWalk (Clean : ℕ → Span → Type 0) (field_number : ℕ) (message : List ℕ) (from : ℕ) (walk : Walk) (count : ℕ) : Type 0 where
@@ -19,6 +20,17 @@ pub record CleanWalk (Clean : ℕ → Span → Type 0) (field_number : ℕ) (mes
   pub counted : count ≡ length (spans_of field_number entries)
   pub clean : AreClean Clean (spans_of field_number entries)
   pub few : count ≤ walk.at
+
+-- they are clean in another sense too, where this one is the stricter
+pub CleanWalk-weaker : (Clean Other : ℕ → Span → Type 0) (field_number : ℕ) (message : List ℕ) (from : ℕ) (walk : Walk) (count : ℕ) → ((ordinal : ℕ) (span : Span) → Clean ordinal span → Other ordinal span)
+    → CleanWalk Clean field_number message from walk count → CleanWalk Other field_number message from walk count
+CleanWalk-weaker Clean Other field_number message from walk count weaker so_far = record {
+  entries = so_far.entries;
+  walking = so_far.walking;
+  counted = so_far.counted;
+  clean = λ ordinal span here. weaker ordinal span (so_far.clean ordinal span here);
+  few = so_far.few;
+}
 
 -- of the messages, the one with this ordinal, behind clean ones
 pub record IsNext (Clean : ℕ → Span → Type 0) (spans : List Span) (ordinal : ℕ) (span : Span) : Type 0 where

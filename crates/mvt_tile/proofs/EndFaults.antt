@@ -10,7 +10,7 @@ use Rattle.mvt_wire.specs.declared.schema.Message.TheVariants.{Value}
 use Rattle.mvt_fault.specs.Place.{ComesFirst}
 use Rattle.mvt_tile.specs.Least.{cause_place, IsLeastCause}
 use Rattle.mvt_tile.specs.Scan.{Passes, IsMissing}
-use Rattle.mvt_tile.specs.declared.scan.FieldScan.{FieldScan}
+use Rattle.mvt_tile.specs.declared.wire.scan.FieldScan.{FieldScan}
 use Rattle.mvt_tile.proofs.Causes.{by_code, by_field, same_cause}
 
 -- a fault at the end of a message is told there

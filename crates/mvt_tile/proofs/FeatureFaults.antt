@@ -1,19 +1,21 @@
 -- Which fault of the features of a tile comes first: it is one of the first feature that has a fault, and there the tags
 -- come before the further rule.
-use Rattle.std.proofs.Common.{◌≡◌, ℕ, ◌<◌, inl, inr, List, ◌∷◌, length, Option, Some, None, IfSome, IfNone, slice_get, refl, sym, ◌∙◌, ap, subst, arith}
+use Rattle.std.proofs.Common.{◌≡◌, ℕ, ◌<◌, inl, inr, List, ◌∷◌, length, Some, slice_get, refl, sym, ◌∙◌, ap, subst, arith}
 use Rattle.std.proofs.lemmas.Bool.{cases_lt}
 use Rattle.mvt_wire.specs.Scope.{Span, spans_of}
 use Rattle.mvt_wire.specs.Tile.{FeatureRecord, IsFeature, LayerRecord, IsLayer, TileRecord, IsTile}
 use Rattle.mvt_fault.specs.Place.{ComesFirst, IsLeast, place_of}
-use Rattle.mvt_fault.specs.Truth.{IsFaultOfTags, OneFeatureHas, tag}
+use Rattle.mvt_fault.specs.Truth.{IsFaultOfTags, OneFeatureHas, TagsBreak, tag}
 use Rattle.mvt_fault.specs.declared.fault.Fault.{Fault}
 use Rattle.mvt_fault.specs.declared.fault.Fault.TheVariants.{Tag}
 use Rattle.mvt_fault.specs.declared.tag.TagCode.{TagCode}
+use Rattle.mvt_fault.specs.declared.tag.TagCode.TheVariants.{OddLength, NoKey, NoValue, Repeated}
 use Rattle.mvt_wire.proofs.Members.{each_here, each_there}
 use Rattle.mvt_tile.specs.FeatureRules.{Breaks, Keeps, IsFaultOfFeature, IsFaultInLayer, IsSound, AllSoundInLayer, AllSound}
 use Rattle.mvt_tile.specs.First.{AreClean}
-use Rattle.mvt_tile.specs.RuleFaults.{IsFirstTagFault, IsSummary, IsBehindTags}
-use Rattle.mvt_tile.specs.declared.rules.summary.LayerSummary.{LayerSummary}
+use Rattle.mvt_tile.specs.RuleFaults.{HasEnough, HasSameTagFaults, IsFirstTagFault, IsBehindTags}
+use Rattle.mvt_tile.specs.TagNeeds.{AreMetBy}
+use Rattle.mvt_tile.specs.declared.rules.tags.TagNeeds.{TagNeeds}
 use Rattle.mvt_tile.proofs.CleanWalk.{IsNext}
 use Rattle.mvt_tile.proofs.TagFaults.{IsLeast-first}
 
@@ -21,15 +23,15 @@ use Rattle.mvt_tile.proofs.TagFaults.{IsLeast-first}
 abbrev pub AreBehindTags : Breaks → Type 0
 AreBehindTags IsBroken = (it : FeatureRecord) (layer feature : ℕ) (fault : Fault) → IsBroken it layer feature fault → IsBehindTags layer feature (place_of fault)
 
--- the feature in a stretch is sound, in a layer of this summary and ordinal
-abbrev pub IsGoodFeature : Breaks → Keeps → List ℕ → LayerSummary → ℕ → ℕ → Span → Type 0
-IsGoodFeature IsBroken IsKept bytes summary layer ordinal span =
-    (it : FeatureRecord) → IsFeature bytes span it → (whose : LayerRecord) → IsSummary summary whose → IsSound IsBroken IsKept whose it layer ordinal
+-- the feature in a stretch is sound, in each layer of which so much is known
+abbrev pub IsGoodFeature : Breaks → Keeps → List ℕ → (LayerRecord → Type 0) → ℕ → ℕ → Span → Type 0
+IsGoodFeature IsBroken IsKept bytes IsKnown layer ordinal span =
+    (it : FeatureRecord) → IsFeature bytes span it → (whose : LayerRecord) → IsKnown whose → IsSound IsBroken IsKept whose it layer ordinal
 
 -- it has this one as its first fault
-abbrev pub IsFirstOfFeature : Breaks → List ℕ → LayerSummary → ℕ → Fault → ℕ → Span → Type 0
-IsFirstOfFeature IsBroken bytes summary layer fault ordinal span =
-    (it : FeatureRecord) → IsFeature bytes span it → (whose : LayerRecord) → IsSummary summary whose → IsLeast (IsFaultOfFeature IsBroken whose it layer ordinal) fault
+abbrev pub IsFirstOfFeature : Breaks → List ℕ → (LayerRecord → Type 0) → ℕ → Fault → ℕ → Span → Type 0
+IsFirstOfFeature IsBroken bytes IsKnown layer fault ordinal span =
+    (it : FeatureRecord) → IsFeature bytes span it → (whose : LayerRecord) → IsKnown whose → IsLeast (IsFaultOfFeature IsBroken whose it layer ordinal) fault
 
 -- all features of the layer in a stretch are sound
 abbrev pub IsGoodLayer : Breaks → Keeps → List ℕ → ℕ → Span → Type 0
@@ -58,16 +60,43 @@ by_feature fault other layer feature other_feature first second less =
     let ordered : ComesFirst (2 ∷ layer ∷ feature ∷ first.0) (2 ∷ layer ∷ other_feature ∷ second.0) = inr (refl, inr (refl, inl less)) in
     subst (λ (place : List ℕ). ComesFirst place (place_of other)) (sym first.1) (subst (ComesFirst (2 ∷ layer ∷ feature ∷ first.0)) (sym second.1) ordered)
 
+-- in a layer of as many keys and values tags have the same faults
+pub HasSameTagFaults-counts : (keys values : ℕ) (layer : LayerRecord) (tags : List ℕ) → keys ≡ length layer.keys → values ≡ length layer.values → HasSameTagFaults keys values layer tags
+HasSameTagFaults-counts keys values layer tags same_keys same_values = record {
+  there = λ code place broken.
+      subst (λ (n : ℕ). TagsBreak code (length layer.keys) n tags place) same_values (subst (λ (n : ℕ). TagsBreak code n values tags place) same_keys broken);
+  back = λ code place broken.
+      subst (λ (n : ℕ). TagsBreak code n values tags place) (sym same_keys) (subst (λ (n : ℕ). TagsBreak code (length layer.keys) n tags place) (sym same_values) broken);
+}
+
+-- and in each that has what they need
+pub HasSameTagFaults-enough : (needs : TagNeeds) (layer : LayerRecord) (tags : List ℕ) → AreMetBy needs tags → HasEnough needs layer → HasSameTagFaults needs.keys needs.values layer tags
+HasSameTagFaults-enough needs layer tags met enough = record { there = there; back = back }
+  where
+    there : (code : TagCode) (place : ℕ) → TagsBreak code needs.keys needs.values tags place → TagsBreak code (length layer.keys) (length layer.values) tags place
+    there OddLength place broken = broken
+    there NoKey place broken = absurd (met.keys needs.keys place (omega arith) broken)
+    there NoValue place broken = absurd (met.values needs.values place (omega arith) broken)
+    there Repeated place broken = broken
+
+    back : (code : TagCode) (place : ℕ) → TagsBreak code (length layer.keys) (length layer.values) tags place → TagsBreak code needs.keys needs.values tags place
+    back OddLength place broken = broken
+    back NoKey place broken = absurd (met.keys (length layer.keys) place enough.keys broken)
+    back NoValue place broken = absurd (met.values (length layer.values) place enough.values broken)
+    back Repeated place broken = broken
+
 module _ (IsBroken : Breaks) where
   -- one feature: its tags decide where they have a fault
-  module _ (summary : LayerSummary) (whose : LayerRecord) (sums : IsSummary summary whose) (it : FeatureRecord) (layer feature : ℕ) where
+  module _ (keys values : ℕ) (whose : LayerRecord) (it : FeatureRecord) (same : HasSameTagFaults keys values whose it.tags) (layer feature : ℕ) where
     -- the first fault of the tags, by the layer's own numbers of keys and values
-    first_in_layer_of : (code : TagCode) (index : ℕ) → IsFirstTagFault summary.keys summary.values it.tags code index → IsFirstTagFault (length whose.keys) (length whose.values) it.tags code index
-    first_in_layer_of code index first =
-        subst (λ (n : ℕ). IsFirstTagFault (length whose.keys) n it.tags code index) sums.values (subst (λ (n : ℕ). IsFirstTagFault n summary.values it.tags code index) sums.keys first)
+    first_in_layer_of : (code : TagCode) (index : ℕ) → IsFirstTagFault keys values it.tags code index → IsFirstTagFault (length whose.keys) (length whose.values) it.tags code index
+    first_in_layer_of code index first = record {
+      broken = same.there code index first.broken;
+      first = λ other place broken. first.first other place (same.back other place broken);
+    }
 
     pub tags_decide : ((fault : Fault) → IsBroken it layer feature fault → IsBehindTags layer feature (place_of fault)) → (code : TagCode) (index : ℕ)
-        → IsFirstTagFault summary.keys summary.values it.tags code index → IsLeast (IsFaultOfFeature IsBroken whose it layer feature) (Tag code layer feature index)
+        → IsFirstTagFault keys values it.tags code index → IsLeast (IsFaultOfFeature IsBroken whose it layer feature) (Tag code layer feature index)
     tags_decide behind_tags code index first = record { holds = inl of_tags.holds; least = behind }
       where
         of_tags : IsLeast (IsFaultOfTags whose it layer feature) (Tag code layer feature index)
@@ -82,20 +111,14 @@ module _ (IsBroken : Breaks) where
             subst (ComesFirst (place_of (Tag code layer feature index))) (sym place.3) ordered
 
   -- what is found of the feature that was read, as said of the one that stands there
-  module _ (bytes : List ℕ) (summary : LayerSummary) (layer ordinal : ℕ) (span : Span) (read : FeatureRecord) (reads : (it : FeatureRecord) → IsFeature bytes span it → read ≡ it) (found : Option Fault) where
-    pub good_feature : (IsKept : Keeps) → found ≡ None → IfNone found ((whose : LayerRecord) → IsSummary summary whose → IsSound IsBroken IsKept whose read layer ordinal)
-        → IsGoodFeature IsBroken IsKept bytes summary layer ordinal span
-    good_feature IsKept is none = λ it stands whose sums.
-        let good : (other : LayerRecord) → IsSummary summary other → IsSound IsBroken IsKept other read layer ordinal =
-        subst (λ (answer : Option Fault). IfNone answer ((other : LayerRecord) → IsSummary summary other → IsSound IsBroken IsKept other read layer ordinal)) is none in
-        subst (λ (feature : FeatureRecord). IsSound IsBroken IsKept whose feature layer ordinal) (reads it stands) (good whose sums)
+  module _ (bytes : List ℕ) (IsKnown : LayerRecord → Type 0) (layer ordinal : ℕ) (span : Span) (read : FeatureRecord) (reads : (it : FeatureRecord) → IsFeature bytes span it → read ≡ it) where
+    pub good_feature : (IsKept : Keeps) → ((whose : LayerRecord) → IsKnown whose → IsSound IsBroken IsKept whose read layer ordinal) → IsGoodFeature IsBroken IsKept bytes IsKnown layer ordinal span
+    good_feature IsKept good = λ it stands whose known. subst (λ (feature : FeatureRecord). IsSound IsBroken IsKept whose feature layer ordinal) (reads it stands) (good whose known)
 
-    pub first_of_feature : (fault : Fault) → found ≡ Some fault → IfSome found (λ first. (whose : LayerRecord) → IsSummary summary whose → IsLeast (IsFaultOfFeature IsBroken whose read layer ordinal) first)
-        → IsFirstOfFeature IsBroken bytes summary layer fault ordinal span
-    first_of_feature fault is some = λ it stands whose sums.
-        let first : (other : LayerRecord) → IsSummary summary other → IsLeast (IsFaultOfFeature IsBroken other read layer ordinal) fault =
-        subst (λ (answer : Option Fault). IfSome answer (λ some. (other : LayerRecord) → IsSummary summary other → IsLeast (IsFaultOfFeature IsBroken other read layer ordinal) some)) is some in
-        subst (λ (feature : FeatureRecord). IsLeast (IsFaultOfFeature IsBroken whose feature layer ordinal) fault) (reads it stands) (first whose sums)
+    pub first_of_feature : (fault : Fault) → ((whose : LayerRecord) → IsKnown whose → IsLeast (IsFaultOfFeature IsBroken whose read layer ordinal) fault)
+        → IsFirstOfFeature IsBroken bytes IsKnown layer fault ordinal span
+    first_of_feature fault first = λ it stands whose known.
+        subst (λ (feature : FeatureRecord). IsLeast (IsFaultOfFeature IsBroken whose feature layer ordinal) fault) (reads it stands) (first whose known)
 
   module _ (behind_tags : AreBehindTags IsBroken) where
     -- each fault of a feature is at one of its places
@@ -112,23 +135,23 @@ module _ (IsBroken : Breaks) where
     in_its_layer tile fault holds = record { feature = holds.feature; it = holds.it; there = holds.there.in_layer; broken = holds.broken }
 
     module _ (IsKept : Keeps) where
-      module _ (bytes : List ℕ) (span : Span) (whose : LayerRecord) (is : IsLayer bytes span whose) (layer : ℕ) (summary : LayerSummary) (sums : IsSummary summary whose) where
+      module _ (bytes : List ℕ) (span : Span) (whose : LayerRecord) (is : IsLayer bytes span whose) (layer : ℕ) (IsKnown : LayerRecord → Type 0) (known : IsKnown whose) where
         -- where each feature is good, all are sound
-        pub good_layer : AreClean (IsGoodFeature IsBroken IsKept bytes summary layer) (spans_of 2 is.entries) → AllSoundInLayer IsBroken IsKept whose layer
+        pub good_layer : AreClean (IsGoodFeature IsBroken IsKept bytes IsKnown layer) (spans_of 2 is.entries) → AllSoundInLayer IsBroken IsKept whose layer
         good_layer clean feature it there =
             let member = each_here (IsFeature bytes) (spans_of 2 is.entries) whose.features feature it is.features there in
-            clean feature member.0 member.1 it member.2 whose sums
+            clean feature member.0 member.1 it member.2 whose known
 
         -- the first fault of the first feature that has one comes before all others of the layer
-        pub first_in_layer : (feature : ℕ) (inner : Span) (fault : Fault) → IsNext (IsGoodFeature IsBroken IsKept bytes summary layer) (spans_of 2 is.entries) feature inner
-            → IsFirstOfFeature IsBroken bytes summary layer fault feature inner → IsLeast (IsFaultInLayer IsBroken whose layer) fault
+        pub first_in_layer : (feature : ℕ) (inner : Span) (fault : Fault) → IsNext (IsGoodFeature IsBroken IsKept bytes IsKnown layer) (spans_of 2 is.entries) feature inner
+            → IsFirstOfFeature IsBroken bytes IsKnown layer fault feature inner → IsLeast (IsFaultInLayer IsBroken whose layer) fault
         first_in_layer feature inner fault next found = record { holds = here; least = behind }
           where
             at : (it : FeatureRecord) × (slice_get whose.features feature ≡ Some it) × IsFeature bytes inner it
             at = each_there (IsFeature bytes) (spans_of 2 is.entries) whose.features feature inner is.features next.here
 
             first : IsLeast (IsFaultOfFeature IsBroken whose at.0 layer feature) fault
-            first = found at.0 at.2 whose sums
+            first = found at.0 at.2 whose known
 
             here : IsFaultInLayer IsBroken whose layer fault
             here = record { feature = feature; it = at.0; there = at.1; broken = first.holds }
@@ -140,12 +163,12 @@ module _ (IsBroken : Breaks) where
                   | inl later ↦
                       by_feature fault other layer feature holds.feature (place_at whose at.0 layer feature fault first.holds) (place_at whose holds.it layer holds.feature other holds.broken) later
                   | inr not_later ↦ elim (cases_lt holds.feature feature) [
-                    | inl earlier ↦ absurd ((next.before holds.feature member.0 earlier member.1 holds.it member.2 whose sums).faultless other holds.broken)
+                    | inl earlier ↦ absurd ((next.before holds.feature member.0 earlier member.1 holds.it member.2 whose known).faultless other holds.broken)
                     | inr not_earlier ↦
                         let same : holds.feature ≡ feature = omega arith in
                         let both : Some member.0 ≡ Some inner = sym member.1 ∙ ap (slice_get (spans_of 2 is.entries)) same ∙ next.here in
                         let spans : member.0 ≡ inner = cc in
-                        (found holds.it (subst (λ (s : Span). IsFeature bytes s holds.it) spans member.2) whose sums).least other
+                        (found holds.it (subst (λ (s : Span). IsFeature bytes s holds.it) spans member.2) whose known).least other
                         (subst (λ (ordinal : ℕ). IsFaultOfFeature IsBroken whose holds.it layer ordinal other) same holds.broken)
                   ]
                 ]

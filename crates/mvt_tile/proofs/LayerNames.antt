@@ -1,10 +1,7 @@
--- What the names that were kept say of the layers of a tile.
-use Rattle.std.proofs.Common.{◌≡◌, ◌≢◌, ℕ, ◌+◌, ◌<◌, ◌≤◌, Bool, true, false, List, [], ◌∷◌, length, slice_get, Some, None, inl, inr, refl, sym, ◌∙◌, ap, arith}
-use Rattle.std.proofs.lemmas.Bool.{cases_lt, cond-true, cond-false, false_from_ne_true}
-use Rattle.std.proofs.lemmas.Option.{slice_get_within}
-use Rattle.std.proofs.lemmas.Slice.Eq.{bytes_eq-Decides}
-use Rattle.std.specs.Map.{update}
-use Rattle.std.specs.Str.{bytes_eq}
+-- What the names of the layers that were passed say of a tile's layers.
+use Rattle.std.proofs.Common.{◌≡◌, ◌≢◌, ℕ, ◌+◌, ◌<◌, ◌≤◌, true, false, List, [], ◌∷◌, ◌++◌, length, slice_get, Some, inl, inr, refl, sym, ◌∙◌, ap, true≢false, length-append, arith}
+use Rattle.std.proofs.lemmas.Bool.{cases_lt}
+use Rattle.std.proofs.lemmas.Option.{slice_get_within, same_Some}
 use Rattle.mvt_wire.specs.Rules.{OtherVersion, SameName}
 use Rattle.mvt_wire.specs.Tile.{LayerRecord, TileRecord}
 use Rattle.mvt_fault.specs.Place.{place_of, ComesFirst, IsLeast}
@@ -13,8 +10,11 @@ use Rattle.mvt_fault.specs.Truth as faults
 use Rattle.mvt_fault.specs.declared.fault.Fault.{Fault}
 use Rattle.mvt_fault.specs.declared.fault.Fault.TheVariants.{Version, Name}
 use Rattle.mvt_fault.proofs.Places.{ComesFirst-reflexive}
-use Rattle.mvt_tile.specs.PassedLayers.{passed, ordinal_of, PassesLayers, IsNextLayer}
+use Rattle.mvt_tile.specs.Names.{IsRepeated, IsFirstRepeated}
+use Rattle.mvt_tile.specs.PassedLayers.{passed, ArePassed, PassesLayers, IsNextLayer, IsOtherNext, EndsLayers}
 use Rattle.mvt_tile.specs.declared.rules.layer_rules.LayerRules.{LayerRules}
+use Rattle.mvt_tile.proofs.Spans.{slice_get-append}
+use Rattle.mvt_wire.proofs.Payloads.{slice_get-last}
 
 -- the last numbers of the place of a wrong version, behind its layer
 abbrev version_numbers : List ℕ
@@ -34,117 +34,157 @@ by_layer layer other xs ys ordered rest = inr (
   ],
 )
 
-module _ (rules : LayerRules) (tile : TileRecord) (passes : PassesLayers rules tile) where
+module _ (rules : LayerRules) (tile : TileRecord) (layers : ArePassed rules tile) where
   -- a layer of another version wasn't passed
   behind_version : (layer : ℕ) → OtherVersion tile layer → passed rules ≤ layer
   behind_version layer fault = elim (cases_lt layer (passed rules)) [
-    | inl before ↦ absurd (fault.other (passes.keeps layer fault.whose before fault.there).0)
+    | inl before ↦ absurd (fault.other (layers.version layer fault.whose before fault.there))
     | inr behind ↦ behind
   ]
 
-  -- nor was the second of two layers that have one name
-  behind_name : (first second : ℕ) → SameName tile first second → passed rules ≤ second
-  behind_name first second fault = elim (cases_lt second (passed rules)) [
-    | inl before ↦
-        let earlier : first < second = fault.earlier in
-        let kept : Some first ≡ Some second =
-        sym (passes.keeps first fault.whose (omega arith) fault.there).1 ∙ ap (ordinal_of rules) fault.same ∙ (passes.keeps second fault.other before fault.other_there).1 in
-        let one : first ≡ second = cc in
+  -- two passed layers of one name have one name among those that are kept
+  repeated_from : (first second : ℕ) → SameName tile first second → second < passed rules → IsRepeated rules.names first second
+  repeated_from first second fault before =
+      let earlier = fault.earlier in
+      record {
+        earlier = earlier;
+        name = fault.whose.name;
+        there = layers.named first fault.whose (omega arith) fault.there;
+        again = layers.named second fault.other before fault.other_there ∙ ap Some (sym fault.same);
+      }
+
+  -- and the other way round
+  same_from : (first second : ℕ) → IsRepeated rules.names first second → SameName tile first second
+  same_from first second repeated =
+      let earlier = repeated.earlier in
+      let within = slice_get_within rules.names second repeated.name repeated.again in
+      let one = layers.there first (omega arith) in
+      let other = layers.there second within in
+      record {
+        earlier = earlier;
+        whose = one.0;
+        there = one.1;
+        other = other.0;
+        other_there = other.1;
+        same = same_Some one.0.name other.0.name (sym (layers.named first one.0 (omega arith) one.1) ∙ repeated.there ∙ sym repeated.again ∙ layers.named second other.0 within other.1);
+      }
+
+  module _ (none : (first second : ℕ) → ¬ IsRepeated rules.names first second) where
+    -- where all layers were passed and no name comes again, there is no fault
+    pub no_layer_fault : length tile.layers ≡ passed rules → (fault : Fault) → ¬ IsFaultOfLayers tile fault
+    no_layer_fault all fault (faults.version layer holds) =
+        let behind = behind_version layer holds in
+        let within = slice_get_within tile.layers layer holds.whose holds.there in
         absurd (omega arith)
-    | inr behind ↦ behind
-  ]
+    no_layer_fault all fault (faults.name first second holds) =
+        let within = slice_get_within tile.layers second holds.other holds.other_there in
+        absurd (none first second (repeated_from first second holds (omega arith)))
 
-  -- where all layers were passed, there is no fault
-  pub PassesLayers-all : length tile.layers ≤ passed rules → (fault : Fault) → ¬ IsFaultOfLayers tile fault
-  PassesLayers-all all fault (faults.version layer holds) =
-      let behind = behind_version layer holds in
-      let within = slice_get_within tile.layers layer holds.whose holds.there in
-      absurd (omega arith)
-  PassesLayers-all all fault (faults.name first second holds) =
-      let behind = behind_name first second holds in
-      let within = slice_get_within tile.layers second holds.other holds.other_there in
-      absurd (omega arith)
-
-  module _ (version : ℕ) (name : List ℕ) (next : IsNextLayer rules tile version name) where
-    -- another version of the next layer is the first fault
-    pub IsLeast-version : version ≢ 2 → IsLeast (IsFaultOfLayers tile) (Version (passed rules))
-    IsLeast-version other = record {
-      holds = faults.version (passed rules) (record { whose = next.whose; there = next.there; other = λ is. other (next.of_version ∙ is) });
+    -- where the next layer has another version, that is the first fault
+    pub IsLeast-version : IsOtherNext rules tile → IsLeast (IsFaultOfLayers tile) (Version (passed rules))
+    IsLeast-version next = record {
+      holds = faults.version (passed rules) (record { whose = next.layer_record; there = next.there; other = next.other });
       least = least;
     }
       where
         least : (fault : Fault) → IsFaultOfLayers tile fault → ComesFirst (place_of (Version (passed rules))) (place_of fault)
         least fault (faults.version layer holds) = by_layer (passed rules) layer version_numbers version_numbers (behind_version layer holds) (λ same. ComesFirst-reflexive version_numbers)
-        least fault (faults.name first second holds) = by_layer (passed rules) second version_numbers (name_numbers first) (behind_name first second holds) (λ same. inl (omega arith))
-
-    -- and so is its name, where that was kept, with the layer that it was kept of
-    pub IsLeast-name : (first : ℕ) → version ≡ 2 → ordinal_of rules name ≡ Some first → IsLeast (IsFaultOfLayers tile) (Name first (passed rules))
-    IsLeast-name first own stood = record {
-      holds = let kept = passes.kept name first stood in faults.name first (passed rules) (record {
-        earlier = kept.0;
-        whose = kept.1;
-        there = kept.2;
-        other = next.whose;
-        other_there = next.there;
-        same = kept.3 ∙ next.of_name;
-      });
-      least = least;
-    }
-      where
-        -- the layer at the place of the next is the next
-        is_next : (layer : ℕ) (whose : LayerRecord) → passed rules ≡ layer → slice_get tile.layers layer ≡ Some whose → next.whose ≡ whose
-        is_next layer whose same there = let both : Some next.whose ≡ Some whose = sym next.there ∙ ap (slice_get tile.layers) same ∙ there in cc
-
-        least : (fault : Fault) → IsFaultOfLayers tile fault → ComesFirst (place_of (Name first (passed rules))) (place_of fault)
-        least fault (faults.version layer holds) = by_layer (passed rules) layer (name_numbers first) version_numbers (behind_version layer holds)
-            (λ same. absurd (holds.other (sym (ap (λ (whose : LayerRecord). whose.version) (is_next layer holds.whose same holds.there)) ∙ sym next.of_version ∙ own)))
-        least fault (faults.name earlier second holds) = by_layer (passed rules) second (name_numbers first) (name_numbers earlier) (behind_name earlier second holds) (λ same.
-            let before : earlier < second = holds.earlier in
-            let named : holds.whose.name ≡ name =
-            holds.same ∙ sym (ap (λ (whose : LayerRecord). whose.name) (is_next second holds.other same holds.other_there)) ∙ sym next.of_name in
-            let both : Some first ≡ Some earlier = sym stood ∙ ap (ordinal_of rules) (sym named) ∙ (passes.keeps earlier holds.whose (omega arith) holds.there).1 in
-            let one : first ≡ earlier = cc in
-            inr (refl, inr (one, ComesFirst-reflexive (0 ∷ 0 ∷ 0 ∷ 0 ∷ 0 ∷ 0 ∷ []))))
-
-    -- else it is passed
-    pub PassesLayers-more : (more : LayerRules) → version ≡ 2 → ordinal_of rules name ≡ None → passed more ≡ passed rules + 1
-        → ((other : List ℕ) → ordinal_of more other ≡ update bytes_eq (ordinal_of rules) name (Some (passed rules)) other) → PassesLayers more tile
-    PassesLayers-more more own new count updates = record { keeps = keeps; kept = kept }
-      where
-        -- other names are kept as they were
-        kept_name : (other : List ℕ) → name ≢ other → ordinal_of more other ≡ ordinal_of rules other
-        kept_name other differs =
-            updates other ∙ cond-false (bytes_eq name other) (Some (passed rules)) (ordinal_of rules other) (false_from_ne_true (bytes_eq name other) (λ is. differs ((bytes_eq-Decides name other).0 is)))
-
-        -- the next name is kept with the next ordinal
-        next_name : (other : List ℕ) → name ≡ other → ordinal_of more other ≡ Some (passed rules)
-        next_name other same =
-            updates other ∙ cond-true (bytes_eq name other) (Some (passed rules)) (ordinal_of rules other) ((bytes_eq-Decides name other).1 same)
-
-        keeps : (layer : ℕ) (whose : LayerRecord) → layer < passed more → slice_get tile.layers layer ≡ Some whose → (whose.version ≡ 2) × (ordinal_of more whose.name ≡ Some layer)
-        keeps layer whose below there = elim (cases_lt layer (passed rules)) [
-          | inl before ↦
-              let so_far = passes.keeps layer whose before there in
-              (so_far.0, kept_name whose.name (λ same. let both : None ≡ Some layer = sym new ∙ ap (ordinal_of rules) same ∙ so_far.1 in cc) ∙ so_far.1)
-          | inr behind ↦
-              let place : passed rules ≡ layer = omega arith in
-              let both : Some next.whose ≡ Some whose = sym next.there ∙ ap (slice_get tile.layers) place ∙ there in
-              let same : next.whose ≡ whose = cc in (
-                sym (ap (λ (it : LayerRecord). it.version) same) ∙ sym next.of_version ∙ own,
-                next_name whose.name (next.of_name ∙ ap (λ (it : LayerRecord). it.name) same) ∙ ap (λ (n : ℕ). Some n) place,
-              )
+        least fault (faults.name first second holds) = elim (cases_lt second (passed rules)) [
+          | inl before ↦ absurd (none first second (repeated_from first second holds before))
+          | inr behind ↦ by_layer (passed rules) second version_numbers (name_numbers first) (omega arith) (λ same. inl (omega arith))
         ]
 
-        kept : (other : List ℕ) (layer : ℕ) → ordinal_of more other ≡ Some layer
-            → (layer < passed more) × (whose : LayerRecord) × (slice_get tile.layers layer ≡ Some whose) × (whose.name ≡ other)
-        kept other layer here = by_test (bytes_eq name other) refl where
-          by_test : (test : Bool) → bytes_eq name other ≡ test → (layer < passed more) × (whose : LayerRecord) × (slice_get tile.layers layer ≡ Some whose) × (whose.name ≡ other)
-          by_test true is =
-              let same = (bytes_eq-Decides name other).0 is in
-              let both : Some (passed rules) ≡ Some layer = sym (next_name other same) ∙ here in
-              let place : passed rules ≡ layer = cc in
-              (omega (arith, count), next.whose, ap (slice_get tile.layers) (sym place) ∙ next.there, sym next.of_name ∙ same)
-          by_test false is =
-              let so_far = passes.kept other layer (sym (updates other ∙ cond-false (bytes_eq name other) (Some (passed rules)) (ordinal_of rules other) is) ∙ here) in
-              let below : layer < passed rules = so_far.0 in
-              (omega (arith, count), so_far.1, so_far.2, so_far.3)
+  -- the first two layers of one name are the first fault
+  pub IsLeast-name : (first second : ℕ) → IsFirstRepeated rules.names first second → IsLeast (IsFaultOfLayers tile) (Name first second)
+  IsLeast-name first second is = record { holds = faults.name first second (same_from first second is.repeated); least = least }
+    where
+      within : second < passed rules
+      within = slice_get_within rules.names second is.repeated.name is.repeated.again
+
+      least : (fault : Fault) → IsFaultOfLayers tile fault → ComesFirst (place_of (Name first second)) (place_of fault)
+      least fault (faults.version layer holds) =
+          let behind = behind_version layer holds in
+          let before = within in
+          by_layer second layer (name_numbers first) version_numbers (omega arith) (λ same. absurd (omega arith))
+      least fault (faults.name other later holds) = elim (cases_lt later (passed rules)) [
+        | inr behind ↦ let before = within in by_layer second later (name_numbers first) (name_numbers other) (omega arith) (λ same. absurd (omega arith))
+        | inl before ↦ elim (is.least other later (repeated_from other later holds before)) [
+          | inl earlier ↦ by_layer second later (name_numbers first) (name_numbers other) (omega arith) (λ same. absurd (omega arith))
+          | inr same ↦
+              let ordered = same.1 in
+              by_layer second later (name_numbers first) (name_numbers other) (let one = same.0 in omega arith) (λ at. inr (
+                refl,
+                elim (cases_lt first other) [
+                  | inl less ↦ inl less
+                  | inr not ↦ let one : first ≡ other = omega arith in inr (one, ComesFirst-reflexive (0 ∷ 0 ∷ 0 ∷ 0 ∷ 0 ∷ 0 ∷ []))
+                ],
+              ))
+        ]
+      ]
+
+module _ (rules more : LayerRules) (tile : TileRecord) (version : ℕ) (name : List ℕ) (next : IsNextLayer rules tile version name) where
+  -- the next layer has version 2, and its name is kept
+  pub PassesLayers-more : PassesLayers rules tile → version ≡ 2 → more.names ≡ rules.names ++ name ∷ [] → more.other_version ≡ rules.other_version → PassesLayers more tile
+  PassesLayers-more so_far own longer same = record { layers = record { version = its_version; named = its_name; there = is_there }; no_other = same ∙ so_far.no_other }
+    where
+      count : passed more ≡ passed rules + 1
+      count = ap length longer ∙ length-append rules.names (name ∷ [])
+
+      -- the layer at the place of the next is the next
+      is_next : (layer : ℕ) (it : LayerRecord) → passed rules ≡ layer → slice_get tile.layers layer ≡ Some it → next.layer_record ≡ it
+      is_next layer it same there = same_Some next.layer_record it (sym next.there ∙ ap (slice_get tile.layers) same ∙ there)
+
+      its_version : (layer : ℕ) (it : LayerRecord) → layer < passed more → slice_get tile.layers layer ≡ Some it → it.version ≡ 2
+      its_version layer it below there = elim (cases_lt layer (passed rules)) [
+        | inl before ↦ so_far.layers.version layer it before there
+        | inr behind ↦
+            let place : passed rules ≡ layer = omega (arith, count) in
+            ap (λ (l : LayerRecord). l.version) (sym (is_next layer it place there)) ∙ sym next.of_version ∙ own
+      ]
+
+      its_name : (layer : ℕ) (it : LayerRecord) → layer < passed more → slice_get tile.layers layer ≡ Some it → slice_get more.names layer ≡ Some it.name
+      its_name layer it below there = elim (cases_lt layer (passed rules)) [
+        | inl before ↦ ap (λ (list : List (List ℕ)). slice_get list layer) longer ∙ slice_get-append rules.names (name ∷ []) layer before ∙ so_far.layers.named layer it before there
+        | inr behind ↦
+            let place : passed rules ≡ layer = omega (arith, count) in
+            ap (λ (list : List (List ℕ)). slice_get list layer) longer ∙ ap (slice_get (rules.names ++ name ∷ [])) (sym place) ∙ slice_get-last rules.names name
+            ∙ ap Some (next.of_name ∙ ap (λ (l : LayerRecord). l.name) (is_next layer it place there))
+      ]
+
+      is_there : (layer : ℕ) → layer < passed more → (it : LayerRecord) × (slice_get tile.layers layer ≡ Some it)
+      is_there layer below = elim (cases_lt layer (passed rules)) [
+        | inl before ↦ so_far.layers.there layer before
+        | inr behind ↦ let place : passed rules ≡ layer = omega (arith, count) in (next.layer_record, ap (slice_get tile.layers) (sym place) ∙ next.there)
+      ]
+
+  -- the next layer has another version
+  pub EndsLayers-other : PassesLayers rules tile → version ≢ 2 → more.names ≡ rules.names → more.other_version ≡ true → EndsLayers more tile
+  EndsLayers-other so_far other same ends = record {
+    layers = record {
+      version = λ layer it below there. so_far.layers.version layer it (omega (arith, count)) there;
+      named = λ layer it below there. ap (λ (list : List (List ℕ)). slice_get list layer) same ∙ so_far.layers.named layer it (omega (arith, count)) there;
+      there = λ layer below. so_far.layers.there layer (omega (arith, count));
+    };
+    end = inl (ends, record { layer_record = next.layer_record; there = ap (slice_get tile.layers) count ∙ next.there; other = λ is. other (next.of_version ∙ is) });
+  }
+    where
+      count : passed more ≡ passed rules
+      count = ap length same
+
+-- all layers were passed
+pub EndsLayers-all : (rules : LayerRules) (tile : TileRecord) → PassesLayers rules tile → length tile.layers ≡ passed rules → EndsLayers rules tile
+EndsLayers-all rules tile so_far all = record { layers = so_far.layers; end = inr (so_far.no_other, all) }
+
+module _ (rules : LayerRules) (tile : TileRecord) (ends : EndsLayers rules tile) (none : (first second : ℕ) → ¬ IsRepeated rules.names first second) where
+  -- of the two ends
+  pub fault_at_other : rules.other_version ≡ true → IsLeast (IsFaultOfLayers tile) (Version (passed rules))
+  fault_at_other other = elim ends.end [
+    | inl it ↦ IsLeast-version rules tile ends.layers none it.1
+    | inr it ↦ absurd (true≢false (sym other ∙ it.0))
+  ]
+
+  pub none_at_end : rules.other_version ≡ false → (fault : Fault) → ¬ IsFaultOfLayers tile fault
+  none_at_end no_other = elim ends.end [
+    | inl it ↦ absurd (true≢false (sym it.0 ∙ no_other))
+    | inr it ↦ no_layer_fault rules tile ends.layers none it.1
+  ]

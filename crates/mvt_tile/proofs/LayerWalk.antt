@@ -17,10 +17,11 @@ use Rattle.mvt_tile.specs.Least.{FindsLeastCause}
 use Rattle.mvt_tile.specs.Placed.{IsPlaced}
 use Rattle.mvt_tile.specs.Rest.{IsDefectOr}
 use Rattle.mvt_tile.specs.Scan.{Passes, IsFirstFault}
-use Rattle.mvt_tile.specs.declared.embedded.EmbeddedScan.{EmbeddedScan}
-use Rattle.mvt_tile.specs.declared.scan.FieldScan.{FieldScan}
+use Rattle.mvt_tile.specs.declared.wire.embedded.EmbeddedScan.{EmbeddedScan}
+use Rattle.mvt_tile.specs.declared.wire.scan.FieldScan.{FieldScan}
 use Rattle.mvt_tile.proofs.Layers.{fault_in, IsLeast-own, IsLeast-value, IsLeast-feature, IsLayerFault-none}
-use Rattle.mvt_tile.proofs.Walking.{IsScanning, IsPlaced-within, IsScanning-more, IsScanning-fault, IsScanning-whole, IsWalking-defect, IsWalking-whole, defect_alone}
+use Rattle.mvt_tile.proofs.Walking.{IsScanning, IsPlaced-within, IsScanning-more, IsScanning-fault, IsScanning-whole, defect_alone}
+use Rattle.mvt_wire.proofs.Walking.{IsWalking-defect, IsWalking-whole}
 
 -- the fields that were passed, and what the three scans keep of them
 pub record LayerWalk (bytes : List ℕ) (from to : ℕ) (walk : Walk) (own : FieldScan) (value_scan feature_scan : EmbeddedScan) : Type 0 where

@@ -23,9 +23,11 @@ pub mod LayerReading
 pub mod SummaryReading
 pub mod StatedNumbers
 pub mod TagFaults
-pub mod KeySets
 pub mod LayerNames
+pub mod Names
 pub mod NamesWalk
 pub mod CleanWalk
 pub mod FeatureFaults
+pub mod FeatureScan
+pub mod TileScan
 pub mod RuleOrder

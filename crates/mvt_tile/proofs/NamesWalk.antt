@@ -12,7 +12,7 @@ use Rattle.mvt_tile.specs.declared.rules.layer_rules.LayerRules.{LayerRules}
 use Rattle.mvt_tile.specs.declared.rules.summary.LayerSummary.{LayerSummary}
 use Rattle.mvt_tile.proofs.Filters.{contents_of-append, picked-push, picked-other}
 use Rattle.mvt_tile.proofs.ReadingWalk.{IsWalking-front, IsWalking-over}
-use Rattle.mvt_tile.proofs.Walking.{IsWalking, IsWalking-more}
+use Rattle.mvt_wire.proofs.Walking.{IsWalking, IsWalking-more}
 
 -- what stands for a member behind some others stands at the same place
 Each-place : {A B : Type 0} (R : A → B → Type 0) (xs rest : List A) (ys : List B) (x : A) → Each R ((xs ++ x ∷ []) ++ rest) ys → (y : B) × (slice_get ys (length xs) ≡ Some y) × R x y
@@ -69,7 +69,7 @@ module _ (bytes : List ℕ) (old new : Walk) (rules : LayerRules) (so_far : IsPa
           let layer = Each-place (IsLayer bytes) (spans_of 3 so_far.entries) (spans_of 3 front.0) tile.layers span
           (subst (λ (list : List Span). Each (IsLayer bytes) list tile.layers) spans is_tile.layers) in
           let sum = summarizes layer.0 layer.2 in
-          record { whose = layer.0; there = ap (slice_get tile.layers) so_far.count ∙ layer.1; of_version = sum.version; of_name = sum.name }
+          record { layer_record = layer.0; there = ap (slice_get tile.layers) so_far.count ∙ layer.1; of_version = sum.version; of_name = sum.name }
 
   -- at the end all layers were passed
   pub IsPassingLayers-all : (tile : TileRecord) → IsTile bytes tile → IsOver old new → length tile.layers ≤ passed rules

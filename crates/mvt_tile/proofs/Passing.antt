@@ -1,5 +1,5 @@
 -- One more field behind others: what stands, how many are known, and the faults of fields.
-use Rattle.std.proofs.Common.{◌≡◌, ℕ, ◌+◌, ◌==◌, nat_lt, true, ◌⊎◌, inl, inr, List, [], ◌∷◌, ◌++◌, length, filter, is_some, Some, None, refl, sym, ◌∙◌, ap, subst, arith, length-append, append_assoc}
+use Rattle.std.proofs.Common.{◌≡◌, ℕ, ◌+◌, ◌==◌, nat_lt, true, inl, inr, List, [], ◌∷◌, ◌++◌, length, filter, is_some, Some, None, refl, sym, ◌∙◌, ap, subst, arith, length-append}
 use Rattle.std.proofs.lemmas.Bool.{eq-eqb, ne_eqb, lt-ltb, cond-true, cond-false}
 use Rattle.std.proofs.lemmas.List.Elements.{filter-append}
 use Rattle.mvt_wire.specs.Field.{Entry}
@@ -14,6 +14,7 @@ use Rattle.mvt_tile.specs.Placed.{IsPlaced}
 use Rattle.mvt_tile.specs.Scan.{IsFirstFault}
 use Rattle.mvt_tile.proofs.Causes.{by_offset}
 use Rattle.mvt_tile.proofs.FieldFaults.{fault_within}
+use Rattle.mvt_wire.proofs.LastFields.{LastFault, FieldFault-last, FieldFault-earlier}
 
 -- the fields of a number are counted before the last and in it
 count_of-append : (field_number : ℕ) (entries : List Entry) (entry : Entry) → count_of field_number (entries ++ entry ∷ []) ≡ count_of field_number entries + count_of field_number (entry ∷ [])
@@ -49,50 +50,6 @@ count_known-same message entries entry unknown =
     let none : length (filter (λ (e : Entry). is_some (rule_of message e.number)) (entry ∷ [])) ≡ 0 = ap length (cond-false (is_some (rule_of message entry.number)) (entry ∷ []) [] (ap is_some unknown)) in
     let more = count_known-append message entries entry in
     omega arith
-
--- a list with one more at its end, parted: the last one, or one before it
-abbrev pub PartsLast : List Entry → List Entry → Entry → Entry → List Entry → Type 0
-PartsLast entries before last entry after = ((before ≡ entries) × (entry ≡ last)) ⊎ ((rest : List Entry) × (entries ≡ before ++ entry ∷ rest))
-
-part_last : (entries before : List Entry) (last entry : Entry) (after : List Entry) → entries ++ last ∷ [] ≡ before ++ entry ∷ after → PartsLast entries before last entry after
-part_last [] [] last entry after is = inl (refl, (cc))
-part_last [] (b ∷ []) last entry after is = absurd (cc)
-part_last [] (b ∷ c ∷ before) last entry after is = absurd (cc)
-part_last (e ∷ entries) [] last entry after is = inr (entries, (cc))
-part_last (e ∷ entries) (b ∷ before) last entry after is =
-    let head : e ≡ b = cc in
-    let tail : entries ++ last ∷ [] ≡ before ++ entry ∷ after = cc in
-    elim (part_last entries before last entry after tail) [
-      | inl both ↦ let front : before ≡ entries = both.0 in inl ((cc), both.1)
-      | inr inner ↦ let middle : entries ≡ before ++ entry ∷ inner.0 = inner.1 in inr (inner.0, (cc))
-    ]
-
--- a fault of the last field, by the rule for its number
-abbrev pub LastFault : Message → List Entry → Entry → WireCause → Type 0
-LastFault message entries last cause = (rule : FieldRule) × (rule_of message last.number ≡ Some rule) × EntryFault rule (stands_in last.number entries) last cause
-
--- a fault of the fields is one of those before the last, or of the last
-pub FieldFault-last : (message : Message) (entries : List Entry) (last : Entry) (cause : WireCause) → FieldFault message (entries ++ last ∷ []) cause → FieldFault message entries cause ⊎ LastFault message entries last cause
-FieldFault-last message entries last cause fault = elim (part_last entries fault.before last fault.entry fault.after fault.split) [
-  | inr inner ↦ inl (record { before = fault.before; entry = fault.entry; after = inner.0; split = inner.1; rule = fault.rule; known = fault.known; fault = fault.fault })
-  | inl both ↦ inr (
-    fault.rule,
-    subst (λ (e : Entry). rule_of message e.number ≡ Some fault.rule) both.1 fault.known,
-    subst (λ (e : Entry). EntryFault fault.rule (stands_in e.number entries) e cause) both.1
-        (subst (λ (before : List Entry). EntryFault fault.rule (stands_in fault.entry.number before) fault.entry cause) both.0 fault.fault),
-  )
-]
-
-pub FieldFault-earlier : (message : Message) (entries : List Entry) (last : Entry) (cause : WireCause) → FieldFault message entries cause → FieldFault message (entries ++ last ∷ []) cause
-FieldFault-earlier message entries last cause fault = record {
-  before = fault.before;
-  entry = fault.entry;
-  after = fault.after ++ last ∷ [];
-  split = ap (λ (list : List Entry). list ++ last ∷ []) fault.split ∙ append_assoc fault.before (fault.entry ∷ fault.after) (last ∷ []);
-  rule = fault.rule;
-  known = fault.known;
-  fault = fault.fault;
-}
 
 pub FieldFault-new : (message : Message) (entries : List Entry) (last : Entry) (rule : FieldRule) (cause : WireCause) → rule_of message last.number ≡ Some rule → EntryFault rule (stands_in last.number entries) last cause
     → FieldFault message (entries ++ last ∷ []) cause

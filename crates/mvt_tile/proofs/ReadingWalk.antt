@@ -6,7 +6,7 @@ use Rattle.mvt_wire.specs.Message.{IsMessage}
 use Rattle.mvt_wire.specs.Walk.{Walk, IsOver, GivesField}
 use Rattle.mvt_wire.specs.declared.cause.WireCause.{WireCause}
 use Rattle.mvt_wire.proofs.Messages.{longest_whole, one_list, whole_or_defect}
-use Rattle.mvt_tile.proofs.Walking.{IsWalking, IsWalking-more, IsWalking-whole}
+use Rattle.mvt_wire.proofs.Walking.{IsWalking, IsWalking-more, IsWalking-whole}
 
 -- a walk begins with no field passed
 pub IsWalking-none : (message : List ℕ) (from : ℕ) (walk : Walk) → walk ≡ record { bytes = message; at = from } → IsWalking message from walk []

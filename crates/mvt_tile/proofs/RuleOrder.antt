@@ -1,11 +1,14 @@
 -- Of the faults of a tile's bytes, those of layers come first and those of features behind them; there are no others.
-use Rattle.std.proofs.Common.{◌≡◌, ℕ, ◌⊎◌, inl, inr, List, ◌∷◌, Option, Some, None, IfSome, IfNone, refl, sym, subst, arith}
+use Rattle.std.proofs.Common.{◌≡◌, ℕ, ◌⊎◌, inl, inr, List, ◌∷◌, length, Option, Some, None, IfSome, IfNone, refl, sym, subst, arith}
 use Rattle.mvt_wire.specs.Tile.{TileRecord, IsTile}
 use Rattle.mvt_fault.specs.Place.{ComesFirst, IsLeast, place_of}
 use Rattle.mvt_fault.specs.Truth.{BreaksRule, IsFaultOfLayers, OneFeatureHas, version, name}
 use Rattle.mvt_fault.specs.declared.fault.Fault.{Fault}
 use Rattle.mvt_tile.specs.FeatureRules.{Breaks, Keeps, IsFaultOfFeature, AllSound}
+use Rattle.mvt_tile.specs.PassedLayers.{passed, EndsLayers}
 use Rattle.mvt_tile.specs.RuleFaults.{BreaksAnyRule, KeepsRules}
+use Rattle.mvt_tile.specs.declared.rules.layer_rules.LayerRules.{LayerRules}
+use Rattle.mvt_fault.specs.declared.fault.Fault.TheVariants.{Version}
 use Rattle.mvt_tile.proofs.FeatureFaults.{AreBehindTags, features_begin}
 
 -- the place of a fault of layers begins as those of all layers do
@@ -38,7 +41,7 @@ module _ (IsBroken : Breaks) (behind_tags : AreBehindTags IsBroken) where
   ]
 
   module _ (tile : TileRecord) where
-    least_of_layers : (fault : Fault) → IsLeast (IsFaultOfLayers tile) fault → IsLeast (BreaksAnyRule IsBroken tile) fault
+    pub least_of_layers : (fault : Fault) → IsLeast (IsFaultOfLayers tile) fault → IsLeast (BreaksAnyRule IsBroken tile) fault
     least_of_layers fault first = record {
       holds = inl (inl first.holds);
       least = λ other holds. elim (by_part tile other holds) [
@@ -64,29 +67,21 @@ module _ (IsBroken : Breaks) (behind_tags : AreBehindTags IsBroken) where
         parts fault (inl of_layers) = none fault of_layers
         parts fault (inr of_tags) = (sound of_tags.layer of_tags.feature of_tags.whose of_tags.it of_tags.there).faultless fault (inl of_tags.broken)
 
-  -- the fault is the first of all that the tile's record has
-  abbrev IsFirstBroken : List ℕ → Fault → Type 0
-  IsFirstBroken bytes fault = (tile : TileRecord) → IsTile bytes tile → IsLeast (BreaksAnyRule IsBroken tile) fault
+  -- Where the layers have no fault, all were passed, and the features decide.
+  module _ (bytes : List ℕ) (rules : LayerRules) (ends : (tile : TileRecord) → IsTile bytes tile → EndsLayers rules tile)
+      (none : (tile : TileRecord) → EndsLayers rules tile → (fault : Fault) → ¬ IsFaultOfLayers tile fault) where
+    all_passed : (tile : TileRecord) → IsTile bytes tile → passed rules ≡ length tile.layers
+    all_passed tile is = elim (ends tile is).end [
+      | inl next ↦ absurd (none tile (ends tile is) (Version (passed rules)) (version (passed rules) (record { whose = next.1.layer_record; there = next.1.there; other = next.1.other })))
+      | inr last ↦ sym last.1
+    ]
 
-  module _ (bytes : List ℕ) where
-    -- the first fault of the layers is the first of all
-    pub layers_fault : (found : Option Fault) (fault : Fault) → found ≡ Some fault → IfSome found (λ (first : Fault). (tile : TileRecord) → IsTile bytes tile → IsLeast (IsFaultOfLayers tile) first)
-        → IsFirstBroken bytes fault
-    layers_fault found fault is first =
-        let of_layers : (tile : TileRecord) → IsTile bytes tile → IsLeast (IsFaultOfLayers tile) fault =
-        subst (λ (answer : Option Fault). IfSome answer (λ (first : Fault). (tile : TileRecord) → IsTile bytes tile → IsLeast (IsFaultOfLayers tile) first)) is first in
-        λ tile whole. least_of_layers tile fault (of_layers tile whole)
+    pub no_rule_broken : (IsKept : Keeps) (found : Option Fault) → IfNone found ((tile : TileRecord) → IsTile bytes tile → passed rules ≡ length tile.layers → AllSound IsBroken IsKept tile)
+        → IfNone found ((tile : TileRecord) → IsTile bytes tile → KeepsRules IsKept tile)
+    no_rule_broken IsKept (Some fault) sound = tt
+    no_rule_broken IsKept None sound = λ tile is. all_kept tile IsKept (none tile (ends tile is)) (sound tile is (all_passed tile is))
 
-    -- Where the layers have none, the features decide.
-    module _ (before : Option Fault) (is_none : before ≡ None) (none : IfNone before ((tile : TileRecord) → IsTile bytes tile → (fault : Fault) → ¬ IsFaultOfLayers tile fault)) where
-      no_layers : (tile : TileRecord) → IsTile bytes tile → (fault : Fault) → ¬ IsFaultOfLayers tile fault
-      no_layers = subst (λ (answer : Option Fault). IfNone answer ((tile : TileRecord) → IsTile bytes tile → (fault : Fault) → ¬ IsFaultOfLayers tile fault)) is_none none
-
-      pub no_rule_broken : (IsKept : Keeps) (found : Option Fault) → IfNone found ((tile : TileRecord) → IsTile bytes tile → AllSound IsBroken IsKept tile)
-          → IfNone found ((tile : TileRecord) → IsTile bytes tile → KeepsRules IsKept tile)
-      no_rule_broken IsKept (Some fault) sound = tt
-      no_rule_broken IsKept None sound = λ tile whole. all_kept tile IsKept (no_layers tile whole) (sound tile whole)
-
-      pub features_fault : (found : Option Fault) → IfSome found (λ (first : Fault). (tile : TileRecord) → IsTile bytes tile → IsLeast (OneFeatureHas (IsFaultOfFeature IsBroken) tile) first) → IfSome found (IsFirstBroken bytes)
-      features_fault None first = tt
-      features_fault (Some fault) first = λ tile whole. least_of_features tile (no_layers tile whole) fault (first tile whole)
+    pub features_fault : (found : Option Fault) → IfSome found (λ (first : Fault). (tile : TileRecord) → IsTile bytes tile → passed rules ≡ length tile.layers → IsLeast (OneFeatureHas (IsFaultOfFeature IsBroken) tile) first)
+        → IfSome found (λ (first : Fault). (tile : TileRecord) → IsTile bytes tile → IsLeast (BreaksAnyRule IsBroken tile) first)
+    features_fault None first = tt
+    features_fault (Some fault) first = λ tile is. least_of_features tile (none tile (ends tile is)) fault (first tile is (all_passed tile is))

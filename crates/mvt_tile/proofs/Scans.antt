@@ -10,7 +10,7 @@ use Rattle.mvt_wire.specs.declared.schema.Message.{Message}
 use Rattle.mvt_tile.specs.Least.{IsLeastCause}
 use Rattle.mvt_tile.specs.Placed.{IsPlaced}
 use Rattle.mvt_tile.specs.Scan.{was_seen, Passes, IsFirstFault}
-use Rattle.mvt_tile.specs.declared.scan.FieldScan.{FieldScan}
+use Rattle.mvt_tile.specs.declared.wire.scan.FieldScan.{FieldScan}
 use Rattle.mvt_tile.proofs.Passing.{stands_in-own, stands_in-other, count_known-more, count_known-same, faultless-unknown, faultless-known, IsFirstFault-new}
 
 -- no field was passed

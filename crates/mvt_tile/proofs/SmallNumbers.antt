@@ -10,7 +10,7 @@ use Rattle.mvt_wire.specs.Number.{VarintList, AreSmall, PackedFault, no_varint, 
 use Rattle.mvt_wire.specs.declared.cause.WireCause.{WireCause}
 use Rattle.mvt_wire.specs.declared.cause.WireCode.{WireCode}
 use Rattle.mvt_wire.specs.declared.cause.WireCode.TheVariants.{OutOfRange}
-use Rattle.mvt_wire.proofs.PackedLists.{one_goes_on, packed_or_fault}
+use Rattle.mvt_wire.proofs.PackedLists.{one_goes_on, packed_or_fault, varints_forward}
 use Rattle.mvt_wire.proofs.Varints.{sum_of_groups-take-below, IsVarint-take, last_byte, earlier_byte, one_value, varint_or_defect, one_defect_of_varint}
 use Rattle.mvt_fault.specs.Place.{ComesFirst}
 use Rattle.mvt_tile.specs.Least.{IsLeastCause, cause_place}
@@ -152,11 +152,6 @@ fault_in_part from part field_number cause fault =
     let left = bad.left in
     (omega arith, omega arith)
 
--- a list that goes on behind the first ones ends at their end or farther
-goes_forward : (part : List ℕ) (from to : ℕ) (numbers : List ℕ) → VarintList part from numbers to → from ≤ to
-goes_forward part from to [] list = omega arith
-goes_forward part from to (n ∷ numbers) list = let forward = list.1.forward in let rest = goes_forward part list.0 to numbers list.2 in omega arith
-
 -- a small number in the middle of others
 All-middle : (front : List ℕ) (n : ℕ) (rest whole : List ℕ) → whole ≡ front ++ n ∷ rest → AreSmall whole → n < 2 ^ 32
 All-middle front n rest whole is small =
@@ -174,7 +169,7 @@ small_behind part at end whole front (n ∷ rest) code small is list bad =
 pub none_before : (part : List ℕ) (at place : ℕ) (code other : WireCode) (numbers : List ℕ) → IsFirstBad part at code → VarintList part 0 numbers place → NumberFault part place other → at ≤ place
 none_before part at place code other numbers first list bad = elim (one_goes_on part 0 at place first.before.0 numbers first.before.1 list) [
   | inl longer ↦ small_behind part place at first.before.0 numbers longer.0 other first.before.2 longer.1 longer.2 bad
-  | inr shorter ↦ goes_forward part at place shorter.0 shorter.2
+  | inr shorter ↦ varints_forward part at place shorter.0 shorter.2
 ]
 
 -- the first bad number is the fault of the list that comes first

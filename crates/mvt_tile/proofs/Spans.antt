@@ -1,24 +1,16 @@
 -- Where embedded messages lie, one field behind others, and the first in which something is found.
 use Rattle.std.proofs.Common.{◌≡◌, ℕ, suc, zero, ◌+◌, ◌<◌, ◌==◌, true, false, List, [], ◌∷◌, ◌++◌, length, map, filter_map, is_some, Option, Some, None, slice_get, inl, inr, refl, sym, ◌∙◌, ap, subst, arith, append-nil, length-append}
 use Rattle.std.proofs.lemmas.Bool.{cases_lt, ne_eqb, eq-eqb, cond-true, cond-false}
-use Rattle.std.proofs.lemmas.List.{map-append}
-use Rattle.std.proofs.lemmas.List.Elements.{filter-append, filter_map-append}
 use Rattle.std.proofs.lemmas.Option.{slice_get_within}
 use Rattle.mvt_wire.specs.Field.{Content, delimited, Entry, content_of, entry_of}
-use Rattle.mvt_wire.specs.Scope.{fields_of, contents_of, Span, span_of, spans_of}
+use Rattle.mvt_wire.specs.Scope.{Span, span_of, spans_of}
 use Rattle.std.specs.Borrow.{Bor}
 use Rattle.mvt_wire.specs.declared.field.Field.{Field}
 use Rattle.mvt_wire.specs.declared.field.Body.{Body}
 use Rattle.mvt_wire.specs.declared.field.Body.TheVariants.{Varint, Fixed64, Bytes, Fixed32}
 use Rattle.mvt_tile.specs.First.{AreClean, IsFirst, FindsFirst}
 use Rattle.mvt_tile.specs.LayerFault.{stretch}
-
--- the messages in two parts of a field list
-spans_of-append : (field_number : ℕ) (xs ys : List Entry) → spans_of field_number (xs ++ ys) ≡ spans_of field_number xs ++ spans_of field_number ys
-spans_of-append field_number xs ys =
-    ap (λ (entries : List Entry). filter_map span_of (map (λ (entry : Entry). entry.content) entries)) (filter-append (λ (entry : Entry). entry.number == field_number) xs ys)
-    ∙ ap (filter_map span_of) (map-append (λ (entry : Entry). entry.content) (fields_of field_number xs) (fields_of field_number ys))
-    ∙ filter_map-append span_of (contents_of field_number xs) (contents_of field_number ys)
+use Rattle.mvt_wire.proofs.Payloads.{spans_of-append, slice_get-last}
 
 -- a field of another number holds none
 spans_of-other : (field_number : ℕ) (entries : List Entry) (entry : Entry) → ¬ (entry.number ≡ field_number) → spans_of field_number (entries ++ entry ∷ []) ≡ spans_of field_number entries
@@ -59,10 +51,6 @@ pub slice_get-append : {X : Type 0} (xs ys : List X) (i : ℕ) → i < length xs
 slice_get-append [] ys i within = absurd (omega arith)
 slice_get-append (x ∷ xs) ys zero within = refl
 slice_get-append (x ∷ xs) ys (suc i) within = slice_get-append xs ys i (omega arith)
-
-pub slice_get-last : {X : Type 0} (xs : List X) (y : X) → slice_get (xs ++ y ∷ []) (length xs) ≡ Some y
-slice_get-last [] y = refl
-slice_get-last (x ∷ xs) y = slice_get-last xs y
 
 pub slice_get-some : {X : Type 0} (xs ys : List X) (i : ℕ) (x : X) → slice_get xs i ≡ Some x → slice_get (xs ++ ys) i ≡ Some x
 slice_get-some xs ys i x here = slice_get-append xs ys i (slice_get_within xs i x here) ∙ here

@@ -1,8 +1,7 @@
 -- Where the messages lie that a message embeds, and the records that stand for them.
-use Rattle.std.proofs.Common.{◌≡◌, ◌≢◌, ℕ, ◌+◌, ◌-◌, ◌≤◌, List, [], ◌∷◌, ◌++◌, length, take, filter_map, Some, sym, ◌∙◌, ap, subst, arith, length-take}
+use Rattle.std.proofs.Common.{◌≡◌, ◌≢◌, ℕ, List, [], ◌∷◌, ◌++◌, take, filter_map, Some, sym, ◌∙◌, ap, subst, arith, length-take}
 use Rattle.std.proofs.lemmas.List.Elements.{filter_map-append}
-use Rattle.std.proofs.lemmas.List.Edits.{length-between}
-use Rattle.mvt_wire.specs.Field.{Content, varint, eight_bytes, delimited, four_bytes, Entry, IsField, IsPayload}
+use Rattle.mvt_wire.specs.Field.{Entry, IsField}
 use Rattle.mvt_wire.specs.Message.{IsMessage}
 use Rattle.mvt_wire.specs.Scope.{contents_of, Span, span_of, spans_of}
 use Rattle.mvt_wire.specs.Tile.{Each}
@@ -10,7 +9,8 @@ use Rattle.mvt_wire.specs.Walk.{Walk, GivesField}
 use Rattle.mvt_tile.specs.Reading.{Embeds, LiesIn}
 use Rattle.mvt_tile.proofs.Filters.{contents_of-append, picked-push, picked-other}
 use Rattle.mvt_tile.proofs.ReadingWalk.{IsWalking-front}
-use Rattle.mvt_tile.proofs.Walking.{IsWalking, IsWalking-more}
+use Rattle.mvt_wire.proofs.Walking.{IsWalking, IsWalking-more}
+use Rattle.mvt_wire.proofs.Payloads.{payload_within}
 
 -- one more stretch, and the record that stands for it
 Each-push : {A B : Type 0} (R : A → B → Type 0) (xs : List A) (ys : List B) (x : A) (y : B) → Each R xs ys → R x y → Each R (xs ++ x ∷ []) (ys ++ y ∷ [])
@@ -52,22 +52,10 @@ Embeds-given Stands field_number message from old new entries whole entry record
     ∙ ap (λ (list : List Span). list ++ spans_of field_number front.0) (picked-push span_of field_number entries entry span is there) in
     Each-at Stands (spans_of field_number entries) (spans_of field_number front.0) records span (subst (λ (list : List Span). Each Stands list records) spans each)
 
--- a payload of wire type 2 lies within its message
-payload_inside : (message : List ℕ) (from to : ℕ) (content : Content) (span : Span) → IsPayload message from to content → span_of content ≡ Some span
-    → (span.from ≤ span.to) × (span.to ≤ length message)
-payload_inside message from to (varint value at) span payload there = absurd (cc)
-payload_inside message from to (eight_bytes part) span payload there = absurd (cc)
-payload_inside message from to (delimited start part) span payload there =
-    let size : length part ≡ to - start = ap length payload.4 ∙ length-between message start to payload.3 in
-    let starts : start ≡ span.from = cc in
-    let ends : start + length part ≡ span.to = cc in
-    (omega arith, omega arith)
-payload_inside message from to (four_bytes part) span payload there = absurd (cc)
-
 pub LiesIn-given : (bytes : List ℕ) (end from : ℕ) (old new : Walk) (entries : List Entry) (entry : Entry)
     → IsWalking (take end bytes) from old entries → GivesField old new entry → LiesIn bytes entry
 LiesIn-given bytes end from old new entries entry so_far given = λ span there.
     let spelled : IsField (take end bytes) new.at entry = subst (λ (message : List ℕ). IsField message new.at entry) so_far.same_bytes given.spelled in
-    let inside = payload_inside (take end bytes) spelled.key_end new.at entry.content span spelled.payload there in
+    let inside = payload_within (take end bytes) spelled.key_end new.at entry.content span spelled.payload there in
     let shorter = length-take end bytes in
     (inside.0, omega arith)

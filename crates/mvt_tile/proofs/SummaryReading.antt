@@ -1,5 +1,5 @@
 -- One more field of a layer is read for its summary.
-use Rattle.std.proofs.Common.{◌≡◌, ◌≢◌, ℕ, ◌+◌, ◌<◌, ◌≤◌, ◌==◌, Bool, not, List, [], ◌∷◌, ◌++◌, length, take, filter_map, Option, Some, refl, sym, ◌∙◌, ap, arith, length-append, length-take}
+use Rattle.std.proofs.Common.{◌≡◌, ◌≢◌, ℕ, ◌+◌, ◌-◌, ◌<◌, ◌≤◌, ◌==◌, Bool, not, List, [], ◌∷◌, ◌++◌, length, take, filter_map, Option, Some, refl, sym, ◌∙◌, ap, arith, length-append, length-take}
 use Rattle.std.proofs.lemmas.List.{length-map}
 use Rattle.std.proofs.lemmas.List.Filters.{length-filter_both}
 use Rattle.mvt_wire.specs.Field.{Content, varint, eight_bytes, delimited, four_bytes, Entry, wire_type_of}
@@ -13,7 +13,7 @@ use Rattle.mvt_tile.specs.Reading.{TellsSummary, last_of}
 use Rattle.mvt_tile.specs.RuleFaults.{IsSummary}
 use Rattle.mvt_tile.specs.declared.rules.summary.LayerSummary.{LayerSummary}
 use Rattle.mvt_tile.proofs.Filters.{picked-push, picked-other, length-filter_map, last_of-push}
-use Rattle.mvt_tile.proofs.Walking.{IsWalking}
+use Rattle.mvt_wire.proofs.Walking.{IsWalking}
 
 -- one more is picked out of the payloads of a number
 counted : {A : Type 0} (pick : Content → Option A) (field_number : ℕ) (entries : List Entry) (entry : Entry) (x : A) → entry.number ≡ field_number → pick entry.content ≡ Some x
@@ -118,6 +118,13 @@ few_counted bytes from to old new entries entry summary so_far given tells =
     let keys = few_of_list bytes_in 3 entries in
     let values = few_of_list span_of 4 entries in
     (omega (arith, tells.keys), omega (arith, tells.values))
+
+-- a layer has no more keys than bytes
+pub few_keys : (bytes : List ℕ) (from to : ℕ) (layer : LayerRecord) → IsLayer bytes (record { from = from; to = to }) layer → from ≤ to → length layer.keys ≤ to - from
+few_keys bytes from to layer is forward =
+    let fields = few_fields (take to bytes) from (length (take to bytes)) is.entries is.whole in
+    let keys = few_of_list bytes_in 3 is.entries in
+    omega (arith, length-take to bytes, ap length is.keys)
 
 -- what all fields tell is the summary of the layer that stands there
 pub IsSummary-from_told : (bytes : List ℕ) (span : Span) (layer : LayerRecord) (told : LayerSummary) (is : IsLayer bytes span layer)

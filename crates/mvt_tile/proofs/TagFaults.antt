@@ -1,6 +1,6 @@
 -- The first fault of tags, as one pass over their pairs finds it.
 use Rattle.std.proofs.Common.{◌≡◌, ℕ, ◌+◌, ◌*◌, ◌<◌, ◌≤◌, ◌⊎◌, Bool, true, false, List, [], ◌∷◌, length, map, option_map, get_or, slice_get, Some, inl, inr, sym, ◌∙◌, ap, subst, arith, lit≤, refl, ◌||◌, ◌==◌}
-use Rattle.std.proofs.lemmas.Bool.{cases_order, or_cases, or_left, or_right, eqb-true, eq-eqb}
+use Rattle.std.proofs.lemmas.Bool.{cases_lt, cases_order, or_cases, or_left, or_right, eqb-true, eq-eqb}
 use Rattle.std.proofs.lemmas.Option.{slice_get_within, slice_get_read, slice_get-map}
 use Rattle.mvt_fault.specs.Code.{tag_code}
 use Rattle.mvt_fault.specs.Place.{place_of, ComesFirst, IsLeast}
@@ -11,9 +11,11 @@ use Rattle.mvt_fault.specs.declared.tag.TagCode.{TagCode}
 use Rattle.mvt_fault.specs.declared.tag.TagCode.TheVariants.{OddLength, NoKey, NoValue, Repeated}
 use Rattle.mvt_wire.specs.Rules.{OddTags, IsKeyAt, NoSuchKey, NoSuchValue}
 use Rattle.mvt_wire.specs.Tile.{FeatureRecord, LayerRecord}
-use Rattle.mvt_tile.specs.RuleFaults.{IsFirstTagFault}
+use Rattle.mvt_tile.specs.RuleFaults.{HasEnough, IsFirstTagFault}
+use Rattle.mvt_tile.specs.TagNeeds.{AreMetBy}
 use Rattle.mvt_tile.specs.View.{feature_of}
 use Rattle.mvt_tile.specs.declared.record.Feature.{Feature}
+use Rattle.mvt_tile.specs.declared.rules.tags.TagNeeds.{TagNeeds}
 
 -- the tags before a place have no fault, in a layer of so many keys and values
 pub record AreCleanBefore (keys values : ℕ) (tags : List ℕ) (to : ℕ) : Type 0 where
@@ -252,3 +254,85 @@ feature_tags features feature shown it within here there =
     ap (option_map feature_of) (sym (slice_get_read features (length features) feature shown refl within here)) ∙ sym (slice_get-map feature_of features feature) ∙ there in
     let same : feature_of shown ≡ it = cc in
     ap (λ (record_of : FeatureRecord). record_of.tags) same
+
+-- the indices of the pairs before a place are lesser than these numbers of keys and values
+pub record IsMetBefore (keys values : ℕ) (tags : List ℕ) (to : ℕ) : Type 0 where
+  pub pair : ℕ
+  pub even : to ≡ 2 * pair
+  pub key : (earlier key : ℕ) → 2 * earlier < to → slice_get tags (2 * earlier) ≡ Some key → key < keys
+  pub value : (earlier value : ℕ) → 2 * earlier < to → slice_get tags (2 * earlier + 1) ≡ Some value → value < values
+
+-- of two pairs, the one that is before the next but not before this one is this one
+this_pair : (to pair earlier : ℕ) → to ≡ 2 * pair → 2 * earlier < to + 2 → to ≤ 2 * earlier → 2 * earlier ≡ to
+this_pair to pair earlier even below behind = omega arith
+
+-- one more pair is met, where the numbers are no less than before and greater than its indices
+pub IsMetBefore-pair : (keys values more_keys more_values : ℕ) (tags : List ℕ) (to key value : ℕ) → IsMetBefore keys values tags to
+    → slice_get tags to ≡ Some key → slice_get tags (to + 1) ≡ Some value → keys ≤ more_keys → values ≤ more_values → key < more_keys → value < more_values
+    → IsMetBefore more_keys more_values tags (to + 2)
+IsMetBefore-pair keys values more_keys more_values tags to key value met here behind no_fewer_keys no_fewer_values in_keys in_values = record {
+  pair = met.pair + 1;
+  even = let so_far : to ≡ 2 * met.pair = met.even in omega arith;
+  key = λ earlier other below there. elim (cases_lt (2 * earlier) to) [
+    | inl before ↦ let held : other < keys = met.key earlier other before there in omega arith
+    | inr at_least ↦ let at : 2 * earlier ≡ to = this_pair to met.pair earlier met.even below at_least in
+        let same : other ≡ key = one_number tags to other key (subst (λ (place : ℕ). slice_get tags place ≡ Some other) at there) here in
+        omega arith
+  ];
+  value = λ earlier other below there. elim (cases_lt (2 * earlier) to) [
+    | inl before ↦ let held : other < values = met.value earlier other before there in omega arith
+    | inr at_least ↦ let at : 2 * earlier ≡ to = this_pair to met.pair earlier met.even below at_least in
+        let same : other ≡ value = one_number tags (to + 1) other value (subst (λ (place : ℕ). slice_get tags (place + 1) ≡ Some other) at there) behind in
+        omega arith
+  ];
+}
+
+-- tags that are met to their end find their keys and values
+pub AreMetBy-all : (needs : TagNeeds) (tags : List ℕ) (to : ℕ) → length tags ≤ to + 1 → IsMetBefore needs.keys needs.values tags to → AreMetBy needs tags
+AreMetBy-all needs tags to all met = record { keys = no_key; values = no_value }
+  where
+    before_end : (place pair pairs : ℕ) → place ≡ 2 * pair → length tags ≡ 2 * pairs → place < length tags → place < to
+    before_end place pair pairs first even within = let so_far : to ≡ 2 * met.pair = met.even in omega arith
+
+    no_key : (count place : ℕ) → needs.keys ≤ count → ¬ NoSuchKey count tags place
+    no_key count place enough broken =
+        let first : place ≡ 2 * broken.here.pair = broken.here.first in
+        let below : place < to = before_end place broken.here.pair broken.here.pairs first broken.here.even (slice_get_within tags place broken.key broken.here.here) in
+        let beyond : count ≤ broken.key = broken.beyond in
+        let held : broken.key < needs.keys = met.key broken.here.pair broken.key (omega arith) (subst (λ (at : ℕ). slice_get tags at ≡ Some broken.key) first broken.here.here) in
+        absurd (omega arith)
+
+    no_value : (count place : ℕ) → needs.values ≤ count → ¬ NoSuchValue count tags place
+    no_value count place enough broken =
+        let second : place ≡ 2 * broken.here.pair + 1 = broken.here.second in
+        let within : place < length tags = slice_get_within tags place broken.value broken.here.here in
+        let even : length tags ≡ 2 * broken.here.pairs = broken.here.even in
+        let below : 2 * broken.here.pair < to = before_end (2 * broken.here.pair) broken.here.pair broken.here.pairs refl even (omega arith) in
+        let beyond : count ≤ broken.value = broken.beyond in
+        let held : broken.value < needs.values = met.value broken.here.pair broken.value below (subst (λ (at : ℕ). slice_get tags at ≡ Some broken.value) second broken.here.here) in
+        absurd (omega arith)
+
+module _ (needs : TagNeeds) (tags : List ℕ) (met : AreMetBy needs tags) where
+  -- where tags find their keys and values, only their pairs can be wrong, whatever the layer
+  TagsBreak-met : (keys values more_keys more_values : ℕ) → needs.keys ≤ keys → needs.values ≤ values → (code : TagCode) (place : ℕ)
+      → TagsBreak code keys values tags place → TagsBreak code more_keys more_values tags place
+  TagsBreak-met keys values more_keys more_values keys_enough values_enough OddLength place broken = broken
+  TagsBreak-met keys values more_keys more_values keys_enough values_enough NoKey place broken = absurd (met.keys keys place keys_enough broken)
+  TagsBreak-met keys values more_keys more_values keys_enough values_enough NoValue place broken = absurd (met.values values place values_enough broken)
+  TagsBreak-met keys values more_keys more_values keys_enough values_enough Repeated place broken = broken
+
+  module _ (layer : LayerRecord) (enough : HasEnough needs layer) where
+    -- tags with no fault in a layer that has just what they need have none in a layer that has enough
+    pub no_tag_fault-enough : ((code : TagCode) (place : ℕ) → ¬ TagsBreak code needs.keys needs.values tags place)
+        → (code : TagCode) (place : ℕ) → ¬ TagsBreak code (length layer.keys) (length layer.values) tags place
+    no_tag_fault-enough none code place broken =
+        none code place (TagsBreak-met (length layer.keys) (length layer.values) needs.keys needs.values enough.keys enough.values code place broken)
+
+    -- and their first fault is the same
+    pub IsFirstTagFault-enough : (code : TagCode) (place : ℕ) → IsFirstTagFault needs.keys needs.values tags code place
+        → IsFirstTagFault (length layer.keys) (length layer.values) tags code place
+    IsFirstTagFault-enough code place first = record {
+      broken = TagsBreak-met needs.keys needs.values (length layer.keys) (length layer.values) (omega arith) (omega arith) code place first.broken;
+      first = λ other other_place broken. first.first other other_place
+          (TagsBreak-met (length layer.keys) (length layer.values) needs.keys needs.values enough.keys enough.values other other_place broken);
+    }

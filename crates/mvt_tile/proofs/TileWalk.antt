@@ -17,11 +17,12 @@ use Rattle.mvt_tile.specs.Least.{FindsLeastCause}
 use Rattle.mvt_tile.specs.Placed.{IsPlaced}
 use Rattle.mvt_tile.specs.Rest.{IsDefectOr}
 use Rattle.mvt_tile.specs.Scan.{Passes, IsFirstFault}
-use Rattle.mvt_tile.specs.declared.fault.LayerScan.{LayerScan}
-use Rattle.mvt_tile.specs.declared.scan.FieldScan.{FieldScan}
+use Rattle.mvt_tile.specs.declared.wire.LayerScan.{LayerScan}
+use Rattle.mvt_tile.specs.declared.wire.scan.FieldScan.{FieldScan}
 use Rattle.mvt_tile.proofs.Layers.{fault_in}
 use Rattle.mvt_tile.proofs.Tiles.{IsLeast-tile, IsLeast-layer, WireFault-none}
-use Rattle.mvt_tile.proofs.Walking.{IsScanning, IsPlaced-within, IsScanning-more, IsScanning-fault, IsScanning-whole, IsWalking-defect, IsWalking-whole, defect_alone}
+use Rattle.mvt_tile.proofs.Walking.{IsScanning, IsPlaced-within, IsScanning-more, IsScanning-fault, IsScanning-whole, defect_alone}
+use Rattle.mvt_wire.proofs.Walking.{IsWalking-defect, IsWalking-whole}
 
 -- the fields that were passed, and what the two scans keep of them
 pub record TileWalk (bytes : List ℕ) (walk : Walk) (own : FieldScan) (layer_scan : LayerScan) : Type 0 where

@@ -2,51 +2,23 @@
 use Rattle.std.proofs.Common.{◌≡◌, ℕ, ◌-◌, ◌<◌, ◌≤◌, ◌⊎◌, inl, inr, List, [], ◌∷◌, ◌++◌, length, take, Option, Some, None, sym, ◌∙◌, ap, subst, arith, append-nil, append_assoc}
 use Rattle.std.proofs.lemmas.List.{length-take-le}
 use Rattle.std.proofs.lemmas.List.Edits.{length-between}
-use Rattle.mvt_wire.specs.Field.{Content, varint, eight_bytes, delimited, four_bytes, Entry, IsPayload, IsField, FieldDefect}
+use Rattle.mvt_wire.specs.Field.{Content, varint, eight_bytes, delimited, four_bytes, Entry, IsPayload, IsField}
 use Rattle.mvt_wire.specs.Message.{FieldList, IsMessage, HasDefect}
-use Rattle.mvt_wire.specs.Walk.{Walk, IsOver, GivesField, FindsDefect}
+use Rattle.mvt_wire.specs.Walk.{Walk, IsOver, GivesField}
 use Rattle.mvt_wire.specs.WireFault.{FieldFault, EndFault, MessageFault}
 use Rattle.mvt_wire.specs.declared.cause.WireCause.{WireCause}
 use Rattle.mvt_wire.specs.declared.schema.Message.{Message}
 use Rattle.mvt_wire.proofs.Entries.{field_extent}
-use Rattle.mvt_wire.proofs.Messages.{FieldList-push, one_list, whole_or_defect, one_defect}
+use Rattle.mvt_wire.proofs.Messages.{one_list, whole_or_defect, one_defect}
 use Rattle.mvt_tile.specs.Least.{IsLeastCause, FindsLeastCause}
 use Rattle.mvt_tile.specs.Placed.{LiesWithin, IsPlaced}
 use Rattle.mvt_tile.specs.Rest.{IsDefectOr}
 use Rattle.mvt_tile.specs.Scan.{Passes, IsFirstFault}
-use Rattle.mvt_tile.specs.declared.scan.FieldScan.{FieldScan}
+use Rattle.mvt_tile.specs.declared.wire.scan.FieldScan.{FieldScan}
 use Rattle.mvt_tile.proofs.Causes.{by_offset, same_cause}
 use Rattle.mvt_tile.proofs.EndFaults.{end_place}
 use Rattle.mvt_tile.proofs.Passing.{IsFirstFault-kept}
-
--- the walk over a message has passed these fields
-pub record IsWalking (bytes : List ℕ) (from : ℕ) (walk : Walk) (entries : List Entry) : Type 0 where
-  pub same_bytes : walk.bytes ≡ bytes
-  pub passed : FieldList bytes from entries walk.at
-
--- one more field was given
-pub IsWalking-more : (bytes : List ℕ) (from : ℕ) (old new : Walk) (entries : List Entry) (entry : Entry) → IsWalking bytes from old entries → GivesField old new entry
-    → IsWalking bytes from new (entries ++ entry ∷ [])
-IsWalking-more bytes from old new entries entry so_far given = record {
-  same_bytes = given.same_bytes ∙ so_far.same_bytes;
-  passed = FieldList-push bytes from entries old.at new.at entry so_far.passed given.here
-      (subst (λ (list : List ℕ). IsField list new.at entry) so_far.same_bytes given.spelled);
-}
-
--- a defect at the place of the walk is one of the message
-pub IsWalking-defect : (bytes : List ℕ) (from : ℕ) (old new : Walk) (entries : List Entry) (cause : WireCause) → IsWalking bytes from old entries → FindsDefect old new cause → HasDefect bytes from cause
-IsWalking-defect bytes from old new entries cause so_far found = record {
-  entries = entries;
-  at = old.at;
-  before = so_far.passed;
-  left = subst (λ (list : List ℕ). old.at < length list) so_far.same_bytes found.left;
-  defect = subst (λ (list : List ℕ). FieldDefect list old.at cause) so_far.same_bytes found.defect;
-}
-
--- the walk is over, and has passed the whole message
-pub IsWalking-whole : (bytes : List ℕ) (from : ℕ) (old new : Walk) (entries : List Entry) → IsWalking bytes from old entries → IsOver old new → IsMessage bytes from entries
-IsWalking-whole bytes from old new entries so_far over =
-    subst (λ (to : ℕ). FieldList bytes from entries to) (over.at_end ∙ ap length so_far.same_bytes) so_far.passed
+use Rattle.mvt_wire.proofs.Walking.{IsWalking, IsWalking-more, IsWalking-whole}
 
 -- where a payload lies
 payload_place : (bytes : List ℕ) (at key_end to : ℕ) (content : Content) → at < key_end → IsPayload bytes key_end to content → LiesWithin at to content

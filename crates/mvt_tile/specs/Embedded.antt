@@ -7,7 +7,7 @@ use Rattle.mvt_wire.specs.declared.cause.WireCause.{WireCause}
 use Rattle.mvt_wire.specs.declared.schema.Message.{Message}
 use Rattle.mvt_tile.specs.First.{FindsFirst}
 use Rattle.mvt_tile.specs.Least.{IsLeastCause}
-use Rattle.mvt_tile.specs.declared.embedded.EmbeddedScan.{EmbeddedScan}
+use Rattle.mvt_tile.specs.declared.wire.embedded.EmbeddedScan.{EmbeddedScan}
 
 -- the message in a stretch of the bytes has a fault
 abbrev pub HasFault : Message → List ℕ → Span → WireCause → Type 0

@@ -6,7 +6,7 @@ use Rattle.mvt_fault.specs.Place.{IsLeast}
 use Rattle.mvt_fault.specs.declared.fault.Fault.{Fault}
 use Rattle.mvt_tile.specs.First.{FindsFirst}
 use Rattle.mvt_tile.specs.LayerFault.{IsLayerFault}
-use Rattle.mvt_tile.specs.declared.fault.LayerScan.{LayerScan}
+use Rattle.mvt_tile.specs.declared.wire.LayerScan.{LayerScan}
 
 -- the layer has no fault
 abbrev pub IsFaultless : List ℕ → ℕ → Span → Type 0

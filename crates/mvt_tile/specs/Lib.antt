@@ -11,6 +11,8 @@ pub mod View
 pub mod Reading
 pub mod ReadFault
 pub mod RuleFaults
-pub mod KeySet
+pub mod KeyMarks
+pub mod Names
+pub mod TagNeeds
 pub mod PassedLayers
 pub mod FeatureRules

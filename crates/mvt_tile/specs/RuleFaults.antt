@@ -8,6 +8,7 @@ use Rattle.mvt_wire.specs.Rules.{IsFeatureOf}
 use Rattle.mvt_wire.specs.Tile.{FeatureRecord, LayerRecord, TileRecord}
 use Rattle.mvt_tile.specs.FeatureRules.{Breaks, Keeps}
 use Rattle.mvt_tile.specs.declared.rules.summary.LayerSummary.{LayerSummary}
+use Rattle.mvt_tile.specs.declared.rules.tags.TagNeeds.{TagNeeds}
 
 -- what the layer has, as far as the rules ask for it
 pub record IsSummary (summary : LayerSummary) (layer : LayerRecord) : Type 0 where
@@ -15,6 +16,16 @@ pub record IsSummary (summary : LayerSummary) (layer : LayerRecord) : Type 0 whe
   pub name : summary.name.now ≡ layer.name
   pub keys : summary.keys ≡ length layer.keys
   pub values : summary.values ≡ length layer.values
+
+-- the layer has as many keys and values as tags need
+pub record HasEnough (needs : TagNeeds) (layer : LayerRecord) : Type 0 where
+  pub keys : needs.keys ≤ length layer.keys
+  pub values : needs.values ≤ length layer.values
+
+-- the tags have the same faults in the layer as in one of so many keys and values
+pub record HasSameTagFaults (keys values : ℕ) (layer : LayerRecord) (tags : List ℕ) : Type 0 where
+  pub there : (code : TagCode) (place : ℕ) → TagsBreak code keys values tags place → TagsBreak code (length layer.keys) (length layer.values) tags place
+  pub back : (code : TagCode) (place : ℕ) → TagsBreak code (length layer.keys) (length layer.values) tags place → TagsBreak code keys values tags place
 
 -- of the faults of tags, the one at the first place, and there the one of least code
 pub record IsFirstTagFault (keys values : ℕ) (tags : List ℕ) (code : TagCode) (place : ℕ) : Type 0 where

@@ -7,7 +7,7 @@ use Rattle.mvt_wire.specs.declared.cause.WireCause.{WireCause}
 use Rattle.mvt_wire.specs.declared.schema.FieldRule.{FieldRule}
 use Rattle.mvt_wire.specs.declared.schema.Message.{Message}
 use Rattle.mvt_tile.specs.Least.{IsLeastCause}
-use Rattle.mvt_tile.specs.declared.scan.FieldScan.{FieldScan}
+use Rattle.mvt_tile.specs.declared.wire.scan.FieldScan.{FieldScan}
 
 -- it was kept that a field of the number stood
 abbrev pub was_seen : FieldScan → ℕ → Bool

@@ -15,8 +15,8 @@ mod tests;
 mod value;
 pub(crate) mod walk;
 
-use crate::fault::wire_fault;
 use crate::record::{Layer, Tile};
+use crate::wire::wire_fault;
 use layer::read_layer;
 use mvt_fault::Fault;
 use mvt_wire::{Field, Fields};

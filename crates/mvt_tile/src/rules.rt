@@ -1,26 +1,36 @@
 //! The rules between the parts of a tile (Mapbox Vector Tile Specification 2.1, sections 4.1, 4.2 and 4.4):
 //! the versions and names of its layers, and the tags of its features; and a further rule on features.
-ghost use Rattle.std.specs.Prelude.{ℕ, IfOk, IfNone, IfSome};
+ghost use Rattle.std.specs.Prelude.{◌≡◌, ℕ, length, IfOk, IfNone, IfSome, OnOk};
+ghost use Rattle.mvt_fault.specs.Truth.{OneFeatureHas};
 ghost use Rattle.mvt_fault.specs.Place.{IsLeast, place_of};
 ghost use Rattle.mvt_fault.specs.declared.fault.Fault.{Fault};
 ghost use Rattle.mvt_wire.specs.Tile.{FeatureRecord, TileRecord, IsTile};
+ghost use Rattle.mvt_tile.specs.FeatureRules.{AllSound, IsFaultOfFeature};
+ghost use Rattle.mvt_tile.specs.PassedLayers.{EndsLayers, passed, PassesLayers};
 ghost use Rattle.mvt_tile.specs.RuleFaults.{IsBehindTags, BreaksAnyRule, KeepsRules};
 
 mod features;
-mod key_set;
+mod key_marks;
 mod layer_rules;
+mod layer_scan;
 mod layers;
+mod names;
 pub(crate) mod summary;
 mod tags;
 #[cfg(test)]
 mod tests;
 
+use crate::field_number::LAYERS;
+use crate::read::payload::stretch_of;
+use crate::read::walk::next_whole;
 pub use features::FeatureRule;
-use features::first_feature_fault;
+use features::{FeatureRoom, look_at_layer};
+use layer_rules::LayerRules;
 pub use layers::check_layers;
-use layers::first_layer_fault;
 use mvt_fault::Fault;
+use mvt_wire::Fields;
 use std::alloc::{AllocError, Global};
+use summary::summarize;
 pub use tags::check_tags;
 
 /// The first fault of a tile by its rules, or None where it keeps them: its layers have version 2 and
@@ -28,9 +38,9 @@ pub use tags::check_tags;
 /// of a key and a value of its layer, no key twice (section 4.4), and each feature keeps the further rule.
 /// The layers' faults come first; then the first feature that has a fault decides, and its tags come before
 /// the further rule. The bytes are to have no wire fault (`wire_fault`), and the rule's faults are to
-/// stand behind the tags of their feature in the order of faults. The bytes are read again, and no record
-/// of the tile is built. Its memory is for the names of the layers, and for one feature at a time. The only
-/// error is that memory was refused.
+/// stand behind the tags of their feature in the order of faults. The bytes are read again, each layer once, and no
+/// record of the tile is built. Its memory is for the names of the layers, for one feature at a time, and for marks of keys.
+/// The only error is that memory was refused.
 pub fn rule_fault<R: FeatureRule>(
     alloc: Global,
     bytes: &[u8],
@@ -43,8 +53,59 @@ pub fn rule_fault<R: FeatureRule>(
     ensures least { IfOk result (λ found. IfSome found (λ fault. (tile : TileRecord) → IsTile bytes.now tile
         → IsLeast (BreaksAnyRule R.IsBroken tile) fault)) }
 {
-    match first_layer_fault(alloc, bytes)? {
+    let mut layers = LayerRules::new(alloc);
+    let found = walk_layers(alloc, bytes, rule, &mut layers)?;
+    match layers.fault() {
         Some(fault) => Ok(Some(fault)),
-        None => first_feature_fault(alloc, bytes, rule),
+        None => Ok(found),
     }
+}
+
+/// Walks over the layers of a tile, up to the first that has another version than 2, and answers the first fault of their
+/// features, or None. It tells only of tiles all layers of which have version 2. The features of layers behind the first
+/// that has a fault are not looked at. The only error is that memory was refused.
+fn walk_layers<'a, R: FeatureRule>(
+    alloc: Global,
+    bytes: &'a [u8],
+    rule: &mut R,
+    layers: &mut LayerRules<'a>,
+) -> Result<Option<Fault>, AllocError>
+    requires tile { (tile : TileRecord) × IsTile bytes.now tile }
+    requires begins { passed layers.old ≡ 0 }
+    requires passes { (tile : TileRecord) → PassesLayers layers.old tile }
+    requires behind_tags { (feature_record : FeatureRecord) (layer_index feature_index : ℕ) (fault : Fault)
+        → R.IsBroken feature_record layer_index feature_index fault → IsBehindTags layer_index feature_index (place_of fault) }
+    ensures ends { OnOk result ((tile : TileRecord) → IsTile bytes.now tile → EndsLayers layers.new tile) }
+    ensures none { IfOk result (λ found. IfNone found ((tile : TileRecord) → IsTile bytes.now tile → passed layers.new ≡ length tile.layers → AllSound R.IsBroken R.IsKept tile)) }
+    ensures least { IfOk result (λ found. IfSome found (λ fault. (tile : TileRecord) → IsTile bytes.now tile → passed layers.new ≡ length tile.layers
+        → IsLeast (OneFeatureHas (IsFaultOfFeature R.IsBroken) tile) fault)) }
+{
+    let mut room = FeatureRoom::new(alloc);
+    let mut found = None;
+    let mut layer_index = 0;
+    let mut fields = Fields::new(bytes, 0, bytes.len());
+    'walk: while let Some(field) = next_whole(&mut fields) {
+        if field.number == LAYERS {
+            let (from, to) = stretch_of(field.body);
+            let summary = if found.is_some() {
+                summarize(bytes, from, to)
+            } else {
+                let (summary, its_fault) = look_at_layer(
+                    bytes,
+                    rule,
+                    layer_index,
+                    from,
+                    to,
+                    &mut room,
+                )?;
+                found = its_fault;
+                summary
+            };
+            if !layers.note(summary.version, summary.name)? {
+                return Ok(found);
+            }
+            layer_index += 1;
+        }
+    }
+    Ok(found)
 }

@@ -1,16 +1,18 @@
 //! The rules on the features of a tile, which are read from its bytes one after another.
-ghost use Rattle.std.specs.Prelude.{◌≤◌, ℕ, length, IfOk, IfNone, IfSome};
+ghost use Rattle.std.specs.Prelude.{◌≡◌, ◌≤◌, ℕ, length, IfOk, IfNone, IfSome};
 ghost use Rattle.mvt_fault.specs.Place.{IsLeast, place_of};
 ghost use Rattle.mvt_fault.specs.Truth.{OneFeatureHas};
 ghost use Rattle.mvt_fault.specs.declared.fault.Fault.{Fault};
 ghost use Rattle.mvt_wire.specs.Tile.{FeatureRecord, LayerRecord, IsLayer, TileRecord, IsTile};
 ghost use Rattle.mvt_tile.specs.FeatureRules.{IsFaultOfFeature, IsFaultInLayer, IsSound, AllSoundInLayer, AllSound};
-ghost use Rattle.mvt_tile.specs.RuleFaults.{IsBehindTags, IsSummary};
+ghost use Rattle.mvt_tile.specs.RuleFaults.{HasSameTagFaults, IsBehindTags, IsSummary};
 ghost use Rattle.mvt_tile.specs.View.{feature_of};
 
-use super::summary::{LayerSummary, summarize};
+use super::key_marks::KeyMarks;
+use super::layer_scan::scan_layer;
+use super::summary::LayerSummary;
 use super::tags::fault_of_tags;
-use crate::field_number::{FEATURES, LAYERS};
+use crate::field_number::FEATURES;
 use crate::read::feature::read_feature_into;
 use crate::read::payload::stretch_of;
 use crate::read::walk::next_whole;
@@ -44,71 +46,90 @@ pub trait FeatureRule {
         ensures least { IfOk result (λ found. IfSome found (IsLeast (IsBroken (feature_of feature.now) layer_index feature_index))) };
 }
 
-/// The first fault of the features that the bytes of a tile hold, or None: of their tags (section 4.4), or
-/// of the further rule. The layers come in the order of the bytes, and in each its features, so the first
-/// feature that has a fault ends the walk. The only error is that memory was refused.
-pub(crate) fn first_feature_fault<R: FeatureRule>(
+/// Room for one feature after another, and for marks of the keys of its tags.
+#[derive(Drop)]
+pub(crate) struct FeatureRoom {
+    /// What memory is taken from.
     alloc: Global,
-    bytes: &[u8],
-    rule: &mut R,
-) -> Result<Option<Fault>, AllocError>
-    requires tile { (tile : TileRecord) × IsTile bytes.now tile }
-    requires behind_tags { (feature_record : FeatureRecord) (layer_index feature_index : ℕ) (fault : Fault)
-        → R.IsBroken feature_record layer_index feature_index fault → IsBehindTags layer_index feature_index (place_of fault) }
-    ensures none { IfOk result (λ found. IfNone found ((tile : TileRecord) → IsTile bytes.now tile → AllSound R.IsBroken R.IsKept tile)) }
-    ensures least { IfOk result (λ found. IfSome found (λ fault. (tile : TileRecord) → IsTile bytes.now tile
-        → IsLeast (OneFeatureHas (IsFaultOfFeature R.IsBroken) tile) fault)) }
-{
-    let mut feature = Feature::empty(alloc);
-    let mut layer_index = 0;
-    let mut fields = Fields::new(bytes, 0, bytes.len());
-    'walk: while let Some(field) = next_whole(&mut fields) {
-        if field.number == LAYERS {
-            let (from, to) = stretch_of(field.body);
-            let found = fault_in_layer(alloc, bytes, rule, layer_index, from, to, &mut feature)?;
-            if let Some(fault) = found {
-                return Ok(Some(fault)); // of the first layer that has one
-            }
-            layer_index += 1;
-        }
-    }
-    Ok(None)
+    pub(crate) feature: Feature,
+    marks: KeyMarks,
 }
 
-/// The first fault of the features of the layer with an ordinal, or None. The layer stands in the bytes
-/// from one offset up to another. `feature` is room for one feature after another. The only error is that
-/// memory was refused.
-fn fault_in_layer<R: FeatureRule>(
-    alloc: Global,
-    bytes: &[u8],
+impl FeatureRoom {
+    /// Room that has served no feature. It takes no memory.
+    pub(crate) fn new(alloc: Global) -> FeatureRoom {
+        FeatureRoom {
+            alloc,
+            feature: Feature::empty(alloc),
+            marks: KeyMarks::new(alloc),
+        }
+    }
+}
+
+/// The summary of the layer with an ordinal, which stands in the bytes from one offset up to another, and the first fault
+/// of its features or None. The layer is walked once, unless a tag names a key or a value that the layer doesn't have.
+/// The only error is that memory was refused.
+pub(crate) fn look_at_layer<'a, R: FeatureRule>(
+    bytes: &'a [u8],
     rule: &mut R,
     layer_index: usize,
     from: usize,
     to: usize,
-    feature: &mut Feature,
+    room: &mut FeatureRoom,
+) -> Result<(LayerSummary<'a>, Option<Fault>), AllocError>
+    requires forward { from ≤ to }
+    requires within { to ≤ length bytes.now }
+    requires stands { (layer_record : LayerRecord) × IsLayer bytes.now (record { from = from; to = to }) layer_record }
+    requires behind_tags { (feature_record : FeatureRecord) (in_layer feature_index : ℕ) (fault : Fault)
+        → R.IsBroken feature_record in_layer feature_index fault → IsBehindTags in_layer feature_index (place_of fault) }
+    ensures summary { IfOk result (λ found. (layer_record : LayerRecord) → IsLayer bytes.now (record { from = from; to = to }) layer_record → IsSummary found.0 layer_record) }
+    ensures none { IfOk result (λ found. IfNone found.1 ((layer_record : LayerRecord) → IsLayer bytes.now (record { from = from; to = to }) layer_record
+        → AllSoundInLayer R.IsBroken R.IsKept layer_record layer_index)) }
+    ensures least { IfOk result (λ found. IfSome found.1 (λ fault. (layer_record : LayerRecord) → IsLayer bytes.now (record { from = from; to = to }) layer_record
+        → IsLeast (IsFaultInLayer R.IsBroken layer_record layer_index) fault)) }
+{
+    let scan = scan_layer(bytes, rule, layer_index, from, to, room)?;
+    let summary = scan.summary;
+    if scan.needs.keys <= summary.keys && scan.needs.values <= summary.values {
+        return Ok((summary, scan.found));
+    }
+    let found = fault_in_layer(bytes, rule, summary, layer_index, from, to, room)?;
+    Ok((summary, found))
+}
+
+/// The first fault of the features of the layer with an ordinal, or None. The layer stands in the bytes
+/// from one offset up to another, and the summary is its own. The only error is that memory was refused.
+fn fault_in_layer<R: FeatureRule>(
+    bytes: &[u8],
+    rule: &mut R,
+    summary: LayerSummary<'_>,
+    layer_index: usize,
+    from: usize,
+    to: usize,
+    room: &mut FeatureRoom,
 ) -> Result<Option<Fault>, AllocError>
     requires forward { from ≤ to }
     requires within { to ≤ length bytes.now }
-    requires stands { (whose : LayerRecord) × IsLayer bytes.now (record { from = from; to = to }) whose }
+    requires stands { (layer_record : LayerRecord) × IsLayer bytes.now (record { from = from; to = to }) layer_record }
+    requires summary { (layer_record : LayerRecord) → IsLayer bytes.now (record { from = from; to = to }) layer_record → IsSummary summary layer_record }
     requires behind_tags { (feature_record : FeatureRecord) (in_layer feature_index : ℕ) (fault : Fault)
         → R.IsBroken feature_record in_layer feature_index fault → IsBehindTags in_layer feature_index (place_of fault) }
-    ensures none { IfOk result (λ found. IfNone found ((whose : LayerRecord) → IsLayer bytes.now (record { from = from; to = to }) whose
-        → AllSoundInLayer R.IsBroken R.IsKept whose layer_index)) }
-    ensures least { IfOk result (λ found. IfSome found (λ fault. (whose : LayerRecord) → IsLayer bytes.now (record { from = from; to = to }) whose
-        → IsLeast (IsFaultInLayer R.IsBroken whose layer_index) fault)) }
+    ensures none { IfOk result (λ found. IfNone found ((layer_record : LayerRecord) → IsLayer bytes.now (record { from = from; to = to }) layer_record
+        → AllSoundInLayer R.IsBroken R.IsKept layer_record layer_index)) }
+    ensures least { IfOk result (λ found. IfSome found (λ fault. (layer_record : LayerRecord) → IsLayer bytes.now (record { from = from; to = to }) layer_record
+        → IsLeast (IsFaultInLayer R.IsBroken layer_record layer_index) fault)) }
 {
-    let summary = summarize(bytes, from, to);
     let mut feature_index = 0;
     let mut fields = Fields::new(bytes, from, to);
     'walk: while let Some(field) = next_whole(&mut fields) {
         if field.number == FEATURES {
             let (start, end) = stretch_of(field.body);
-            read_feature_into(bytes, start, end, feature)?;
+            read_feature_into(bytes, start, end, &mut room.feature)?;
             let found = fault_of_feature(
-                alloc,
                 rule,
-                summary,
-                feature,
+                summary.keys,
+                summary.values,
+                room,
                 layer_index,
                 feature_index,
             )?;
@@ -121,30 +142,30 @@ fn fault_in_layer<R: FeatureRule>(
     Ok(None) // no feature of the layer has a fault
 }
 
-/// The first fault of a feature, or None: its tags come before the further rule. `summary` is that of its
-/// layer.
-fn fault_of_feature<R: FeatureRule>(
-    alloc: Global,
+/// The first fault of the feature that was read into the room, or None: its tags, in a layer of so many keys and values,
+/// come before the further rule. The only error is that memory was refused.
+pub(crate) fn fault_of_feature<R: FeatureRule>(
     rule: &mut R,
-    summary: LayerSummary<'_>,
-    feature: &Feature,
+    keys: usize,
+    values: usize,
+    room: &mut FeatureRoom,
     layer_index: usize,
     feature_index: usize,
 ) -> Result<Option<Fault>, AllocError>
-    requires behind_tags { (fault : Fault) → R.IsBroken (feature_of feature.now) layer_index feature_index fault
+    requires behind_tags { (fault : Fault) → R.IsBroken (feature_of room.old.feature) layer_index feature_index fault
         → IsBehindTags layer_index feature_index (place_of fault) }
-    ensures none { IfOk result (λ found. IfNone found ((whose : LayerRecord) → IsSummary summary.entry whose
-        → IsSound R.IsBroken R.IsKept whose (feature_of feature.now) layer_index feature_index)) }
-    ensures least { IfOk result (λ found. IfSome found (λ fault. (whose : LayerRecord) → IsSummary summary.entry whose
-        → IsLeast (IsFaultOfFeature R.IsBroken whose (feature_of feature.now) layer_index feature_index) fault)) }
+    ensures none { IfOk result (λ found. IfNone found ((layer_record : LayerRecord) → HasSameTagFaults keys values layer_record (feature_of room.old.feature).tags
+        → IsSound R.IsBroken R.IsKept layer_record (feature_of room.old.feature) layer_index feature_index)) }
+    ensures least { IfOk result (λ found. IfSome found (λ fault. (layer_record : LayerRecord) → HasSameTagFaults keys values layer_record (feature_of room.old.feature).tags
+        → IsLeast (IsFaultOfFeature R.IsBroken layer_record (feature_of room.old.feature) layer_index feature_index) fault)) }
 {
-    match fault_of_tags(alloc, &feature.tags, summary.keys, summary.values)? {
+    match fault_of_tags(&mut room.marks, &room.feature.tags, keys, values)? {
         Some((code, index)) => Ok(Some(Fault::Tag {
             code,
             layer: layer_index,
             feature: feature_index,
             index,
         })),
-        None => rule.fault(alloc, feature, layer_index, feature_index),
+        None => rule.fault(room.alloc, &room.feature, layer_index, feature_index),
     }
 }

@@ -1,20 +1,23 @@
 //! The rules on the versions and names of layers, kept layer by layer (Mapbox Vector Tile Specification
 //! 2.1, section 4.1).
-ghost use Rattle.std.specs.Prelude.{◌≡◌, ◌+◌, IfOk, IfNone, IfSome};
+ghost use Rattle.std.specs.Prelude.{◌≡◌, ◌+◌, IfOk, IfNone, IfSome, IsFalse, IsTrue, true};
 ghost use Rattle.mvt_fault.specs.Place.{IsLeast};
 ghost use Rattle.mvt_fault.specs.Truth.{IsFaultOfLayers};
+ghost use Rattle.mvt_fault.specs.declared.fault.Fault.{Fault};
 ghost use Rattle.mvt_wire.specs.Tile.{TileRecord};
-ghost use Rattle.mvt_tile.specs.PassedLayers.{passed, PassesLayers, IsNextLayer};
+ghost use Rattle.mvt_tile.specs.PassedLayers.{passed, EndsLayers, PassesLayers, IsNextLayer};
 
+use super::names::LayerNames;
 use mvt_fault::Fault;
 use std::alloc::{AllocError, Global};
-use std::collections::BTreeMap;
 
-/// What is kept of the layers that were passed and keep the rules: their names, each with the ordinal of
-/// its layer. All of them differ, so as many names are kept as layers were passed.
+/// What is kept of a tile's layers, which are passed in their order up to the first that has another version than 2.
 #[derive(Drop)]
 pub(crate) struct LayerRules<'a> {
-    ordinals: BTreeMap<&'a [u8], usize>,
+    /// The names of the layers that have version 2.
+    names: LayerNames<'a>,
+    /// Whether a layer of another version stands behind them.
+    other_version: bool,
 }
 
 impl<'a> LayerRules<'a> {
@@ -24,28 +27,37 @@ impl<'a> LayerRules<'a> {
         ensures passes { (tile : TileRecord) → PassesLayers result tile }
     {
         LayerRules {
-            ordinals: BTreeMap::new(alloc),
+            names: LayerNames::new(alloc),
+            other_version: false,
         }
     }
 
-    /// Passes the next layer, or answers the fault that it has. A fault ends the use of the rules: it is
-    /// the first of the tile, since all layers before have none. The only error is that memory was
-    /// refused.
-    pub(crate) fn note(&mut self, version: u32, name: &'a [u8]) -> Result<Option<Fault>, AllocError>
-        ensures count { IfOk result (λ found. IfNone found (passed self.new ≡ passed self.old + 1)) }
-        ensures passes { IfOk result (λ found. IfNone found ((tile : TileRecord) → PassesLayers self.old tile → IsNextLayer self.old tile version name.now → PassesLayers self.new tile)) }
-        ensures least { IfOk result (λ found. IfSome found (λ fault. (tile : TileRecord) → PassesLayers self.old tile → IsNextLayer self.old tile version name.now → IsLeast (IsFaultOfLayers tile) fault)) }
+    /// Passes the next layer, and tells whether it has version 2: another version ends the walk over the layers. The
+    /// only error is that memory was refused.
+    pub(crate) fn note(&mut self, version: u32, name: &'a [u8]) -> Result<bool, AllocError>
+        ensures count { IfOk result (λ goes_on. IsTrue goes_on → passed self.new ≡ passed self.old + 1) }
+        ensures passes { IfOk result (λ goes_on. IsTrue goes_on → (tile : TileRecord) → PassesLayers self.old tile → IsNextLayer self.old tile version name.now → PassesLayers self.new tile) }
+        ensures ends { IfOk result (λ goes_on. IsFalse goes_on → (tile : TileRecord) → PassesLayers self.old tile → IsNextLayer self.old tile version name.now → EndsLayers self.new tile) }
+        ensures other { IfOk result (λ goes_on. IsFalse goes_on → self.new.other_version ≡ true) }
     {
-        let ordinal = self.ordinals.len();
         if version != 2 {
-            return Ok(Some(Fault::Version { layer: ordinal }));
+            self.other_version = true;
+            return Ok(false);
         }
-        match self.ordinals.insert(name, ordinal)? {
-            Some(first) => Ok(Some(Fault::Name {
-                first,
-                second: ordinal,
-            })),
-            None => Ok(None),
+        self.names.add(name)?;
+        Ok(true)
+    }
+
+    /// The first fault of the layers, all of which were passed, or all up to the first of another version.
+    pub(crate) fn fault(self) -> Option<Fault>
+        ensures none { IfNone result ((tile : TileRecord) → EndsLayers self.entry tile → (fault : Fault) → ¬ IsFaultOfLayers tile fault) }
+        ensures least { IfSome result (λ fault. (tile : TileRecord) → EndsLayers self.entry tile → IsLeast (IsFaultOfLayers tile) fault) }
+    {
+        let count = self.names.len();
+        match self.names.first_repeated() {
+            Some((first, second)) => Some(Fault::Name { first, second }),
+            None if self.other_version => Some(Fault::Version { layer: count }),
+            None => None,
         }
     }
 }

@@ -10,13 +10,8 @@ ghost use Rattle.mvt_tile.specs.View.{tile_of};
 mod tests;
 
 use super::layer_rules::LayerRules;
-use super::summary::summarize;
-use crate::field_number::LAYERS;
-use crate::read::payload::stretch_of;
-use crate::read::walk::next_whole;
 use crate::record::Tile;
 use mvt_fault::Fault;
-use mvt_wire::Fields;
 use std::alloc::{AllocError, Global};
 
 /// The first fault of the layers' versions and names, or None where there is none: a layer whose version
@@ -28,30 +23,9 @@ pub fn check_layers(alloc: Global, tile: &Tile<'_>) -> Result<Option<Fault>, All
 {
     let mut rules = LayerRules::new(alloc);
     for layer in &tile.layers {
-        if let Some(fault) = rules.note(layer.version, layer.name.as_bytes())? {
-            return Ok(Some(fault));
+        if !rules.note(layer.version, layer.name.as_bytes())? {
+            break;
         }
     }
-    Ok(None)
-}
-
-/// The first fault of the versions and names of the layers that the bytes of a tile hold, or None. The
-/// only error is that memory was refused.
-pub(crate) fn first_layer_fault(alloc: Global, bytes: &[u8]) -> Result<Option<Fault>, AllocError>
-    requires { (tile : TileRecord) × IsTile bytes.now tile }
-    ensures none { IfOk result (λ found. IfNone found ((tile : TileRecord) → IsTile bytes.now tile → (fault : Fault) → ¬ IsFaultOfLayers tile fault)) }
-    ensures least { IfOk result (λ found. IfSome found (λ fault. (tile : TileRecord) → IsTile bytes.now tile → IsLeast (IsFaultOfLayers tile) fault)) }
-{
-    let mut rules = LayerRules::new(alloc);
-    let mut fields = Fields::new(bytes, 0, bytes.len());
-    'walk: while let Some(field) = next_whole(&mut fields) {
-        if field.number == LAYERS {
-            let (from, to) = stretch_of(field.body);
-            let layer = summarize(bytes, from, to);
-            if let Some(fault) = rules.note(layer.version, layer.name)? {
-                return Ok(Some(fault));
-            }
-        }
-    }
-    Ok(None)
+    Ok(rules.fault())
 }

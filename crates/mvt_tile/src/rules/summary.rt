@@ -30,12 +30,7 @@ pub(crate) fn summarize(bytes: &[u8], from: usize, to: usize) -> LayerSummary<'_
     requires stands { (layer : LayerRecord) × IsLayer bytes.now (record { from = from; to = to }) layer }
     ensures { (layer : LayerRecord) → IsLayer bytes.now (record { from = from; to = to }) layer → IsSummary result layer }
 {
-    let mut summary = LayerSummary {
-        version: 0,
-        name: &[],
-        keys: 0,
-        values: 0,
-    };
+    let mut summary = nothing_told();
     let mut fields = Fields::new(bytes, from, to);
     'walk: while let Some(field) = next_whole(&mut fields) {
         add_field(&mut summary, field);
@@ -43,8 +38,20 @@ pub(crate) fn summarize(bytes: &[u8], from: usize, to: usize) -> LayerSummary<'_
     summary
 }
 
+/// The summary of a layer of which no field was passed.
+pub(crate) fn nothing_told<'a>() -> LayerSummary<'a>
+    ensures { TellsSummary [] result }
+{
+    LayerSummary {
+        version: 0,
+        name: &[],
+        keys: 0,
+        values: 0,
+    }
+}
+
 /// Adds what one more field of the layer tells.
-fn add_field<'a>(summary: &mut LayerSummary<'a>, field: Field<'a>)
+pub(crate) fn add_field<'a>(summary: &mut LayerSummary<'a>, field: Field<'a>)
     requires fits { FitsRule messages.Layer (entry_of field) }
     requires keys { summary.old.keys + 1 < 2 ^ 64 }
     requires values { summary.old.values + 1 < 2 ^ 64 }

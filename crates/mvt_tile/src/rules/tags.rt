@@ -1,17 +1,18 @@
 //! The tags of a feature (Mapbox Vector Tile Specification 2.1, section 4.4).
-ghost use Rattle.std.specs.Prelude.{◌≡◌, ◌<◌, ℕ, length, IfOk, IfNone, IfSome, Some, slice_get};
+ghost use Rattle.std.specs.Prelude.{◌≡◌, ◌<◌, ◌≤◌, ℕ, length, IfOk, IfNone, IfSome, Some, slice_get};
 ghost use Rattle.mvt_fault.specs.Place.{IsLeast};
 ghost use Rattle.mvt_fault.specs.Truth.{IsFaultOfTags, TagsBreak};
 ghost use Rattle.mvt_fault.specs.declared.fault.Fault.{Fault};
 ghost use Rattle.mvt_fault.specs.declared.tag.TagCode.{TagCode};
 ghost use Rattle.mvt_wire.specs.Tile.{FeatureRecord};
 ghost use Rattle.mvt_tile.specs.RuleFaults.{IsFirstTagFault};
+ghost use Rattle.mvt_tile.specs.TagNeeds.{AreMetBy};
 ghost use Rattle.mvt_tile.specs.View.{layer_of};
 
 #[cfg(test)]
 mod tests;
 
-use super::key_set::KeySet;
+use super::key_marks::KeyMarks;
 use crate::record::Layer;
 use mvt_fault::{Fault, TagCode};
 use std::alloc::{AllocError, Global};
@@ -33,7 +34,8 @@ pub fn check_tags(
         → IsLeast (IsFaultOfTags (layer_of whose.now) it layer feature) fault)) }
 {
     let tags = &whose.features[feature].tags;
-    let found = fault_of_tags(alloc, tags, whose.keys.len(), whose.values.len())?;
+    let mut marks = KeyMarks::new(alloc);
+    let found = fault_of_tags(&mut marks, tags, whose.keys.len(), whose.values.len())?;
     let Some((code, index)) = found else {
         return Ok(None);
     };
@@ -45,10 +47,44 @@ pub fn check_tags(
     }))
 }
 
-/// The first fault of tags, in a layer of so many keys and values, and its place in their list. The only
-/// error is that memory was refused.
+/// How many keys and values a layer is to have at least, so that tags find theirs.
+#[derive(Clone, Copy)]
+pub(crate) struct TagNeeds {
+    pub(crate) keys: usize,
+    pub(crate) values: usize,
+}
+
+impl TagNeeds {
+    /// What no tags need.
+    pub(crate) fn none() -> TagNeeds
+        ensures { result ≡ record { keys = 0; values = 0 } }
+    {
+        TagNeeds { keys: 0, values: 0 }
+    }
+
+    /// Adds what the pairs of these tags need. A number left over at the end adds nothing: a list of odd length has
+    /// no fault but its length, in whatever layer.
+    pub(crate) fn add(&mut self, tags: &[u32])
+        ensures no_fewer_keys { self.old.keys ≤ self.new.keys }
+        ensures no_fewer_values { self.old.values ≤ self.new.values }
+        ensures met { AreMetBy self.new tags.now }
+    {
+        let mut keys = self.keys;
+        let mut values = self.values;
+        let mut at = 0;
+        'pairs: while at + 1 < tags.len() {
+            keys = keys.max(tags[at] as usize + 1);
+            values = values.max(tags[at + 1] as usize + 1);
+            at += 2;
+        }
+        *self = TagNeeds { keys, values };
+    }
+}
+
+/// The first fault of tags, in a layer of so many keys and values, and its place in their list. `marks` is room for
+/// marks of keys, which serves one feature after another. The only error is that memory was refused.
 pub(crate) fn fault_of_tags(
-    alloc: Global,
+    marks: &mut KeyMarks,
     tags: &[u32],
     keys: usize,
     values: usize,
@@ -59,14 +95,14 @@ pub(crate) fn fault_of_tags(
     if tags.len() % 2 != 0 {
         return Ok(Some((TagCode::OddLength, tags.len())));
     }
-    let mut passed = KeySet::new(alloc);
+    marks.clear();
     let mut at = 0;
     'pairs: while at < tags.len() {
         let key = tags[at];
         if key as usize >= keys {
             return Ok(Some((TagCode::NoKey, at)));
         }
-        if !passed.insert(key)? {
+        if !marks.insert(key)? {
             return Ok(Some((TagCode::Repeated, at)));
         }
         if tags[at + 1] as usize >= values {

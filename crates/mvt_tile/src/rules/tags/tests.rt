@@ -1,4 +1,5 @@
-use crate::rules::tags::fault_of_tags;
+use crate::rules::key_marks::KeyMarks;
+use crate::rules::tags::{TagNeeds, fault_of_tags};
 use crate::{Feature, Kind, Layer, Value, check_tags, read_tile};
 use mvt_fault::{Fault, TagCode};
 use std::alloc::{AllocError, Global};
@@ -86,7 +87,7 @@ fn lists_of_tags(rt: HostRuntime) {
         (&[0, 0, 1, 0, 1, 0], 1, 2, Some((TagCode::NoKey, 2))),
         // a value out of range before a key that comes again
         (&[0, 2, 0, 0], 1, 2, Some((TagCode::NoValue, 1))),
-        // keys about the end of the small ones
+        // keys one after another
         (
             &[63, 0, 64, 0, 65, 0, 63, 0],
             66,
@@ -106,27 +107,30 @@ fn lists_of_tags(rt: HostRuntime) {
             Some((TagCode::Repeated, 6)),
         ),
     ];
+    // one list of marks serves all of them
+    let mut marks = KeyMarks::new(rt.alloc());
     for (tags, keys, values, fault) in cases {
         assert!(rt;
-            fault_of_tags(rt.alloc(), tags, keys, values) == Ok(fault),
+            fault_of_tags(&mut marks, tags, keys, values) == Ok(fault),
             "at {tags:?}"
         );
     }
 }
 
-// Keys enough that the set takes memory; then one of them again.
+// Many keys; then one of them again.
 #[test]
 fn many_keys(rt: HostRuntime) {
+    let mut marks = KeyMarks::new(rt.alloc());
     let mut tags = Vec::new(rt.alloc());
     for key in 0..300 {
         assert!(rt; tags.push(key).is_ok());
         assert!(rt; tags.push(0).is_ok());
     }
-    assert!(rt; fault_of_tags(rt.alloc(), &tags, 300, 1) == Ok(None));
+    assert!(rt; fault_of_tags(&mut marks, &tags, 300, 1) == Ok(None));
     assert!(rt; tags.push(200).is_ok());
     assert!(rt; tags.push(0).is_ok());
     let again = Some((TagCode::Repeated, 600));
-    assert!(rt; fault_of_tags(rt.alloc(), &tags, 300, 1) == Ok(again));
+    assert!(rt; fault_of_tags(&mut marks, &tags, 300, 1) == Ok(again));
 }
 
 /// A feature of unknown geometry with these tags.
@@ -162,9 +166,8 @@ fn layer_of_many_keys(alloc: Global, tags: &[u32]) -> Result<Layer<'static>, All
     Ok(layer)
 }
 
-// Keys from 64 on are kept in memory.
 #[test]
-fn large_keys_of_the_second_feature(rt: HostRuntime) -> Result<(), Fail> {
+fn tags_of_the_second_feature(rt: HostRuntime) -> Result<(), Fail> {
     let alloc = rt.alloc();
     let cases: [(&[u32], Option<(TagCode, usize)>); 3] = [
         (&[64, 0, 69, 0, 65, 0], None),
@@ -183,4 +186,54 @@ fn large_keys_of_the_second_feature(rt: HostRuntime) -> Result<(), Fail> {
         assert!(rt; check_tags(alloc, &layer, 3, 1) == Ok(told));
     }
     Ok(())
+}
+
+// Features one after another, which share keys: what one has is not there for the next, even behind a fault.
+#[test]
+fn one_feature_after_another(rt: HostRuntime) {
+    let features: [(&[u32], Option<(TagCode, usize)>); 8] = [
+        (&[2, 0, 1, 0, 0, 0], None),
+        (&[0, 0, 1, 0, 2, 0], None),
+        // a key that comes again far away, and again behind lesser ones
+        (&[999, 0, 0, 0, 5, 0, 999, 0], Some((TagCode::Repeated, 6))),
+        (&[999, 0, 0, 0, 5, 0], None),
+        (&[5, 0, 1000, 0, 0, 0], Some((TagCode::NoKey, 2))),
+        (&[5, 0, 0, 1, 7, 0], Some((TagCode::NoValue, 3))),
+        (&[7, 0, 5, 0, 0, 0, 1], Some((TagCode::OddLength, 7))),
+        (&[7, 0, 5, 0, 0, 0], None),
+    ];
+    let mut marks = KeyMarks::new(rt.alloc());
+    for (tags, fault) in features {
+        assert!(rt;
+            fault_of_tags(&mut marks, tags, 1000, 1) == Ok(fault),
+            "at {tags:?}"
+        );
+    }
+}
+
+// Keys in descending order, then the greatest of them again.
+#[test]
+fn keys_in_descending_order(rt: HostRuntime) -> Result<(), Fail> {
+    let mut marks = KeyMarks::new(rt.alloc());
+    let mut tags = Vec::new(rt.alloc());
+    for place in 0..300 {
+        tags.push(299 - place)?;
+        tags.push(0)?;
+    }
+    assert!(rt; fault_of_tags(&mut marks, &tags, 300, 1) == Ok(None));
+    tags.push(299)?;
+    tags.push(0)?;
+    assert!(rt; fault_of_tags(&mut marks, &tags, 300, 1) == Ok(Some((TagCode::Repeated, 600))));
+    Ok(())
+}
+
+#[test]
+fn needs_of_tags(rt: HostRuntime) {
+    let mut needs = TagNeeds::none();
+    needs.add(&[]);
+    assert!(rt; (needs.keys, needs.values) == (0, 0));
+    needs.add(&[0, 3, 4, 1]);
+    assert!(rt; (needs.keys, needs.values) == (5, 4));
+    needs.add(&[2, u32::MAX]);
+    assert!(rt; (needs.keys, needs.values) == (5, 0x1_0000_0000));
 }

@@ -5,8 +5,8 @@ use Rattle.mvt_tile.specs.Reading.{FitsRule, TellsFeature}
 use Rattle.mvt_tile.specs.View.{feature_of}
 use Rattle.mvt_tile.proofs.FeatureReading.{told_is}
 use Rattle.mvt_tile.proofs.ReadingWalk.{IsWalking-defectless, IsWalking-over, All-given}
-use Rattle.mvt_tile.proofs.Walking.{IsWalking-more}
 use Rattle.mvt_tile.proofs.read.feature.read_feature_into.Goals as goal
+use Rattle.mvt_wire.proofs.Walking.{IsWalking-more}
 
 pub next_whole-requires : goal.next_whole-requires
 next_whole-requires c = λ cause left defect.

@@ -2,8 +2,8 @@ use Rattle.std.proofs.Common.{◌-◌, List, length, take}
 use Rattle.mvt_wire.specs.Field.{Entry}
 use Rattle.mvt_tile.specs.Reading.{TellsFeature}
 use Rattle.mvt_tile.specs.View.{feature_of}
-use Rattle.mvt_tile.proofs.Walking.{IsWalking}
 use Rattle.mvt_tile.proofs.read.feature.read_feature_into.Given as goal
+use Rattle.mvt_wire.proofs.Walking.{IsWalking}
 
 -- the record has what the fields tell that were passed
 abbrev pub invariant-walk : goal.invariant-walk

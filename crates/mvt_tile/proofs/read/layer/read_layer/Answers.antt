@@ -7,8 +7,8 @@ use Rattle.mvt_tile.specs.View.{layer_of}
 use Rattle.mvt_tile.proofs.LayerReading.{IsLayer-from_told}
 use Rattle.mvt_tile.proofs.Stretches.{Embeds-given, LiesIn-given}
 use Rattle.mvt_tile.proofs.ReadingWalk.{IsWalking-defectless, IsWalking-over, All-given}
-use Rattle.mvt_tile.proofs.Walking.{IsWalking-more}
 use Rattle.mvt_tile.proofs.read.layer.read_layer.Goals as goal
+use Rattle.mvt_wire.proofs.Walking.{IsWalking-more}
 
 pub next_whole-requires : goal.next_whole-requires
 next_whole-requires c = λ cause left defect.

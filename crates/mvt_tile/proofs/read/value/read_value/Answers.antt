@@ -5,8 +5,8 @@ use Rattle.mvt_tile.specs.Reading.{FitsRule}
 use Rattle.mvt_tile.specs.View.{value_of}
 use Rattle.mvt_tile.proofs.ValueReading.{IsValue-from_known, none_known-more, none_known-over}
 use Rattle.mvt_tile.proofs.ReadingWalk.{IsWalking-front, IsWalking-defectless, IsWalking-over, All-given}
-use Rattle.mvt_tile.proofs.Walking.{IsWalking-more}
 use Rattle.mvt_tile.proofs.read.value.read_value.Goals as goal
+use Rattle.mvt_wire.proofs.Walking.{IsWalking-more}
 
 pub next_whole-requires : goal.next_whole-requires
 next_whole-requires c = λ cause left defect.

@@ -1,8 +1,8 @@
 use Rattle.std.proofs.Common.{◌≡◌, ◌-◌, List, [], filter, length, take}
 use Rattle.mvt_wire.specs.Field.{Entry}
 use Rattle.mvt_tile.proofs.ValueReading.{is_known}
-use Rattle.mvt_tile.proofs.Walking.{IsWalking}
 use Rattle.mvt_tile.proofs.read.value.read_value.Given as goal
+use Rattle.mvt_wire.proofs.Walking.{IsWalking}
 
 -- no known field was passed
 abbrev pub invariant-walk : goal.invariant-walk

@@ -4,8 +4,8 @@ use Rattle.mvt_wire.specs.declared.schema.Message.TheVariants as messages
 use Rattle.mvt_tile.specs.Reading.{FitsRule, TellsSummary}
 use Rattle.mvt_tile.proofs.ReadingWalk.{IsWalking-defectless, IsWalking-over, All-given}
 use Rattle.mvt_tile.proofs.SummaryReading.{few_counted, IsSummary-from_told}
-use Rattle.mvt_tile.proofs.Walking.{IsWalking-more}
 use Rattle.mvt_tile.proofs.rules.summary.summarize.Goals as goal
+use Rattle.mvt_wire.proofs.Walking.{IsWalking-more}
 
 pub next_whole-requires : goal.next_whole-requires
 next_whole-requires c = λ cause left defect.

@@ -1,8 +1,8 @@
 use Rattle.std.proofs.Common.{◌-◌, List, length, take}
 use Rattle.mvt_wire.specs.Field.{Entry}
 use Rattle.mvt_tile.specs.Reading.{TellsSummary}
-use Rattle.mvt_tile.proofs.Walking.{IsWalking}
 use Rattle.mvt_tile.proofs.rules.summary.summarize.Given as goal
+use Rattle.mvt_wire.proofs.Walking.{IsWalking}
 
 -- the summary has what the fields tell that were passed
 abbrev pub invariant-walk : goal.invariant-walk

@@ -1,7 +1,7 @@
 use Rattle.std.proofs.Common.{◌≡◌, ◌+◌, ◌*◌, ◌/◌, ◌%◌, ◌<◌, ℕ, List, length, get_or, Bool, true, false, sym, ◌∙◌, arith}
 use Rattle.std.proofs.lemmas.Bool.{not-true, not-false}
 use Rattle.std.proofs.lemmas.Option.{slice_get-get_or}
-use Rattle.mvt_tile.specs.KeySet.{has_key}
+use Rattle.mvt_tile.specs.KeyMarks.{has_key}
 use Rattle.mvt_tile.proofs.TagFaults.{IsFirstTagFault-odd, IsPassed-nothing, AreCleanBefore-nothing, IsFirstTagFault-no_key, IsFirstTagFault-repeated, IsFirstTagFault-no_value, AreCleanBefore-pair, IsPassed-pair, no_tag_fault}
 use Rattle.mvt_tile.proofs.rules.tags.fault_of_tags.Goals as goal
 
@@ -18,20 +18,20 @@ returns-then-tags-ne0-clause-first c = IsFirstTagFault-odd c.args.keys c.args.va
 
 pub pairs-init : goal.pairs-init
 pairs-init c = record {
-  passed = IsPassed-nothing c.args.tags.now (has_key c.new-passed.result) c.new-passed.ensures;
+  passed = IsPassed-nothing c.args.tags.now (has_key c.clear.new.self) c.clear.ensures;
   clean = AreCleanBefore-nothing c.args.keys c.args.values c.args.tags.now;
 }
 
 pub returns-then-key-keys-clause-first : goal.returns-then-key-keys-clause-first
 returns-then-key-keys-clause-first c =
     let tags = c.args.tags.now in
-    IsFirstTagFault-no_key c.args.keys c.args.values tags (length tags / 2) (in_pairs tags c.if-tags-ne0.false) (has_key c.pairs.passed) c.pairs.at (get_or tags c.pairs.at 0)
+    IsFirstTagFault-no_key c.args.keys c.args.values tags (length tags / 2) (in_pairs tags c.if-tags-ne0.false) (has_key c.pairs.marks) c.pairs.at (get_or tags c.pairs.at 0)
     c.pairs.invariant.clean c.pairs.invariant.passed (slice_get-get_or tags c.pairs.at 0 c.pairs-test.true) c.if-key-keys.true
 
 pub returns-then-not-branch-clause-first : goal.returns-then-not-branch-clause-first
 returns-then-not-branch-clause-first c =
     let tags = c.args.tags.now in
-    let has : ℕ → Bool = has_key c.pairs.passed in
+    let has : ℕ → Bool = has_key c.pairs.marks in
     let key : ℕ = get_or tags c.pairs.at 0 in
     let held : has key ≡ true = not-false (has key) (sym c.in_ok-insert.ensures.added ∙ c.if-not-branch.true) in
     IsFirstTagFault-repeated c.args.keys c.args.values tags (length tags / 2) (in_pairs tags c.if-tags-ne0.false) has c.pairs.at key
@@ -44,7 +44,7 @@ pub returns-then-tags-at-clause-first : goal.returns-then-tags-at-clause-first
 returns-then-tags-at-clause-first c =
     let tags = c.args.tags.now in
     let even = in_pairs tags c.if-tags-ne0.false in
-    let has : ℕ → Bool = has_key c.pairs.passed in
+    let has : ℕ → Bool = has_key c.pairs.marks in
     let key : ℕ = get_or tags c.pairs.at 0 in
     let unheld : has key ≡ false = not-true (has key) (sym c.in_ok-insert.ensures.added ∙ c.if-not-branch.false) in
     IsFirstTagFault-no_value c.args.keys c.args.values tags (length tags / 2) even has c.pairs.at key
@@ -55,7 +55,7 @@ pub pairs-preserved : goal.pairs-preserved
 pairs-preserved c =
     let tags = c.args.tags.now in
     let even = in_pairs tags c.if-tags-ne0.false in
-    let has : ℕ → Bool = has_key c.pairs.passed in
+    let has : ℕ → Bool = has_key c.pairs.marks in
     let key : ℕ = get_or tags c.pairs.at 0 in
     let here = slice_get-get_or tags c.pairs.at 0 c.pairs-test.true in
     let unheld : has key ≡ false = not-true (has key) (sym c.in_ok-insert.ensures.added ∙ c.if-not-branch.false) in

@@ -1,9 +1,0 @@
-use Rattle.std.proofs.Common.{◌-◌, length}
-use Rattle.mvt_tile.proofs.TileWalk.{TileWalk}
-use Rattle.mvt_tile.proofs.fault.wire_fault.Given as goal
-
-abbrev pub invariant-walk : goal.invariant-walk
-invariant-walk l = TileWalk l.bytes l.fields l.own l.layers
-
-abbrev pub decreases-walk : goal.decreases-walk
-decreases-walk l = length l.fields.bytes - l.fields.at

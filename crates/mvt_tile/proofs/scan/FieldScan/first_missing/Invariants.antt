@@ -1,8 +1,0 @@
-use Rattle.std.proofs.Common.{◌≡◌, drop}
-use Rattle.mvt_wire.specs.Schema.{rules_of}
-use Rattle.mvt_tile.specs.Scan.{was_seen}
-use Rattle.mvt_tile.proofs.SchemaRules.{first_unseen}
-use Rattle.mvt_tile.proofs.scan.FieldScan.first_missing.Given as goal
-
-abbrev pub invariant-loop-rule : goal.invariant-loop-rule
-invariant-loop-rule l = first_unseen (rules_of l.self.message) (was_seen l.self) ≡ first_unseen (drop l.rule-index (rules_of l.self.message)) (was_seen l.self)

@@ -1,0 +1,9 @@
+use Rattle.std.proofs.Common.{◌-◌, length}
+use Rattle.mvt_tile.proofs.TileWalk.{TileWalk}
+use Rattle.mvt_tile.proofs.wire.wire_fault.Given as goal
+
+abbrev pub invariant-walk : goal.invariant-walk
+invariant-walk l = TileWalk l.bytes l.fields l.own l.layers
+
+abbrev pub decreases-walk : goal.decreases-walk
+decreases-walk l = length l.fields.bytes - l.fields.at

@@ -1,0 +1,111 @@
+//! One walk over a layer: its summary, and the first fault of its features as far as that can be told before all its keys
+//! and values were counted.
+ghost use Rattle.std.specs.Prelude.{◌≤◌, ℕ, length, IfOk, IfNone, IfSome};
+ghost use Rattle.mvt_fault.specs.Place.{IsLeast, place_of};
+ghost use Rattle.mvt_fault.specs.declared.fault.Fault.{Fault};
+ghost use Rattle.mvt_wire.specs.Tile.{FeatureRecord, LayerRecord, IsLayer};
+ghost use Rattle.mvt_tile.specs.FeatureRules.{IsFaultOfFeature, IsFaultInLayer, IsSound, AllSoundInLayer};
+ghost use Rattle.mvt_tile.specs.RuleFaults.{HasEnough, IsBehindTags, IsSummary};
+ghost use Rattle.mvt_tile.specs.View.{feature_of};
+
+use super::features::{FeatureRoom, FeatureRule, fault_of_feature};
+use super::summary::{LayerSummary, add_field, nothing_told};
+use super::tags::TagNeeds;
+use crate::field_number::FEATURES;
+use crate::read::feature::read_feature_into;
+use crate::read::payload::stretch_of;
+use crate::read::walk::next_whole;
+use mvt_fault::Fault;
+use mvt_wire::Fields;
+use std::alloc::AllocError;
+
+/// What one walk over a layer tells.
+#[derive(Drop)]
+pub(crate) struct LayerScan<'a> {
+    pub(crate) summary: LayerSummary<'a>,
+    /// What the tags of the features need that were looked at.
+    pub(crate) needs: TagNeeds,
+    /// The first fault of the features, where the layer has what their tags need. The features behind it were not looked at.
+    pub(crate) found: Option<Fault>,
+}
+
+/// Walks over the layer with an ordinal, which stands in the bytes from one offset up to another. Its keys and values may
+/// stand behind its features, so the tags are held against as many as they need, and the walk looks at no further
+/// features where these are more keys than the layer has bytes. The only error is that memory was refused.
+pub(crate) fn scan_layer<'a, R: FeatureRule>(
+    bytes: &'a [u8],
+    rule: &mut R,
+    layer_index: usize,
+    from: usize,
+    to: usize,
+    room: &mut FeatureRoom,
+) -> Result<LayerScan<'a>, AllocError>
+    requires forward { from ≤ to }
+    requires within { to ≤ length bytes.now }
+    requires stands { (layer_record : LayerRecord) × IsLayer bytes.now (record { from = from; to = to }) layer_record }
+    requires behind_tags { (feature_record : FeatureRecord) (in_layer feature_index : ℕ) (fault : Fault)
+        → R.IsBroken feature_record in_layer feature_index fault → IsBehindTags in_layer feature_index (place_of fault) }
+    ensures summary { IfOk result (λ scan. (layer_record : LayerRecord) → IsLayer bytes.now (record { from = from; to = to }) layer_record → IsSummary scan.summary layer_record) }
+    ensures none { IfOk result (λ scan. IfNone scan.found ((layer_record : LayerRecord) → IsLayer bytes.now (record { from = from; to = to }) layer_record → HasEnough scan.needs layer_record
+        → AllSoundInLayer R.IsBroken R.IsKept layer_record layer_index)) }
+    ensures least { IfOk result (λ scan. IfSome scan.found (λ fault. (layer_record : LayerRecord) → IsLayer bytes.now (record { from = from; to = to }) layer_record → HasEnough scan.needs layer_record
+        → IsLeast (IsFaultInLayer R.IsBroken layer_record layer_index) fault)) }
+{
+    let mut scan = LayerScan {
+        summary: nothing_told(),
+        needs: TagNeeds::none(),
+        found: None,
+    };
+    let mut feature_index = 0;
+    let mut fields = Fields::new(bytes, from, to);
+    'walk: while let Some(field) = next_whole(&mut fields) {
+        add_field(&mut scan.summary, field);
+        if field.number == FEATURES && scan.found.is_none() && scan.needs.keys <= to - from {
+            let (start, end) = stretch_of(field.body);
+            read_feature_into(bytes, start, end, &mut room.feature)?;
+            scan.found = fault_so_far(
+                rule,
+                &mut scan.needs,
+                to - from,
+                room,
+                layer_index,
+                feature_index,
+            )?;
+            feature_index += 1;
+        }
+    }
+    Ok(scan)
+}
+
+/// The first fault of the feature that was read into the room, or None, in a layer that has what its tags need. Where
+/// these need more than `most` keys, it is not looked at.
+fn fault_so_far<R: FeatureRule>(
+    rule: &mut R,
+    needs: &mut TagNeeds,
+    most: usize,
+    room: &mut FeatureRoom,
+    layer_index: usize,
+    feature_index: usize,
+) -> Result<Option<Fault>, AllocError>
+    requires behind_tags { (fault : Fault) → R.IsBroken (feature_of room.old.feature) layer_index feature_index fault
+        → IsBehindTags layer_index feature_index (place_of fault) }
+    ensures no_fewer_keys { needs.old.keys ≤ needs.new.keys }
+    ensures no_fewer_values { needs.old.values ≤ needs.new.values }
+    ensures none { IfOk result (λ found. IfNone found ((layer_record : LayerRecord) → HasEnough needs.new layer_record → length layer_record.keys ≤ most
+        → IsSound R.IsBroken R.IsKept layer_record (feature_of room.old.feature) layer_index feature_index)) }
+    ensures least { IfOk result (λ found. IfSome found (λ fault. (layer_record : LayerRecord) → HasEnough needs.new layer_record
+        → IsLeast (IsFaultOfFeature R.IsBroken layer_record (feature_of room.old.feature) layer_index feature_index) fault)) }
+{
+    needs.add(&room.feature.tags);
+    if needs.keys > most {
+        return Ok(None);
+    }
+    fault_of_feature(
+        rule,
+        needs.keys,
+        needs.values,
+        room,
+        layer_index,
+        feature_index,
+    )
+}

@@ -1,0 +1,104 @@
+//! The first wire fault of a tile.
+ghost use Rattle.std.specs.Prelude.{◌≡◌, ℕ, ◌+◌, ◌<◌, ◌≤◌, List, [], ◌∷◌, ◌++◌, length, IfNone, IfSome};
+ghost use Rattle.mvt_wire.specs.Field.{Entry, entry_of};
+ghost use Rattle.mvt_wire.specs.WireFault.{WireFault};
+ghost use Rattle.mvt_wire.specs.declared.cause.WireCause.{WireCause};
+ghost use Rattle.mvt_wire.specs.declared.scope.Scope.{Scope};
+ghost use Rattle.mvt_fault.specs.Place.{IsLeast};
+ghost use Rattle.mvt_fault.specs.Truth.{IsWireFault};
+ghost use Rattle.mvt_tile.specs.Placed.{IsPlaced};
+
+mod embedded;
+mod field;
+mod layer;
+mod message;
+mod packed;
+mod scan;
+#[cfg(test)]
+mod tests;
+
+use crate::field_number::LAYERS;
+use crate::wire::layer::{in_scope, layer_fault};
+use crate::wire::message::defect_or;
+use crate::wire::scan::FieldScan;
+use mvt_fault::Fault;
+use mvt_wire::{Body, Field, Fields, Message, Scope, WireCause};
+
+/// The first wire fault of the bytes of a tile, or None where there is none: a fault of the wire
+/// encoding (Protocol Buffers encoding, "Message Structure"), or a field that the tile's schema
+/// refuses (Mapbox Vector Tile Specification 2.1, section 4).
+///
+/// The tile's own fields come first; then layer by layer the layer's fields, its values and its
+/// features. Within a message the fault with the least offset comes first, then that with the least
+/// code, then that with the least field number. Offsets are in bytes from the tile's first byte. The
+/// bytes of each message are walked once, and no memory is taken.
+pub fn wire_fault(bytes: &[u8]) -> Option<Fault>
+    ensures none { IfNone result ((scope : Scope) (cause : WireCause) → ¬ WireFault bytes.now scope cause) }
+    ensures least { IfSome result (IsLeast (IsWireFault bytes.now)) }
+{
+    let mut fields = Fields::new(bytes, 0, bytes.len());
+    let mut own = FieldScan::new(Message::Tile);
+    let mut layers = LayerScan::new();
+    'walk: while let Some(item) = fields.next_field() {
+        match item {
+            Ok(field) => {
+                if let Some(cause) = own.pass(&field) {
+                    return Some(in_scope(Scope::Tile, defect_or(fields, cause)));
+                }
+                layers.note(bytes, &field);
+            }
+            Err(cause) => return Some(in_scope(Scope::Tile, cause)),
+        }
+    }
+    if let Some(cause) = own.end_fault(bytes.len()) {
+        return Some(in_scope(Scope::Tile, cause));
+    }
+    layers.first
+}
+
+/// The layers of a tile, in the order of a walk over the tile's fields.
+#[derive(Drop)]
+struct LayerScan {
+    /// How many there were without a fault.
+    count: usize,
+    /// The first fault of the first that has one.
+    first: Option<Fault>,
+}
+
+impl LayerScan {
+    ghost use Rattle.mvt_tile.specs.LayerScan.{ScansLayers};
+
+    /// A scan that has passed no field yet.
+    fn new() -> Self
+        ensures count { result.count ≡ 0 }
+        ensures nothing { (bytes : List ℕ) → ScansLayers bytes result [] }
+    {
+        LayerScan {
+            count: 0,
+            first: None,
+        }
+    }
+
+    /// Passes the next field, whose payload lies in the bytes.
+    fn note(&mut self, bytes: &[u8], field: &Field<'_>)
+        requires placed { (next : ℕ) × IsPlaced (entry_of field.now) next × (next ≤ length bytes.now) }
+        requires room { self.old.count < length bytes.now }
+        ensures count { self.new.count ≤ self.old.count + 1 }
+        ensures noted { (entries : List Entry) → ScansLayers bytes.now self.old entries
+            → ScansLayers bytes.now self.new (entries ++ entry_of field.now ∷ []) }
+    {
+        if self.first.is_some() {
+            return;
+        }
+        if field.number != LAYERS {
+            return;
+        }
+        let Body::Bytes { from, slice } = field.body else {
+            return;
+        };
+        match layer_fault(bytes, self.count, from, from + slice.len()) {
+            Some(fault) => self.first = Some(fault),
+            None => self.count += 1,
+        }
+    }
+}

@@ -1,0 +1,116 @@
+//! The faults of a message's own fields, as one walk over them finds them.
+ghost use Rattle.std.specs.Prelude.{◌≡◌, ℕ, ◌<◌, ◌≤◌, ◌^◌, List, [], ◌∷◌, ◌++◌, IfNone, IfSome, ◌&&◌, not};
+ghost use Rattle.mvt_wire.specs.Field.{Entry, entry_of};
+ghost use Rattle.mvt_wire.specs.Schema.{is_required};
+ghost use Rattle.mvt_wire.specs.WireFault.{EndFault};
+ghost use Rattle.mvt_tile.specs.Least.{FindsLeastCause};
+ghost use Rattle.mvt_tile.specs.Placed.{IsPlaced};
+
+use crate::wire::field::field_fault;
+use mvt_wire::{Field, FieldRule, Message, WireCause, WireCode};
+
+/// What is kept of the fields of a message that were passed, none of which has a fault: no more than
+/// the message's rules ask for.
+#[derive(Drop)]
+pub(crate) struct FieldScan {
+    message: Message,
+    /// Which of the numbers that the message knows stood. They are all below 16.
+    stood: [bool; 16],
+    /// Whether one of these numbers stood.
+    known: bool,
+    /// Whether more than one field of these numbers stood.
+    several: bool,
+}
+
+impl FieldScan {
+    ghost use Rattle.mvt_tile.specs.Scan.{Passes, IsFirstFault, IsMissing, was_seen};
+
+    pub(crate) fn new(message: Message) -> Self
+        ensures message { result.message ≡ message }
+        ensures nothing { Passes result [] }
+    {
+        FieldScan {
+            message,
+            stood: [false; 16],
+            known: false,
+            several: false,
+        }
+    }
+
+    /// Passes the next field, or tells the first fault of it.
+    #[inline(always)]
+    pub(crate) fn pass(&mut self, field: &Field<'_>) -> Option<WireCause>
+        requires { (next : ℕ) × IsPlaced (entry_of field.now) next × (next < 2 ^ 64) }
+        ensures message { self.new.message ≡ self.old.message }
+        ensures passed { IfNone result ((entries : List Entry)
+            → Passes self.old entries → Passes self.new (entries ++ entry_of field.now ∷ [])) }
+        ensures fault { IfSome result (λ cause. (entries : List Entry) (next : ℕ) → IsPlaced (entry_of field.now) next
+            → Passes self.old entries → IsFirstFault self.old.message (entries ++ entry_of field.now ∷ []) next cause) }
+    {
+        let Some(rule) = self.message.rule(field.number) else {
+            return None;
+        };
+        let number = field.number as usize;
+        if let Some(cause) = field_fault(rule, self.stood[number], field) {
+            return Some(cause);
+        }
+        self.stood[number] = true;
+        self.several = self.known;
+        self.known = true;
+        None
+    }
+
+    /// What is wrong with the message at its end, all fields of which were passed.
+    #[inline(always)]
+    pub(crate) fn end_fault(&self, end: usize) -> Option<WireCause>
+        ensures { (entries : List Entry) → Passes self.now entries
+            → FindsLeastCause (EndFault self.now.message entries end) result }
+    {
+        if let Some(number) = self.first_missing() {
+            return Some(WireCause {
+                code: WireCode::Missing,
+                at: end,
+                field: number,
+            });
+        }
+        if self.message == Message::Value && !self.has_one() {
+            return Some(WireCause {
+                code: WireCode::OneField,
+                at: end,
+                field: 0,
+            });
+        }
+        None
+    }
+
+    /// The least number that has to stand and didn't.
+    #[inline(always)]
+    fn first_missing(&self) -> Option<u32>
+        ensures none { IfNone result ((number : ℕ) → ¬ IsMissing self.now number) }
+        ensures missing { IfSome result (IsMissing self.now) }
+        ensures least { IfSome result (λ least. (number : ℕ) → IsMissing self.now number → least ≤ number) }
+    {
+        for &rule in self.message.rules() {
+            if self.lacks(rule) {
+                return Some(rule.number);
+            }
+        }
+        None
+    }
+
+    /// Whether a rule asks for a number that didn't stand.
+    #[inline(always)]
+    fn lacks(&self, rule: FieldRule) -> bool
+        requires { rule.number < 16 }
+        ensures { result ≡ (is_required rule.occurrence && not (was_seen self.now rule.number)) }
+    {
+        rule.occurrence.is_required() && !self.stood[rule.number as usize]
+    }
+
+    /// Whether just one field of the numbers that the message knows stood.
+    fn has_one(&self) -> bool
+        ensures { result ≡ (self.now.known && not self.now.several) }
+    {
+        self.known && !self.several
+    }
+}
