@@ -1,20 +1,18 @@
--- How a pen gets on with the numbers of a figure.
-use Rattle.std.proofs.Common.{◌≡◌, ℕ, zero, suc, ◌+◌, ◌/◌, ◌<◌, ◌≤◌, List, [], ◌∷◌, ◌++◌, length, drop, get_or, ap, sym, ◌∙◌, subst, refl, append_assoc, append-nil, arith}
-use Rattle.mvt_plane.specs.Figure.{steps, cursor, command_integer, AreSteps}
+-- How a reader gets on with the steps of a figure.
+use Rattle.std.proofs.Common.{◌≡◌, ℕ, zero, suc, ◌+◌, List, [], ◌∷◌, ◌++◌, length, drop, get_or, ap, sym, ◌∙◌, subst, refl, append_assoc, arith}
+use Rattle.mvt_plane.specs.Figure.{steps, cursor, AreSteps}
 use Rattle.mvt_plane.specs.Position.{Position}
-use Rattle.mvt_plane.specs.Course.{Course, IsStepAhead, IsRunAhead}
+use Rattle.mvt_plane.specs.Course.{Course, IsStepAhead}
 
 -- A step
 
 -- the two numbers at a place, and those behind them
 two_at : (at : ℕ) (numbers : List ℕ) (x y : ℕ) (rest : List ℕ) → drop at numbers ≡ x ∷ y ∷ rest
-    → (get_or numbers at 0 ≡ x) × (get_or numbers (suc at) 0 ≡ y) × (drop (suc (suc at)) numbers ≡ rest) × (at + 2 ≤ length numbers)
+    → (get_or numbers at 0 ≡ x) × (get_or numbers (suc at) 0 ≡ y) × (drop (suc (suc at)) numbers ≡ rest)
 two_at zero numbers x y rest stands =
-    (ap (λ (it : List ℕ). get_or it 0 0) stands, ap (λ (it : List ℕ). get_or it 1 0) stands, ap (λ (it : List ℕ). drop 2 it) stands, omega (arith, ap (length {A = ℕ}) stands))
+    (ap (λ (it : List ℕ). get_or it 0 0) stands, ap (λ (it : List ℕ). get_or it 1 0) stands, ap (λ (it : List ℕ). drop 2 it) stands)
 two_at (suc at) [] x y rest stands = cc
-two_at (suc at) (n ∷ numbers) x y rest stands =
-    let there = two_at at numbers x y rest stands in
-    let within : at + 2 ≤ length numbers = there.3 in (there.0, there.1, there.2, omega arith)
+two_at (suc at) (n ∷ numbers) x y rest stands = two_at at numbers x y rest stands
 
 -- the number at a place, and those behind it
 one_at : (at : ℕ) (numbers : List ℕ) (n : ℕ) (rest : List ℕ) → drop at numbers ≡ n ∷ rest → (get_or numbers at 0 ≡ n) × (drop (suc at) numbers ≡ rest)
@@ -30,12 +28,12 @@ one_ahead at numbers n rest stands =
 
 -- two numbers, with places as sums
 pub two_ahead : (at : ℕ) (numbers : List ℕ) (x y : ℕ) (rest : List ℕ) → drop at numbers ≡ x ∷ y ∷ rest
-    → (get_or numbers at 0 ≡ x) × (get_or numbers (at + 1) 0 ≡ y) × (drop (at + 2) numbers ≡ rest) × (at + 2 ≤ length numbers)
+    → (get_or numbers at 0 ≡ x) × (get_or numbers (at + 1) 0 ≡ y) × (drop (at + 2) numbers ≡ rest)
 two_ahead at numbers x y rest stands =
     let there = two_at at numbers x y rest stands in
     let one : at + 1 ≡ suc at = omega arith in
     let two : at + 2 ≡ suc (suc at) = omega arith in
-    (there.0, ap (λ (place : ℕ). get_or numbers place 0) one ∙ there.1, ap (λ (place : ℕ). drop place numbers) two ∙ there.2, there.3)
+    (there.0, ap (λ (place : ℕ). get_or numbers place 0) one ∙ there.1, ap (λ (place : ℕ). drop place numbers) two ∙ there.2)
 
 -- the course with this cursor and these numbers
 pub same_course : (course : Course) (here : Position) (left : List ℕ) → course.here ≡ here → course.left ≡ left → course ≡ record { here = here; left = left }
@@ -51,23 +49,6 @@ pub record IsAmidRun (before : List Position) (start : Course) (positions : List
   pub so_many : length ahead ≡ left
   pub end : cursor now.here ahead ≡ cursor start.here positions
   pub whole : drawn ++ ahead ≡ before ++ positions
-
--- behind the command, all of them are ahead
-pub IsAmidRun-start : (before : List Position) (start now : Course) (count : ℕ) (positions : List Position) (rest : List ℕ) → IsRunAhead start positions rest
-    → count ≡ get_or start.left 0 0 / 8 → now ≡ record { here = start.here; left = drop 1 start.left }
-    → IsAmidRun before start positions rest before now count
-IsAmidRun-start before start now count positions rest run counted behind =
-    let number : get_or start.left 0 0 ≡ command_integer run.id (length positions) = ap (λ (it : List ℕ). get_or it 0 0) run.stands in
-    let small : run.id < 8 = run.is_id in
-    let so_many : length positions ≡ count = omega arith in
-    subst (λ (it : Course). IsAmidRun before start positions rest before it count) (sym behind) (record {
-      ahead = positions;
-      able = run.able;
-      stands = ap (λ (it : List ℕ). drop 1 it) run.stands;
-      so_many = so_many;
-      end = refl;
-      whole = refl;
-    })
 
 -- behind it, one more is drawn
 pub IsAmidRun-more : (before : List Position) (start : Course) (positions : List Position) (rest : List ℕ) (drawn : List Position) (now new : Course) (to : Position) (left : ℕ)
@@ -90,13 +71,3 @@ IsAmidRun-more before start positions rest drawn now new to left amid told = fro
           end = end;
           whole = append_assoc drawn (to ∷ []) ahead ∙ (ap (λ (it : Position). drawn ++ it ∷ ahead) there.0 ∙ whole);
         })
-
--- with none left, all are drawn
-pub IsAmidRun-over : (before : List Position) (start : Course) (positions : List Position) (rest : List ℕ) (drawn : List Position) (now : Course)
-    → IsAmidRun before start positions rest drawn now 0 → (drawn ≡ before ++ positions) × (now ≡ record { here = cursor start.here positions; left = rest })
-IsAmidRun-over before start positions rest drawn now amid = from amid.ahead amid.stands amid.so_many amid.end amid.whole
-  where
-    from : (ahead : List Position) → now.left ≡ steps now.here ahead ++ rest → length ahead ≡ 0 → cursor now.here ahead ≡ cursor start.here positions
-        → drawn ++ ahead ≡ before ++ positions → (drawn ≡ before ++ positions) × (now ≡ record { here = cursor start.here positions; left = rest })
-    from [] stands so_many end whole = (sym (append-nil drawn) ∙ whole, same_course now (cursor start.here positions) rest end stands)
-    from (next ∷ ahead) stands so_many end whole = absurd (omega arith)

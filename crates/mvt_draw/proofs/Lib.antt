@@ -1,10 +1,10 @@
-pub mod ToldFaults
 pub mod Courses
-pub mod Drawers
 pub mod Parameters
 pub mod Paths
+pub mod ReadGeometries
 pub mod RingRoom
 pub mod SpellingFaults
 pub mod SpellingFigures
 pub mod SpellingPaths
 pub mod SpellingSteps
+pub mod StepsAhead

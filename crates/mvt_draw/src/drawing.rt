@@ -1,22 +1,21 @@
-ghost use Rattle.std.specs.Prelude.{◌≡◌, ℕ, ◌++◌, List, [], map, IfErr, IfOk, OnOk};
-ghost use Rattle.mvt_plane.specs.Figure.{cursor};
+ghost use Rattle.std.specs.Prelude.{◌≡◌, List, [], map, IfErr, IfOk};
 ghost use Rattle.mvt_plane.specs.Position.{Position, origin};
 ghost use Rattle.mvt_tile.specs.View.{kind_number};
-ghost use Rattle.mvt_plane.specs.Course.{IsRunAhead, IsPathAhead, ArePathsAhead};
+ghost use Rattle.mvt_plane.specs.Course.{IsRunAhead, ArePathsAhead};
 ghost use Rattle.mvt_draw.specs.Geometry.{IsDrawn, IsDrawFault};
 ghost use Rattle.mvt_plane.specs.Geometry.{HasFigure};
 
-mod pen;
 #[cfg(test)]
 mod tests;
 
 use crate::checking::command_fault;
+use crate::commands::{Cursor, GREATEST_COUNT, MOVE_TO, command};
 use crate::figure::Figure;
+use crate::pushing::{push_path, push_steps};
 use mvt_fault::CommandCode;
 use mvt_plane::Point;
 use mvt_tile::Kind;
-use pen::Pen;
-use std::alloc::{AllocError, AllocFailed, Global};
+use std::alloc::{AllocFailed, Global};
 
 /// Why a geometry wasn't drawn.
 #[derive(Clone, Copy, Debug, PartialEq, Eq)]
@@ -67,12 +66,13 @@ pub fn draw(alloc: Global, kind: Kind, numbers: &[u32]) -> Result<Figure, DrawFa
     }
     match draw_figure(alloc, kind, numbers) {
         Ok(figure) => Ok(figure),
+        // The numbers draw a figure: nothing but memory was refused.
         Err(_refused) => Err(DrawFault::Memory),
     }
 }
 
 /// The figure of numbers that are known to draw one.
-fn draw_figure(alloc: Global, kind: Kind, numbers: &[u32]) -> Result<Figure, AllocError>
+fn draw_figure(alloc: Global, kind: Kind, numbers: &[u32]) -> Result<Figure, DrawFault>
     requires { HasFigure (kind_number kind) numbers.now }
     ensures { IfOk result (IsDrawn (kind_number kind) numbers.now) }
 {
@@ -85,56 +85,28 @@ fn draw_figure(alloc: Global, kind: Kind, numbers: &[u32]) -> Result<Figure, All
 }
 
 /// Points, to which one MoveTo leads (section 4.3.4.2).
-fn draw_points(alloc: Global, numbers: &[u32]) -> Result<Vec<Point>, AllocError>
-    requires { (positions : List Position) × IsRunAhead (record { here = origin; left = numbers.now }) positions [] }
+fn draw_points(alloc: Global, numbers: &[u32]) -> Result<Vec<Point>, DrawFault>
     ensures { IfOk result (λ points. (positions : List Position)
         → IsRunAhead (record { here = origin; left = numbers.now }) positions [] → points.items ≡ positions) }
 {
     let mut points = Vec::new(alloc);
-    let mut pen = Pen::new(numbers);
-    push_run(&mut pen, &mut points)?;
+    let count = command(numbers, 0, MOVE_TO, 1, GREATEST_COUNT)?;
+    push_steps(&mut points, numbers, 1, count, Cursor { x: 0, y: 0 }, false)?;
     Ok(points)
 }
 
 /// Lines (section 4.3.4.3), or rings, each of which is closed (section 4.3.4.4).
-fn draw_paths(alloc: Global, numbers: &[u32], closed: bool) -> Result<Vec<Vec<Point>>, AllocError>
-    requires { (parts : List (List Position)) × ArePathsAhead (record { here = origin; left = numbers.now }) closed parts }
+fn draw_paths(alloc: Global, numbers: &[u32], closed: bool) -> Result<Vec<Vec<Point>>, DrawFault>
     ensures { IfOk result (λ drawn. (parts : List (List Position))
         → ArePathsAhead (record { here = origin; left = numbers.now }) closed parts → map (λ part. part.items) drawn.items ≡ parts) }
 {
     let mut parts = Vec::new(alloc);
-    let mut pen = Pen::new(numbers);
-    'walk: while !pen.is_done() {
-        parts.push(draw_path(alloc, &mut pen)?)?;
-        if closed {
-            // A ClosePath leaves the cursor where it is (section 4.3.3.3).
-            pen.command();
-        }
+    let mut at = 0;
+    let mut cursor = Cursor { x: 0, y: 0 };
+    'paths: while at < numbers.len() {
+        let mut points = Vec::new(alloc);
+        (at, cursor) = push_path(&mut points, numbers, at, cursor, closed)?;
+        parts.push(points)?;
     }
     Ok(parts)
-}
-
-/// A line, or a ring without its end: a MoveTo, and a LineTo through all further positions.
-fn draw_path(alloc: Global, pen: &mut Pen<'_>) -> Result<Vec<Point>, AllocError>
-    requires { (part : List Position) × (rest : List ℕ) × IsPathAhead pen.old part rest }
-    ensures { IfOk result (λ points. (part : List Position) (rest : List ℕ) → IsPathAhead pen.old part rest
-        → (points.items ≡ part) × (pen.new ≡ record { here = cursor pen.old.here part; left = rest })) }
-{
-    let mut points = Vec::new(alloc);
-    push_run(pen, &mut points)?;
-    push_run(pen, &mut points)?;
-    Ok(points)
-}
-
-/// Pushes the positions to which a command leads, one for each of its count.
-fn push_run(pen: &mut Pen<'_>, points: &mut Vec<Point>) -> Result<(), AllocError>
-    requires { (positions : List Position) × (rest : List ℕ) × IsRunAhead pen.old positions rest }
-    ensures { OnOk result ((positions : List Position) (rest : List ℕ) → IsRunAhead pen.old positions rest
-        → (points.new.items ≡ points.old.items ++ positions) × (pen.new ≡ record { here = cursor pen.old.here positions; left = rest })) }
-{
-    let count = pen.command();
-    'walk: for _ in 0..count {
-        points.push(pen.step())?;
-    }
-    Ok(())
 }

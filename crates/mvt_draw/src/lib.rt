@@ -6,6 +6,7 @@ mod checking;
 mod commands;
 mod drawing;
 mod figure;
+mod pushing;
 mod ring_buffer;
 mod spelling;
 

@@ -11,8 +11,9 @@ ghost use Rattle.mvt_plane.specs.Reading.{StandsAt, with_left};
 #[cfg(test)]
 mod tests;
 
-use crate::commands::{CLOSE_PATH, Cursor, command, path_start, step};
+use crate::commands::Cursor;
 use crate::drawing::DrawFault;
+use crate::pushing::push_path;
 use mvt_plane::Point;
 use std::alloc::Global;
 use std::marker::Model;
@@ -94,74 +95,8 @@ impl RingBuffer {
         }
         let ring = &mut self.parts[self.count];
         ring.clear();
-        let behind = push_ring(ring, numbers, start, from)?;
+        let behind = push_path(ring, numbers, start, from, true)?;
         self.count += 1;
         Ok(behind)
-    }
-}
-
-/// Pushes the positions of the ring whose numbers begin at this place. It answers the place behind them and
-/// the cursor there.
-fn push_ring(
-    points: &mut Vec<Point>,
-    numbers: &[u32],
-    start: usize,
-    from: Cursor,
-) -> Result<(usize, Cursor), DrawFault>
-    ensures forward { IfOk result (λ it. (start < it.0) × (it.0 ≤ length numbers.now)) }
-    ensures goes { IfOk result (λ it. (drawn : Bool) → StandsAt polygon numbers.now start (path_command drawn (position_of from))
-        → StandsAt polygon numbers.now it.0 (path_command true (position_of it.1))) }
-    ensures drawn { IfOk result (λ it. (ring : List Position) (rest : List ℕ)
-        → IsPathAhead (course_at numbers.now start (position_of from)) ring (ending_of true ++ rest)
-        → (points.new.items ≡ points.old.items ++ ring) × (course_at numbers.now it.0 (position_of it.1) ≡ record { here = cursor (position_of from) ring; left = rest })) }
-    ensures fault { IfErr result (λ it. (drawn : Bool) → (start ≡ length numbers.now → drawn ≡ false)
-        → StandsAt polygon numbers.now start (path_command drawn (position_of from)) → IsFaultAhead polygon numbers.now it) }
-{
-    let (first, count) = path_start(numbers, start, from, true)?;
-    points.push(point(first))?;
-    let last = push_steps(points, numbers, start + 4, count, first)?;
-    let end = start + 4 + 2 * count as usize;
-    command(numbers, end, CLOSE_PATH, 1, 1)?;
-    Ok((end + 1, last))
-}
-
-/// Pushes the positions of `count` LineTo steps that begin at a place, and answers the last of them.
-fn push_steps(
-    points: &mut Vec<Point>,
-    numbers: &[u32],
-    start: usize,
-    count: u32,
-    from: Cursor,
-) -> Result<Cursor, DrawFault>
-    requires { start ≤ length numbers.now }
-    ensures within { IfOk result (λ _. start + 2 * count ≤ length numbers.now) }
-    ensures goes { IfOk result (λ to. StandsAt polygon numbers.now start (with_left polygon true count (position_of from))
-        → StandsAt polygon numbers.now (start + 2 * count) (with_left polygon true 0 (position_of to))) }
-    ensures drawn { IfOk result (λ to. (positions : List Position) (rest : List ℕ)
-        → AreStepsAhead (course_at numbers.now start (position_of from)) count positions rest
-        → (points.new.items ≡ points.old.items ++ positions)
-        × (course_at numbers.now (start + 2 * count) (position_of to) ≡ record { here = cursor (position_of from) positions; left = rest })) }
-    ensures fault { IfErr result (λ it. StandsAt polygon numbers.now start (with_left polygon true count (position_of from)) → IsFaultAhead polygon numbers.now it) }
-{
-    let mut cursor = from;
-    let mut at = start;
-    let mut left = count;
-    'steps: while left > 0 {
-        step(numbers, at, &mut cursor, true)?;
-        points.push(point(cursor))?;
-        at += 2;
-        left -= 1;
-    }
-    Ok(cursor)
-}
-
-/// The position where a cursor is.
-fn point(cursor: Cursor) -> Point
-    requires { IsPosition (position_of cursor) }
-    ensures { result ≡ position_of cursor }
-{
-    match Point::new(cursor.x, cursor.y) {
-        Some(point) => point,
-        None => unreachable!(),
     }
 }

@@ -7,7 +7,7 @@ ghost use Rattle.mvt_draw.specs.Geometry.{IsSpelled, IsSpellFault};
 #[cfg(test)]
 mod tests;
 
-use crate::commands::{CLOSE_PATH, LINE_TO, MOVE_TO};
+use crate::commands::{CLOSE_PATH, GREATEST_COUNT, LINE_TO, MOVE_TO};
 use crate::figure::Figure;
 use mvt_plane::Point;
 use std::alloc::{AllocFailed, Global};
@@ -32,10 +32,7 @@ impl<T: Drop> From<AllocFailed<T>> for SpellFault {
     }
 }
 
-/// A command's count is below this: it has 29 bits (Mapbox Vector Tile Specification 2.1, section 4.3.1).
-const COUNT_LIMIT: usize = 1 << 29;
-
-/// A step along an axis is below this, and above its negative (section 4.3.2).
+/// A step along an axis is below this, and above its negative (Mapbox Vector Tile Specification 2.1, section 4.3.2).
 const STEP_LIMIT: i64 = 1 << 31;
 
 /// The one list of numbers that draws the figure (Mapbox Vector Tile Specification 2.1, section 4.3): each
@@ -178,7 +175,7 @@ fn spell_command(numbers: &mut Vec<u32>, id: u32, count: usize) -> Result<(), Sp
     ensures spelled { OnOk result (IsCount count × (numbers.new.items ≡ numbers.old.items ++ command_integer id count ∷ [])) }
     ensures fault { IfErr result (λ fault. fault ≡ SpellFault.Unspellable → ¬ IsCount count) }
 {
-    if count >= COUNT_LIMIT {
+    if count > GREATEST_COUNT as usize {
         return Err(SpellFault::Unspellable);
     }
     numbers.push(8 * count as u32 + id)?;

@@ -1,7 +1,7 @@
 use Rattle.std.proofs.Common.{ap}
 use Rattle.mvt_plane.specs.Figure.{point, line_string, polygon}
 use Rattle.mvt_tile.specs.View.{kind_number}
-use Rattle.mvt_draw.proofs.ToldFaults.{told_figure, told_none, told_fault}
+use Rattle.mvt_draw.proofs.ReadGeometries.{told_figure, told_none, told_fault}
 use Rattle.mvt_draw.proofs.checking.command_fault.Goals as goal
 
 pub returns-in-Point-clause-figure : goal.returns-in-Point-clause-figure

@@ -5,7 +5,7 @@ use Rattle.mvt_plane.specs.Figure.{line_to, command_integer}
 use Rattle.mvt_plane.specs.Reading.{StandsAt, AsksCommand, of_path, of_line, greatest_count, path_type}
 use Rattle.mvt_draw.specs.Cursor.{position_of}
 use Rattle.mvt_plane.proofs.Readers.{one_behind, line_left}
-use Rattle.mvt_draw.proofs.Drawers.{path_started}
+use Rattle.mvt_draw.proofs.StepsAhead.{path_started}
 use Rattle.mvt_draw.proofs.commands.path_start.Goals as goal
 
 -- the places of a path's commands

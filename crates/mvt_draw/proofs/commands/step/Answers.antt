@@ -6,7 +6,7 @@ use Rattle.mvt_plane.specs.Position.{Position}
 use Rattle.mvt_plane.specs.Reading.{AsksCoordinate, of_x, of_y}
 use Rattle.mvt_draw.specs.Cursor.{position_of}
 use Rattle.mvt_plane.proofs.Readers.{leads_on, step_leads, no_step_there, zero_parameter}
-use Rattle.mvt_draw.proofs.Drawers.{step_drawn}
+use Rattle.mvt_draw.proofs.StepsAhead.{step_drawn}
 use Rattle.mvt_draw.proofs.commands.step.Goals as goal
 use Rattle.mvt_draw.proofs.commands.step.Goals.{else-line-via-then-line+then-x-cursor+else-y-cursor, else-line-via-then-line+else-x-cursor, else-line-via-else-line}
 

@@ -6,21 +6,6 @@ use Rattle.mvt_draw.specs.Geometry.{drawn}
 use Rattle.mvt_plane.proofs.FigurePaths.{points_run, lines_ahead, rings_ahead}
 use Rattle.mvt_draw.proofs.drawing.draw_figure.Goals as goal
 
-pub draw_points-requires : goal.draw_points-requires
-draw_points-requires c =
-    let there = c.requires point (ap kind_number c.in-Point.is) in
-    let run = points_run there.0 c.args.numbers.now there.1 in (run.0, run.2)
-
-pub draw_paths-requires : goal.draw_paths-requires
-draw_paths-requires c =
-    let there = c.requires line_string (ap kind_number c.in-LineString.is) in
-    let paths = lines_ahead there.0 c.args.numbers.now there.1 in (paths.0, paths.2)
-
-pub draw_paths-requires-in-Polygon : goal.draw_paths-requires-in-Polygon
-draw_paths-requires-in-Polygon c =
-    let there = c.requires polygon (ap kind_number c.in-Polygon.is) in
-    let paths = rings_ahead there.0 c.args.numbers.now there.1 in (paths.0, paths.2)
-
 pub returns-in_ok-draw_points-in-Point : goal.returns-in_ok-draw_points-in-Point
 returns-in_ok-draw_points-in-Point c =
     let there = c.requires point (ap kind_number c.in-Point.is) in

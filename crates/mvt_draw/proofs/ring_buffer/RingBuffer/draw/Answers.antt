@@ -10,7 +10,7 @@ use Rattle.mvt_plane.specs.Figure.{Figure, Spells, polygon, rings}
 use Rattle.mvt_plane.specs.Position.{origin}
 use Rattle.mvt_draw.specs.Cursor.{position_of}
 use Rattle.mvt_draw.proofs.Paths.{IsAmidPaths-next, IsAmidPaths-over}
-use Rattle.mvt_draw.proofs.ToldFaults.{rings_fault}
+use Rattle.mvt_draw.proofs.ReadGeometries.{rings_fault}
 use Rattle.mvt_draw.proofs.ring_buffer.RingBuffer.draw.Goals as goal
 
 -- numbers are left where the place isn't their end

@@ -24,8 +24,8 @@ returns-clause-drawn c = λ ring rest ahead.
           )
       | else-self-len w ↦ subst HasRoom (sym w.self-inside-is) (c.self.view_is, omega (arith, c.self.invariant, c.len.ensures))
     ] in (
-      one_more_ring (λ ring. ring.items) inside.parts.items inside.count c.push_ring.new.points room.1
-          ∙ (ap (λ (it : List (List Position)). it ++ c.push_ring.new.points.items ∷ []) room.0
+      one_more_ring (λ ring. ring.items) inside.parts.items inside.count c.push_path.new.points room.1
+          ∙ (ap (λ (it : List (List Position)). it ++ c.push_path.new.points.items ∷ []) room.0
           ∙ ap (λ (it : List Position). c.args.self.now ++ it ∷ []) (told.0 ∙ ap (λ (it : List Position). it ++ ring) c.clear.ensures.items)),
       told.1,
     )

@@ -1,19 +1,19 @@
-use Rattle.std.proofs.Common.{◌≡◌, ◌+◌, ◌*◌, ◌≤◌, ℕ, List, true, length}
+use Rattle.std.proofs.Common.{◌≡◌, ◌+◌, ◌*◌, ◌≤◌, ℕ, List, length}
 use Rattle.mvt_plane.specs.Course.{AreStepsAhead, course_at}
-use Rattle.mvt_plane.specs.Figure.{polygon}
+use Rattle.mvt_plane.specs.Figure.{GeometryType}
 use Rattle.mvt_plane.specs.Position.{Position}
 use Rattle.mvt_plane.specs.Reading.{StandsAt, with_left}
 use Rattle.mvt_draw.specs.Cursor.{position_of}
 use Rattle.mvt_draw.proofs.Courses.{IsAmidRun}
-use Rattle.mvt_draw.proofs.ring_buffer.push_steps.Given as goal
+use Rattle.mvt_draw.proofs.pushing.push_steps.Given as goal
 
 -- whichever steps are ahead, the first of them are drawn
 abbrev pub invariant-steps : goal.invariant-steps
 invariant-steps l = record {
   place : l.at + 2 * l.left ≡ l.start + 2 * l.count;
   within : l.at ≤ length l.numbers;
-  goes : StandsAt polygon l.numbers l.start (with_left polygon true l.count (position_of l.fn.from))
-      → StandsAt polygon l.numbers l.at (with_left polygon true l.left (position_of l.cursor));
+  goes : (geometry_type : GeometryType) → StandsAt geometry_type l.numbers l.start (with_left geometry_type l.line l.count (position_of l.fn.from))
+      → StandsAt geometry_type l.numbers l.at (with_left geometry_type l.line l.left (position_of l.cursor));
   drawn : (positions : List Position) (rest : List ℕ) → AreStepsAhead (course_at l.numbers l.start (position_of l.fn.from)) l.count positions rest
       → IsAmidRun l.fn.points.items (course_at l.numbers l.start (position_of l.fn.from)) positions rest l.points.items (course_at l.numbers l.at (position_of l.cursor)) l.left;
 }

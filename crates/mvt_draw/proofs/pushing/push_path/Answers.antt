@@ -1,0 +1,72 @@
+use Rattle.std.proofs.Common.{◌+◌, ◌*◌, ◌∷◌, [], ◌++◌, List, Bool, ap, ◌∙◌, subst, append_assoc}
+use Rattle.std.proofs.lemmas.Result.{err_from_is_err_and}
+use Rattle.mvt_plane.specs.Drawing.{State, close_command}
+use Rattle.mvt_plane.specs.Reading.{StandsAt, of_close, path_type}
+use Rattle.mvt_plane.specs.Course.{Course, IsPathAhead, course_at, ending_of}
+use Rattle.mvt_plane.specs.Figure.{cursor}
+use Rattle.mvt_plane.specs.Position.{Position}
+use Rattle.mvt_draw.specs.Cursor.{position_of}
+use Rattle.mvt_plane.proofs.Readers.{behind_line, behind_ring}
+use Rattle.mvt_draw.proofs.Courses.{one_ahead}
+use Rattle.mvt_draw.proofs.pushing.push_path.Goals as goal
+
+pub returns-in_err-command-clause-fault : goal.returns-in_err-command-clause-fault
+returns-in_err-command-clause-fault c =
+    let kind = path_type c.args.closed in
+    let p = err_from_is_err_and c.from_residual-in_err-command.result c.from_residual-in_err-command.ensures.1 in
+    rw (p.1, p.2) (λ drawn exists leads.
+    let last = position_of c.in_ok-last.last in
+    let behind = c.in_ok-last.ensures.goes kind (c.in_ok-first.ensures.goes drawn leads) in
+    c.in_err-command.ensures.fault kind (close_command last) (of_close last) (λ end may. may)
+    (subst (λ (state : State). StandsAt kind c.args.numbers.now (c.args.start + 4 + 2 * c.in_ok-first.count) state) (behind_ring c.args.closed last c.if-closed.true) behind))
+
+pub returns-then-closed-clause-goes : goal.returns-then-closed-clause-goes
+returns-then-closed-clause-goes c = λ drawn leads.
+    let kind = path_type c.args.closed in
+    let last = position_of c.in_ok-last.last in
+    let behind = c.in_ok-last.ensures.goes kind (c.in_ok-first.ensures.goes drawn leads) in
+    c.in_ok-command.ensures.goes kind (close_command last) (of_close last)
+    (subst (λ (state : State). StandsAt kind c.args.numbers.now (c.args.start + 4 + 2 * c.in_ok-first.count) state) (behind_ring c.args.closed last c.if-closed.true) behind)
+
+pub returns-clause-goes : goal.returns-clause-goes
+returns-clause-goes c = λ drawn leads.
+    let kind = path_type c.args.closed in
+    let last = position_of c.in_ok-last.last in
+    let behind = c.in_ok-last.ensures.goes kind (c.in_ok-first.ensures.goes drawn leads) in
+    subst (λ (state : State). StandsAt kind c.args.numbers.now (c.args.start + 4 + 2 * c.in_ok-first.count) state) (behind_line c.args.closed last c.if-closed.false) behind
+
+pub returns-then-closed-clause-drawn : goal.returns-then-closed-clause-drawn
+returns-then-closed-clause-drawn c = λ part rest ahead.
+    let numbers = c.args.numbers.now in
+    let end = c.args.start + 4 + 2 * c.in_ok-first.count in
+    let before = c.args.points.now.items in
+    let from = position_of c.args.from in
+    let path = subst (λ (it : Bool). IsPathAhead (course_at numbers c.args.start from) part (ending_of it ++ rest)) c.if-closed.true ahead in
+    let started = c.in_ok-first.ensures.drawn part (15 ∷ rest) path in
+    let told = c.in_ok-last.ensures.drawn started.0 (15 ∷ rest) started.2 in
+    let here = ap (λ (it : Course). it.here) told.1 ∙ ap (λ (it : List Position). cursor from it) started.1 in
+    let left = (one_ahead end numbers 15 rest (ap (λ (it : Course). it.left) told.1)).1 in (
+      told.0
+          ∙ (ap (λ (it : List Position). it ++ started.0) c.in_ok-push.ensures.items
+          ∙ (append_assoc before (c.point.result ∷ []) started.0
+          ∙ (ap (λ (it : Position). before ++ it ∷ started.0) c.point.ensures ∙ ap (λ (it : List Position). before ++ it) started.1))),
+      λ i. record { here = here i; left = left i },
+    )
+
+pub returns-clause-drawn : goal.returns-clause-drawn
+returns-clause-drawn c = λ part rest ahead.
+    let numbers = c.args.numbers.now in
+    let end = c.args.start + 4 + 2 * c.in_ok-first.count in
+    let before = c.args.points.now.items in
+    let from = position_of c.args.from in
+    let path = subst (λ (it : Bool). IsPathAhead (course_at numbers c.args.start from) part (ending_of it ++ rest)) c.if-closed.false ahead in
+    let started = c.in_ok-first.ensures.drawn part (rest) path in
+    let told = c.in_ok-last.ensures.drawn started.0 (rest) started.2 in
+    let here = ap (λ (it : Course). it.here) told.1 ∙ ap (λ (it : List Position). cursor from it) started.1 in
+    let left = ap (λ (it : Course). it.left) told.1 in (
+      told.0
+          ∙ (ap (λ (it : List Position). it ++ started.0) c.in_ok-push.ensures.items
+          ∙ (append_assoc before (c.point.result ∷ []) started.0
+          ∙ (ap (λ (it : Position). before ++ it ∷ started.0) c.point.ensures ∙ ap (λ (it : List Position). before ++ it) started.1))),
+      λ i. record { here = here i; left = left i },
+    )
