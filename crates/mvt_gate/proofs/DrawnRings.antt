@@ -1,12 +1,12 @@
 -- Rings that numbers spell have three vertices or more, and none at the position of the next one.
 use Rattle.std.proofs.Common.{◌≡◌, ◌≢◌, ℕ, zero, suc, ◌-◌, ◌≤◌, inl, inr, List, [], ◌∷◌, length, slice_get, Some, sym, ◌∙◌, ap, subst, arith}
 use Rattle.std.proofs.lemmas.Bool.{cases_eq}
-use Rattle.std.proofs.lemmas.Bool.Decides.{nat_tests}
 use Rattle.mvt_plane.specs.Figure.{cursor, AreApart, IsPath, ArePaths}
 use Rattle.mvt_plane.specs.Geometry.{HasRings}
 use Rattle.mvt_plane.specs.Position.{Position, origin}
-use Rattle.mvt_plane.specs.Ring.{next_round, ArePolygonRings}
+use Rattle.mvt_plane.specs.Ring.{ArePolygonRings}
 use Rattle.mvt_polygon.specs.Rings.{AreProperRings}
+use Rattle.mvt_plane.proofs.RingEdges.{round_last, round_next}
 
 -- no position is that of the next one
 apart_at : (from : Position) (rest : List Position) (vertex : ℕ) (position next : Position) → AreApart from rest → slice_get (from ∷ rest) vertex ≡ Some position → slice_get rest vertex ≡ Some next → position ≢ next
@@ -33,14 +33,6 @@ several start (first ∷ rest) path =
 apart_in_ring : (start : Position) (ring : List Position) (vertex : ℕ) (position next : Position) → IsPath 2 start ring → slice_get ring vertex ≡ Some position → slice_get ring (suc vertex) ≡ Some next → position ≢ next
 apart_in_ring start [] vertex position next path here there = absurd path
 apart_in_ring start (first ∷ rest) vertex position next path here there = apart_at first rest vertex position next path.2 here there
-
--- going round, behind the last vertex
-round_last : (count number : ℕ) → suc number ≡ count → next_round count number ≡ 0
-round_last count number last = grind (arith, nat_tests)
-
--- behind another
-round_next : (count number : ℕ) → suc number ≢ count → next_round count number ≡ suc number
-round_next count number other = grind (arith, nat_tests)
 
 -- drawn rings of which none ends where it begins
 pub rings_are_drawn : (kind : ℕ) (numbers : List ℕ) (parts : List (List Position)) → HasRings kind numbers parts → ArePolygonRings parts → AreProperRings parts

@@ -12,27 +12,16 @@ use Rattle.mvt_fault.specs.declared.fault.Fault.TheVariants.{Command, Ring}
 use Rattle.mvt_plane.proofs.CommandFaults.{one_command_fault}
 use Rattle.mvt_plane.proofs.Spellings.{one_figure}
 use Rattle.mvt_plane.specs.CommandFault.{HasCommandFault}
-use Rattle.mvt_plane.specs.Figure.{GeometryType, point, line_string, polygon, rings}
-use Rattle.mvt_plane.specs.Geometry.{type_number, BreaksCommands, HasRings}
+use Rattle.mvt_plane.specs.Figure.{GeometryType, polygon, rings}
+use Rattle.mvt_plane.specs.Geometry.{BreaksCommands, HasRings}
 use Rattle.mvt_plane.specs.Position.{Position}
 use Rattle.mvt_plane.specs.Ring.{BreaksRings}
 use Rattle.mvt_polygon.specs.Rings.{IsFirstRingFault}
 use Rattle.mvt_polygon.specs.declared.rings.RingFault.{RingFault}
 use Rattle.mvt_wire.specs.Tile.{FeatureRecord}
+use Rattle.mvt_plane.proofs.Geometries.{one_type}
 
 -- A feature and its rings
-
--- a number names one geometry type
-pub one_type : (geometry_type other : GeometryType) → type_number geometry_type ≡ type_number other → geometry_type ≡ other
-one_type point point same = refl
-one_type point line_string same = absurd (omega arith)
-one_type point polygon same = absurd (omega arith)
-one_type line_string point same = absurd (omega arith)
-one_type line_string line_string same = refl
-one_type line_string polygon same = absurd (omega arith)
-one_type polygon point same = absurd (omega arith)
-one_type polygon line_string same = absurd (omega arith)
-one_type polygon polygon same = refl
 
 -- a feature has one list of rings
 pub one_rings : (it : FeatureRecord) (parts other : List (List Position)) → HasRings it.kind it.geometry parts → HasRings it.kind it.geometry other → parts ≡ other

@@ -5,13 +5,13 @@ use Rattle.mvt_confirm.specs.Valid.{AreValidRings, IsValidGeometry}
 use Rattle.mvt_fault.specs.Code.{command_code, ring_code}
 use Rattle.mvt_fault.specs.Place.{place_of}
 use Rattle.mvt_fault.specs.declared.fault.Fault.{Fault}
-use Rattle.mvt_plane.proofs.Geometries.{figure_faultless}
+use Rattle.mvt_plane.proofs.Geometries.{figure_faultless, one_type}
 use Rattle.mvt_plane.specs.Figure.{GeometryType, polygon, rings, Spells}
 use Rattle.mvt_plane.specs.Geometry.{HasRings}
 use Rattle.mvt_plane.specs.Position.{Position}
 use Rattle.mvt_tile.specs.RuleFaults.{IsBehindTags}
 use Rattle.mvt_wire.specs.Tile.{FeatureRecord}
-use Rattle.mvt_gate.proofs.FirstFaults.{one_type, one_rings}
+use Rattle.mvt_gate.proofs.FirstFaults.{one_rings}
 use Rattle.mvt_gate.proofs.PolygonFaults.{no_ring_fault, no_meeting_of_valid, no_outside_of_valid, no_hole_of_valid}
 
 -- the rings of valid polygons
