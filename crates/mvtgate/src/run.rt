@@ -26,6 +26,19 @@ const NO_MEMORY: u8 = 4;
 /// The exit status of a run on a fault file that holds no fault.
 const BAD_FAULT: u8 = 5;
 
+/// The version of the program.
+const VERSION: &str = "0.1.0";
+
+/// What the help says of exit statuses.
+const STATUSES: &str = "\
+Exit status:
+  0  check: the tile is valid; confirm: the fault is confirmed; dump, fields: the tile is listed
+  1  check, dump, fields: the line is a fault; confirm: the fault is not confirmed
+  2  the words of the command line are no call of the program
+  3  a file did not open, an input was not read or has more than 64 MiB, or the output failed
+  4  out of memory
+  5  the fault file holds no fault";
+
 /// What the program does with a tile alone.
 #[derive(Clone, Copy)]
 enum Engine {
@@ -113,11 +126,15 @@ fn command_line<'a>(alloc: Global) -> Result<Command<'a>, AllocError> {
     let check = tile_command(
         alloc,
         "check",
-        "Says yes to a good tile, or tells its first fault",
+        "Says whether a tile is valid, and else names its first fault",
     )?;
     let dump = tile_command(alloc, "dump", "Lists what a tile holds")?;
     Command::new(alloc, "mvtgate")
-        .about("A gate before the publishing of Mapbox vector tiles")
+        .version(VERSION)
+        .about(
+            "A publishing gate for Mapbox vector tiles. Tiles come uncompressed: gunzip them first.",
+        )
+        .after_help(STATUSES)
         .subcommand_required(true)
         .subcommand(fields)?
         .subcommand(check)?
@@ -163,13 +180,12 @@ fn call_of<'a>(matches: &ArgMatches<'a>) -> Option<Call<'a>> {
     })
 }
 
-/// Prints what `clap` has to say: help on standard output, and anything else as an error.
+/// Prints what `clap` has to say: help and the version on standard output, and anything else as an error.
 fn explain<R: Print + Eprint>(rt: &R, error: &clap::Error) -> u8
     ensures help { kind_of error.now ≡ ErrorKind.DisplayHelp → result ≡ 0 }
+    ensures version { kind_of error.now ≡ ErrorKind.DisplayVersion → result ≡ 0 }
     ensures memory { kind_of error.now ≡ ErrorKind.OutOfMemory → result ≡ 4 }
     ensures range { result ≤ 5 }
-
-    // The program has no word for its version.
     ensures mistake { kind_of error.now ≢ ErrorKind.DisplayHelp →
         kind_of error.now ≢ ErrorKind.DisplayVersion →
         kind_of error.now ≢ ErrorKind.OutOfMemory → result ≡ 2 }

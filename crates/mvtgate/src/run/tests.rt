@@ -35,6 +35,7 @@ fn exits_by_the_words(rt: HostRuntime) -> Result<(), Fail> {
         (["mvtgate", "fields", "--help"].as_slice(), 0),
         (["mvtgate", "check", "--help"].as_slice(), 0),
         (["mvtgate", "confirm", "--help"].as_slice(), 0),
+        (["mvtgate", "--version"].as_slice(), 0),
     ] {
         assert_eq!(rt; status(&rt, texts)?, want, "{texts:?}");
     }
