@@ -14,7 +14,7 @@ use Rattle.mvt_plane.proofs.EdgesBelow.{below_back, below_rising, below_apart}
 use Rattle.mvt_plane.proofs.Gaps.{same_key}
 use Rattle.mvt_plane.proofs.Order.{zs, le_or_lt, mono_le_right, mono_lt_right}
 use Rattle.mvt_plane.proofs.PointsUnder.{above, passes_where_above, passes_reversed, none_passes}
-use Rattle.mvt_plane.proofs.Polynomials.{unknown, constant, negated, ◌⊕◌, ◌⊖◌, ◌⊗◌, ring}
+use Rattle.mvt_plane.proofs.Polynomials.{constant, negated, once, ◌⊕◌, ◌⊖◌, ◌⊗◌, identity}
 use Rattle.mvt_plane.proofs.RationalPoints.{begin_lies_on, end_lies_on, times_one}
 use Rattle.mvt_plane.proofs.SlantedPlane.{slant, slant_edge, edges_slanted}
 
@@ -136,20 +136,8 @@ odd_alike position point ring column each =
 -- by how much an edge is above it, in the slanted plane
 above_slanted : (a b position : Position) → above (record { a = slant a; b = slant b }) (whole (slant position)) ≡ pos (2 ^ 32) *ℤ orientation a b position
 above_slanted a b position =
-    let AX = unknown 0 in
-    let AY = unknown 1 in
-    let BX = unknown 2 in
-    let BY = unknown 3 in
-    let X = unknown 4 in
-    let Y = unknown 5 in
-    let k = constant (pos (2 ^ 32)) in
-    let once = constant (pos 1) in
-    let A = AX ⊗ k ⊕ AY in
-    let B = BX ⊗ k ⊕ BY in
-    let P = X ⊗ k ⊕ Y in
-    ring (a.x ∷ a.y ∷ b.x ∷ b.y ∷ position.x ∷ position.y ∷ [])
-    ((negated BY ⊖ negated AY) ⊗ (P ⊖ A ⊗ once) ⊖ (B ⊖ A) ⊗ (negated Y ⊖ negated AY ⊗ once))
-    (k ⊗ ((BX ⊖ AX) ⊗ (Y ⊖ AY) ⊖ (BY ⊖ AY) ⊗ (X ⊖ AX))) tt
+    identity (a.x ∷ a.y ∷ b.x ∷ b.y ∷ position.x ∷ position.y ∷ [])
+    (λ AX AY BX BY X Y. let k = constant (pos (2 ^ 32)) in let A = AX ⊗ k ⊕ AY in let B = BX ⊗ k ⊕ BY in let P = X ⊗ k ⊕ Y in ((negated BY ⊖ negated AY) ⊗ (P ⊖ A ⊗ once) ⊖ (B ⊖ A) ⊗ (negated Y ⊖ negated AY ⊗ once), k ⊗ ((BX ⊖ AX) ⊗ (Y ⊖ AY) ⊖ (BY ⊖ AY) ⊗ (X ⊖ AX)))) tt
 
 -- an edge is over it where the position is above the edge
 own_alike : (position a b : Position) → AreAlike position (whole (slant position)) a b

@@ -8,10 +8,10 @@ use Rattle.mvt_plane.specs.declared.edge.Edge.{Edge}
 use Rattle.mvt_plane.proofs.EdgeParity.{test, same_test, failed_test, apart_either_way, not_apart}
 use Rattle.mvt_plane.proofs.InsideParity.{apart}
 use Rattle.mvt_plane.proofs.MixedPoints.{IsLower, across, across_at, across_lies, AreClear, AreLevel, same_side}
-use Rattle.mvt_plane.proofs.Order.{zs, le_or_lt, mono_le_right, mono_lt_right}
-use Rattle.mvt_plane.proofs.PointsUnder.{point_over, over_lies, passes_where_higher, passes_reversed, none_passes, passes_decide, lt_decide}
-use Rattle.mvt_plane.proofs.Polynomials.{unknown, ◌⊗◌, ring}
-use Rattle.mvt_plane.proofs.RationalPoints.{begin_lies_on, end_lies_on, lies_on_reversed, both_decide, le_decide, times_one}
+use Rattle.mvt_plane.proofs.Order.{zs, le_or_lt, le_decide, lt_decide, mono_le_right, mono_lt_right}
+use Rattle.mvt_plane.proofs.PointsUnder.{point_over, over_lies, passes_where_higher, passes_reversed, none_passes, passes_decide}
+use Rattle.mvt_plane.proofs.Polynomials.{◌⊗◌, identity}
+use Rattle.mvt_plane.proofs.RationalPoints.{begin_lies_on, end_lies_on, lies_on_reversed, both_decide, times_one}
 
 -- two points of an edge, in the order of their x
 pub record IsSpan (edge : Edge) (p q : RationalPoint) : Type 0 where
@@ -29,7 +29,7 @@ data Place (p q : RationalPoint) (vertex : Position) : Type 0 where
 
 -- two factors behind a number may change places
 factors_swapped : (a m n : ℤ) → a *ℤ m *ℤ n ≡ a *ℤ n *ℤ m
-factors_swapped a m n = ring (a ∷ m ∷ n ∷ []) (unknown 0 ⊗ unknown 1 ⊗ unknown 2) (unknown 0 ⊗ unknown 2 ⊗ unknown 1) tt
+factors_swapped a m n = identity (a ∷ m ∷ n ∷ []) (λ A M N. (A ⊗ M ⊗ N, A ⊗ N ⊗ M)) tt
 
 -- it is at one of these places
 place_of : (edge : Edge) (p q : RationalPoint) → IsSpan edge p q → (vertex : Position) → Place p q vertex

@@ -7,7 +7,7 @@ use Rattle.std.specs.Prelude.{All}
 use Rattle.mvt_plane.specs.Figure.{GeometryType, Figure, Spells}
 use Rattle.mvt_plane.specs.CommandFault.{Part, Word, words, IsDue, Applies, IsCause, ends, nothing_due, due, HasCommandFault}
 use Rattle.mvt_plane.proofs.Words.{numbers_of, words_spell}
-use Rattle.mvt_plane.specs.Drawing.{State, points_command, path_command, line_command, close_command, step_x, step_y, all_drawn, start, MayEnd, next, Passes, state_behind, Draws, IsBlamed, not_due, not_allowed, FaultFrom}
+use Rattle.mvt_plane.specs.Drawing.{State, path_command, all_drawn, start, MayEnd, next, Passes, state_behind, Draws, IsBlamed, not_due, not_allowed, FaultFrom}
 use Rattle.mvt_plane.proofs.Beginnings.{draws_words, begins_passes, passes_begins, due_there, is_due, passes_spells}
 use Rattle.mvt_plane.proofs.Blames.{allowed, blamed, verdict}
 
@@ -27,12 +27,10 @@ fault_passes geometry_type state (n ∷ rest) code (suc index) fault = (fault.0,
 
 -- no longer front passes
 fault_longest : (geometry_type : GeometryType) (state : State) (numbers : List ℕ) (code index further : ℕ) → FaultFrom geometry_type state numbers code index → index < further → further ≤ length numbers → Passes geometry_type state (take further numbers) → ⊥
-fault_longest geometry_type state [] code index further fault beyond within passes = omega arith
-fault_longest geometry_type state (n ∷ rest) code zero zero fault beyond within passes = omega arith
-fault_longest geometry_type state (n ∷ rest) code (suc index) zero fault beyond within passes = omega arith
 fault_longest geometry_type state (n ∷ rest) code zero (suc further) fault beyond within passes = fault.0 passes.0
 fault_longest geometry_type state (n ∷ rest) code (suc index) (suc further) fault beyond within passes =
     fault_longest geometry_type (next geometry_type state n) rest code index further fault.1 (omega arith) (omega arith) passes.1
+fault_longest geometry_type state numbers code index further fault beyond within passes = omega arith
 
 -- the numbers aren't drawn to an end
 fault_undrawn : (geometry_type : GeometryType) (state : State) (all : List Word) (code index : ℕ) → FaultFrom geometry_type state (numbers_of all) code index → Draws geometry_type state all → ⊥
@@ -85,14 +83,10 @@ data Outcome (geometry_type : GeometryType) (state : State) (numbers : List ℕ)
 
 -- the numbers may end or not
 may_end : (state : State) → MayEnd state ⊎ (MayEnd state → ⊥)
-may_end points_command = inr (λ end. end)
 may_end (path_command true from) = inl refl
 may_end (path_command false from) = inr (λ end. true≢false (sym end))
-may_end (line_command from) = inr (λ end. end)
-may_end (close_command from) = inr (λ end. end)
-may_end (step_x leg from) = inr (λ end. end)
-may_end (step_y leg from x) = inr (λ end. end)
 may_end all_drawn = inl tt
+may_end state = inr (λ end. end)
 
 -- below 2^32
 abbrev Is32Bits : ℕ → Type 0

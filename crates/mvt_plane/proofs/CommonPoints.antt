@@ -1,5 +1,6 @@
 -- Common points of two edges: whether a rational point is one, and what the named one says
 use Rattle.std.proofs.Common.{◌≡◌, Option, Some, None, refl, sym, subst}
+use Rattle.std.proofs.Math.Decide.{map_dec}
 use Rattle.std.proofs.lemmas.Option.{none-some, same_Some}
 use Rattle.mvt_plane.specs.CommonPoint.{IsCommon, IsNamed, none, first_a, first_b, second_a, second_b, crossing}
 use Rattle.mvt_plane.specs.Position.{Position}
@@ -16,11 +17,8 @@ pub record IsSharedVertex (shared : Option Position) (point : RationalPoint) : T
 -- whether it is
 pub is_shared_decide : (shared : Option Position) (point : RationalPoint) → Dec (IsSharedVertex shared point)
 is_shared_decide None point = no (λ it. none-some it.vertex it.there)
-is_shared_decide (Some vertex) point = from (is_at_decide point vertex)
-  where
-    from : Dec (IsAt point vertex) → Dec (IsSharedVertex (Some vertex) point)
-    from (yes at) = yes (record { vertex = vertex; there = refl; at = at })
-    from (no apart) = no (λ it. apart (subst (λ (v : Position). IsAt point v) (sym (same_Some vertex it.vertex it.there)) it.at))
+is_shared_decide (Some vertex) point =
+    map_dec (λ at. record { vertex = vertex; there = refl; at = at }) (λ it. subst (IsAt point) (sym (same_Some vertex it.vertex it.there)) it.at) (is_at_decide point vertex)
 
 -- a point of both edges that isn't the shared vertex
 pub is_common : (shared : Option Position) (first second : Edge) (point : RationalPoint) → LiesOn point first → LiesOn point second → ¬ IsSharedVertex shared point → IsCommon shared first second point
@@ -29,11 +27,8 @@ is_common shared first second point on_first on_second apart =
 
 -- a point of both edges is the shared vertex where it isn't a common one
 pub shared_or_common : (shared : Option Position) (first second : Edge) (point : RationalPoint) → LiesOn point first → LiesOn point second → ¬ IsCommon shared first second point → IsSharedVertex shared point
-shared_or_common shared first second point on_first on_second not_common = from (is_shared_decide shared point)
-  where
-    from : Dec (IsSharedVertex shared point) → IsSharedVertex shared point
-    from (yes it) = it
-    from (no apart) = absurd (not_common (is_common shared first second point on_first on_second apart))
+shared_or_common shared first second point on_first on_second not_common =
+    elim (is_shared_decide shared point) [ yes it ↦ it | no apart ↦ absurd (not_common (is_common shared first second point on_first on_second apart)) ]
 
 -- whether a rational point is common
 pub IsCommon-decide : (shared : Option Position) (first second : Edge) (point : RationalPoint) → Dec (IsCommon shared first second point)

@@ -2,7 +2,7 @@
 -- of the edge: in the slanted plane both the edge's point in the position's column and the end are inside the ring, or neither is.
 use Rattle.std.proofs.Common.{◌≡◌, ◌^◌, ◌⊎◌, inl, inr, ◌↔◌, ℕ, true, false, List, [], ◌∷◌, map, slice_get, Some, ℤ, pos, ◌-ℤ◌, ◌*ℤ◌, ◌≤ℤ◌, ◌<ℤ◌, refl, sym, ◌∙◌, ap, subst, arith}
 use Rattle.std.proofs.lemmas.Bool.{cond-true, cond-false}
-use Rattle.std.proofs.lemmas.Int.{ints}
+use Rattle.std.proofs.lemmas.Int.{ints, by_lt_z}
 use Rattle.std.proofs.Math.IntN.{*ℤ_comm}
 use Rattle.std.specs.Int.Signed.{lt_z}
 use borrow.Author.Differences.{product_is}
@@ -22,9 +22,9 @@ use Rattle.mvt_plane.proofs.Gaps.{same_key, gap_by_orientation, reach_positive}
 use Rattle.mvt_plane.proofs.InsideEdges.{point_over, over_on_edge}
 use Rattle.mvt_plane.proofs.MixedPoints.{AreClear}
 use Rattle.mvt_plane.proofs.OneVertex.{points_together}
-use Rattle.mvt_plane.proofs.Order.{zs, le_or_lt, sign_cases, mul_pos, factor_pos}
+use Rattle.mvt_plane.proofs.Order.{zs, sign_cases, mul_pos, factor_pos}
 use Rattle.mvt_plane.proofs.PointsUnder.{above}
-use Rattle.mvt_plane.proofs.Polynomials.{unknown, constant, negated, ◌⊕◌, ◌⊖◌, ◌⊗◌, ring}
+use Rattle.mvt_plane.proofs.Polynomials.{constant, negated, once, ◌⊕◌, ◌⊖◌, ◌⊗◌, identity}
 use Rattle.mvt_plane.proofs.RationalPoints.{begin_lies_on, lies_on_reversed, times_one}
 use Rattle.mvt_plane.proofs.RingEdges.{ends_of_edge}
 use Rattle.mvt_plane.proofs.SlantedPlane.{slant, slant_edge, clear_slanted}
@@ -59,18 +59,13 @@ pub record IsUnder (position : Position) (edge : Edge) : Type 0 where
 -- a position above a rising edge isn't its end
 beyond_end : (position low high : Position) → IsPosition position → IsPosition high → key_of position ≤ℤ key_of high → pos 0 <ℤ orientation low high position
     → key_of position <ℤ key_of high
-beyond_end position low high here in_range order over = by_order (le_or_lt (key_of high) (key_of position))
+beyond_end position low high here in_range order over = by_lt_z (key_of position) (key_of high) (λ more. more) (λ back.
+    let same : position ≡ high = same_key position high here in_range (omega (arith, zs)) in
+    let none : orientation low high position ≡ pos 0 = ap (orientation low high) same ∙ level low high in
+    absurd (omega (arith, zs)))
   where
     level : (a b : Position) → orientation a b b ≡ pos 0
-    level a b = ring (a.x ∷ a.y ∷ b.x ∷ b.y ∷ [])
-        ((unknown 2 ⊖ unknown 0) ⊗ (unknown 3 ⊖ unknown 1) ⊖ (unknown 3 ⊖ unknown 1) ⊗ (unknown 2 ⊖ unknown 0)) (constant (pos 0)) tt
-
-    by_order : (key_of high ≤ℤ key_of position) ⊎ (key_of position <ℤ key_of high) → key_of position <ℤ key_of high
-    by_order (inl back) =
-        let same : position ≡ high = same_key position high here in_range (omega (arith, zs)) in
-        let none : orientation low high position ≡ pos 0 = ap (orientation low high) same ∙ level low high in
-        absurd (omega (arith, zs))
-    by_order (inr more) = more
+    level a b = identity (a.x ∷ a.y ∷ b.x ∷ b.y ∷ []) (λ A a B b. ((B ⊖ A) ⊗ (b ⊖ a) ⊖ (b ⊖ a) ⊗ (B ⊖ A), constant (pos 0))) tt
 
 -- it has these ends
 under_of : (position : Position) (edge : Edge) → IsPosition position → IsPosition edge.a → IsPosition edge.b → PassesBelow position edge → IsUnder position edge
@@ -101,11 +96,7 @@ under_of position edge here from to below = by_way below.above below.parted
     }
 
     at_least : (end : Position) → ¬ (key_of end <ℤ key_of position) → key_of position ≤ℤ key_of end
-    at_least end none = by_order (le_or_lt (key_of position) (key_of end))
-      where
-        by_order : (key_of position ≤ℤ key_of end) ⊎ (key_of end <ℤ key_of position) → key_of position ≤ℤ key_of end
-        by_order (inl it) = it
-        by_order (inr less) = absurd (none less)
+    at_least end none = by_lt_z (key_of end) (key_of position) (λ less. absurd (none less)) (λ order. order)
 
     clash : (one other : Position) → key_of one <ℤ key_of other → key_of other <ℤ key_of position → ¬ (key_of one <ℤ key_of position) → ⊥
     clash one other rises before none = none (omega (arith, zs))
@@ -127,20 +118,8 @@ point_below position low high = point_over (slant position) (slant low) (slant h
 over_by_gap : (a b low high position : Position)
     → above (record { a = slant a; b = slant b }) (point_below position low high) ≡ gap (segment a b) (segment low high) (key_of position) (pos 1)
 over_by_gap a b low high position =
-    let AY = unknown 0 in
-    let BY = unknown 1 in
-    let A = unknown 2 in
-    let B = unknown 3 in
-    let LY = unknown 4 in
-    let HY = unknown 5 in
-    let L = unknown 6 in
-    let H = unknown 7 in
-    let K = unknown 8 in
-    let once = constant (pos 1) in
-    ring (a.y ∷ b.y ∷ key_of a ∷ key_of b ∷ low.y ∷ high.y ∷ key_of low ∷ key_of high ∷ key_of position ∷ [])
-    ((negated BY ⊖ negated AY) ⊗ (K ⊗ (H ⊖ L) ⊖ A ⊗ (H ⊖ L))
-    ⊖ (B ⊖ A) ⊗ ((negated LY ⊗ (H ⊖ L) ⊕ (negated HY ⊖ negated LY) ⊗ (K ⊖ L)) ⊖ negated AY ⊗ (H ⊖ L)))
-    ((LY ⊗ (H ⊖ L) ⊗ once ⊕ (K ⊖ L ⊗ once) ⊗ (HY ⊖ LY)) ⊗ (B ⊖ A) ⊖ (AY ⊗ (B ⊖ A) ⊗ once ⊕ (K ⊖ A ⊗ once) ⊗ (BY ⊖ AY)) ⊗ (H ⊖ L)) tt
+    identity (a.y ∷ b.y ∷ key_of a ∷ key_of b ∷ low.y ∷ high.y ∷ key_of low ∷ key_of high ∷ key_of position ∷ [])
+    (λ AY BY A B LY HY L H K. ((negated BY ⊖ negated AY) ⊗ (K ⊗ (H ⊖ L) ⊖ A ⊗ (H ⊖ L)) ⊖ (B ⊖ A) ⊗ ((negated LY ⊗ (H ⊖ L) ⊕ (negated HY ⊖ negated LY) ⊗ (K ⊖ L)) ⊖ negated AY ⊗ (H ⊖ L)), (LY ⊗ (H ⊖ L) ⊗ once ⊕ (K ⊖ L ⊗ once) ⊗ (HY ⊖ LY)) ⊗ (B ⊖ A) ⊖ (AY ⊗ (B ⊖ A) ⊗ once ⊕ (K ⊖ A ⊗ once) ⊗ (BY ⊖ AY)) ⊗ (H ⊖ L))) tt
 
 -- where there is a gap, the other edge is below the position
 below_by_gap : (a b low high position : Position) → key_of low <ℤ key_of high → key_of a <ℤ key_of b → pos 0 <ℤ orientation low high position
@@ -160,17 +139,15 @@ below_by_gap a b low high position rising other_rising over some =
 gap_by_clear : (a b low high position : Position) → key_of low <ℤ key_of position → key_of position <ℤ key_of high → key_of a <ℤ key_of position → key_of position <ℤ key_of b
     → AreClear (record { a = low; b = high }) (record { a = a; b = b }) → pos 0 ≤ℤ gap (segment a b) (segment low high) (key_of position) (pos 1)
     → pos 0 <ℤ gap (segment a b) (segment low high) (key_of position) (pos 1)
-gap_by_clear a b low high position begun ended other_begun other_ended clear least = by_sign (sign_cases (gap (segment a b) (segment low high) (key_of position) (pos 1)))
-  where
-    by_sign : (gap (segment a b) (segment low high) (key_of position) (pos 1) <ℤ pos 0) ⊎ ((gap (segment a b) (segment low high) (key_of position) (pos 1) ≡ pos 0)
-        ⊎ (pos 0 <ℤ gap (segment a b) (segment low high) (key_of position) (pos 1))) → pos 0 <ℤ gap (segment a b) (segment low high) (key_of position) (pos 1)
-    by_sign (inl less) = absurd (omega (arith, zs, less, least))
-    by_sign (inr (inl none)) =
-        let common = no_gap_is_common (segment a b) (segment low high) (key_of position) (pos 1) (omega (arith, zs)) (omega (arith, zs)) (omega (arith, zs))
-        (record { begun = omega (arith, zs, times_one (key_of a)); lasts = omega (arith, zs, times_one (key_of b)) })
-        (record { begun = omega (arith, zs, times_one (key_of low)); lasts = omega (arith, zs, times_one (key_of high)) }) none in
-        absurd (clear common.0 common.2 common.1)
-    by_sign (inr (inr more)) = more
+gap_by_clear a b low high position begun ended other_begun other_ended clear least = elim (sign_cases (gap (segment a b) (segment low high) (key_of position) (pos 1))) [
+  | inl less ↦ absurd (omega (arith, zs, less, least))
+  | inr (inl none) ↦
+      let common = no_gap_is_common (segment a b) (segment low high) (key_of position) (pos 1) (omega (arith, zs)) (omega (arith, zs)) (omega (arith, zs))
+      (record { begun = omega (arith, zs, times_one (key_of a)); lasts = omega (arith, zs, times_one (key_of b)) })
+      (record { begun = omega (arith, zs, times_one (key_of low)); lasts = omega (arith, zs, times_one (key_of high)) }) none in
+      absurd (clear common.0 common.2 common.1)
+  | inr (inr more) ↦ more
+]
 
 -- so an edge that rises past the key is below the position where it is over the point
 under_alike : (a b low high position : Position) → key_of low <ℤ key_of position → key_of position <ℤ key_of high → pos 0 <ℤ orientation low high position

@@ -1,11 +1,11 @@
 -- The parity of the edges of a ring for which something holds, as tests. Where two tests of each edge differ just as marks of
 -- its ends do, an odd number of edges meet the one where an odd number meet the other, since marks cancel going round.
-use Rattle.std.proofs.Common.{◌≡◌, inl, inr, ◌↔◌, ℕ, suc, Bool, true, false, IsTrue, List, [], ◌∷◌, slice_get, Some, refl, ◌∙◌, ap₂}
+use Rattle.std.proofs.Common.{◌≡◌, inl, inr, ◌↔◌, ℕ, suc, Bool, true, false, IsTrue, List, [], ◌∷◌, slice_get, Some, refl, sym, ◌∙◌, ap, ap₂}
 use Rattle.mvt_plane.specs.Inside.{Differ, HoldsOfOdd}
 use Rattle.mvt_plane.specs.Position.{Position}
 use Rattle.mvt_plane.specs.Ring.{edges_through, edges}
 use Rattle.mvt_plane.specs.declared.edge.Edge.{Edge}
-use Rattle.mvt_plane.proofs.InsideParity.{apart, no_truth, parts_differ}
+use Rattle.mvt_plane.proofs.InsideParity.{apart, apart_assoc, apart_false, false_apart, no_truth, parts_differ}
 
 -- ---- tests of what is decided
 
@@ -54,35 +54,14 @@ same_unless_apart false false none = refl
 
 -- of four tests the middle ones may change places
 middle_swapped : (x y z t : Bool) → apart (apart x y) (apart z t) ≡ apart (apart x z) (apart y t)
-middle_swapped true y z t = by_y y z t
-  where
-    by_y : (y z t : Bool) → apart (apart true y) (apart z t) ≡ apart (apart true z) (apart y t)
-    by_y true true t = refl
-    by_y true false true = refl
-    by_y true false false = refl
-    by_y false true true = refl
-    by_y false true false = refl
-    by_y false false t = refl
-middle_swapped false y z t = by_y y z t
-  where
-    by_y : (y z t : Bool) → apart (apart false y) (apart z t) ≡ apart (apart false z) (apart y t)
-    by_y true true t = refl
-    by_y true false true = refl
-    by_y true false false = refl
-    by_y false true true = refl
-    by_y false true false = refl
-    by_y false false t = refl
+middle_swapped x y z t =
+    apart_assoc x y (apart z t)
+    ∙ ap (apart x) (sym (apart_assoc y z t) ∙ ap (λ (s : Bool). apart s t) (apart_either_way y z) ∙ apart_assoc z y t)
+    ∙ sym (apart_assoc x z (apart y t))
 
 -- a mark between two others cancels
 mark_cancels : (x y z : Bool) → apart (apart x y) (apart y z) ≡ apart x z
-mark_cancels true true true = refl
-mark_cancels true true false = refl
-mark_cancels true false true = refl
-mark_cancels true false false = refl
-mark_cancels false true true = refl
-mark_cancels false true false = refl
-mark_cancels false false true = refl
-mark_cancels false false false = refl
+mark_cancels x y z = apart_assoc x y (apart y z) ∙ ap (apart x) (sym (apart_assoc y y z) ∙ ap (λ (s : Bool). apart s z) (not_apart y) ∙ false_apart z)
 
 -- ---- the parity
 
@@ -120,11 +99,7 @@ differ_through : (meets others : Edge → Bool) (mark : Position → Bool) (firs
     → apart (odd meets (edges_through first from rest)) (odd others (edges_through first from rest)) ≡ apart (mark from) (mark first)
 differ_through meets others mark first from [] differ =
     let edge : Edge = record { a = from; b = first } in
-    middle_swapped (meets edge) false (others edge) false ∙ kept (apart (meets edge) (others edge)) ∙ differ 0 edge refl
-  where
-    kept : (x : Bool) → apart x false ≡ x
-    kept true = refl
-    kept false = refl
+    middle_swapped (meets edge) false (others edge) false ∙ apart_false (apart (meets edge) (others edge)) ∙ differ 0 edge refl
 differ_through meets others mark first from (to ∷ rest) differ =
     let edge : Edge = record { a = from; b = to } in
     let all = edges_through first to rest in

@@ -1,5 +1,5 @@
 -- Edges one behind another: the parity of those that pass over a position, and their doubled area.
-use Rattle.std.proofs.Common.{◌≡◌, ◌⊎◌, inl, inr, ◌↔◌, ◌++◌, ◌^◌, Bool, true, false, IsTrue, List, [], ◌∷◌, ℤ, pos, ◌+ℤ◌, ◌-ℤ◌, ◌≤ℤ◌, ◌<ℤ◌, refl, ap, arith}
+use Rattle.std.proofs.Common.{◌≡◌, ◌⊎◌, inl, inr, ◌↔◌, ◌++◌, ◌^◌, IsTrue, List, [], ◌∷◌, ℤ, pos, ◌+ℤ◌, ◌-ℤ◌, ◌≤ℤ◌, ◌<ℤ◌, ap, arith}
 use Rattle.std.proofs.Math.IntN.{*ℤ_comm}
 use Rattle.mvt_plane.specs.Bound.{IsWithin}
 use Rattle.mvt_plane.specs.Inside.{Differ, PassesOver, HoldsOfOdd}
@@ -7,10 +7,12 @@ use Rattle.mvt_plane.specs.Measure.{orientation}
 use Rattle.mvt_plane.specs.Position.{Position, IsPosition}
 use Rattle.mvt_plane.specs.Ring.{edge_area, area_of_edges}
 use Rattle.mvt_plane.specs.declared.edge.Edge.{Edge}
+use Rattle.std.proofs.Math.Decide.{map_dec}
 use Rattle.mvt_plane.proofs.Bounds.{product_within, difference_within}
-use Rattle.mvt_plane.proofs.InsideEdges.{rectangle, passes_rightward, passes_leftward, passes_apart}
-use Rattle.mvt_plane.proofs.InsideParity.{apart, apart_assoc, no_truth, parts_differ}
-use Rattle.mvt_plane.proofs.Order.{zs, le_or_lt}
+use Rattle.mvt_plane.proofs.EdgeParity.{test, test_tells}
+use Rattle.mvt_plane.proofs.InsideEdges.{rectangle, differ_back, not_differ, passes_rightward, passes_leftward, passes_apart}
+use Rattle.mvt_plane.proofs.InsideParity.{apart, apart_assoc, parts_differ}
+use Rattle.mvt_plane.proofs.Order.{zs, le_or_lt, lt_decide}
 
 -- ---- the orientation tells
 
@@ -46,80 +48,49 @@ apart_by_ends position edge together = passes_apart position edge.a edge.b toget
 
 -- ---- an edge passes over a position or doesn't
 
--- told by a difference of which one sign says that it does
-by_sign : {Passes : Type 0} (z : ℤ) → (z <ℤ pos 0) ↔ Passes → Passes ⊎ ¬ Passes
-by_sign {Passes} z tells = by_order (le_or_lt (pos 0) z)
+-- whether it does is decided
+pub passes_over_decide : (position : Position) (edge : Edge) → Dec (PassesOver position edge)
+passes_over_decide position edge = by_ends (le_or_lt edge.a.x position.x) (le_or_lt edge.b.x position.x)
   where
-    by_order : (pos 0 ≤ℤ z) ⊎ (z <ℤ pos 0) → Passes ⊎ ¬ Passes
-    by_order (inl least) = inr (λ passes. let less = tells.1 passes in omega (arith, zs))
-    by_order (inr less) = inl (tells.0 less)
-
--- the same by the other sign
-by_other_sign : {Passes : Type 0} (z : ℤ) → (pos 0 <ℤ z) ↔ Passes → Passes ⊎ ¬ Passes
-by_other_sign {Passes} z tells = by_order (le_or_lt z (pos 0))
-  where
-    by_order : (z ≤ℤ pos 0) ⊎ (pos 0 <ℤ z) → Passes ⊎ ¬ Passes
-    by_order (inl most) = inr (λ passes. let more = tells.1 passes in omega (arith, zs))
-    by_order (inr more) = inl (tells.0 more)
-
--- one of the two holds of any edge
-pub passes_or_not : (position : Position) (edge : Edge) → PassesOver position edge ⊎ ¬ PassesOver position edge
-passes_or_not position edge = by_ends (le_or_lt edge.a.x position.x) (le_or_lt edge.b.x position.x)
-  where
-    by_ends : (edge.a.x ≤ℤ position.x) ⊎ (position.x <ℤ edge.a.x) → (edge.b.x ≤ℤ position.x) ⊎ (position.x <ℤ edge.b.x) → PassesOver position edge ⊎ ¬ PassesOver position edge
-    by_ends (inl begins) (inl ends) = inr (apart_by_ends position edge (λ _. ends, λ _. begins))
-    by_ends (inl begins) (inr beyond) = by_sign (orientation edge.a edge.b position) (rightward_by_orientation position edge begins beyond)
-    by_ends (inr beyond) (inl ends) = by_other_sign (orientation edge.a edge.b position) (leftward_by_orientation position edge ends beyond)
-    by_ends (inr begins) (inr ends) = inr (apart_by_ends position edge (λ not_begins. absurd (omega (arith, zs)), λ not_ends. absurd (omega (arith, zs))))
+    by_ends : (edge.a.x ≤ℤ position.x) ⊎ (position.x <ℤ edge.a.x) → (edge.b.x ≤ℤ position.x) ⊎ (position.x <ℤ edge.b.x) → Dec (PassesOver position edge)
+    by_ends (inl begins) (inl ends) = no (apart_by_ends position edge (λ _. ends, λ _. begins))
+    by_ends (inl begins) (inr beyond) = let tells = rightward_by_orientation position edge begins beyond in map_dec tells.0 tells.1 (lt_decide _ _)
+    by_ends (inr beyond) (inl ends) = let tells = leftward_by_orientation position edge ends beyond in map_dec tells.0 tells.1 (lt_decide _ _)
+    by_ends (inr begins) (inr ends) = no (apart_by_ends position edge (λ not_begins. absurd (omega (arith, zs)), λ not_ends. absurd (omega (arith, zs))))
 
 -- ---- the parity of one more
 
--- a test that tells whether it holds
-record Test (Holds : Type 0) : Type 0 where
-  answer : Bool
-  tells : IsTrue answer ↔ Holds
+-- whether just one of two facts holds is decided where they are
+differ_decide : {One Other : Type 0} → Dec One → Dec Other → Dec (Differ One Other)
+differ_decide (yes one) (yes other) = no (not_differ (λ _. other, λ _. one))
+differ_decide (yes one) (no none) = yes (inl (one, none))
+differ_decide (no none) (yes other) = yes (inr (none, other))
+differ_decide (no none) (no neither) = no (not_differ (λ one. absurd (none one), λ other. absurd (neither other)))
 
--- what holds or doesn't has one
-test_of : {Holds : Type 0} → Holds ⊎ ¬ Holds → Test Holds
-test_of (inl holds) = record { answer = true; tells = (λ _. holds, λ _. refl) }
-test_of (inr not_holds) = record { answer = false; tells = (λ impossible. absurd (no_truth impossible), λ holds. absurd (not_holds holds)) }
-
--- so has the parity of edges
-odd_test : (Holds : Edge → Type 0) → ((edge : Edge) → Test (Holds edge)) → (passed : List Edge) → Test (HoldsOfOdd Holds passed)
-odd_test Holds test [] = record { answer = false; tells = (no_truth, λ impossible. absurd impossible) }
-odd_test Holds test (edge ∷ rest) =
-    let first = test edge in
-    let others = odd_test Holds test rest in
-    record { answer = apart first.answer others.answer; tells = parts_differ first.answer others.answer _ _ first.tells others.tells }
+-- so is the parity of edges
+odd_decide : (Holds : Edge → Type 0) → ((edge : Edge) → Dec (Holds edge)) → (passed : List Edge) → Dec (HoldsOfOdd Holds passed)
+odd_decide Holds decide [] = no (λ impossible. impossible)
+odd_decide Holds decide (edge ∷ rest) = differ_decide (decide edge) (odd_decide Holds decide rest)
 
 -- it doesn't matter which two of three facts are held against each other first
-differ_assoc : {First Second Third Others : Type 0} → Test First → Test Second → Test Third → Others ↔ Differ Second Third → Differ First Others ↔ Differ (Differ First Second) Third
+differ_assoc : {First Second Third Others : Type 0} → Dec First → Dec Second → Dec Third → Others ↔ Differ Second Third → Differ First Others ↔ Differ (Differ First Second) Third
 differ_assoc {First} {Second} {Third} {Others} first second third same =
-    let behind = parts_differ second.answer third.answer Second Third second.tells third.tells in
-    let others : IsTrue (apart second.answer third.answer) ↔ Others = (λ holds. same.1 (behind.0 holds), λ holds. behind.1 (same.0 holds)) in
-    let left = parts_differ first.answer (apart second.answer third.answer) First Others first.tells others in
-    let before = parts_differ first.answer second.answer First Second first.tells second.tells in
-    let right = parts_differ (apart first.answer second.answer) third.answer (Differ First Second) Third before third.tells in
-    let moved = rw (apart_assoc first.answer second.answer third.answer) at right in
+    let behind = parts_differ (test second) (test third) Second Third (test_tells second) (test_tells third) in
+    let others : IsTrue (apart (test second) (test third)) ↔ Others = (λ holds. same.1 (behind.0 holds), λ holds. behind.1 (same.0 holds)) in
+    let left = parts_differ (test first) (apart (test second) (test third)) First Others (test_tells first) others in
+    let before = parts_differ (test first) (test second) First Second (test_tells first) (test_tells second) in
+    let right = parts_differ (apart (test first) (test second)) (test third) (Differ First Second) Third before (test_tells third) in
+    let moved = rw (apart_assoc (test first) (test second) (test third)) at right in
     (λ differ. moved.0 (left.1 differ), λ differ. left.0 (moved.1 differ))
 
 -- one more edge at the end turns the parity where the fact holds of it
-odd_behind : (Holds : Edge → Type 0) → ((edge : Edge) → Test (Holds edge)) → (passed : List Edge) (edge : Edge) → HoldsOfOdd Holds (passed ++ (edge ∷ [])) ↔ Differ (HoldsOfOdd Holds passed) (Holds edge)
-odd_behind Holds test [] edge = (there, back)
-  where
-    there : Differ (Holds edge) ⊥ → Differ ⊥ (Holds edge)
-    there (inl (holds, none)) = inr (none, holds)
-    there (inr (_, impossible)) = absurd impossible
-
-    back : Differ ⊥ (Holds edge) → Differ (Holds edge) ⊥
-    back (inl (impossible, _)) = absurd impossible
-    back (inr (none, holds)) = inl (holds, none)
-odd_behind Holds test (first ∷ rest) edge =
-    differ_assoc (test first) (odd_test Holds test rest) (test edge) (odd_behind Holds test rest edge)
+odd_behind : (Holds : Edge → Type 0) → ((edge : Edge) → Dec (Holds edge)) → (passed : List Edge) (edge : Edge) → HoldsOfOdd Holds (passed ++ (edge ∷ [])) ↔ Differ (HoldsOfOdd Holds passed) (Holds edge)
+odd_behind Holds decide [] edge = (differ_back, differ_back)
+odd_behind Holds decide (first ∷ rest) edge = differ_assoc (decide first) (odd_decide Holds decide rest) (decide edge) (odd_behind Holds decide rest edge)
 
 -- so of those that pass over a position
 pub parity_behind : (position : Position) (passed : List Edge) (edge : Edge) → HoldsOfOdd (PassesOver position) (passed ++ (edge ∷ [])) ↔ Differ (HoldsOfOdd (PassesOver position) passed) (PassesOver position edge)
-parity_behind position passed edge = odd_behind (PassesOver position) (λ it. test_of (passes_or_not position it)) passed edge
+parity_behind position passed edge = odd_behind (PassesOver position) (passes_over_decide position) passed edge
 
 -- ---- the area of one more
 

@@ -1,24 +1,26 @@
 -- A position on no edge of a ring is inside it where an odd number of the ring's edges pass below it. Of the edges that go by
 -- its x each passes either over it or below it, and the others do neither.
-use Rattle.std.proofs.Common.{◌≡◌, ◌^◌, ◌⊎◌, inl, inr, ◌↔◌, ℕ, Bool, true, false, IsTrue, List, [], ◌∷◌, slice_get, Some, ℤ, pos, ◌+ℤ◌, ◌-ℤ◌, ◌*ℤ◌, ◌≤ℤ◌, ◌<ℤ◌, sym, ◌∙◌, ap, ap₂, subst, refl, arith}
+use Rattle.std.proofs.Common.{◌≡◌, ◌^◌, ◌⊎◌, inl, inr, ◌↔◌, ℕ, Bool, true, false, IsTrue, List, [], ◌∷◌, slice_get, Some, ℤ, pos, ◌-ℤ◌, ◌*ℤ◌, ◌≤ℤ◌, ◌<ℤ◌, sym, ◌∙◌, ap, ap₂, subst, refl, arith}
 use Rattle.std.proofs.Math.IntN.{*ℤ-zero}
 use borrow.Author.Differences.{product_is}
 use Rattle.mvt_plane.specs.Below.{IsAboveRising, PassesBelow, HasOddBelow}
-use Rattle.mvt_plane.specs.Inside.{Differ, PassesOver, IsInside}
+use Rattle.mvt_plane.specs.Inside.{PassesOver, IsInside}
 use Rattle.mvt_plane.specs.Measure.{key_of, orientation}
 use Rattle.mvt_plane.specs.Position.{Position, IsPosition}
 use Rattle.mvt_plane.specs.RationalPoint.{LiesOn, whole}
 use Rattle.mvt_plane.specs.Ring.{edges}
 use Rattle.mvt_plane.specs.declared.edge.Edge.{Edge}
+use Rattle.std.proofs.Math.Decide.{map_dec}
+use Rattle.mvt_plane.proofs.CrossingLines.{on_line_by_side}
 use Rattle.mvt_plane.proofs.EdgeParity.{test, test_tells, failed_test, odd, odd_tells, same_by_marks}
-use Rattle.mvt_plane.proofs.EdgeRows.{passes_or_not, rightward_by_orientation, apart_by_ends}
-use Rattle.mvt_plane.proofs.InsideEdges.{passes_back}
+use Rattle.mvt_plane.proofs.EdgeRows.{passes_over_decide, rightward_by_orientation, apart_by_ends}
+use Rattle.mvt_plane.proofs.InsideEdges.{differ_back, not_differ, passes_back}
 use Rattle.mvt_plane.proofs.InsideParity.{apart}
-use Rattle.mvt_plane.proofs.Order.{zs, le_or_lt, sign_cases, mul_nonneg, mul_nonneg_nonpos, mul_nonpos_nonneg, factor_nonneg, factor_nonpos}
-use Rattle.mvt_plane.proofs.Polynomials.{unknown, ◌⊕◌, ◌⊖◌, ◌⊗◌, ring}
-use Rattle.mvt_plane.proofs.RationalPoints.{lies_on_reversed}
+use Rattle.mvt_plane.proofs.Order.{zs, le_or_lt, le_decide, lt_decide, sign_cases, mul_nonneg_nonpos}
+use Rattle.mvt_plane.proofs.Overlaps.{lies_on_flat}
+use Rattle.mvt_plane.proofs.Polynomials.{◌⊖◌, ◌⊗◌, identity}
+use Rattle.mvt_plane.proofs.RationalPoints.{lies_on_reversed, times_one}
 use Rattle.mvt_plane.proofs.RingEdges.{ends_of_edge}
-use Rattle.mvt_plane.proofs.Sides.{lies_by_box}
 
 -- ---- keys
 
@@ -55,24 +57,15 @@ under_begin p a b order same most =
 under_end : (p a b : Position) → a.x ≤ℤ b.x → b.x ≡ p.x → p.y ≤ℤ b.y → orientation a b p ≤ℤ pos 0
 under_end p a b order same most =
     let fall = mul_nonneg_nonpos {a = b.x -ℤ a.x} {b = p.y -ℤ b.y} (omega (arith, zs)) (omega (arith, zs)) in
-    let moved = ring (p.x ∷ p.y ∷ a.x ∷ a.y ∷ b.x ∷ b.y ∷ [])
-    ((unknown 4 ⊖ unknown 2) ⊗ (unknown 1 ⊖ unknown 3) ⊖ (unknown 5 ⊖ unknown 3) ⊗ (unknown 0 ⊖ unknown 2))
-    ((unknown 4 ⊖ unknown 2) ⊗ (unknown 1 ⊖ unknown 5) ⊖ (unknown 5 ⊖ unknown 3) ⊗ (unknown 0 ⊖ unknown 4)) tt in
+    let moved = identity (p.x ∷ p.y ∷ a.x ∷ a.y ∷ b.x ∷ b.y ∷ [])
+    (λ X Y AX AY BX BY. ((BX ⊖ AX) ⊗ (Y ⊖ AY) ⊖ (BY ⊖ AY) ⊗ (X ⊖ AX), (BX ⊖ AX) ⊗ (Y ⊖ BY) ⊖ (BY ⊖ AY) ⊗ (X ⊖ BX))) tt in
     omega (arith, zs, no_step (b.y -ℤ a.y) b.x p.x same)
 
 -- ---- an edge passes below a position or doesn't
 
 -- the edge that goes back passes below the same positions
 pub below_back : (p a b : Position) → PassesBelow p (record { a = a; b = b }) → PassesBelow p (record { a = b; b = a })
-below_back p a b below = record { parted = other_part below.parted; above = other_way below.above }
-  where
-    other_part : Differ (key_of a <ℤ key_of p) (key_of b <ℤ key_of p) → Differ (key_of b <ℤ key_of p) (key_of a <ℤ key_of p)
-    other_part (inl (one, none)) = inr (none, one)
-    other_part (inr (none, other)) = inl (other, none)
-
-    other_way : IsAboveRising p a b ⊎ IsAboveRising p b a → IsAboveRising p b a ⊎ IsAboveRising p a b
-    other_way (inl it) = inr it
-    other_way (inr it) = inl it
+below_back p a b below = record { parted = differ_back below.parted; above = elim below.above [ inl it ↦ inr it | inr it ↦ inl it ] }
 
 -- one that rises past its key does exactly where the position is above it
 pub below_rising : (p a b : Position) → key_of a <ℤ key_of p → key_of p ≤ℤ key_of b → (pos 0 <ℤ orientation a b p) ↔ PassesBelow p (record { a = a; b = b })
@@ -90,32 +83,20 @@ below_rising p a b begun ended = (there, λ below. back below.above)
 
 -- one whose ends both come before it by key, or both don't, doesn't
 pub below_apart : (p a b : Position) → (key_of a <ℤ key_of p) ↔ (key_of b <ℤ key_of p) → ¬ PassesBelow p (record { a = a; b = b })
-below_apart p a b together below = refuse below.parted
-  where
-    refuse : Differ (key_of a <ℤ key_of p) (key_of b <ℤ key_of p) → ⊥
-    refuse (inl (one, none)) = none (together.0 one)
-    refuse (inr (none, other)) = none (together.1 other)
+below_apart p a b together below = not_differ together below.parted
 
 -- it does or it doesn't, where it rises past the key
 rising_or_not : (p a b : Position) → key_of a <ℤ key_of p → key_of p ≤ℤ key_of b → Dec (PassesBelow p (record { a = a; b = b }))
-rising_or_not p a b begun ended = by_sign (le_or_lt (orientation a b p) (pos 0))
-  where
-    by_sign : (orientation a b p ≤ℤ pos 0) ⊎ (pos 0 <ℤ orientation a b p) → Dec (PassesBelow p (record { a = a; b = b }))
-    by_sign (inl most) = no (λ below. let more = (below_rising p a b begun ended).1 below in omega (arith, zs))
-    by_sign (inr more) = yes ((below_rising p a b begun ended).0 more)
+rising_or_not p a b begun ended = let tells = below_rising p a b begun ended in map_dec tells.0 tells.1 (lt_decide _ _)
 
 -- any edge
 pub below_or_not : (p a b : Position) → Dec (PassesBelow p (record { a = a; b = b }))
 below_or_not p a b = by_keys (le_or_lt (key_of p) (key_of a)) (le_or_lt (key_of p) (key_of b))
   where
-    turned : Dec (PassesBelow p (record { a = b; b = a })) → Dec (PassesBelow p (record { a = a; b = b }))
-    turned (yes below) = yes (below_back p b a below)
-    turned (no none) = no (λ below. none (below_back p a b below))
-
     by_keys : (key_of p ≤ℤ key_of a) ⊎ (key_of a <ℤ key_of p) → (key_of p ≤ℤ key_of b) ⊎ (key_of b <ℤ key_of p) → Dec (PassesBelow p (record { a = a; b = b }))
     by_keys (inl after) (inl behind) = no (below_apart p a b (λ before. absurd (omega (arith, zs)), λ before. absurd (omega (arith, zs))))
     by_keys (inr before) (inl behind) = rising_or_not p a b before behind
-    by_keys (inl after) (inr before) = turned (rising_or_not p b a before after)
+    by_keys (inl after) (inr before) = map_dec (below_back p b a) (below_back p a b) (rising_or_not p b a before after)
     by_keys (inr before) (inr first) = no (below_apart p a b (λ _. first, λ _. before))
 
 -- ---- an edge that goes by a position's x
@@ -123,29 +104,8 @@ below_or_not p a b = by_keys (le_or_lt (key_of p) (key_of a)) (le_or_lt (key_of 
 -- it has a point of the position's x, so where that is the position, the position lies on it
 lies_rightward : (p a b : Position) → a.x ≤ℤ p.x → p.x <ℤ b.x → orientation a b p ≡ pos 0 → LiesOn (whole p) (record { a = a; b = b })
 lies_rightward p a b begun ended none =
-    lies_by_box (record { a = a; b = b }) p none (inl (begun, omega (arith, zs)), between (le_or_lt a.y b.y))
-  where
-    upper : (b.x -ℤ a.x) *ℤ (b.y -ℤ p.y) +ℤ orientation a b p ≡ (b.y -ℤ a.y) *ℤ (b.x -ℤ p.x)
-    upper = ring (p.x ∷ p.y ∷ a.x ∷ a.y ∷ b.x ∷ b.y ∷ [])
-        ((unknown 4 ⊖ unknown 2) ⊗ (unknown 5 ⊖ unknown 1) ⊕ ((unknown 4 ⊖ unknown 2) ⊗ (unknown 1 ⊖ unknown 3) ⊖ (unknown 5 ⊖ unknown 3) ⊗ (unknown 0 ⊖ unknown 2)))
-        ((unknown 5 ⊖ unknown 3) ⊗ (unknown 4 ⊖ unknown 0)) tt
-
-    length : pos 0 <ℤ (b.x -ℤ a.x)
-    length = omega (arith, zs)
-
-    between : (a.y ≤ℤ b.y) ⊎ (b.y <ℤ a.y) → ((a.y ≤ℤ p.y) × (p.y ≤ℤ b.y)) ⊎ ((b.y ≤ℤ p.y) × (p.y ≤ℤ a.y))
-    between (inl up) =
-        let first = mul_nonneg {a = b.y -ℤ a.y} {b = p.x -ℤ a.x} (omega (arith, zs)) (omega (arith, zs)) in
-        let second = mul_nonneg {a = b.y -ℤ a.y} {b = b.x -ℤ p.x} (omega (arith, zs)) (omega (arith, zs)) in
-        let low = factor_nonneg (b.x -ℤ a.x) (p.y -ℤ a.y) length (omega (arith, zs)) in
-        let high = factor_nonneg (b.x -ℤ a.x) (b.y -ℤ p.y) length (omega (arith, zs, upper)) in
-        inl (omega (arith, zs), omega (arith, zs))
-    between (inr down) =
-        let first = mul_nonpos_nonneg {a = b.y -ℤ a.y} {b = p.x -ℤ a.x} (omega (arith, zs)) (omega (arith, zs)) in
-        let second = mul_nonpos_nonneg {a = b.y -ℤ a.y} {b = b.x -ℤ p.x} (omega (arith, zs)) (omega (arith, zs)) in
-        let high = factor_nonpos (b.x -ℤ a.x) (p.y -ℤ a.y) length (omega (arith, zs)) in
-        let low = factor_nonpos (b.x -ℤ a.x) (b.y -ℤ p.y) length (omega (arith, zs, upper)) in
-        inr (omega (arith, zs), omega (arith, zs))
+    let edge : Edge = record { a = a; b = b } in
+    lies_on_flat edge p (λ flat. omega (arith, zs)) (on_line_by_side edge p none) (inl (omega (arith, zs, times_one a.x), omega (arith, zs, times_one b.x)))
 
 -- one of two facts holds, and not both
 abbrev IsEither : Type 0 → Type 0 → Type 0
@@ -237,19 +197,6 @@ none_right p a b here from to begins ends below =
 
 -- ---- tests
 
--- of the parts of a choice
-decided : {Fact : Type 0} → Fact ⊎ ¬ Fact → Dec Fact
-decided (inl it) = yes it
-decided (inr none) = no none
-
--- the position is at the other's x or to the left
-mark_of : (p vertex : Position) → Dec (vertex.x ≤ℤ p.x)
-mark_of p vertex = by_order (le_or_lt vertex.x p.x)
-  where
-    by_order : (vertex.x ≤ℤ p.x) ⊎ (p.x <ℤ vertex.x) → Dec (vertex.x ≤ℤ p.x)
-    by_order (inl most) = yes most
-    by_order (inr more) = no (λ most. omega (arith, zs))
-
 -- tests differ where one of two facts holds and not both
 either_apart : {One Other : Type 0} (one : Dec One) (other : Dec Other) → IsEither One Other → apart (test one) (test other) ≡ true
 either_apart (yes it) (yes its) either = absurd (either.0 it its)
@@ -269,24 +216,24 @@ both_apart (yes it) (no without) one other = absurd (without other)
 
 -- an edge passes below the position, and not over it or the other way round, where its ends are on two sides of the position's x
 differ_by_side : (p a b : Position) → IsPosition p → IsPosition a → IsPosition b → ¬ LiesOn (whole p) (record { a = a; b = b })
-    → apart (test (below_or_not p a b)) (test (decided (passes_or_not p (record { a = a; b = b })))) ≡ apart (test (mark_of p a)) (test (mark_of p b))
+    → apart (test (below_or_not p a b)) (test (passes_over_decide p (record { a = a; b = b }))) ≡ apart (test (le_decide a.x p.x)) (test (le_decide b.x p.x))
 differ_by_side p a b here from to off = by_ends (le_or_lt a.x p.x) (le_or_lt b.x p.x)
   where
     by_ends : (a.x ≤ℤ p.x) ⊎ (p.x <ℤ a.x) → (b.x ≤ℤ p.x) ⊎ (p.x <ℤ b.x)
-        → apart (test (below_or_not p a b)) (test (decided (passes_or_not p (record { a = a; b = b })))) ≡ apart (test (mark_of p a)) (test (mark_of p b))
+        → apart (test (below_or_not p a b)) (test (passes_over_decide p (record { a = a; b = b }))) ≡ apart (test (le_decide a.x p.x)) (test (le_decide b.x p.x))
     by_ends (inl begins) (inl ends) =
         neither_apart _ _ (none_left p a b here from to begins ends) (apart_by_ends p (record { a = a; b = b }) (λ _. ends, λ _. begins))
-        ∙ sym (both_apart (mark_of p a) (mark_of p b) begins ends)
+        ∙ sym (both_apart (le_decide a.x p.x) (le_decide b.x p.x) begins ends)
     by_ends (inl begins) (inr beyond) =
         either_apart _ _ (either_rightward p a b here from to begins beyond off)
-        ∙ sym (either_apart (mark_of p a) (mark_of p b) (λ _ most. omega (arith, zs), λ _. begins))
+        ∙ sym (either_apart (le_decide a.x p.x) (le_decide b.x p.x) (λ _ most. omega (arith, zs), λ _. begins))
     by_ends (inr beyond) (inl ends) =
         either_apart _ _ (either_leftward p a b here from to ends beyond off)
-        ∙ sym (either_apart (mark_of p a) (mark_of p b) (λ most _. omega (arith, zs), λ none. absurd (none ends)))
+        ∙ sym (either_apart (le_decide a.x p.x) (le_decide b.x p.x) (λ most _. omega (arith, zs), λ none. absurd (none ends)))
     by_ends (inr begins) (inr ends) =
         neither_apart _ _ (none_right p a b here from to begins ends)
         (apart_by_ends p (record { a = a; b = b }) (λ most. absurd (omega (arith, zs)), λ most. absurd (omega (arith, zs))))
-        ∙ sym (neither_apart (mark_of p a) (mark_of p b) (λ most. omega (arith, zs)) (λ most. omega (arith, zs)))
+        ∙ sym (neither_apart (le_decide a.x p.x) (le_decide b.x p.x) (λ most. omega (arith, zs)) (λ most. omega (arith, zs)))
 
 -- ---- round a ring
 
@@ -297,17 +244,17 @@ pub inside_by_edges_below : (position : Position) (ring : List Position) → IsP
     → IsInside position ring ↔ HasOddBelow position ring
 inside_by_edges_below position ring here in_range off =
     let below : Edge → Bool = λ (edge : Edge). test (below_or_not position edge.a edge.b) in
-    let over : Edge → Bool = λ (edge : Edge). test (decided (passes_or_not position edge)) in
-    let same : odd below (edges ring) ≡ odd over (edges ring) = same_by_marks below over (λ (vertex : Position). test (mark_of position vertex)) ring differ in
+    let over : Edge → Bool = λ (edge : Edge). test (passes_over_decide position edge) in
+    let same : odd below (edges ring) ≡ odd over (edges ring) = same_by_marks below over (λ (vertex : Position). test (le_decide vertex.x position.x)) ring differ in
     let of_below = odd_tells (PassesBelow position) below (λ edge. test_tells (below_or_not position edge.a edge.b)) (edges ring) in
-    let of_over = odd_tells (PassesOver position) over (λ edge. test_tells (decided (passes_or_not position edge))) (edges ring) in (
+    let of_over = odd_tells (PassesOver position) over (λ edge. test_tells (passes_over_decide position edge)) (edges ring) in (
       λ inside. of_below.0 (subst (λ (parity : Bool). IsTrue parity) (sym same) (of_over.1 inside)),
       λ has. of_over.0 (subst (λ (parity : Bool). IsTrue parity) same (of_below.1 has)),
     )
   where
     differ : (number : ℕ) (edge : Edge) → slice_get (edges ring) number ≡ Some edge
-        → apart (test (below_or_not position edge.a edge.b)) (test (decided (passes_or_not position edge)))
-        ≡ apart (test (mark_of position edge.a)) (test (mark_of position edge.b))
+        → apart (test (below_or_not position edge.a edge.b)) (test (passes_over_decide position edge))
+        ≡ apart (test (le_decide edge.a.x position.x)) (test (le_decide edge.b.x position.x))
     differ number edge there =
         let ends = ends_of_edge ring number edge there in
         differ_by_side position edge.a edge.b here (in_range _ edge.a ends.0) (in_range _ edge.b ends.1) (off number edge there)

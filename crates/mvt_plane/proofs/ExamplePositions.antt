@@ -26,29 +26,17 @@ first_and_third first second third fourth = search rules
 
 -- The square
 
--- its upper side passes over a position inside
-over_inside : PassesOver (at 5 5) (side 10 10 0 10)
-over_inside = record { parted = search rules; point = fraction 5 10 1; on_edge = search rules; same_x = refl; greater_y = omega (arith, ints) }
-
--- so that is inside
+-- its upper side passes over a position inside, so that is inside
 pub inside_square : IsInside (at 5 5) square
-inside_square = third_alone (search rules) (search rules) over_inside (search rules)
+inside_square = third_alone (search rules) (search rules) (record { parted = search rules; point = fraction 5 10 1; on_edge = search rules; same_x = refl; greater_y = omega (arith, ints) }) (search rules)
 
--- over one on the left side too
-over_left : PassesOver (at 0 5) (side 10 10 0 10)
-over_left = record { parted = search rules; point = fraction 0 10 1; on_edge = search rules; same_x = refl; greater_y = omega (arith, ints) }
-
--- so that counts as inside
+-- over one on the left side too, so that counts as inside
 pub left_of_square : IsInside (at 0 5) square
-left_of_square = third_alone (search rules) (search rules) over_left (search rules)
+left_of_square = third_alone (search rules) (search rules) (record { parted = search rules; point = fraction 0 10 1; on_edge = search rules; same_x = refl; greater_y = omega (arith, ints) }) (search rules)
 
--- over one on the lower side
-over_lower : PassesOver (at 5 0) (side 10 10 0 10)
-over_lower = record { parted = search rules; point = fraction 5 10 1; on_edge = search rules; same_x = refl; greater_y = omega (arith, ints) }
-
--- so does that
+-- and over one on the lower side
 pub low_on_square : IsInside (at 5 0) square
-low_on_square = third_alone (search rules) (search rules) over_lower (search rules)
+low_on_square = third_alone (search rules) (search rules) (record { parted = search rules; point = fraction 5 10 1; on_edge = search rules; same_x = refl; greater_y = omega (arith, ints) }) (search rules)
 
 -- a position below the square
 abbrev lower : Position
@@ -68,37 +56,21 @@ below_square = first_and_third lower_side (search rules) upper_side (search rule
 
 -- The frame around its hole
 
--- the upper side passes over the first vertex of the hole
-over_first : PassesOver (at 13 13) (side 20 20 11 20)
-over_first = record { parted = search rules; point = fraction 13 20 1; on_edge = search rules; same_x = refl; greater_y = omega (arith, ints) }
-
--- so that is inside
+-- the upper side passes over the first vertex of the hole, so that is inside
 first_inside : IsInside (at 13 13) frame
-first_inside = third_alone (search rules) (search rules) over_first (search rules)
+first_inside = third_alone (search rules) (search rules) (record { parted = search rules; point = fraction 13 20 1; on_edge = search rules; same_x = refl; greater_y = omega (arith, ints) }) (search rules)
 
--- the upper side passes over the second vertex of the hole
-over_second : PassesOver (at 13 17) (side 20 20 11 20)
-over_second = record { parted = search rules; point = fraction 13 20 1; on_edge = search rules; same_x = refl; greater_y = omega (arith, ints) }
-
--- so that is inside
+-- the upper side passes over the second vertex of the hole, so that is inside
 second_inside : IsInside (at 13 17) frame
-second_inside = third_alone (search rules) (search rules) over_second (search rules)
+second_inside = third_alone (search rules) (search rules) (record { parted = search rules; point = fraction 13 20 1; on_edge = search rules; same_x = refl; greater_y = omega (arith, ints) }) (search rules)
 
--- the upper side passes over the third vertex of the hole
-over_third : PassesOver (at 17 17) (side 20 20 11 20)
-over_third = record { parted = search rules; point = fraction 17 20 1; on_edge = search rules; same_x = refl; greater_y = omega (arith, ints) }
-
--- so that is inside
+-- the upper side passes over the third vertex of the hole, so that is inside
 third_inside : IsInside (at 17 17) frame
-third_inside = third_alone (search rules) (search rules) over_third (search rules)
+third_inside = third_alone (search rules) (search rules) (record { parted = search rules; point = fraction 17 20 1; on_edge = search rules; same_x = refl; greater_y = omega (arith, ints) }) (search rules)
 
--- the upper side passes over the fourth vertex of the hole
-over_fourth : PassesOver (at 17 13) (side 20 20 11 20)
-over_fourth = record { parted = search rules; point = fraction 17 20 1; on_edge = search rules; same_x = refl; greater_y = omega (arith, ints) }
-
--- so that is inside
+-- the upper side passes over the fourth vertex of the hole, so that is inside
 fourth_inside : IsInside (at 17 13) frame
-fourth_inside = third_alone (search rules) (search rules) over_fourth (search rules)
+fourth_inside = third_alone (search rules) (search rules) (record { parted = search rules; point = fraction 17 20 1; on_edge = search rules; same_x = refl; greater_y = omega (arith, ints) }) (search rules)
 
 -- each vertex of the hole is
 pub hole_inside : (vertex : ℕ) (position : Position) → slice_get hole_of_frame vertex ≡ Some position → IsInside position frame
@@ -114,10 +86,6 @@ hole_inside (suc (suc (suc (suc vertex)))) position here = absurd (cc)
 abbrev pub outer_hole : List Position
 outer_hole = at 10 10 ∷ at 10 90 ∷ at 90 90 ∷ at 90 10 ∷ []
 
--- its upper side passes over the first vertex of the inner one
-over_inner : PassesOver (at 20 20) (side 10 90 90 90)
-over_inner = record { parted = search rules; point = fraction 20 90 1; on_edge = search rules; same_x = refl; greater_y = omega (arith, ints) }
-
--- so that is inside
+-- its upper side passes over the first vertex of the inner one, so that is inside
 pub inner_inside : IsInside (at 20 20) outer_hole
-inner_inside = second_alone (search rules) over_inner (search rules) (search rules)
+inner_inside = second_alone (search rules) (record { parted = search rules; point = fraction 20 90 1; on_edge = search rules; same_x = refl; greater_y = omega (arith, ints) }) (search rules) (search rules)

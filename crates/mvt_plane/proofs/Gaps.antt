@@ -1,10 +1,10 @@
 -- The gap between two edges, as a sum of products: how it goes with the key, and how gaps join. Nothing here asks where an
 -- edge begins or ends.
-use Rattle.std.proofs.Common.{◌≡◌, ◌^◌, ◌⊎◌, inl, inr, [], ◌∷◌, ℤ, pos, neg_ℤ, ◌+ℤ◌, ◌-ℤ◌, ◌*ℤ◌, ◌<ℤ◌, ◌≤ℤ◌, ◌∙◌, ap₂, arith}
+use Rattle.std.proofs.Common.{◌≡◌, ◌^◌, ◌⊎◌, inl, inr, List, [], ◌∷◌, ℤ, pos, neg_ℤ, ◌+ℤ◌, ◌-ℤ◌, ◌*ℤ◌, ◌<ℤ◌, ◌≤ℤ◌, ◌∙◌, ap₂, arith}
 use Rattle.std.proofs.Math.IntN.{*ℤ_comm, *ℤ-zero}
 use borrow.Author.Differences.{product_is}
 use Rattle.mvt_plane.proofs.Order.{zs, le_or_lt, mul_pos, mul_nonneg, cancel_eq, cancel_lt, factor_pos, factor_nonneg}
-use Rattle.mvt_plane.proofs.Polynomials.{mul-add_ℤ, Polynomial, unknown, constant, negated, ◌⊕◌, ◌⊖◌, ◌⊗◌, ring, ring_from, given}
+use Rattle.mvt_plane.proofs.Polynomials.{mul-add_ℤ, Polynomial, constant, negated, once, ◌⊕◌, ◌⊖◌, ◌⊗◌, identity, consequence, given}
 use Rattle.mvt_plane.specs.EdgeOrder.{Segment, segment, IsRising, reach, height, gap, slope, IsAfter, IsBelow, key_at}
 use Rattle.mvt_plane.specs.Measure.{orientation, key_of}
 use Rattle.mvt_plane.specs.Position.{Position, IsPosition}
@@ -13,107 +13,75 @@ use Rattle.mvt_plane.specs.RationalPoint.{RationalPoint, IsAt}
 -- ---- the same sums, as polynomials
 
 -- a key, of x and y
-abbrev key_over : Polynomial → Polynomial → Polynomial
+abbrev pub key_over : Polynomial → Polynomial → Polynomial
 key_over x y = x ⊗ constant (pos (2 ^ 32)) ⊕ y
 
 -- a height, of the y and the key of the low end, the reach, and the rise in y
 abbrev height_over : Polynomial → Polynomial → Polynomial → Polynomial → Polynomial → Polynomial → Polynomial
 height_over low key far rise t w = low ⊗ far ⊗ w ⊕ (t ⊖ key ⊗ w) ⊗ rise
 
--- a gap of two edges, of which these are the unknowns from 0 to 7
-abbrev gap_over : Polynomial → Polynomial → Polynomial
-gap_over t w =
-    height_over (unknown 4) (unknown 5) (unknown 6) (unknown 7) t w ⊗ unknown 2
-    ⊖ height_over (unknown 0) (unknown 1) (unknown 2) (unknown 3) t w ⊗ unknown 6
+-- a gap of two edges, of these numbers of each
+abbrev gap_over : (low key far rise its_low its_key its_far its_rise t w : Polynomial) → Polynomial
+gap_over low key far rise its_low its_key its_far its_rise t w = height_over its_low its_key its_far its_rise t w ⊗ far ⊖ height_over low key far rise t w ⊗ its_far
+
+-- these numbers, and then others
+abbrev numbers_of : Segment → Segment → List ℤ → List ℤ
+numbers_of first second others =
+    first.low.y ∷ key_of first.low ∷ reach first ∷ (first.high.y -ℤ first.low.y) ∷ second.low.y ∷ key_of second.low ∷ reach second ∷ (second.high.y -ℤ second.low.y) ∷ others
 
 -- ---- keys
 
 -- positions in range have keys of their own
 pub same_key : (one other : Position) → IsPosition one → IsPosition other → key_of one ≡ key_of other → one ≡ other
-same_key one other in_range other_in_range same = ap₂ (λ (x y : ℤ). record { x = x; y = y }) same_x same_y
-  where
-    parts : (one.x ≡ other.x) × (one.y ≡ other.y)
-    parts =
-        let low = in_range.y.0 in
-        let high = in_range.y.1 in
-        let other_low = other_in_range.y.0 in
-        let other_high = other_in_range.y.1 in
-        let first = product_is one.x (pos (2 ^ 32)) in
-        let second = product_is other.x (pos (2 ^ 32)) in
-        (omega (arith, zs), omega (arith, zs))
-
-    same_x : one.x ≡ other.x
-    same_x = parts.0
-
-    same_y : one.y ≡ other.y
-    same_y = parts.1
+same_key one other in_range other_in_range same =
+    let low = in_range.y.0 in
+    let high = in_range.y.1 in
+    let other_low = other_in_range.y.0 in
+    let other_high = other_in_range.y.1 in
+    let first = product_is one.x (pos (2 ^ 32)) in
+    let second = product_is other.x (pos (2 ^ 32)) in
+    ap₂ (λ (x y : ℤ). record { x = x; y = y }) (omega (arith, zs)) (omega (arith, zs))
 
 -- a rational point that is a position has its key
 pub key_at_position : (point : RationalPoint) (position : Position) → IsAt point position → key_at point ≡ key_of position *ℤ point.w
 key_at_position point position at =
-    let X = unknown 0 in
-    let Y = unknown 1 in
-    let W = unknown 2 in
-    ring_from (position.x ∷ position.y ∷ point.w ∷ point.x ∷ point.y ∷ []) (key_over (unknown 3) (unknown 4)) (key_over X Y ⊗ W)
-    (given (constant (pos (2 ^ 32))) (unknown 3) (X ⊗ W) ∷ given (constant (pos 1)) (unknown 4) (Y ⊗ W) ∷ []) (at.x, (at.y, tt)) tt
+    consequence (position.x ∷ position.y ∷ point.w ∷ point.x ∷ point.y ∷ [])
+    (λ X Y W PX PY. (key_over PX PY, key_over X Y ⊗ W, given (constant (pos (2 ^ 32))) PX (X ⊗ W) ∷ given once PY (Y ⊗ W) ∷ [])) (at.x, (at.y, tt)) tt
 
 -- a rising edge goes some way
 pub reach_positive : (it : Segment) → IsRising it → pos 0 <ℤ reach it
-reach_positive it rising = by_order (key_of it.low) (key_of it.high) rising
-  where
-    by_order : (a b : ℤ) → a <ℤ b → pos 0 <ℤ (b -ℤ a)
-    by_order a b order = omega (arith, zs)
+reach_positive it rising = omega (arith, zs)
 
 -- ---- along the key
 
 -- a gap is linear in both numbers of a key
 pub gap_of_sum : (first second : Segment) (m n t w u v : ℤ) → gap first second (m *ℤ t +ℤ n *ℤ u) (m *ℤ w +ℤ n *ℤ v) ≡ m *ℤ gap first second t w +ℤ n *ℤ gap first second u v
 gap_of_sum first second m n t w u v =
-    let M = unknown 8 in
-    let N = unknown 9 in
-    let T = unknown 10 in
-    let W = unknown 11 in
-    let U = unknown 12 in
-    let V = unknown 13 in
-    ring (first.low.y ∷ key_of first.low ∷ reach first ∷ (first.high.y -ℤ first.low.y) ∷ second.low.y ∷ key_of second.low ∷ reach second ∷ (second.high.y -ℤ second.low.y)
-    ∷ m ∷ n ∷ t ∷ w ∷ u ∷ v ∷ []) (gap_over (M ⊗ T ⊕ N ⊗ U) (M ⊗ W ⊕ N ⊗ V)) (M ⊗ gap_over T W ⊕ N ⊗ gap_over U V) tt
+    identity (numbers_of first second (m ∷ n ∷ t ∷ w ∷ u ∷ v ∷ []))
+    (λ A B C D E F G H M N T W U V. let at = gap_over A B C D E F G H in (at (M ⊗ T ⊕ N ⊗ U) (M ⊗ W ⊕ N ⊗ V), M ⊗ at T W ⊕ N ⊗ at U V)) tt
 
 -- it is a weighted sum of those at two keys
 pub gap_between : (first second : Segment) (left right t w : ℤ)
     → (right -ℤ left) *ℤ gap first second t w ≡ (right *ℤ w -ℤ t) *ℤ gap first second left (pos 1) +ℤ (t -ℤ left *ℤ w) *ℤ gap first second right (pos 1)
 gap_between first second left right t w =
-    let L = unknown 8 in
-    let R = unknown 9 in
-    let T = unknown 10 in
-    let W = unknown 11 in
-    let once = constant (pos 1) in
-    ring (first.low.y ∷ key_of first.low ∷ reach first ∷ (first.high.y -ℤ first.low.y) ∷ second.low.y ∷ key_of second.low ∷ reach second ∷ (second.high.y -ℤ second.low.y)
-    ∷ left ∷ right ∷ t ∷ w ∷ []) ((R ⊖ L) ⊗ gap_over T W) ((R ⊗ W ⊖ T) ⊗ gap_over L once ⊕ (T ⊖ L ⊗ W) ⊗ gap_over R once) tt
+    identity (numbers_of first second (left ∷ right ∷ t ∷ w ∷ []))
+    (λ A B C D E F G H L R T W. let at = gap_over A B C D E F G H in ((R ⊖ L) ⊗ at T W, (R ⊗ W ⊖ T) ⊗ at L once ⊕ (T ⊖ L ⊗ W) ⊗ at R once)) tt
 
 -- it grows by the slope
 pub gap_by_slope : (first second : Segment) (left right : ℤ) → gap first second right (pos 1) ≡ gap first second left (pos 1) +ℤ (right -ℤ left) *ℤ slope first second
 gap_by_slope first second left right =
-    let L = unknown 8 in
-    let R = unknown 9 in
-    let once = constant (pos 1) in
-    ring (first.low.y ∷ key_of first.low ∷ reach first ∷ (first.high.y -ℤ first.low.y) ∷ second.low.y ∷ key_of second.low ∷ reach second ∷ (second.high.y -ℤ second.low.y)
-    ∷ left ∷ right ∷ []) (gap_over R once) (gap_over L once ⊕ (R ⊖ L) ⊗ (unknown 7 ⊗ unknown 2 ⊖ unknown 3 ⊗ unknown 6)) tt
+    identity (numbers_of first second (left ∷ right ∷ []))
+    (λ A B C D E F G H L R. let at = gap_over A B C D E F G H in (at R once, at L once ⊕ (R ⊖ L) ⊗ (H ⊗ C ⊖ D ⊗ G))) tt
 
 -- a sum with positive weights of two numbers, neither negative and not both 0, is positive
 weighted_pos : (m n a b : ℤ) → pos 0 <ℤ m → pos 0 <ℤ n → pos 0 ≤ℤ a → pos 0 ≤ℤ b → pos 0 <ℤ (a +ℤ b) → pos 0 <ℤ (m *ℤ a +ℤ n *ℤ b)
-weighted_pos m n a b m_sign n_sign a_sign b_sign some = by_case (le_or_lt a (pos 0))
-  where
-    m_some : pos 0 ≤ℤ m
-    m_some = omega (arith, zs)
-
-    n_some : pos 0 ≤ℤ n
-    n_some = omega (arith, zs)
-
-    by_case : (a ≤ℤ pos 0) ⊎ (pos 0 <ℤ a) → pos 0 <ℤ (m *ℤ a +ℤ n *ℤ b)
-    by_case (inl none) =
-        let above : pos 0 <ℤ b = omega (arith, zs) in
-        omega (arith, zs, mul_nonneg m_some a_sign, mul_pos n_sign above)
-    by_case (inr above) = omega (arith, zs, mul_pos m_sign above, mul_nonneg n_some b_sign)
+weighted_pos m n a b m_sign n_sign a_sign b_sign some =
+    let m_some : pos 0 ≤ℤ m = omega (arith, zs) in
+    let n_some : pos 0 ≤ℤ n = omega (arith, zs) in
+    elim (le_or_lt a (pos 0)) [
+      | inl none ↦ let above : pos 0 <ℤ b = omega (arith, zs) in omega (arith, zs, mul_nonneg m_some a_sign, mul_pos n_sign above)
+      | inr above ↦ omega (arith, zs, mul_pos m_sign above, mul_nonneg n_some b_sign)
+    ]
 
 -- so is what stands between two such numbers
 positive_between : (left right t w at_left at_right between : ℤ) → pos 1 ≤ℤ w → (left *ℤ w) <ℤ t → t <ℤ (right *ℤ w) → pos 0 ≤ℤ at_left → pos 0 ≤ℤ at_right → pos 0 <ℤ (at_left +ℤ at_right)
@@ -134,23 +102,16 @@ gap_positive_between first second left right t w positive below later earlier =
 -- backward the gap has the other sign
 pub gap_back : (first second : Segment) (t w : ℤ) → gap second first t w ≡ neg_ℤ (gap first second t w)
 gap_back first second t w =
-    ring (height first t w ∷ reach first ∷ height second t w ∷ reach second ∷ [])
-    (unknown 0 ⊗ unknown 3 ⊖ unknown 2 ⊗ unknown 1) (negated (unknown 2 ⊗ unknown 1 ⊖ unknown 0 ⊗ unknown 3)) tt
+    identity (height first t w ∷ reach first ∷ height second t w ∷ reach second ∷ []) (λ A R B S. (A ⊗ S ⊖ B ⊗ R, negated (B ⊗ R ⊖ A ⊗ S))) tt
 
 -- an edge has no gap to itself
 pub gap_to_itself : (it : Segment) (t w : ℤ) → gap it it t w ≡ pos 0
-gap_to_itself it t w = ring (height it t w ∷ reach it ∷ []) (unknown 0 ⊗ unknown 1 ⊖ unknown 0 ⊗ unknown 1) (constant (pos 0)) tt
+gap_to_itself it t w = identity (height it t w ∷ reach it ∷ []) (λ A R. (A ⊗ R ⊖ A ⊗ R, constant (pos 0))) tt
 
 -- differences of fractions join
 joined : (a b c r s q : ℤ) → s *ℤ (c *ℤ r -ℤ a *ℤ q) ≡ q *ℤ (b *ℤ r -ℤ a *ℤ s) +ℤ r *ℤ (c *ℤ s -ℤ b *ℤ q)
 joined a b c r s q =
-    let A = unknown 0 in
-    let B = unknown 1 in
-    let C = unknown 2 in
-    let R = unknown 3 in
-    let S = unknown 4 in
-    let Q = unknown 5 in
-    ring (a ∷ b ∷ c ∷ r ∷ s ∷ q ∷ []) (S ⊗ (C ⊗ R ⊖ A ⊗ Q)) (Q ⊗ (B ⊗ R ⊖ A ⊗ S) ⊕ R ⊗ (C ⊗ S ⊖ B ⊗ Q)) tt
+    identity (a ∷ b ∷ c ∷ r ∷ s ∷ q ∷ []) (λ A B C R S Q. (S ⊗ (C ⊗ R ⊖ A ⊗ Q), Q ⊗ (B ⊗ R ⊖ A ⊗ S) ⊕ R ⊗ (C ⊗ S ⊖ B ⊗ Q))) tt
 
 -- gaps join
 pub gaps_join : (first second third : Segment) (t w : ℤ) → reach second *ℤ gap first third t w ≡ reach third *ℤ gap first second t w +ℤ reach first *ℤ gap second third t w
@@ -184,11 +145,10 @@ module _ (r s q near far whole : ℤ) (r_sign : pos 0 <ℤ r) (s_sign : pos 0 <�
 
   -- and parts that aren't negative are 0 where it is 0
   parts_zero : pos 0 ≤ℤ near → pos 0 ≤ℤ far → whole ≡ pos 0 → (near ≡ pos 0) × (far ≡ pos 0)
-  parts_zero near_sign far_sign none = by_case (le_or_lt (near +ℤ far) (pos 0))
-    where
-      by_case : ((near +ℤ far) ≤ℤ pos 0) ⊎ (pos 0 <ℤ (near +ℤ far)) → (near ≡ pos 0) × (far ≡ pos 0)
-      by_case (inl most) = (omega (arith, zs), omega (arith, zs))
-      by_case (inr some) = absurd (omega (arith, zs, joined_pos near_sign far_sign some))
+  parts_zero near_sign far_sign none = elim (le_or_lt (near +ℤ far) (pos 0)) [
+    | inl most ↦ (omega (arith, zs), omega (arith, zs))
+    | inr some ↦ absurd (omega (arith, zs, joined_pos near_sign far_sign some))
+  ]
 
 -- of two numbers the first is positive, or it is 0 and the second is positive
 abbrev IsAbove : ℤ → ℤ → Type 0
@@ -197,10 +157,7 @@ IsAbove a b = (pos 0 <ℤ a) ⊎ ((a ≡ pos 0) × (pos 0 <ℤ b))
 -- what joins of such pairs is one
 after_joined : (r s q : ℤ) → pos 0 <ℤ r → pos 0 <ℤ s → pos 0 <ℤ q → (near far whole near_slope far_slope whole_slope : ℤ) → s *ℤ whole ≡ q *ℤ near +ℤ r *ℤ far
     → s *ℤ whole_slope ≡ q *ℤ near_slope +ℤ r *ℤ far_slope → IsAbove near near_slope → IsAbove far far_slope → IsAbove whole whole_slope
-after_joined r s q r_sign s_sign q_sign near far whole near_slope far_slope whole_slope sum slopes (inl one) (inl other) =
-    inl (joined_pos r s q near far whole r_sign s_sign q_sign sum (omega (arith, zs)) (omega (arith, zs)) (omega (arith, zs)))
-after_joined r s q r_sign s_sign q_sign near far whole near_slope far_slope whole_slope sum slopes (inl one) (inr other) =
-    let none = other.0 in
+after_joined r s q r_sign s_sign q_sign near far whole near_slope far_slope whole_slope sum slopes (inl one) other =
     inl (joined_pos r s q near far whole r_sign s_sign q_sign sum (omega (arith, zs)) (omega (arith, zs)) (omega (arith, zs)))
 after_joined r s q r_sign s_sign q_sign near far whole near_slope far_slope whole_slope sum slopes (inr one) (inl other) =
     let none = one.0 in
@@ -225,11 +182,10 @@ pub after_apart : (key : ℤ) (it : Segment) → ¬ IsAfter key it it
 after_apart key it after = by_case (gap it it key (pos 1)) (slope it it) (gap_to_itself it key (pos 1)) level after
   where
     level : slope it it ≡ pos 0
-    level = ring ((it.high.y -ℤ it.low.y) ∷ reach it ∷ []) (unknown 0 ⊗ unknown 1 ⊖ unknown 0 ⊗ unknown 1) (constant (pos 0)) tt
+    level = identity ((it.high.y -ℤ it.low.y) ∷ reach it ∷ []) (λ A R. (A ⊗ R ⊖ A ⊗ R, constant (pos 0))) tt
 
     by_case : (a b : ℤ) → a ≡ pos 0 → b ≡ pos 0 → ¬ IsAbove a b
-    by_case a b none level (inl above) = omega (arith, zs)
-    by_case a b none level (inr both) = let rises = both.1 in omega (arith, zs)
+    by_case a b none level above = omega (arith, zs)
 
 -- and so is the order between two keys
 pub below_trans : (left right : ℤ) (first second third : Segment) → IsRising first → IsRising second → IsRising third → IsBelow left right first second → IsBelow left right second third
@@ -261,10 +217,7 @@ below_trans left right first second third rising second_rising third_rising belo
 
 -- and strict
 pub below_apart : (left right : ℤ) (it : Segment) → ¬ IsBelow left right it it
-below_apart left right it below = none (gap it it left (pos 1)) (gap it it right (pos 1)) (gap_to_itself it left (pos 1)) (gap_to_itself it right (pos 1)) below.apart
-  where
-    none : (a b : ℤ) → a ≡ pos 0 → b ≡ pos 0 → ¬ (pos 0 <ℤ (a +ℤ b))
-    none a b a_none b_none some = omega (arith, zs)
+below_apart left right it below = let some = rw (gap_to_itself it left (pos 1), gap_to_itself it right (pos 1)) at below.apart in omega (arith, zs)
 
 -- no gap between the outer two of three edges in order: none between neighbours
 pub no_gap_within : (first second third : Segment) (t w : ℤ) → IsRising first → IsRising second → IsRising third → pos 0 ≤ℤ gap first second t w → pos 0 ≤ℤ gap second third t w
@@ -279,16 +232,8 @@ no_gap_within first second third t w rising second_rising third_rising = parts_z
 pub height_by_orientation : (it : Segment) (position : Position)
     → position.y *ℤ reach it -ℤ height it (key_of position) (pos 1) ≡ pos (2 ^ 32) *ℤ orientation it.low it.high position
 height_by_orientation it position =
-    let LX = unknown 0 in
-    let LY = unknown 1 in
-    let HX = unknown 2 in
-    let HY = unknown 3 in
-    let X = unknown 4 in
-    let Y = unknown 5 in
-    let far = key_over HX HY ⊖ key_over LX LY in
-    ring (it.low.x ∷ it.low.y ∷ it.high.x ∷ it.high.y ∷ position.x ∷ position.y ∷ [])
-    (Y ⊗ far ⊖ height_over LY (key_over LX LY) far (HY ⊖ LY) (key_over X Y) (constant (pos 1)))
-    (constant (pos (2 ^ 32)) ⊗ ((HX ⊖ LX) ⊗ (Y ⊖ LY) ⊖ (HY ⊖ LY) ⊗ (X ⊖ LX))) tt
+    identity (it.low.x ∷ it.low.y ∷ it.high.x ∷ it.high.y ∷ position.x ∷ position.y ∷ [])
+    (λ LX LY HX HY X Y. let far = key_over HX HY ⊖ key_over LX LY in (Y ⊗ far ⊖ height_over LY (key_over LX LY) far (HY ⊖ LY) (key_over X Y) once, constant (pos (2 ^ 32)) ⊗ ((HX ⊖ LX) ⊗ (Y ⊖ LY) ⊖ (HY ⊖ LY) ⊗ (X ⊖ LX)))) tt
 
 -- the gap of two edges at the key of a position
 pub gap_by_orientation : (first second : Segment) (position : Position)
@@ -300,29 +245,14 @@ gap_by_orientation first second position =
   where
     joined_sides : (m r s a b y u v : ℤ) → y *ℤ r -ℤ a ≡ m *ℤ u → y *ℤ s -ℤ b ≡ m *ℤ v → b *ℤ r -ℤ a *ℤ s ≡ m *ℤ (u *ℤ s -ℤ v *ℤ r)
     joined_sides m r s a b y u v one other =
-        let M = unknown 0 in
-        let R = unknown 1 in
-        let S = unknown 2 in
-        let A = unknown 3 in
-        let B = unknown 4 in
-        let Y = unknown 5 in
-        let U = unknown 6 in
-        let V = unknown 7 in
-        ring_from (m ∷ r ∷ s ∷ a ∷ b ∷ y ∷ u ∷ v ∷ []) (B ⊗ R ⊖ A ⊗ S) (M ⊗ (U ⊗ S ⊖ V ⊗ R))
-        (given S (Y ⊗ R ⊖ A) (M ⊗ U) ∷ given (negated R) (Y ⊗ S ⊖ B) (M ⊗ V) ∷ []) (one, (other, tt)) tt
+        consequence (m ∷ r ∷ s ∷ a ∷ b ∷ y ∷ u ∷ v ∷ [])
+        (λ M R S A B Y U V. (B ⊗ R ⊖ A ⊗ S, M ⊗ (U ⊗ S ⊖ V ⊗ R), given S (Y ⊗ R ⊖ A) (M ⊗ U) ∷ given (negated R) (Y ⊗ S ⊖ B) (M ⊗ V) ∷ [])) (one, (other, tt)) tt
 
 -- the slope of two edges that begin in one position
 pub slope_by_orientation : (low one other : Position) → slope (segment low one) (segment low other) ≡ pos (2 ^ 32) *ℤ orientation low one other
 slope_by_orientation low one other =
-    let LX = unknown 0 in
-    let LY = unknown 1 in
-    let AX = unknown 2 in
-    let AY = unknown 3 in
-    let BX = unknown 4 in
-    let BY = unknown 5 in
-    ring (low.x ∷ low.y ∷ one.x ∷ one.y ∷ other.x ∷ other.y ∷ [])
-    ((BY ⊖ LY) ⊗ (key_over AX AY ⊖ key_over LX LY) ⊖ (AY ⊖ LY) ⊗ (key_over BX BY ⊖ key_over LX LY))
-    (constant (pos (2 ^ 32)) ⊗ ((AX ⊖ LX) ⊗ (BY ⊖ LY) ⊖ (AY ⊖ LY) ⊗ (BX ⊖ LX))) tt
+    identity (low.x ∷ low.y ∷ one.x ∷ one.y ∷ other.x ∷ other.y ∷ [])
+    (λ LX LY AX AY BX BY. ((BY ⊖ LY) ⊗ (key_over AX AY ⊖ key_over LX LY) ⊖ (AY ⊖ LY) ⊗ (key_over BX BY ⊖ key_over LX LY), constant (pos (2 ^ 32)) ⊗ ((AX ⊖ LX) ⊗ (BY ⊖ LY) ⊖ (AY ⊖ LY) ⊗ (BX ⊖ LX)))) tt
 
 -- which have no gap there
 begun_together : (low one other : Position) → gap (segment low one) (segment low other) (key_of low) (pos 1) ≡ pos 0
@@ -330,12 +260,8 @@ begun_together low one other = no_gap low.y (key_of low) (reach (segment low one
   where
     no_gap : (y k r u s v : ℤ) → (y *ℤ s *ℤ pos 1 +ℤ (k -ℤ k *ℤ pos 1) *ℤ v) *ℤ r -ℤ (y *ℤ r *ℤ pos 1 +ℤ (k -ℤ k *ℤ pos 1) *ℤ u) *ℤ s ≡ pos 0
     no_gap y k r u s v =
-        let Y = unknown 0 in
-        let K = unknown 1 in
-        let R = unknown 2 in
-        let S = unknown 4 in
-        let once = constant (pos 1) in
-        ring (y ∷ k ∷ r ∷ u ∷ s ∷ v ∷ []) (height_over Y K S (unknown 5) K once ⊗ R ⊖ height_over Y K R (unknown 3) K once ⊗ S) (constant (pos 0)) tt
+        identity (y ∷ k ∷ r ∷ u ∷ s ∷ v ∷ [])
+        (λ Y K R U S V. (height_over Y K S V K once ⊗ R ⊖ height_over Y K R U K once ⊗ S, constant (pos 0))) tt
 
 -- so the orientation tells their order after it
 pub after_by_orientation : (low one other : Position) → pos 0 <ℤ orientation low one other → IsAfter (key_of low) (segment low one) (segment low other)
@@ -352,8 +278,4 @@ orientation_by_after low one other after =
     (begun_together low one other) (slope_by_orientation low one other) after
   where
     sign : (a b c : ℤ) → a ≡ pos 0 → b ≡ pos (2 ^ 32) *ℤ c → IsAbove a b → pos 0 <ℤ c
-    sign a b c none same (inl above) = absurd (omega (arith, zs))
-    sign a b c none same (inr both) =
-        let rises = both.1 in
-        let product = product_is (pos (2 ^ 32)) c in
-        omega (arith, zs)
+    sign a b c none same above = let product = product_is (pos (2 ^ 32)) c in omega (arith, zs)

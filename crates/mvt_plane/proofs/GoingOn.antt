@@ -134,37 +134,28 @@ continuation geometry_type all_drawn part sound is_due = absurd (cc)
 
 -- due or not
 pub complete : (geometry_type : GeometryType) (state : State) → IsSound state → Completion geometry_type state
-complete geometry_type points_command sound = completion geometry_type points_command (continuation geometry_type points_command _ sound refl)
-complete geometry_type (path_command drawn from) sound = completion geometry_type (path_command drawn from) (continuation geometry_type (path_command drawn from) _ sound refl)
-complete geometry_type (line_command from) sound = completion geometry_type (line_command from) (continue_line geometry_type from sound)
-complete geometry_type (close_command from) sound = completion geometry_type (close_command from) (continue_close geometry_type from)
-complete geometry_type (step_x leg from) sound = completion geometry_type (step_x leg from) (continuation geometry_type (step_x leg from) _ sound refl)
-complete geometry_type (step_y leg from x) sound = completion geometry_type (step_y leg from x) (continuation geometry_type (step_y leg from x) _ sound refl)
 complete geometry_type all_drawn sound = record { words = []; draws = tt }
+complete geometry_type state sound = completion geometry_type state (continuation geometry_type state _ sound refl)
 
 -- Each number that is allowed leads to a sound state
 
 -- behind a step
 sound_behind : (geometry_type : GeometryType) (leg : Leg) (to : Position) → IsPosition to → IsSound (behind geometry_type leg to)
 sound_behind geometry_type (to_point zero) to inside = tt
-sound_behind geometry_type (to_point (suc left)) to inside = inside
-sound_behind geometry_type to_first to inside = inside
-sound_behind geometry_type (to_next (suc left)) to inside = inside
 sound_behind point (to_next zero) to inside = inside
 sound_behind line_string (to_next zero) to inside = inside
 sound_behind polygon (to_next zero) to inside = inside
+sound_behind geometry_type leg to inside = inside
 
 -- behind a number
 pub sound_next : (geometry_type : GeometryType) (state : State) (n : ℕ) → IsSound state → IsAllowed geometry_type state n → IsSound (next geometry_type state n)
 sound_next geometry_type points_command n sound allowed = inside_origin
-sound_next geometry_type (path_command drawn from) n sound allowed = sound
-sound_next geometry_type (line_command from) n sound allowed = sound
-sound_next geometry_type (close_command from) n sound allowed = sound
 sound_next geometry_type (step_x leg from) n sound allowed = (sound, allowed)
 sound_next geometry_type (step_y leg from x) n sound allowed =
     let y_there = allowed.0 in
     sound_behind geometry_type leg (moved from x n) (record { x = sound.1.there; y = y_there.there })
 sound_next geometry_type all_drawn n sound allowed = tt
+sound_next geometry_type state n sound allowed = sound
 
 -- behind numbers
 pub sound_state : (geometry_type : GeometryType) (state : State) (numbers : List ℕ) → IsSound state → Passes geometry_type state numbers → IsSound (state_behind geometry_type state numbers)

@@ -1,12 +1,12 @@
 -- Which edges pass over a position: two rectangles tell it, that from the edge's first end to the x of its second one and the
 -- y of the position, and that to the x of the position and the y of the second end.
-use Rattle.std.proofs.Common.{◌≡◌, ◌⊎◌, inl, inr, ◌↔◌, [], ◌∷◌, ℤ, pos, negsuc, ◌+ℤ◌, ◌-ℤ◌, ◌*ℤ◌, ◌≤ℤ◌, ◌<ℤ◌, refl, arith}
+use Rattle.std.proofs.Common.{◌≡◌, inl, inr, ◌↔◌, [], ◌∷◌, ℤ, pos, ◌+ℤ◌, ◌-ℤ◌, ◌*ℤ◌, ◌≤ℤ◌, ◌<ℤ◌, refl, arith}
 use Rattle.mvt_plane.specs.Position.{Position}
 use Rattle.mvt_plane.specs.RationalPoint.{RationalPoint, LiesOn, IsBetween}
 use Rattle.mvt_plane.specs.Inside.{Differ, PassesOver}
-use Rattle.mvt_plane.proofs.Polynomials.{unknown, ◌⊕◌, ◌⊖◌, ◌⊗◌, constant, given, ring, ring_from}
-use Rattle.mvt_plane.proofs.Order.{zs, le_or_lt, mono_le_right, mono_le, turn_le, cancel_lt, mono_lt, mul_nonneg, mul_nonpos_nonneg}
-use Rattle.mvt_plane.proofs.Lines.{between_back}
+use Rattle.mvt_plane.proofs.Polynomials.{negated, once, ◌⊕◌, ◌⊖◌, ◌⊗◌, identity, consequence, given}
+use Rattle.mvt_plane.proofs.Order.{zs, le_or_lt, sub-mul_ℤ, mono_le_right, mono_le, turn_le, cancel_lt, mono_lt, mul_nonneg, mul_nonpos_nonneg}
+use Rattle.mvt_plane.proofs.RationalPoints.{lies_on_reversed}
 
 -- ---- the rectangles
 
@@ -18,22 +18,20 @@ rectangle corner across along = (across.x -ℤ corner.x) *ℤ (along.y -ℤ corn
 
 -- between two numbers times w stands the first one times w, and a part of the way to the second
 sum_between : (m n part w : ℤ) → pos 0 ≤ℤ part → part ≤ℤ w → IsBetween (m *ℤ w) (n *ℤ w) (m *ℤ w +ℤ (n -ℤ m) *ℤ part)
-sum_between m n part w begun within = by_order (le_or_lt m n)
-  where
-    whole : m *ℤ w +ℤ (n -ℤ m) *ℤ w ≡ n *ℤ w
-    whole = ring (m ∷ n ∷ w ∷ []) (unknown 0 ⊗ unknown 2 ⊕ (unknown 1 ⊖ unknown 0) ⊗ unknown 2) (unknown 1 ⊗ unknown 2) tt
-
-    by_order : (m ≤ℤ n) ⊎ (n <ℤ m) → IsBetween (m *ℤ w) (n *ℤ w) (m *ℤ w +ℤ (n -ℤ m) *ℤ part)
-    by_order (inl up) =
-        let rise : pos 0 ≤ℤ (n -ℤ m) = omega (arith, zs) in
-        let some = mul_nonneg rise begun in
-        let most = mono_le rise within in
-        inl (omega (arith, zs), omega (arith, zs, whole))
-    by_order (inr down) =
-        let fall : (n -ℤ m) ≤ℤ pos 0 = omega (arith, zs) in
-        let some = mul_nonpos_nonneg fall begun in
-        let most = turn_le fall within in
-        inr (omega (arith, zs, whole), omega (arith, zs))
+sum_between m n part w begun within =
+    let whole = sub-mul_ℤ n m w in
+    elim (le_or_lt m n) [
+      | inl up ↦
+          let rise : pos 0 ≤ℤ (n -ℤ m) = omega (arith, zs) in
+          let some = mul_nonneg rise begun in
+          let most = mono_le rise within in
+          inl (omega (arith, zs), omega (arith, zs))
+      | inr down ↦
+          let fall : (n -ℤ m) ≤ℤ pos 0 = omega (arith, zs) in
+          let some = mul_nonpos_nonneg fall begun in
+          let most = turn_le fall within in
+          inr (omega (arith, zs), omega (arith, zs))
+    ]
 
 -- the point of an edge at the position's x, where the edge goes to the right
 abbrev pub point_over : Position → Position → Position → RationalPoint
@@ -47,15 +45,8 @@ point_over p a b = record {
 over_on_line : (p a b : Position) →
     (b.x -ℤ a.x) *ℤ ((point_over p a b).y -ℤ a.y *ℤ (b.x -ℤ a.x)) ≡ (b.y -ℤ a.y) *ℤ ((point_over p a b).x -ℤ a.x *ℤ (b.x -ℤ a.x))
 over_on_line p a b =
-    let px = unknown 0 in
-    let ax = unknown 1 in
-    let ay = unknown 2 in
-    let bx = unknown 3 in
-    let by = unknown 4 in
-    ring (p.x ∷ a.x ∷ a.y ∷ b.x ∷ b.y ∷ [])
-    ((bx ⊖ ax) ⊗ ((ay ⊗ (bx ⊖ ax) ⊕ (by ⊖ ay) ⊗ (px ⊖ ax)) ⊖ ay ⊗ (bx ⊖ ax)))
-    ((by ⊖ ay) ⊗ (px ⊗ (bx ⊖ ax) ⊖ ax ⊗ (bx ⊖ ax)))
-    tt
+    identity (p.x ∷ a.x ∷ a.y ∷ b.x ∷ b.y ∷ [])
+    (λ px ax ay bx by. ((bx ⊖ ax) ⊗ ((ay ⊗ (bx ⊖ ax) ⊕ (by ⊖ ay) ⊗ (px ⊖ ax)) ⊖ ay ⊗ (bx ⊖ ax)), (by ⊖ ay) ⊗ (px ⊗ (bx ⊖ ax) ⊖ ax ⊗ (bx ⊖ ax)))) tt
 
 -- it is on the edge, where the edge goes by the position's x
 pub over_on_edge : (p a b : Position) → a.x ≤ℤ p.x → p.x <ℤ b.x → LiesOn (point_over p a b) (record { a = a; b = b })
@@ -72,15 +63,8 @@ over_on_edge p a b begun ended =
 -- it has a greater y than the position, where the rectangles say so
 over_greater : (p a b : Position) → rectangle a b p <ℤ rectangle a p b → (p.y *ℤ (b.x -ℤ a.x)) <ℤ (point_over p a b).y
 over_greater p a b less =
-    let px = unknown 0 in
-    let py = unknown 1 in
-    let ax = unknown 2 in
-    let ay = unknown 3 in
-    let bx = unknown 4 in
-    let by = unknown 5 in
-    let same = ring (p.x ∷ p.y ∷ a.x ∷ a.y ∷ b.x ∷ b.y ∷ [])
-    (py ⊗ (bx ⊖ ax) ⊖ (ay ⊗ (bx ⊖ ax) ⊕ (by ⊖ ay) ⊗ (px ⊖ ax)))
-    ((bx ⊖ ax) ⊗ (py ⊖ ay) ⊖ (px ⊖ ax) ⊗ (by ⊖ ay)) tt in
+    let same = identity (p.x ∷ p.y ∷ a.x ∷ a.y ∷ b.x ∷ b.y ∷ [])
+    (λ px py ax ay bx by. (py ⊗ (bx ⊖ ax) ⊖ (ay ⊗ (bx ⊖ ax) ⊕ (by ⊖ ay) ⊗ (px ⊖ ax)), (bx ⊖ ax) ⊗ (py ⊖ ay) ⊖ (px ⊖ ax) ⊗ (by ⊖ ay))) tt in
     omega (arith, zs)
 
 -- ---- any point of an edge over a position
@@ -89,20 +73,12 @@ over_greater p a b less =
 rectangles_differ : (p a b : Position) (q : RationalPoint) → LiesOn q (record { a = a; b = b }) → q.x ≡ p.x *ℤ q.w →
     q.w *ℤ rectangle a p b +ℤ (b.x -ℤ a.x) *ℤ (p.y *ℤ q.w) ≡ q.w *ℤ rectangle a b p +ℤ (b.x -ℤ a.x) *ℤ q.y
 rectangles_differ p a b q on_edge same_x =
-    let px = unknown 0 in
-    let py = unknown 1 in
-    let ax = unknown 2 in
-    let ay = unknown 3 in
-    let bx = unknown 4 in
-    let by = unknown 5 in
-    let x = unknown 6 in
-    let y = unknown 7 in
-    let w = unknown 8 in
-    ring_from (p.x ∷ p.y ∷ a.x ∷ a.y ∷ b.x ∷ b.y ∷ q.x ∷ q.y ∷ q.w ∷ [])
-    (w ⊗ ((px ⊖ ax) ⊗ (by ⊖ ay)) ⊕ (bx ⊖ ax) ⊗ (py ⊗ w))
-    (w ⊗ ((bx ⊖ ax) ⊗ (py ⊖ ay)) ⊕ (bx ⊖ ax) ⊗ y)
-    (given (constant (negsuc 0)) ((bx ⊖ ax) ⊗ (y ⊖ ay ⊗ w)) ((by ⊖ ay) ⊗ (x ⊖ ax ⊗ w)) ∷ given (ay ⊖ by) x (px ⊗ w) ∷ [])
-    (on_edge.on_line, (same_x, tt)) tt
+    consequence (p.x ∷ p.y ∷ a.x ∷ a.y ∷ b.x ∷ b.y ∷ q.x ∷ q.y ∷ q.w ∷ [])
+    (λ px py ax ay bx by x y w. (
+      w ⊗ ((px ⊖ ax) ⊗ (by ⊖ ay)) ⊕ (bx ⊖ ax) ⊗ (py ⊗ w),
+      w ⊗ ((bx ⊖ ax) ⊗ (py ⊖ ay)) ⊕ (bx ⊖ ax) ⊗ y,
+      given (negated once) ((bx ⊖ ax) ⊗ (y ⊖ ay ⊗ w)) ((by ⊖ ay) ⊗ (x ⊖ ax ⊗ w)) ∷ given (ay ⊖ by) x (px ⊗ w) ∷ [],
+    )) (on_edge.on_line, (same_x, tt)) tt
 
 -- so where the point has a greater y, the rectangles say so
 greater_tells : (p a b : Position) (q : RationalPoint) → a.x <ℤ b.x → LiesOn q (record { a = a; b = b }) → q.x ≡ p.x *ℤ q.w → (p.y *ℤ q.w) <ℤ q.y →
@@ -115,37 +91,22 @@ greater_tells p a b q order on_edge same_x greater =
 
 -- ---- the edge that goes back
 
--- a point on an edge is on the edge that goes back
-on_edge_back : (q : RationalPoint) (a b : Position) → LiesOn q (record { a = a; b = b }) → LiesOn q (record { a = b; b = a })
-on_edge_back q a b on_edge =
-    let ax = unknown 0 in
-    let ay = unknown 1 in
-    let bx = unknown 2 in
-    let by = unknown 3 in
-    let x = unknown 4 in
-    let y = unknown 5 in
-    let w = unknown 6 in
-    record {
-      positive = on_edge.positive;
-      on_line = ring_from (a.x ∷ a.y ∷ b.x ∷ b.y ∷ q.x ∷ q.y ∷ q.w ∷ [])
-          ((ax ⊖ bx) ⊗ (y ⊖ by ⊗ w)) ((ay ⊖ by) ⊗ (x ⊖ bx ⊗ w))
-          (given (constant (negsuc 0)) ((bx ⊖ ax) ⊗ (y ⊖ ay ⊗ w)) ((by ⊖ ay) ⊗ (x ⊖ ax ⊗ w)) ∷ [])
-          (on_edge.on_line, tt) tt;
-      x_between = between_back _ _ _ on_edge.x_between;
-      y_between = between_back _ _ _ on_edge.y_between;
-    }
-
 -- one of two holds, whichever is the first
 pub differ_back : {One Other : Type 0} → Differ One Other → Differ Other One
 differ_back (inl (one, not_other)) = inr (not_other, one)
 differ_back (inr (not_one, other)) = inl (other, not_one)
+
+-- not where both hold, or neither does
+pub not_differ : {One Other : Type 0} → One ↔ Other → ¬ Differ One Other
+not_differ together (inl (one, none)) = none (together.0 one)
+not_differ together (inr (none, other)) = none (together.1 other)
 
 -- the edge that goes back passes over the same positions
 pub passes_back : (p a b : Position) → PassesOver p (record { a = a; b = b }) → PassesOver p (record { a = b; b = a })
 passes_back p a b passes = record {
   parted = differ_back passes.parted;
   point = passes.point;
-  on_edge = on_edge_back passes.point a b passes.on_edge;
+  on_edge = lies_on_reversed passes.point (record { a = a; b = b }) passes.on_edge;
   same_x = passes.same_x;
   greater_y = passes.greater_y;
 }
@@ -153,16 +114,7 @@ passes_back p a b passes = record {
 -- its rectangles differ by as much the other way
 rectangles_back : (p a b : Position) → rectangle b a p +ℤ rectangle a b p ≡ rectangle b p a +ℤ rectangle a p b
 rectangles_back p a b =
-    let px = unknown 0 in
-    let py = unknown 1 in
-    let ax = unknown 2 in
-    let ay = unknown 3 in
-    let bx = unknown 4 in
-    let by = unknown 5 in
-    ring (p.x ∷ p.y ∷ a.x ∷ a.y ∷ b.x ∷ b.y ∷ [])
-    ((ax ⊖ bx) ⊗ (py ⊖ by) ⊕ (bx ⊖ ax) ⊗ (py ⊖ ay))
-    ((px ⊖ bx) ⊗ (ay ⊖ by) ⊕ (px ⊖ ax) ⊗ (by ⊖ ay))
-    tt
+    identity (p.x ∷ p.y ∷ a.x ∷ a.y ∷ b.x ∷ b.y ∷ []) (λ px py ax ay bx by. ((ax ⊖ bx) ⊗ (py ⊖ by) ⊕ (bx ⊖ ax) ⊗ (py ⊖ ay), (px ⊖ bx) ⊗ (ay ⊖ by) ⊕ (px ⊖ ax) ⊗ (by ⊖ ay))) tt
 
 -- ---- which edges pass over the position
 
@@ -196,8 +148,4 @@ passes_leftward p a b begun ended = (there, back)
 
 -- none whose ends are both at its x or to the left, or both to the right
 pub passes_apart : (p a b : Position) → ((a.x ≤ℤ p.x) ↔ (b.x ≤ℤ p.x)) → ¬ PassesOver p (record { a = a; b = b })
-passes_apart p a b together passes = refuse passes.parted
-  where
-    refuse : Differ (a.x ≤ℤ p.x) (b.x ≤ℤ p.x) → ⊥
-    refuse (inl (begins, not_ends)) = not_ends (together.0 begins)
-    refuse (inr (not_begins, ends)) = not_begins (together.1 ends)
+passes_apart p a b together passes = not_differ together passes.parted

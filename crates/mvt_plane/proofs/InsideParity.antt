@@ -42,12 +42,12 @@ apart_assoc false false true = refl
 apart_assoc false false false = refl
 
 -- a test differs from one that fails where it holds itself
-apart_false : (x : Bool) → apart x false ≡ x
+pub apart_false : (x : Bool) → apart x false ≡ x
 apart_false true = refl
 apart_false false = refl
 
 -- the same, with the one that fails first
-false_apart : (x : Bool) → apart false x ≡ x
+pub false_apart : (x : Bool) → apart false x ≡ x
 false_apart true = refl
 false_apart false = refl
 

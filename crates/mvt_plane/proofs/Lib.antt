@@ -24,6 +24,7 @@ pub mod ExampleRings
 pub mod ExampleTriangle
 pub mod FigurePaths
 pub mod Figures
+pub mod FirstCodes
 pub mod GapPoints
 pub mod Gaps
 pub mod Geometries

@@ -1,5 +1,5 @@
 -- Means of two positions, with whole numbers as weights: rational points of the edge between them.
-use Rattle.std.proofs.Common.{◌≡◌, ◌^◌, inl, inr, List, [], ◌∷◌, ℤ, pos, ◌+ℤ◌, ◌-ℤ◌, ◌*ℤ◌, neg_ℤ, ◌≤ℤ◌, ◌<ℤ◌, sym, ◌∙◌, ap₂, subst, arith}
+use Rattle.std.proofs.Common.{◌≡◌, ◌^◌, inl, inr, ℤ, pos, ◌+ℤ◌, ◌-ℤ◌, ◌*ℤ◌, neg_ℤ, ◌≤ℤ◌, ◌<ℤ◌, sym, ◌∙◌, ap₂, subst, arith}
 use Rattle.std.proofs.Math.IntN.{*ℤ_comm, nat_abs}
 use Rattle.std.proofs.lemmas.Int.{ints}
 use Rattle.mvt_plane.specs.CommonPoint.{cross_product}
@@ -7,10 +7,10 @@ use Rattle.mvt_plane.specs.Measure.{AreOpposite}
 use Rattle.mvt_plane.specs.Position.{IsPosition}
 use Rattle.mvt_plane.specs.RationalPoint.{RationalPoint, LiesOn, IsBounded}
 use Rattle.mvt_plane.specs.declared.edge.Edge.{Edge}
-use Rattle.mvt_plane.proofs.Crossings.{side, cross_by_sides, cross_by_other_sides}
+use Rattle.mvt_plane.proofs.Crossings.{side, side_over, coordinates, cross_by_sides, cross_by_other_sides}
 use Rattle.mvt_plane.proofs.NamedPoints.{same_triple, bounded_on_edge}
 use Rattle.mvt_plane.proofs.Order.{zs}
-use Rattle.mvt_plane.proofs.Polynomials.{Polynomial, unknown, negated, ◌⊕◌, ◌⊖◌, ◌⊗◌, ring}
+use Rattle.mvt_plane.proofs.Polynomials.{negated, ◌⊕◌, ◌⊗◌, identity}
 use Rattle.mvt_plane.proofs.Weights.{lies_by_weights}
 
 -- the mean of an edge's ends with these weights
@@ -37,63 +37,23 @@ mean_bounded edge m n a b m_sign n_sign some size = bounded_on_edge (mean edge m
 
 -- ---- the crossing of two edges
 
--- the coordinates of two edges, quoted
-abbrev AX : Polynomial
-AX = unknown 0
-
-abbrev AY : Polynomial
-AY = unknown 1
-
-abbrev BX : Polynomial
-BX = unknown 2
-
-abbrev BY : Polynomial
-BY = unknown 3
-
-abbrev CX : Polynomial
-CX = unknown 4
-
-abbrev CY : Polynomial
-CY = unknown 5
-
-abbrev DX : Polynomial
-DX = unknown 6
-
-abbrev DY : Polynomial
-DY = unknown 7
-
--- the sides of their ends
-abbrev A-side : Polynomial
-A-side = (DX ⊖ CX) ⊗ (AY ⊖ CY) ⊖ (DY ⊖ CY) ⊗ (AX ⊖ CX)
-
-abbrev B-side : Polynomial
-B-side = (DX ⊖ CX) ⊗ (BY ⊖ CY) ⊖ (DY ⊖ CY) ⊗ (BX ⊖ CX)
-
-abbrev C-side : Polynomial
-C-side = (BX ⊖ AX) ⊗ (CY ⊖ AY) ⊖ (BY ⊖ AY) ⊗ (CX ⊖ AX)
-
-abbrev D-side : Polynomial
-D-side = (BX ⊖ AX) ⊗ (DY ⊖ AY) ⊖ (BY ⊖ AY) ⊗ (DX ⊖ AX)
-
--- what they stand for
-abbrev coordinates : Edge → Edge → List ℤ
-coordinates first second = first.a.x ∷ first.a.y ∷ first.b.x ∷ first.b.y ∷ second.a.x ∷ second.a.y ∷ second.b.x ∷ second.b.y ∷ []
-
 -- the means by the sides of the other edge's ends are one, whichever edge is taken
 mean_of_other : (first second : Edge) → mean first (neg_ℤ (side second first.b)) (side second first.a) ≡ mean second (side first second.b) (neg_ℤ (side first second.a))
 mean_of_other first second =
     let all = coordinates first second in
-    same_triple (ring all (negated B-side ⊗ AX ⊕ A-side ⊗ BX) (D-side ⊗ CX ⊕ negated C-side ⊗ DX) tt)
-    (ring all (negated B-side ⊗ AY ⊕ A-side ⊗ BY) (D-side ⊗ CY ⊕ negated C-side ⊗ DY) tt)
-    (ring all (negated B-side ⊕ A-side) (D-side ⊕ negated C-side) tt)
+    same_triple
+    (identity all (λ A a B b C c D d. (negated (side_over C c D d B b) ⊗ A ⊕ side_over C c D d A a ⊗ B, side_over A a B b D d ⊗ C ⊕ negated (side_over A a B b C c) ⊗ D)) tt)
+    (identity all (λ A a B b C c D d. (negated (side_over C c D d B b) ⊗ a ⊕ side_over C c D d A a ⊗ b, side_over A a B b D d ⊗ c ⊕ negated (side_over A a B b C c) ⊗ d)) tt)
+    (identity all (λ A a B b C c D d. (negated (side_over C c D d B b) ⊕ side_over C c D d A a, side_over A a B b D d ⊕ negated (side_over A a B b C c))) tt)
 
 -- the same with signs turned
 turned_mean_of_other : (first second : Edge) → mean first (side second first.b) (neg_ℤ (side second first.a)) ≡ mean second (neg_ℤ (side first second.b)) (side first second.a)
 turned_mean_of_other first second =
     let all = coordinates first second in
-    same_triple (ring all (B-side ⊗ AX ⊕ negated A-side ⊗ BX) (negated D-side ⊗ CX ⊕ C-side ⊗ DX) tt)
-    (ring all (B-side ⊗ AY ⊕ negated A-side ⊗ BY) (negated D-side ⊗ CY ⊕ C-side ⊗ DY) tt)
-    (ring all (B-side ⊕ negated A-side) (negated D-side ⊕ C-side) tt)
+    same_triple
+    (identity all (λ A a B b C c D d. (side_over C c D d B b ⊗ A ⊕ negated (side_over C c D d A a) ⊗ B, negated (side_over A a B b D d) ⊗ C ⊕ side_over A a B b C c ⊗ D)) tt)
+    (identity all (λ A a B b C c D d. (side_over C c D d B b ⊗ a ⊕ negated (side_over C c D d A a) ⊗ b, negated (side_over A a B b D d) ⊗ c ⊕ side_over A a B b C c ⊗ d)) tt)
+    (identity all (λ A a B b C c D d. (side_over C c D d B b ⊕ negated (side_over C c D d A a), negated (side_over A a B b D d) ⊕ side_over A a B b C c)) tt)
 
 -- the size of a positive number, and of a negative one
 size_over : (z : ℤ) → pos 0 <ℤ z → pos (nat_abs z) ≡ z

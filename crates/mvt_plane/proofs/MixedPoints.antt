@@ -1,11 +1,12 @@
 -- Means of two rational points, with whole numbers as weights. An edge has the means of any two of its points. So where one
 -- edge is above another at one place and isn't at another place, the two edges have a point in common.
-use Rattle.std.proofs.Common.{◌≡◌, ◌⊎◌, inl, inr, [], ◌∷◌, ℤ, pos, ◌+ℤ◌, ◌-ℤ◌, ◌*ℤ◌, ◌≤ℤ◌, ◌<ℤ◌, subst, arith}
+use Rattle.std.proofs.Common.{◌≡◌, inl, inr, [], ◌∷◌, ℤ, pos, ◌+ℤ◌, ◌-ℤ◌, ◌*ℤ◌, ◌≤ℤ◌, ◌<ℤ◌, subst, arith}
 use Rattle.mvt_plane.specs.RationalPoint.{RationalPoint, LiesOn, IsBetween}
 use Rattle.mvt_plane.specs.declared.edge.Edge.{Edge}
+use Rattle.mvt_plane.proofs.Lines.{through, between_back}
 use Rattle.mvt_plane.proofs.NamedPoints.{same_triple}
 use Rattle.mvt_plane.proofs.Order.{zs, le_or_lt, mono_le, mono_le_right, mul_nonneg, mul_pos}
-use Rattle.mvt_plane.proofs.Polynomials.{unknown, ◌⊕◌, ◌⊖◌, ◌⊗◌, ring, ring_from, given}
+use Rattle.mvt_plane.proofs.Polynomials.{◌⊕◌, ◌⊖◌, ◌⊗◌, identity, consequence, given}
 
 -- the mean of two rational points with these weights
 abbrev pub mixed : ℤ → RationalPoint → ℤ → RationalPoint → RationalPoint
@@ -24,12 +25,7 @@ between_in_order a b w z order positive (inr down) =
 -- a product with a mean is the mean of the products
 product_of_mean : (a m n w v : ℤ) → a *ℤ (m *ℤ w +ℤ n *ℤ v) ≡ m *ℤ (a *ℤ w) +ℤ n *ℤ (a *ℤ v)
 product_of_mean a m n w v =
-    let A = unknown 0 in
-    let M = unknown 1 in
-    let N = unknown 2 in
-    let W = unknown 3 in
-    let V = unknown 4 in
-    ring (a ∷ m ∷ n ∷ w ∷ v ∷ []) (A ⊗ (M ⊗ W ⊕ N ⊗ V)) (M ⊗ (A ⊗ W) ⊕ N ⊗ (A ⊗ V)) tt
+    identity (a ∷ m ∷ n ∷ w ∷ v ∷ []) (λ A M N W V. (A ⊗ (M ⊗ W ⊕ N ⊗ V), M ⊗ (A ⊗ W) ⊕ N ⊗ (A ⊗ V))) tt
 
 -- between the means of lower and of upper bounds is the mean
 mean_in_order : (a b m n w x v y : ℤ) → a ≤ℤ b → pos 0 ≤ℤ m → pos 0 ≤ℤ n → pos 1 ≤ℤ w → pos 1 ≤ℤ v → IsBetween (a *ℤ w) (b *ℤ w) x → IsBetween (a *ℤ v) (b *ℤ v) y
@@ -48,35 +44,21 @@ mean_in_order a b m n w x v y order m_sign n_sign one other first second =
 -- in either order
 mean_between : (a b m n w x v y : ℤ) → pos 0 ≤ℤ m → pos 0 ≤ℤ n → pos 1 ≤ℤ w → pos 1 ≤ℤ v → IsBetween (a *ℤ w) (b *ℤ w) x → IsBetween (a *ℤ v) (b *ℤ v) y
     → IsBetween (a *ℤ (m *ℤ w +ℤ n *ℤ v)) (b *ℤ (m *ℤ w +ℤ n *ℤ v)) (m *ℤ x +ℤ n *ℤ y)
-mean_between a b m n w x v y m_sign n_sign one other first second = by_order (le_or_lt a b)
-  where
-    turned : {from to z : ℤ} → IsBetween from to z → IsBetween to from z
-    turned (inl up) = inr up
-    turned (inr down) = inl down
-
-    by_order : (a ≤ℤ b) ⊎ (b <ℤ a) → IsBetween (a *ℤ (m *ℤ w +ℤ n *ℤ v)) (b *ℤ (m *ℤ w +ℤ n *ℤ v)) (m *ℤ x +ℤ n *ℤ y)
-    by_order (inl rises) = inl (mean_in_order a b m n w x v y rises m_sign n_sign one other first second)
-    by_order (inr falls) = inr (mean_in_order b a m n w x v y (omega (arith, zs)) m_sign n_sign one other (turned first) (turned second))
+mean_between a b m n w x v y m_sign n_sign one other first second = elim (le_or_lt a b) [
+  | inl rises ↦ inl (mean_in_order a b m n w x v y rises m_sign n_sign one other first second)
+  | inr falls ↦ inr (mean_in_order b a m n w x v y (omega (arith, zs)) m_sign n_sign one other (between_back _ _ _ first) (between_back _ _ _ second))
+]
 
 -- the mean of two points of a line is on it
 mean_on_line : (u v a b m n px py pw qx qy qw : ℤ) → u *ℤ (py -ℤ b *ℤ pw) ≡ v *ℤ (px -ℤ a *ℤ pw) → u *ℤ (qy -ℤ b *ℤ qw) ≡ v *ℤ (qx -ℤ a *ℤ qw)
     → u *ℤ ((m *ℤ py +ℤ n *ℤ qy) -ℤ b *ℤ (m *ℤ pw +ℤ n *ℤ qw)) ≡ v *ℤ ((m *ℤ px +ℤ n *ℤ qx) -ℤ a *ℤ (m *ℤ pw +ℤ n *ℤ qw))
 mean_on_line u v a b m n px py pw qx qy qw p_line q_line =
-    let U = unknown 0 in
-    let V = unknown 1 in
-    let A = unknown 2 in
-    let B = unknown 3 in
-    let M = unknown 4 in
-    let N = unknown 5 in
-    let PX = unknown 6 in
-    let PY = unknown 7 in
-    let PW = unknown 8 in
-    let QX = unknown 9 in
-    let QY = unknown 10 in
-    let QW = unknown 11 in
-    ring_from (u ∷ v ∷ a ∷ b ∷ m ∷ n ∷ px ∷ py ∷ pw ∷ qx ∷ qy ∷ qw ∷ [])
-    (U ⊗ ((M ⊗ PY ⊕ N ⊗ QY) ⊖ B ⊗ (M ⊗ PW ⊕ N ⊗ QW))) (V ⊗ ((M ⊗ PX ⊕ N ⊗ QX) ⊖ A ⊗ (M ⊗ PW ⊕ N ⊗ QW)))
-    (given M (U ⊗ (PY ⊖ B ⊗ PW)) (V ⊗ (PX ⊖ A ⊗ PW)) ∷ given N (U ⊗ (QY ⊖ B ⊗ QW)) (V ⊗ (QX ⊖ A ⊗ QW)) ∷ []) (p_line, (q_line, tt)) tt
+    consequence (u ∷ v ∷ a ∷ b ∷ m ∷ n ∷ px ∷ py ∷ pw ∷ qx ∷ qy ∷ qw ∷ [])
+    (λ U V A B M N PX PY PW QX QY QW. (
+      U ⊗ ((M ⊗ PY ⊕ N ⊗ QY) ⊖ B ⊗ (M ⊗ PW ⊕ N ⊗ QW)),
+      V ⊗ ((M ⊗ PX ⊕ N ⊗ QX) ⊖ A ⊗ (M ⊗ PW ⊕ N ⊗ QW)),
+      through M U V A B PX PY PW ∷ through N U V A B QX QY QW ∷ [],
+    )) (p_line, (q_line, tt)) tt
 
 -- the mean of two points of an edge lies on it
 pub mixed_lies : (edge : Edge) (m : ℤ) (p : RationalPoint) (n : ℤ) (q : RationalPoint) → pos 0 ≤ℤ m → pos 0 ≤ℤ n → pos 1 ≤ℤ (m *ℤ p.w +ℤ n *ℤ q.w)
@@ -105,26 +87,12 @@ across p q z = mixed (q.x *ℤ z.w -ℤ z.x *ℤ q.w) p (z.x *ℤ p.w -ℤ p.x *
 -- it is there
 pub across_at : (p q z : RationalPoint) → AreAtOneX (across p q z) z
 across_at p q z =
-    let PX = unknown 0 in
-    let PW = unknown 1 in
-    let QX = unknown 2 in
-    let QW = unknown 3 in
-    let X = unknown 4 in
-    let W = unknown 5 in
-    let m = QX ⊗ W ⊖ X ⊗ QW in
-    let n = X ⊗ PW ⊖ PX ⊗ W in
-    ring (p.x ∷ p.w ∷ q.x ∷ q.w ∷ z.x ∷ z.w ∷ []) ((m ⊗ PX ⊕ n ⊗ QX) ⊗ W) (X ⊗ (m ⊗ PW ⊕ n ⊗ QW)) tt
+    identity (p.x ∷ p.w ∷ q.x ∷ q.w ∷ z.x ∷ z.w ∷ []) (λ PX PW QX QW X W. let m = QX ⊗ W ⊖ X ⊗ QW in let n = X ⊗ PW ⊖ PX ⊗ W in ((m ⊗ PX ⊕ n ⊗ QX) ⊗ W, X ⊗ (m ⊗ PW ⊕ n ⊗ QW))) tt
 
 -- its w
 across_over : (px pw qx qw x w : ℤ) → (qx *ℤ w -ℤ x *ℤ qw) *ℤ pw +ℤ (x *ℤ pw -ℤ px *ℤ w) *ℤ qw ≡ (qx *ℤ pw -ℤ px *ℤ qw) *ℤ w
 across_over px pw qx qw x w =
-    let PX = unknown 0 in
-    let PW = unknown 1 in
-    let QX = unknown 2 in
-    let QW = unknown 3 in
-    let X = unknown 4 in
-    let W = unknown 5 in
-    ring (px ∷ pw ∷ qx ∷ qw ∷ x ∷ w ∷ []) ((QX ⊗ W ⊖ X ⊗ QW) ⊗ PW ⊕ (X ⊗ PW ⊖ PX ⊗ W) ⊗ QW) ((QX ⊗ PW ⊖ PX ⊗ QW) ⊗ W) tt
+    identity (px ∷ pw ∷ qx ∷ qw ∷ x ∷ w ∷ []) (λ PX PW QX QW X W. ((QX ⊗ W ⊖ X ⊗ QW) ⊗ PW ⊕ (X ⊗ PW ⊖ PX ⊗ W) ⊗ QW, (QX ⊗ PW ⊖ PX ⊗ QW) ⊗ W)) tt
 
 -- and it is on each edge that both are on
 pub across_lies : (edge : Edge) (p q z : RationalPoint) → pos 1 ≤ℤ z.w → (p.x *ℤ q.w) <ℤ (q.x *ℤ p.w) → (p.x *ℤ z.w) ≤ℤ (z.x *ℤ p.w) → (z.x *ℤ q.w) ≤ℤ (q.x *ℤ z.w)
@@ -146,25 +114,12 @@ rise low high = high.y *ℤ low.w -ℤ low.y *ℤ high.w
 one_mean : (low high upper under : RationalPoint) → AreAtOneX high low → AreAtOneX under upper
     → mixed (rise under upper *ℤ low.w) high (rise low high *ℤ upper.w) under ≡ mixed (rise under upper *ℤ high.w) low (rise low high *ℤ under.w) upper
 one_mean low high upper under first second =
-    let H = unknown 0 in
-    let F = unknown 1 in
-    let A = unknown 2 in
-    let B = unknown 3 in
-    let C = unknown 4 in
-    let D = unknown 5 in
-    let AW = unknown 6 in
-    let BW = unknown 7 in
-    let CW = unknown 8 in
-    let DW = unknown 9 in
     same_triple
-    (ring_from (rise under upper ∷ rise low high ∷ low.x ∷ high.x ∷ upper.x ∷ under.x ∷ low.w ∷ high.w ∷ upper.w ∷ under.w ∷ [])
-    ((H ⊗ AW) ⊗ B ⊕ (F ⊗ CW) ⊗ D) ((H ⊗ BW) ⊗ A ⊕ (F ⊗ DW) ⊗ C)
-    (given H (B ⊗ AW) (A ⊗ BW) ∷ given F (D ⊗ CW) (C ⊗ DW) ∷ []) (first, (second, tt)) tt)
-    (ring (low.y ∷ high.y ∷ upper.y ∷ under.y ∷ low.w ∷ high.w ∷ upper.w ∷ under.w ∷ [])
-    ((((unknown 2 ⊗ unknown 7 ⊖ unknown 3 ⊗ unknown 6) ⊗ unknown 4) ⊗ unknown 1) ⊕ (((unknown 1 ⊗ unknown 4 ⊖ unknown 0 ⊗ unknown 5) ⊗ unknown 6) ⊗ unknown 3))
-    ((((unknown 2 ⊗ unknown 7 ⊖ unknown 3 ⊗ unknown 6) ⊗ unknown 5) ⊗ unknown 0) ⊕ (((unknown 1 ⊗ unknown 4 ⊖ unknown 0 ⊗ unknown 5) ⊗ unknown 7) ⊗ unknown 2)) tt)
-    (ring (rise under upper ∷ rise low high ∷ low.w ∷ high.w ∷ upper.w ∷ under.w ∷ [])
-    ((unknown 0 ⊗ unknown 2) ⊗ unknown 3 ⊕ (unknown 1 ⊗ unknown 4) ⊗ unknown 5) ((unknown 0 ⊗ unknown 3) ⊗ unknown 2 ⊕ (unknown 1 ⊗ unknown 5) ⊗ unknown 4) tt)
+    (consequence (rise under upper ∷ rise low high ∷ low.x ∷ high.x ∷ upper.x ∷ under.x ∷ low.w ∷ high.w ∷ upper.w ∷ under.w ∷ [])
+    (λ H F A B C D AW BW CW DW. ((H ⊗ AW) ⊗ B ⊕ (F ⊗ CW) ⊗ D, (H ⊗ BW) ⊗ A ⊕ (F ⊗ DW) ⊗ C, given H (B ⊗ AW) (A ⊗ BW) ∷ given F (D ⊗ CW) (C ⊗ DW) ∷ [])) (first, (second, tt)) tt)
+    (identity (low.y ∷ high.y ∷ upper.y ∷ under.y ∷ low.w ∷ high.w ∷ upper.w ∷ under.w ∷ [])
+    (λ H F A B C D AW BW. ((((A ⊗ BW ⊖ B ⊗ AW) ⊗ C) ⊗ F) ⊕ (((F ⊗ C ⊖ H ⊗ D) ⊗ AW) ⊗ B), (((A ⊗ BW ⊖ B ⊗ AW) ⊗ D) ⊗ H) ⊕ (((F ⊗ C ⊖ H ⊗ D) ⊗ BW) ⊗ A))) tt)
+    (identity (rise under upper ∷ rise low high ∷ low.w ∷ high.w ∷ upper.w ∷ under.w ∷ []) (λ H F A B C D. ((H ⊗ A) ⊗ B ⊕ (F ⊗ C) ⊗ D, (H ⊗ B) ⊗ A ⊕ (F ⊗ D) ⊗ C)) tt)
 
 -- no rational point is on both edges
 abbrev pub AreClear : Edge → Edge → Type 0
@@ -201,8 +156,5 @@ crosses edge other low high upper under one two rises falls clear =
 -- so of two edges that have none in common, the second is higher at each x or at none
 pub same_side : (edge other : Edge) → AreClear edge other → (point its another its_too : RationalPoint) → AreLevel edge other point its → AreLevel edge other another its_too
     → IsLower point its → IsLower another its_too
-same_side edge other clear point its another its_too one two lower = by_order (le_or_lt (its_too.y *ℤ another.w) (another.y *ℤ its_too.w))
-  where
-    by_order : ((its_too.y *ℤ another.w) ≤ℤ (another.y *ℤ its_too.w)) ⊎ ((another.y *ℤ its_too.w) <ℤ (its_too.y *ℤ another.w)) → IsLower another its_too
-    by_order (inl falls) = absurd (crosses edge other point its another its_too one two lower falls clear)
-    by_order (inr rises) = rises
+same_side edge other clear point its another its_too one two lower =
+    elim (le_or_lt (its_too.y *ℤ another.w) (another.y *ℤ its_too.w)) [ inl falls ↦ absurd (crosses edge other point its another its_too one two lower falls clear) | inr rises ↦ rises ]

@@ -35,12 +35,10 @@ opposite_by_sides x y a b a_is b_is a_off b_off differ = by_case a b (int_ranked
     by_case : (r s : Ordering) → MatchOrdering r (x <ℤ pos 0) (x ≡ pos 0) (pos 0 <ℤ x) → MatchOrdering s (y <ℤ pos 0) (y ≡ pos 0) (pos 0 <ℤ y)
         → is_eq r ≡ false → is_eq s ≡ false → ¬ ((r ≡ s) × ¬ (r ≡ Equal)) → AreOpposite x y
     by_case Less Less x_is y_is r_off s_off differ = absurd (differ (refl, λ same. cc))
-    by_case Less Equal x_is y_is r_off s_off differ = absurd (cc)
     by_case Less Greater x_is y_is r_off s_off differ = inr (x_is, y_is)
-    by_case Equal s x_is y_is r_off s_off differ = absurd (cc)
     by_case Greater Less x_is y_is r_off s_off differ = inl (x_is, y_is)
-    by_case Greater Equal x_is y_is r_off s_off differ = absurd (cc)
     by_case Greater Greater x_is y_is r_off s_off differ = absurd (differ (refl, λ same. cc))
+    by_case r s x_is y_is r_off s_off differ = absurd (cc)
 
 -- ---- ends that are common points
 
@@ -82,20 +80,17 @@ no_end_beside shared first second opposite other = record {
 }
   where
     beside : (x y : ℤ) → AreOpposite x y → ¬ (x ≡ pos 0)
-    beside x y (inl over) zero = omega (arith, zs)
-    beside x y (inr under) zero = omega (arith, zs)
+    beside x y opposite zero = omega (arith, zs)
 
     beside_too : (x y : ℤ) → AreOpposite x y → ¬ (y ≡ pos 0)
-    beside_too x y (inl over) zero = omega (arith, zs)
-    beside_too x y (inr under) zero = omega (arith, zs)
+    beside_too x y opposite zero = omega (arith, zs)
 
 -- edges that cross aren't parallel
 not_parallel : (first second : Edge) → AreOpposite (side second first.a) (side second first.b) → ¬ (cross_product first second ≡ pos 0)
 not_parallel first second opposite parallel = apart (side second first.a) (side second first.b) (cross_product first second) opposite (cross_by_sides first second) parallel
   where
     apart : (x y cross : ℤ) → AreOpposite x y → cross ≡ x -ℤ y → ¬ (cross ≡ pos 0)
-    apart x y cross (inl over) difference zero = omega (arith, zs)
-    apart x y cross (inr under) difference zero = omega (arith, zs)
+    apart x y cross opposite difference zero = omega (arith, zs)
 
 -- no point is common where the crossing is the shared vertex
 pub none_by_shared : (shared : Option Position) (first second : Edge) (point : RationalPoint) → AreOpposite (side second first.a) (side second first.b)

@@ -3,12 +3,11 @@
 -- No tactic proves an inequality that isn't linear. What stands in is `omega (arith, zs, facts)`:
 -- it decides linear inequalities over ℤ, where each product is an unknown by itself, and the facts say
 -- what is needed of the products. They are
---   - an identity by `ring`, which multiplies out, or joins products that are written differently;
+--   - an identity by `identity`, which multiplies out, or joins products that are written differently;
 --   - signs and orders of products, by the lemmas below, as `mul_nonneg h k`, `mono_lt h k`;
 --   - an equation times a factor, as `ap (λ (z : ℤ). w *ℤ z) same`.
 -- For example, x + x - 1 ≤ x * x, as the square of x - 1 isn't negative:
---     let X = unknown 0 in
---     let all = ring (x ∷ []) ((X ⊖ constant (pos 1)) ⊗ (X ⊖ constant (pos 1))) (X ⊗ X ⊖ (X ⊕ X) ⊕ constant (pos 1)) tt in
+--     let all = identity (x ∷ []) (λ X. ((X ⊖ once) ⊗ (X ⊖ once), X ⊗ X ⊖ (X ⊕ X) ⊕ once)) tt in
 --     omega (arith, zs, square_nonneg (x -ℤ pos 1))
 -- Hypotheses in scope and what a `let` binds are read, and needn't be listed; a lemma is listed with
 -- its arguments. Products must be spelled alike to be one unknown: `c *ℤ (a -ℤ b)`, `c *ℤ a` and
@@ -22,11 +21,11 @@
 -- A factor is dropped by `cancel_..`, and the sign of one is told by `factor_..`: these take the
 -- numbers, factor first. The others find them in their hypotheses.
 -- An operator is put in parentheses beside `≤ℤ` and `<ℤ`, which bind closer.
-use Rattle.std.proofs.Common.{◌≡◌, ◌*◌, ◌<◌, ◌⊎◌, inl, inr, [], ◌∷◌, ℤ, pos, negsuc, ◌+ℤ◌, ◌-ℤ◌, ◌*ℤ◌, neg_ℤ, ◌≤ℤ◌, ◌<ℤ◌, sym, ◌∙◌, ap, mul-pos, arith}
+use Rattle.std.proofs.Common.{◌≡◌, ◌*◌, ◌<◌, ◌⊎◌, inl, inr, [], ◌∷◌, ℤ, pos, ◌+ℤ◌, ◌-ℤ◌, ◌*ℤ◌, neg_ℤ, ◌≤ℤ◌, ◌<ℤ◌, sym, ◌∙◌, ap, mul-pos, arith}
 use Rattle.std.proofs.Math.IntN.{ℤ_discrete, *ℤ_comm, *ℤ-zero}
 use Rattle.std.proofs.lemmas.Int.{by_lt_z}
 use borrow.Author.Differences.{same_out, same_in, Apart-out, lt_out, le_out, below_in, at_most_in, sum_is_lem, neg_is}
-use Rattle.mvt_plane.proofs.Polynomials.{unknown, constant, negated, ◌⊕◌, ◌⊖◌, ◌⊗◌, ring}
+use Rattle.mvt_plane.proofs.Polynomials.{constant, negated, ◌⊕◌, ◌⊖◌, ◌⊗◌, identity}
 
 -- for `omega (arith, zs, ..)`: sums, negations, equations and orders, with each product as an unknown
 pub ruleset zs = (same_out, same_in, Apart-out, lt_out, le_out, below_in, at_most_in, sum_is_lem, neg_is)
@@ -53,23 +52,31 @@ same_or_apart a b = ℤ_discrete a b
 pub is_zero : (a : ℤ) → Dec (a ≡ pos 0)
 is_zero a = ℤ_discrete a (pos 0)
 
+-- an order of two numbers is decided
+pub le_decide : (a b : ℤ) → Dec (a ≤ℤ b)
+le_decide a b = by_lt_z b a (λ back. no (λ order. omega (arith, zs))) yes
+
+-- so is a strict one
+pub lt_decide : (a b : ℤ) → Dec (a <ℤ b)
+lt_decide a b = by_lt_z a b yes (λ back. no (λ order. omega (arith, zs)))
+
 -- ---- products over sums and negations
 
 -- the sign comes out of the first factor
 pub neg-mul_ℤ : (a b : ℤ) → neg_ℤ a *ℤ b ≡ neg_ℤ (a *ℤ b)
-neg-mul_ℤ a b = ring (a ∷ b ∷ []) (negated (unknown 0) ⊗ unknown 1) (negated (unknown 0 ⊗ unknown 1)) tt
+neg-mul_ℤ a b = identity (a ∷ b ∷ []) (λ A B. (negated A ⊗ B, negated (A ⊗ B))) tt
 
 -- and of the second
 pub mul-neg_ℤ : (a b : ℤ) → a *ℤ neg_ℤ b ≡ neg_ℤ (a *ℤ b)
-mul-neg_ℤ a b = ring (a ∷ b ∷ []) (unknown 0 ⊗ negated (unknown 1)) (negated (unknown 0 ⊗ unknown 1)) tt
+mul-neg_ℤ a b = identity (a ∷ b ∷ []) (λ A B. (A ⊗ negated B, negated (A ⊗ B))) tt
 
 -- a factor goes into a difference
 pub mul-sub_ℤ : (a b c : ℤ) → a *ℤ (b -ℤ c) ≡ a *ℤ b -ℤ a *ℤ c
-mul-sub_ℤ a b c = ring (a ∷ b ∷ c ∷ []) (unknown 0 ⊗ (unknown 1 ⊖ unknown 2)) (unknown 0 ⊗ unknown 1 ⊖ unknown 0 ⊗ unknown 2) tt
+mul-sub_ℤ a b c = identity (a ∷ b ∷ c ∷ []) (λ A B C. (A ⊗ (B ⊖ C), A ⊗ B ⊖ A ⊗ C)) tt
 
 -- so does one behind it
 pub sub-mul_ℤ : (a b c : ℤ) → (a -ℤ b) *ℤ c ≡ a *ℤ c -ℤ b *ℤ c
-sub-mul_ℤ a b c = ring (a ∷ b ∷ c ∷ []) ((unknown 0 ⊖ unknown 1) ⊗ unknown 2) (unknown 0 ⊗ unknown 2 ⊖ unknown 1 ⊗ unknown 2) tt
+sub-mul_ℤ a b c = identity (a ∷ b ∷ c ∷ []) (λ A B C. ((A ⊖ B) ⊗ C, A ⊗ C ⊖ B ⊗ C)) tt
 
 -- ---- the sign of a product
 
@@ -78,14 +85,12 @@ pos_product : (a b : ℤ) → pos 0 <ℤ a → pos 0 <ℤ b → pos 0 <ℤ (a *�
 pos_product (pos m) (pos n) left right =
     let product : 0 < m * n = mul-pos (omega (arith, zs)) (omega (arith, zs)) in
     omega (arith, zs)
-pos_product (pos m) (negsuc n) left right = absurd (omega (arith, zs))
-pos_product (negsuc m) b left right = absurd (omega (arith, zs))
+pos_product a b left right = absurd (omega (arith, zs))
 
 -- the same, where one may be 0
 nonneg_product : (a b : ℤ) → pos 0 ≤ℤ a → pos 0 ≤ℤ b → pos 0 ≤ℤ (a *ℤ b)
 nonneg_product (pos m) (pos n) left right = omega (arith, zs)
-nonneg_product (pos m) (negsuc n) left right = absurd (omega (arith, zs))
-nonneg_product (negsuc m) b left right = absurd (omega (arith, zs))
+nonneg_product a b left right = absurd (omega (arith, zs))
 
 -- positive times positive
 pub mul_pos : {a b : ℤ} → pos 0 <ℤ a → pos 0 <ℤ b → pos 0 <ℤ (a *ℤ b)
@@ -169,11 +174,7 @@ product_zero a b none =
 
 -- so the other factor of a product that is 0 is 0
 pub cancel_zero : (c a : ℤ) → ¬ (c ≡ pos 0) → c *ℤ a ≡ pos 0 → a ≡ pos 0
-cancel_zero c a apart none = pick (product_zero c a none)
-  where
-    pick : (c ≡ pos 0) ⊎ (a ≡ pos 0) → a ≡ pos 0
-    pick (inl zero_factor) = absurd (apart zero_factor)
-    pick (inr other) = other
+cancel_zero c a apart none = elim (product_zero c a none) [ inl zero_factor ↦ absurd (apart zero_factor) | inr other ↦ other ]
 
 -- a factor other than 0, of an equation
 pub cancel_apart : (c a b : ℤ) → ¬ (c ≡ pos 0) → c *ℤ a ≡ c *ℤ b → a ≡ b
@@ -210,17 +211,13 @@ antisym_ℤ order back = omega (arith, zs)
 -- of two numbers between -m and m, and -n and n
 pub product_within : {m n a b : ℤ} → neg_ℤ m ≤ℤ a → a ≤ℤ m → neg_ℤ n ≤ℤ b → b ≤ℤ n → (neg_ℤ (m *ℤ n) ≤ℤ (a *ℤ b)) × ((a *ℤ b) ≤ℤ (m *ℤ n))
 product_within {m} {n} {a} {b} left_low left_high right_low right_high =
-    let M = unknown 0 in
-    let N = unknown 1 in
-    let A = unknown 2 in
-    let B = unknown 3 in
     let over : pos 0 ≤ℤ (m +ℤ a) = omega (arith, zs) in
     let under : pos 0 ≤ℤ (m -ℤ a) = omega (arith, zs) in
     let above : pos 0 ≤ℤ (n +ℤ b) = omega (arith, zs) in
     let below : pos 0 ≤ℤ (n -ℤ b) = omega (arith, zs) in
     let all = m ∷ n ∷ a ∷ b ∷ [] in
-    let highest = ring all ((M ⊕ A) ⊗ (N ⊖ B) ⊕ (M ⊖ A) ⊗ (N ⊕ B)) (constant (pos 2) ⊗ (M ⊗ N ⊖ A ⊗ B)) tt in
-    let lowest = ring all ((M ⊕ A) ⊗ (N ⊕ B) ⊕ (M ⊖ A) ⊗ (N ⊖ B)) (constant (pos 2) ⊗ (M ⊗ N ⊕ A ⊗ B)) tt in
+    let highest = identity all (λ M N A B. ((M ⊕ A) ⊗ (N ⊖ B) ⊕ (M ⊖ A) ⊗ (N ⊕ B), constant (pos 2) ⊗ (M ⊗ N ⊖ A ⊗ B))) tt in
+    let lowest = identity all (λ M N A B. ((M ⊕ A) ⊗ (N ⊕ B) ⊕ (M ⊖ A) ⊗ (N ⊖ B), constant (pos 2) ⊗ (M ⊗ N ⊕ A ⊗ B))) tt in
     let high = factor_nonneg (pos 2) (m *ℤ n -ℤ a *ℤ b) (omega (arith, zs)) (omega (arith, zs, highest, mul_nonneg over below, mul_nonneg under above)) in
     let low = factor_nonneg (pos 2) (m *ℤ n +ℤ a *ℤ b) (omega (arith, zs)) (omega (arith, zs, lowest, mul_nonneg over above, mul_nonneg under below)) in
     (omega (arith, zs), omega (arith, zs))

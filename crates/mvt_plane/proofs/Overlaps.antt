@@ -1,5 +1,5 @@
 -- Parallel edges with a common point: one of the four ends is a common point
-use Rattle.std.proofs.Common.{◌≡◌, ◌⊎◌, inl, inr, [], ◌∷◌, Option, Some, None, ℤ, pos, ◌-ℤ◌, ◌*ℤ◌, ◌≤ℤ◌, ◌<ℤ◌, refl, sym, ◌∙◌, ap, subst, arith}
+use Rattle.std.proofs.Common.{◌≡◌, ◌⊎◌, inl, inr, [], ◌∷◌, Option, Some, None, ℤ, pos, ◌-ℤ◌, ◌*ℤ◌, ◌≤ℤ◌, refl, sym, ◌∙◌, ap, subst, arith}
 use Rattle.std.proofs.Math.IntN.{*ℤ_comm, *ℤ-zero}
 use Rattle.std.proofs.lemmas.Option.{none-some, same_Some}
 use Rattle.mvt_plane.specs.CommonPoint.{IsCommon, NoEndIsCommon, cross_product}
@@ -9,9 +9,9 @@ use Rattle.mvt_plane.specs.declared.edge.Edge.{Edge}
 use Rattle.mvt_plane.proofs.CommonPoints.{IsSharedVertex, shared_or_common}
 use Rattle.mvt_plane.proofs.Lines.{between_follows, turned_line, position_on_line, same_height}
 use Rattle.mvt_plane.proofs.Order.{zs, le_or_lt, is_zero, cancel_le, cancel_zero}
-use Rattle.mvt_plane.proofs.Polynomials.{unknown, constant, negated, ◌⊖◌, ◌⊗◌, given, ring_from}
+use Rattle.mvt_plane.proofs.Polynomials.{constant, negated, once, ◌⊖◌, ◌⊗◌, consequence, given}
 use Rattle.mvt_plane.proofs.RationalPoints.{IsSame, same_back, same_point, is_at_same, is_common_same, lies_on_reversed, reversed, begin_lies_on, end_lies_on, times_one, both_decide}
-use Rattle.mvt_plane.proofs.Weights.{flip_lies}
+use Rattle.mvt_plane.proofs.Weights.{flipped, flipped_edge, flipped_point, flip_lies}
 
 -- ---- parallel edges
 
@@ -25,29 +25,15 @@ rise edge = edge.b.y -ℤ edge.a.y
 
 -- edges are parallel in either order
 parallel_swapped : (first second : Edge) → cross_product first second ≡ pos 0 → cross_product second first ≡ pos 0
-parallel_swapped first second parallel = turned (run first) (rise first) (run second) (rise second) parallel
-  where
-    turned : (u v p q : ℤ) → u *ℤ q -ℤ v *ℤ p ≡ pos 0 → p *ℤ v -ℤ q *ℤ u ≡ pos 0
-    turned u v p q none =
-        let U = unknown 0 in
-        let V = unknown 1 in
-        let P = unknown 2 in
-        let Q = unknown 3 in
-        ring_from (u ∷ v ∷ p ∷ q ∷ []) (P ⊗ V ⊖ Q ⊗ U) (constant (pos 0)) (given (negated (constant (pos 1))) (U ⊗ Q ⊖ V ⊗ P) (constant (pos 0)) ∷ []) (none, tt) tt
+parallel_swapped first second parallel =
+    consequence (run first ∷ rise first ∷ run second ∷ rise second ∷ [])
+    (λ U V P Q. (P ⊗ V ⊖ Q ⊗ U, constant (pos 0), given (negated once) (U ⊗ Q ⊖ V ⊗ P) (constant (pos 0)) ∷ [])) (parallel, tt) tt
 
 -- and in either direction
 parallel_reversed : (first second : Edge) → cross_product first second ≡ pos 0 → cross_product (reversed first) second ≡ pos 0
-parallel_reversed first second parallel = turned first.a.x first.b.x first.a.y first.b.y (run second) (rise second) parallel
-  where
-    turned : (a b c d p q : ℤ) → (b -ℤ a) *ℤ q -ℤ (d -ℤ c) *ℤ p ≡ pos 0 → (a -ℤ b) *ℤ q -ℤ (c -ℤ d) *ℤ p ≡ pos 0
-    turned a b c d p q none =
-        let A = unknown 0 in
-        let B = unknown 1 in
-        let C = unknown 2 in
-        let D = unknown 3 in
-        let P = unknown 4 in
-        let Q = unknown 5 in
-        ring_from (a ∷ b ∷ c ∷ d ∷ p ∷ q ∷ []) ((A ⊖ B) ⊗ Q ⊖ (C ⊖ D) ⊗ P) (constant (pos 0)) (given (negated (constant (pos 1))) ((B ⊖ A) ⊗ Q ⊖ (D ⊖ C) ⊗ P) (constant (pos 0)) ∷ []) (none, tt) tt
+parallel_reversed first second parallel =
+    consequence (first.a.x ∷ first.b.x ∷ first.a.y ∷ first.b.y ∷ run second ∷ rise second ∷ [])
+    (λ A B C D P Q. ((A ⊖ B) ⊗ Q ⊖ (C ⊖ D) ⊗ P, constant (pos 0), given (negated once) ((B ⊖ A) ⊗ Q ⊖ (D ⊖ C) ⊗ P) (constant (pos 0)) ∷ [])) (parallel, tt) tt
 
 -- an edge that isn't vertical is none the other way round either
 run_reversed : (edge : Edge) → ¬ (run edge ≡ pos 0) → ¬ (run (reversed edge) ≡ pos 0)
@@ -82,7 +68,7 @@ end_on_line first second point apart parallel on_first on_second position end =
     of_end (IsOnLine second) first position at_a at_b end
 
 -- a position on the line of an edge that isn't vertical, and between its ends in x, lies on it
-lies_on_flat : (edge : Edge) (position : Position) → ¬ (run edge ≡ pos 0) → IsOnLine edge position → IsBetween (edge.a.x *ℤ pos 1) (edge.b.x *ℤ pos 1) position.x → LiesOn (whole position) edge
+pub lies_on_flat : (edge : Edge) (position : Position) → ¬ (run edge ≡ pos 0) → IsOnLine edge position → IsBetween (edge.a.x *ℤ pos 1) (edge.b.x *ℤ pos 1) position.x → LiesOn (whole position) edge
 lies_on_flat edge position apart on_line between =
     let positive : pos 1 ≤ℤ pos 1 = omega (arith, zs) in
     record {
@@ -93,7 +79,7 @@ lies_on_flat edge position apart on_line between =
     }
 
 -- an edge has its ends
-end_lies : (edge : Edge) (position : Position) → IsEnd edge position → LiesOn (whole position) edge
+pub end_lies : (edge : Edge) (position : Position) → IsEnd edge position → LiesOn (whole position) edge
 end_lies edge position end = of_end (λ p. LiesOn (whole p) edge) edge position (begin_lies_on edge) (end_lies_on edge) end
 
 -- ---- which end of an edge is on which side of a point
@@ -170,33 +156,29 @@ second_end_shared shared first second point overlap position end between =
 
 -- the shared vertex is an end that isn't right of the point
 left_end : (shared : Option Position) (first second : Edge) (point : RationalPoint) → Overlap shared first second point → Span first point → Span second point → (position : Position) × IsEndOfBoth shared first second position × ((position.x *ℤ point.w) ≤ℤ point.x)
-left_end shared first second point overlap one other = by_order (le_or_lt one.low.x other.low.x)
-  where
-    positive : pos 1 ≤ℤ point.w
-    positive = overlap.common.on_first.positive
-
-    by_order : (one.low.x ≤ℤ other.low.x) ⊎ (other.low.x <ℤ one.low.x) → (position : Position) × IsEndOfBoth shared first second position × ((position.x *ℤ point.w) ≤ℤ point.x)
-    by_order (inl order) =
-        let between = one.within other.low.x order (ordered point.w other.low.x one.high.x point.x positive other.below one.above) in
-        (other.low, second_end_shared shared first second point overlap other.low other.low_end between, other.below)
-    by_order (inr order) =
-        let between = other.within one.low.x (omega (arith, zs)) (ordered point.w one.low.x other.high.x point.x positive one.below other.above) in
-        (one.low, first_end_shared shared first second point overlap one.low one.low_end between, one.below)
+left_end shared first second point overlap one other =
+    let positive = overlap.common.on_first.positive in
+    elim (le_or_lt one.low.x other.low.x) [
+      | inl order ↦
+          let between = one.within other.low.x order (ordered point.w other.low.x one.high.x point.x positive other.below one.above) in
+          (other.low, second_end_shared shared first second point overlap other.low other.low_end between, other.below)
+      | inr order ↦
+          let between = other.within one.low.x (omega (arith, zs)) (ordered point.w one.low.x other.high.x point.x positive one.below other.above) in
+          (one.low, first_end_shared shared first second point overlap one.low one.low_end between, one.below)
+    ]
 
 -- and an end that isn't left of it
 right_end : (shared : Option Position) (first second : Edge) (point : RationalPoint) → Overlap shared first second point → Span first point → Span second point → (position : Position) × IsEndOfBoth shared first second position × (point.x ≤ℤ (position.x *ℤ point.w))
-right_end shared first second point overlap one other = by_order (le_or_lt one.high.x other.high.x)
-  where
-    positive : pos 1 ≤ℤ point.w
-    positive = overlap.common.on_first.positive
-
-    by_order : (one.high.x ≤ℤ other.high.x) ⊎ (other.high.x <ℤ one.high.x) → (position : Position) × IsEndOfBoth shared first second position × (point.x ≤ℤ (position.x *ℤ point.w))
-    by_order (inl order) =
-        let between = other.within one.high.x (ordered point.w other.low.x one.high.x point.x positive other.below one.above) order in
-        (one.high, first_end_shared shared first second point overlap one.high one.high_end between, one.above)
-    by_order (inr order) =
-        let between = one.within other.high.x (ordered point.w one.low.x other.high.x point.x positive one.below other.above) (omega (arith, zs)) in
-        (other.high, second_end_shared shared first second point overlap other.high other.high_end between, other.above)
+right_end shared first second point overlap one other =
+    let positive = overlap.common.on_first.positive in
+    elim (le_or_lt one.high.x other.high.x) [
+      | inl order ↦
+          let between = other.within one.high.x (ordered point.w other.low.x one.high.x point.x positive other.below one.above) order in
+          (one.high, first_end_shared shared first second point overlap one.high one.high_end between, one.above)
+      | inr order ↦
+          let between = one.within other.high.x (ordered point.w one.low.x other.high.x point.x positive one.below other.above) (omega (arith, zs)) in
+          (other.high, second_end_shared shared first second point overlap other.high other.high_end between, other.above)
+    ]
 
 -- so the point is the shared vertex, against what was said of it
 no_overlap : (shared : Option Position) (first second : Edge) (point : RationalPoint) → ¬ Overlap shared first second point
@@ -231,18 +213,6 @@ no_flat_overlap shared first second point parallel common none first_flat long =
         level u v p q upright none = let flat = ap (λ (z : ℤ). v *ℤ z) upright in omega (arith, zs, *ℤ-zero v)
 
 -- ---- x and y exchanged
-
--- a position with its coordinates exchanged
-abbrev flipped : Position → Position
-flipped position = record { x = position.y; y = position.x }
-
--- an edge, alike
-abbrev flipped_edge : Edge → Edge
-flipped_edge edge = record { a = flipped edge.a; b = flipped edge.b }
-
--- a rational point, alike
-abbrev flipped_point : RationalPoint → RationalPoint
-flipped_point point = record { x = point.y; y = point.x; w = point.w }
 
 -- the shared vertex, alike
 abbrev flipped_vertex : Option Position → Option Position
@@ -291,14 +261,7 @@ parallel_flipped first second parallel = turned (run first) (rise first) (run se
 
 -- a number between two that are the same is that one
 between_same_ends : (a b w x : ℤ) → b -ℤ a ≡ pos 0 → IsBetween (a *ℤ w) (b *ℤ w) x → x ≡ a *ℤ w
-between_same_ends a b w x none between = by_order between
-  where
-    same : a *ℤ w ≡ b *ℤ w
-    same = ap (λ (z : ℤ). z *ℤ w) (omega (arith, zs))
-
-    by_order : IsBetween (a *ℤ w) (b *ℤ w) x → x ≡ a *ℤ w
-    by_order (inl rising) = omega (arith, zs, same, rising.0, rising.1)
-    by_order (inr falling) = omega (arith, zs, same, falling.0, falling.1)
+between_same_ends a b w x none between = let same : a *ℤ w ≡ b *ℤ w = ap (λ (z : ℤ). z *ℤ w) (omega (arith, zs)) in omega (arith, zs, same, between)
 
 -- a point on an edge of no length is its beginning
 only_its_beginning : (point : RationalPoint) (edge : Edge) → run edge ≡ pos 0 → rise edge ≡ pos 0 → LiesOn point edge → IsSame point (whole edge.a)

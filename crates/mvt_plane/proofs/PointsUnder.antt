@@ -1,15 +1,17 @@
 -- Which edges pass over a rational point: as over a position, with the point's w.
 use Rattle.std.proofs.Common.{◌≡◌, ◌⊎◌, inl, inr, ◌↔◌, [], ◌∷◌, ℤ, pos, ◌-ℤ◌, ◌*ℤ◌, ◌≤ℤ◌, ◌<ℤ◌, arith}
 use Rattle.std.proofs.Math.Decide.{map_dec}
-use Rattle.mvt_plane.specs.Inside.{Differ, PassesOver, PassesOverPoint}
+use Rattle.std.proofs.Math.IntN.{*ℤ_comm}
+use Rattle.mvt_plane.specs.Inside.{PassesOver, PassesOverPoint}
 use Rattle.mvt_plane.specs.Position.{Position}
 use Rattle.mvt_plane.specs.RationalPoint.{RationalPoint, LiesOn, whole}
 use Rattle.mvt_plane.specs.declared.edge.Edge.{Edge}
 use Rattle.mvt_plane.proofs.EdgeParity.{differ_together}
-use Rattle.mvt_plane.proofs.InsideEdges.{differ_back}
+use Rattle.mvt_plane.proofs.InsideEdges.{differ_back, not_differ}
+use Rattle.mvt_plane.proofs.Lines.{through}
 use Rattle.mvt_plane.proofs.MixedPoints.{AreAtOneX, IsLower, across, across_at, across_lies}
-use Rattle.mvt_plane.proofs.Order.{zs, le_or_lt, mul_pos, mono_le_right, factor_pos}
-use Rattle.mvt_plane.proofs.Polynomials.{unknown, ◌⊖◌, ◌⊗◌, ring_from, given}
+use Rattle.mvt_plane.proofs.Order.{zs, le_or_lt, lt_decide, mul_pos, cancel_lt, factor_pos}
+use Rattle.mvt_plane.proofs.Polynomials.{◌⊖◌, ◌⊗◌, consequence, given}
 use Rattle.mvt_plane.proofs.RationalPoints.{begin_lies_on, end_lies_on, lies_on_reversed, times_one}
 
 -- ---- by sides
@@ -22,19 +24,12 @@ above edge p = (edge.b.y -ℤ edge.a.y) *ℤ (p.x -ℤ edge.a.x *ℤ p.w) -ℤ (
 above_by_point : (edge : Edge) (p high : RationalPoint) → LiesOn high edge → AreAtOneX high p
     → (edge.b.x -ℤ edge.a.x) *ℤ (high.y *ℤ p.w -ℤ p.y *ℤ high.w) ≡ high.w *ℤ above edge p
 above_by_point edge p high on_edge same_x =
-    let AX = unknown 0 in
-    let AY = unknown 1 in
-    let BX = unknown 2 in
-    let BY = unknown 3 in
-    let X = unknown 4 in
-    let Y = unknown 5 in
-    let W = unknown 6 in
-    let HX = unknown 7 in
-    let HY = unknown 8 in
-    let HW = unknown 9 in
-    ring_from (edge.a.x ∷ edge.a.y ∷ edge.b.x ∷ edge.b.y ∷ p.x ∷ p.y ∷ p.w ∷ high.x ∷ high.y ∷ high.w ∷ [])
-    ((BX ⊖ AX) ⊗ (HY ⊗ W ⊖ Y ⊗ HW)) (HW ⊗ ((BY ⊖ AY) ⊗ (X ⊖ AX ⊗ W) ⊖ (BX ⊖ AX) ⊗ (Y ⊖ AY ⊗ W)))
-    (given W ((BX ⊖ AX) ⊗ (HY ⊖ AY ⊗ HW)) ((BY ⊖ AY) ⊗ (HX ⊖ AX ⊗ HW)) ∷ given (BY ⊖ AY) (HX ⊗ W) (X ⊗ HW) ∷ []) (on_edge.on_line, (same_x, tt)) tt
+    consequence (edge.a.x ∷ edge.a.y ∷ edge.b.x ∷ edge.b.y ∷ p.x ∷ p.y ∷ p.w ∷ high.x ∷ high.y ∷ high.w ∷ [])
+    (λ AX AY BX BY X Y W HX HY HW. (
+      (BX ⊖ AX) ⊗ (HY ⊗ W ⊖ Y ⊗ HW),
+      HW ⊗ ((BY ⊖ AY) ⊗ (X ⊖ AX ⊗ W) ⊖ (BX ⊖ AX) ⊗ (Y ⊖ AY ⊗ W)),
+      through W (BX ⊖ AX) (BY ⊖ AY) AX AY HX HY HW ∷ given (BY ⊖ AY) (HX ⊗ W) (X ⊗ HW) ∷ [],
+    )) (on_edge.on_line, (same_x, tt)) tt
 
 -- of an edge that goes to the right, any two points at one x are alike
 lower_alike : (edge : Edge) (p high other : RationalPoint) → edge.a.x <ℤ edge.b.x → LiesOn high edge → AreAtOneX high p → LiesOn other edge → AreAtOneX other p
@@ -61,13 +56,7 @@ point_over a b p = across (whole a) (whole b) p
 
 -- where one number times w is less than another, it is less
 less_by_scaled : (a b w x : ℤ) → pos 1 ≤ℤ w → (a *ℤ w) ≤ℤ x → x <ℤ (b *ℤ w) → a <ℤ b
-less_by_scaled a b w x positive begun ended = by_order (le_or_lt b a)
-  where
-    by_order : (b ≤ℤ a) ⊎ (a <ℤ b) → a <ℤ b
-    by_order (inl back) =
-        let scale : pos 0 ≤ℤ w = omega (arith, zs) in
-        absurd (omega (arith, zs, mono_le_right back scale))
-    by_order (inr order) = order
+less_by_scaled a b w x positive begun ended = cancel_lt w a b (omega (arith, zs)) (omega (arith, zs, *ℤ_comm w a, *ℤ_comm w b))
 
 -- it is on the edge, where the edge goes to the right past that
 pub over_lies : (a b : Position) (p : RationalPoint) → pos 1 ≤ℤ p.w → (a.x *ℤ p.w) ≤ℤ p.x → p.x <ℤ (b.x *ℤ p.w) → LiesOn (point_over a b p) (record { a = a; b = b })
@@ -82,55 +71,30 @@ over_lies a b p positive begun ended =
 -- the edge passes over where that is higher
 pub passes_where_higher : (a b : Position) (p : RationalPoint) → pos 1 ≤ℤ p.w → (a.x *ℤ p.w) ≤ℤ p.x → p.x <ℤ (b.x *ℤ p.w)
     → IsLower p (point_over a b p) ↔ PassesOverPoint p (record { a = a; b = b })
-passes_where_higher a b p positive begun ended = (there, back)
-  where
-    there : IsLower p (point_over a b p) → PassesOverPoint p (record { a = a; b = b })
-    there lower = record {
-      parted = inl (begun, λ (ends : (b.x *ℤ p.w) ≤ℤ p.x). omega (arith, zs));
-      higher = point_over a b p;
-      on_edge = over_lies a b p positive begun ended;
-      same_x = across_at (whole a) (whole b) p;
-      greater_y = lower;
-    }
-
-    back : PassesOverPoint p (record { a = a; b = b }) → IsLower p (point_over a b p)
-    back passes =
-        lower_alike (record { a = a; b = b }) p passes.higher (point_over a b p) (less_by_scaled a.x b.x p.w p.x positive begun ended) passes.on_edge passes.same_x
-        (over_lies a b p positive begun ended) (across_at (whole a) (whole b) p) passes.greater_y
+passes_where_higher a b p positive begun ended =
+    let on_edge = over_lies a b p positive begun ended in
+    let at = across_at (whole a) (whole b) p in (
+      λ lower. record { parted = inl (begun, λ (ends : (b.x *ℤ p.w) ≤ℤ p.x). omega (arith, zs)); higher = point_over a b p; on_edge = on_edge; same_x = at; greater_y = lower },
+      λ passes. lower_alike (record { a = a; b = b }) p passes.higher (point_over a b p) (less_by_scaled a.x b.x p.w p.x positive begun ended) passes.on_edge passes.same_x
+          on_edge at passes.greater_y,
+    )
 
 -- and where its line is above
 pub passes_where_above : (a b : Position) (p : RationalPoint) → pos 1 ≤ℤ p.w → (a.x *ℤ p.w) ≤ℤ p.x → p.x <ℤ (b.x *ℤ p.w)
     → (pos 0 <ℤ above (record { a = a; b = b }) p) ↔ PassesOverPoint p (record { a = a; b = b })
-passes_where_above a b p positive begun ended = (λ up. tells.0 (there up), λ passes. back (tells.1 passes))
+passes_where_above a b p positive begun ended =
+    let edge : Edge = record { a = a; b = b } in
+    let on_edge = over_lies a b p positive begun ended in
+    let length : pos 0 <ℤ (b.x -ℤ a.x) = let order = less_by_scaled a.x b.x p.w p.x positive begun ended in omega (arith, zs) in
+    let signs = same_sign _ _ _ _ _ length on_edge.positive (above_by_point edge p (point_over a b p) on_edge (across_at (whole a) (whole b) p)) in
+    let tells = passes_where_higher a b p positive begun ended in
+    (λ up. tells.0 (signs.1 up), λ passes. signs.0 (tells.1 passes))
   where
-    tells : IsLower p (point_over a b p) ↔ PassesOverPoint p (record { a = a; b = b })
-    tells = passes_where_higher a b p positive begun ended
-
-    on_edge : LiesOn (point_over a b p) (record { a = a; b = b })
-    on_edge = over_lies a b p positive begun ended
-
-    same : (b.x -ℤ a.x) *ℤ ((point_over a b p).y *ℤ p.w -ℤ p.y *ℤ (point_over a b p).w) ≡ (point_over a b p).w *ℤ above (record { a = a; b = b }) p
-    same = above_by_point (record { a = a; b = b }) p (point_over a b p) on_edge (across_at (whole a) (whole b) p)
-
-    length : pos 0 <ℤ (b.x -ℤ a.x)
-    length = let order = less_by_scaled a.x b.x p.w p.x positive begun ended in omega (arith, zs)
-
-    there : pos 0 <ℤ above (record { a = a; b = b }) p → IsLower p (point_over a b p)
-    there up = by_scale (b.x -ℤ a.x) _ _ (point_over a b p).w _ length on_edge.positive same up
-      where
-        by_scale : (far high low w z : ℤ) → pos 0 <ℤ far → pos 1 ≤ℤ w → far *ℤ (high -ℤ low) ≡ w *ℤ z → pos 0 <ℤ z → low <ℤ high
-        by_scale far high low w z far_sign w_sign same sign =
-            let product = mul_pos {a = w} {b = z} (omega (arith, zs)) sign in
-            let rise = factor_pos far (high -ℤ low) (omega (arith, zs)) (omega (arith, zs)) in
-            omega (arith, zs)
-
-    back : IsLower p (point_over a b p) → pos 0 <ℤ above (record { a = a; b = b }) p
-    back lower = by_scale (b.x -ℤ a.x) _ _ (point_over a b p).w _ length on_edge.positive same lower
-      where
-        by_scale : (far high low w z : ℤ) → pos 0 <ℤ far → pos 1 ≤ℤ w → far *ℤ (high -ℤ low) ≡ w *ℤ z → low <ℤ high → pos 0 <ℤ z
-        by_scale far high low w z far_sign w_sign same order =
-            let product = mul_pos {a = far} {b = high -ℤ low} far_sign (omega (arith, zs)) in
-            factor_pos w z (omega (arith, zs)) (omega (arith, zs))
+    same_sign : (far high low w z : ℤ) → pos 0 <ℤ far → pos 1 ≤ℤ w → far *ℤ (high -ℤ low) ≡ w *ℤ z → (low <ℤ high) ↔ (pos 0 <ℤ z)
+    same_sign far high low w z far_sign w_sign same = (
+      λ order. let product = mul_pos {a = far} {b = high -ℤ low} far_sign (omega (arith, zs)) in factor_pos w z (omega (arith, zs)) (omega (arith, zs)),
+      λ sign. let product = mul_pos {a = w} {b = z} (omega (arith, zs)) sign in let rise = factor_pos far (high -ℤ low) (omega (arith, zs)) (omega (arith, zs)) in omega (arith, zs),
+    )
 
 -- ---- the edge that goes back
 
@@ -146,21 +110,9 @@ passes_reversed a b p passes = record {
 
 -- ---- it is decided
 
--- an order of two numbers is
-pub lt_decide : (a b : ℤ) → Dec (a <ℤ b)
-lt_decide a b = either (le_or_lt b a)
-  where
-    either : (b ≤ℤ a) ⊎ (a <ℤ b) → Dec (a <ℤ b)
-    either (inl back) = no (λ order. omega (arith, zs))
-    either (inr order) = yes order
-
 -- an edge with both ends on one side doesn't pass over
 pub none_passes : (a b : Position) (p : RationalPoint) → ((a.x *ℤ p.w) ≤ℤ p.x) ↔ ((b.x *ℤ p.w) ≤ℤ p.x) → ¬ PassesOverPoint p (record { a = a; b = b })
-none_passes a b p together passes = refuse passes.parted
-  where
-    refuse : Differ ((a.x *ℤ p.w) ≤ℤ p.x) ((b.x *ℤ p.w) ≤ℤ p.x) → ⊥
-    refuse (inl (begins, not_ends)) = not_ends (together.0 begins)
-    refuse (inr (not_begins, ends)) = not_begins (together.1 ends)
+none_passes a b p together passes = not_differ together passes.parted
 
 -- whether an edge passes over a rational point
 pub passes_decide : (p : RationalPoint) → pos 1 ≤ℤ p.w → (edge : Edge) → Dec (PassesOverPoint p edge)

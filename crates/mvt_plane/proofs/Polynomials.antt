@@ -1,19 +1,17 @@
 -- A solver for identities of whole numbers, by computation
 --
--- `ring` proves that two polynomials have the same value: the checker multiplies both out, and
--- compares the coefficients. The two sides are quoted by hand, as values of `Polynomial`:
---     unknown i       the i-th of the listed unknowns, from 0 on
+-- `identity` proves that two polynomials have the same value: the checker multiplies both out, and
+-- compares the coefficients. The two sides are quoted by hand, as values of `Polynomial`, over a
+-- name for each of the listed unknowns:
 --     constant c      a whole number c, as `constant (pos 2)`, `constant (negsuc 0)` (this is -1)
 --     p ⊕ q, p ⊖ q, p ⊗ q, negated p       for `+ℤ`, `-ℤ`, `*ℤ` and `neg_ℤ`
 -- As in the identity, ⊗ binds closer than ⊕ and ⊖, and all of them join from the left. For example
 --     squares : (x y : ℤ) → (x +ℤ y) *ℤ (x -ℤ y) ≡ x *ℤ x -ℤ y *ℤ y
---     squares x y =
---         let X = unknown 0 in
---         let Y = unknown 1 in
---         ring (x ∷ y ∷ []) ((X ⊕ Y) ⊗ (X ⊖ Y)) (X ⊗ X ⊖ Y ⊗ Y) tt
+--     squares x y = identity (x ∷ y ∷ []) (λ X Y. ((X ⊕ Y) ⊗ (X ⊖ Y), X ⊗ X ⊖ Y ⊗ Y)) tt
 -- The last argument is `tt` where the identity holds. A false one is refused there: "expected type
 -- `⊥`, but this has type `Unit`". A wrong quotation is refused as a whole: the two types differ,
--- at the place that the message names.
+-- at the place that the message names. `ring` is the same with `unknown i` for the i-th of the
+-- unknowns, from 0 on, in the place of names.
 --
 -- An unknown is any term: `a.x`, `pos n` at a variable n, a product that is to stay whole. Sums and
 -- products of natural numbers go too, as `pos (m + n)` computes to `pos m +ℤ pos n`. A quotation
@@ -22,7 +20,7 @@
 -- polynomials:
 --     abbrev crossed : Polynomial → Polynomial → Polynomial → Polynomial → Polynomial
 --     crossed a b c d = a ⊗ d ⊖ b ⊗ c
--- Under `let same = ring .. in` the identity needs no type, and `omega (arith, zs)` reads it.
+-- Under `let same = identity .. in` the identity needs no type, and `omega (arith, zs)` reads it.
 --
 -- A coefficient is a closed number, which computes: `pos 7`, `neg_ℤ (pos 5)`, `pos (2 ^ 32)`.
 --
@@ -30,10 +28,10 @@
 -- natural numbers, and orders: for those prove an identity, and go on by Order.antt. Cost is no
 -- concern: twelve unknowns in degree six, with such coefficients, take less than a second.
 --
--- What holds under equations is proved by `ring_from`: each is listed, as `given factor p q` for
--- value p ≡ value q, and the checker sees that the difference of the goal's sides is the sum of the
--- differences p ⊖ q times their factors. Their proofs stand in nested pairs, `(first, (second,
--- tt))`. `cramer_first` at the end of this file is an example. The factors are yours to find.
+-- What holds under equations is proved by `consequence`: behind the two sides each is listed, as
+-- `given factor p q` for value p ≡ value q, and the checker sees that the difference of the goal's
+-- sides is the sum of the differences p ⊖ q times their factors. Their proofs stand in nested pairs,
+-- `(first, (second, tt))`. The factors are yours to find. `ring_from` is the same without names.
 --
 -- How it works: a polynomial in n + 1 unknowns is a list of polynomials in n unknowns, the
 -- coefficients of the powers of the first unknown from the zeroth on, and one in no unknown is a
@@ -229,10 +227,10 @@ constant_is (x ∷ unknowns) c = ap₂ (λ (m n : ℤ). m +ℤ n) (constant_is u
 unknown_is : (unknowns : List ℤ) (i : ℕ) → value_of unknowns (unknown_of (length unknowns) i) ≡ at_place unknowns i
 unknown_is [] i = refl
 unknown_is (x ∷ unknowns) zero =
-    ap₂ (λ (m n : ℤ). m +ℤ x *ℤ (n +ℤ x *ℤ pos 0)) (nothing_is unknowns) (constant_is unknowns (pos 1)) ∙ once x
+    ap₂ (λ (m n : ℤ). m +ℤ x *ℤ (n +ℤ x *ℤ pos 0)) (nothing_is unknowns) (constant_is unknowns (pos 1)) ∙ single x
   where
-    once : (x : ℤ) → pos 0 +ℤ x *ℤ (pos 1 +ℤ x *ℤ pos 0) ≡ x
-    once x = ap (λ (n : ℤ). pos 0 +ℤ x *ℤ (pos 1 +ℤ n)) (*ℤ-zero x) ∙ omega (arith, ints)
+    single : (x : ℤ) → pos 0 +ℤ x *ℤ (pos 1 +ℤ x *ℤ pos 0) ≡ x
+    single x = ap (λ (n : ℤ). pos 0 +ℤ x *ℤ (pos 1 +ℤ n)) (*ℤ-zero x) ∙ omega (arith, ints)
 unknown_is (x ∷ unknowns) (suc i) = ap₂ (λ (m n : ℤ). m +ℤ n) (unknown_is unknowns i) (*ℤ-zero x) ∙ +ℤ_idr _
 
 -- the value of a sum
@@ -352,4 +350,29 @@ combined_none unknowns (given factor p q ∷ more) hold =
 pub ring_from : (unknowns : List ℤ) (p q : Polynomial) (all : List Given) → AllHold unknowns all → AreSame (length unknowns) (p ⊖ q) (combined all) → value unknowns p ≡ value unknowns q
 ring_from unknowns p q all hold same = no_difference _ _ (ring unknowns (p ⊖ q) (combined all) same ∙ combined_none unknowns all hold)
 
--- ---- examples
+-- ---- the unknowns by names
+
+-- what is told of so many polynomials
+abbrev pub Over : ℕ → Type 0 → Type 0
+Over zero A = A
+Over (suc n) A = Polynomial → Over n A
+
+-- told of the unknowns from the i-th on
+abbrev pub told : (A : Type 0) (n i : ℕ) → Over n A → A
+told A zero i it = it
+told A (suc n) i of = told A n (suc i) (of (unknown i))
+
+-- the factor 1
+abbrev pub once : Polynomial
+once = constant (pos 1)
+
+-- an identity, of its two sides
+pub identity : (unknowns : List ℤ) (sides : Over (length unknowns) (Polynomial × Polynomial)) → AreSame (length unknowns) (told _ (length unknowns) 0 sides).0 (told _ (length unknowns) 0 sides).1
+    → value unknowns (told _ (length unknowns) 0 sides).0 ≡ value unknowns (told _ (length unknowns) 0 sides).1
+identity unknowns sides same = ring unknowns _ _ same
+
+-- an equation, of its two sides and the equations that it follows from
+pub consequence : (unknowns : List ℤ) (claim : Over (length unknowns) (Polynomial × Polynomial × List Given)) → AllHold unknowns (told _ (length unknowns) 0 claim).2
+    → AreSame (length unknowns) ((told _ (length unknowns) 0 claim).0 ⊖ (told _ (length unknowns) 0 claim).1) (combined (told _ (length unknowns) 0 claim).2)
+    → value unknowns (told _ (length unknowns) 0 claim).0 ≡ value unknowns (told _ (length unknowns) 0 claim).1
+consequence unknowns claim hold same = ring_from unknowns _ _ _ hold same

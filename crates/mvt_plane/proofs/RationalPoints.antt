@@ -1,13 +1,13 @@
 -- Rational points on edges: many triples of numbers stand for one point, and an edge is the same from either end
-use Rattle.std.proofs.Common.{◌≡◌, ◌↔◌, ◌⊎◌, inl, inr, [], ◌∷◌, Option, ℤ, pos, ◌-ℤ◌, ◌*ℤ◌, ◌≤ℤ◌, ◌<ℤ◌, sym, ◌∙◌, ap, arith}
+use Rattle.std.proofs.Common.{◌≡◌, ◌↔◌, ◌⊎◌, inl, inr, [], ◌∷◌, Option, ℤ, pos, ◌-ℤ◌, ◌*ℤ◌, ◌≤ℤ◌, sym, ◌∙◌, ap, arith}
 use Rattle.std.proofs.Math.Decide.{map_dec}
 use Rattle.mvt_plane.specs.CommonPoint.{IsCommon}
 use Rattle.mvt_plane.specs.Position.{Position}
 use Rattle.mvt_plane.specs.RationalPoint.{RationalPoint, LiesOn, IsAt, IsBetween, whole}
 use Rattle.mvt_plane.specs.declared.edge.Edge.{Edge}
 use Rattle.mvt_plane.proofs.Lines.{between_same, line_same, between_back, line_back}
-use Rattle.mvt_plane.proofs.Order.{zs, le_or_lt, same_or_apart, mul_pos, cancel_eq}
-use Rattle.mvt_plane.proofs.Polynomials.{unknown, constant, negated, ◌⊖◌, ◌⊗◌, ring, given, ring_from}
+use Rattle.mvt_plane.proofs.Order.{zs, le_or_lt, le_decide, same_or_apart, mul_pos, cancel_eq}
+use Rattle.mvt_plane.proofs.Polynomials.{negated, once, ◌⊖◌, ◌⊗◌, identity, consequence, given}
 
 -- ---- triples of one rational point
 
@@ -26,10 +26,9 @@ multiple factor point = record { x = factor *ℤ point.x; y = factor *ℤ point.
 
 -- a multiple stands for the same point
 pub same_multiple : (factor : ℤ) (point : RationalPoint) → IsSame point (multiple factor point)
-same_multiple factor point = record { x = moved factor point.x point.w; y = moved factor point.y point.w }
-  where
-    moved : (k x w : ℤ) → x *ℤ (k *ℤ w) ≡ (k *ℤ x) *ℤ w
-    moved k x w = ring (k ∷ x ∷ w ∷ []) (unknown 1 ⊗ (unknown 0 ⊗ unknown 2)) ((unknown 0 ⊗ unknown 1) ⊗ unknown 2) tt
+same_multiple factor point =
+    let moved = λ (z : ℤ). identity (factor ∷ z ∷ point.w ∷ []) (λ K Z W. (Z ⊗ (K ⊗ W), (K ⊗ Z) ⊗ W)) tt in
+    record { x = moved point.x; y = moved point.y }
 
 -- so lying on an edge passes from one triple to another
 pub lies_on_same : (point other : RationalPoint) (edge : Edge) → IsSame point other → pos 1 ≤ℤ other.w → LiesOn point edge → LiesOn other edge
@@ -43,16 +42,8 @@ lies_on_same point other edge same positive lies =
 
 -- a coordinate that is a position's is so in another triple
 at_same_number : (w u a x z : ℤ) → pos 1 ≤ℤ w → x *ℤ u ≡ z *ℤ w → x ≡ a *ℤ w → z ≡ a *ℤ u
-at_same_number w u a x z positive same at = cancel_eq w z (a *ℤ u) (omega (arith, zs)) scaled
-  where
-    scaled : w *ℤ z ≡ w *ℤ (a *ℤ u)
-    scaled =
-        let W = unknown 0 in
-        let U = unknown 1 in
-        let A = unknown 2 in
-        let X = unknown 3 in
-        let Z = unknown 4 in
-        ring_from (w ∷ u ∷ a ∷ x ∷ z ∷ []) (W ⊗ Z) (W ⊗ (A ⊗ U)) (given (negated (constant (pos 1))) (X ⊗ U) (Z ⊗ W) ∷ given U X (A ⊗ W) ∷ []) (same, (at, tt)) tt
+at_same_number w u a x z positive same at = cancel_eq w z (a *ℤ u) (omega (arith, zs))
+    (consequence (w ∷ u ∷ a ∷ x ∷ z ∷ []) (λ W U A X Z. (W ⊗ Z, W ⊗ (A ⊗ U), given (negated once) (X ⊗ U) (Z ⊗ W) ∷ given U X (A ⊗ W) ∷ [])) (same, (at, tt)) tt)
 
 -- and being a position passes
 pub is_at_same : (point other : RationalPoint) (position : Position) → IsSame point other → pos 1 ≤ℤ point.w → IsAt point position → IsAt other position
@@ -87,16 +78,9 @@ lies_on_multiple factor point edge positive above =
 
 -- a product with the same factor on both sides
 factored : (k a x w : ℤ) → pos 1 ≤ℤ k → (x ≡ a *ℤ w) ↔ (k *ℤ x ≡ a *ℤ (k *ℤ w))
-factored k a x w positive = (there, back)
-  where
-    moved : k *ℤ (a *ℤ w) ≡ a *ℤ (k *ℤ w)
-    moved = ring (k ∷ a ∷ w ∷ []) (unknown 0 ⊗ (unknown 1 ⊗ unknown 2)) (unknown 1 ⊗ (unknown 0 ⊗ unknown 2)) tt
-
-    there : x ≡ a *ℤ w → k *ℤ x ≡ a *ℤ (k *ℤ w)
-    there same = ap (λ (z : ℤ). k *ℤ z) same ∙ moved
-
-    back : k *ℤ x ≡ a *ℤ (k *ℤ w) → x ≡ a *ℤ w
-    back same = cancel_eq k x (a *ℤ w) (omega (arith, zs)) (same ∙ sym moved)
+factored k a x w positive =
+    let moved = identity (k ∷ a ∷ w ∷ []) (λ K A W. (K ⊗ (A ⊗ W), A ⊗ (K ⊗ W))) tt in
+    (λ same. ap (λ (z : ℤ). k *ℤ z) same ∙ moved, λ same. cancel_eq k x (a *ℤ w) (omega (arith, zs)) (same ∙ sym moved))
 
 -- at a position are a triple and its multiples alike
 pub is_at_multiple : (factor : ℤ) (point : RationalPoint) (position : Position) → pos 1 ≤ℤ factor → IsAt point position ↔ IsAt (multiple factor point) position
@@ -125,21 +109,19 @@ lies_on_reversed point edge lies =
 
 -- a number times one
 pub times_one : (a : ℤ) → a *ℤ pos 1 ≡ a
-times_one a = ring (a ∷ []) (unknown 0 ⊗ constant (pos 1)) (unknown 0) tt
+times_one a = identity (a ∷ []) (λ A. (A ⊗ once, A)) tt
 
 -- a number is between itself and another one
 between_first : (a b : ℤ) → IsBetween (a *ℤ pos 1) (b *ℤ pos 1) a
-between_first a b = either (le_or_lt a b)
-  where
-    either : (a ≤ℤ b) ⊎ (b <ℤ a) → IsBetween (a *ℤ pos 1) (b *ℤ pos 1) a
-    either (inl rising) = inl (omega (arith, zs, times_one a), omega (arith, zs, times_one b))
-    either (inr falling) = inr (omega (arith, zs, times_one b), omega (arith, zs, times_one a))
+between_first a b =
+    let one = times_one a in
+    let other = times_one b in
+    elim (le_or_lt a b) [ inl rising ↦ inl (omega (arith, zs), omega (arith, zs)) | inr falling ↦ inr (omega (arith, zs), omega (arith, zs)) ]
 
 -- a line through (a, b) has that point
 line_first : (u v a b : ℤ) → u *ℤ (b -ℤ b *ℤ pos 1) ≡ v *ℤ (a -ℤ a *ℤ pos 1)
 line_first u v a b =
-    let one = constant (pos 1) in
-    ring (u ∷ v ∷ a ∷ b ∷ []) (unknown 0 ⊗ (unknown 3 ⊖ unknown 3 ⊗ one)) (unknown 1 ⊗ (unknown 2 ⊖ unknown 2 ⊗ one)) tt
+    identity (u ∷ v ∷ a ∷ b ∷ []) (λ U V A B. (U ⊗ (B ⊖ B ⊗ once), V ⊗ (A ⊖ A ⊗ once))) tt
 
 -- the vertex where it begins
 pub begin_lies_on : (edge : Edge) → LiesOn (whole edge.a) edge
@@ -167,19 +149,7 @@ both_decide (yes a) (no apart) = no (λ both. apart both.1)
 pub any_decide : {A B : Type 0} → Dec A → Dec B → Dec (A ⊎ B)
 any_decide (yes a) b = yes (inl a)
 any_decide (no first) (yes b) = yes (inr b)
-any_decide {A} {B} (no first) (no second) = no neither
-  where
-    neither : ¬ (A ⊎ B)
-    neither (inl a) = first a
-    neither (inr b) = second b
-
--- the order of two numbers is decided
-pub le_decide : (a b : ℤ) → Dec (a ≤ℤ b)
-le_decide a b = either (le_or_lt a b)
-  where
-    either : (a ≤ℤ b) ⊎ (b <ℤ a) → Dec (a ≤ℤ b)
-    either (inl rising) = yes rising
-    either (inr falling) = no (λ rising. omega (arith, zs))
+any_decide (no first) (no second) = no (λ either. elim either [ inl a ↦ first a | inr b ↦ second b ])
 
 -- whether a number is between two
 between_decide : (from to z : ℤ) → Dec (IsBetween from to z)
@@ -187,11 +157,7 @@ between_decide from to z = any_decide (both_decide (le_decide from z) (le_decide
 
 -- whether a rational point is a position
 pub is_at_decide : (point : RationalPoint) (position : Position) → Dec (IsAt point position)
-is_at_decide point position = from (both_decide (same_or_apart point.x (position.x *ℤ point.w)) (same_or_apart point.y (position.y *ℤ point.w)))
-  where
-    from : Dec ((point.x ≡ position.x *ℤ point.w) × (point.y ≡ position.y *ℤ point.w)) → Dec (IsAt point position)
-    from (yes both) = yes (record { x = both.0; y = both.1 })
-    from (no apart) = no (λ at. apart (at.x, at.y))
+is_at_decide point position = map_dec (λ both. record { x = both.0; y = both.1 }) (λ at. (at.x, at.y)) (both_decide (same_or_apart _ _) (same_or_apart _ _))
 
 -- whether a rational point lies on an edge
 pub lies_on_decide : (point : RationalPoint) (edge : Edge) → Dec (LiesOn point edge)

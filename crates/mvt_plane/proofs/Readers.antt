@@ -1,8 +1,9 @@
 -- What is so of numbers that are read on: each one that is allowed leads further, and the first that isn't is the fault.
-use Rattle.std.proofs.Common.{◌≡◌, ◌≢◌, ℕ, zero, suc, ◌+◌, ◌-◌, ◌/◌, ◌%◌, ◌^◌, ◌<◌, ◌≤◌, ◌⊎◌, inl, inr, Bool, true, false, List, [], ◌∷◌, length, get_or, ℤ, pos, negsuc, ◌+ℤ◌, Some, refl, sym, ◌∙◌, ap, subst, arith, add-one}
+use Rattle.std.proofs.Common.{◌≡◌, ◌≢◌, ℕ, zero, suc, ◌+◌, ◌-◌, ◌/◌, ◌%◌, ◌^◌, ◌<◌, ◌≤◌, Bool, true, false, List, [], ◌∷◌, length, get_or, ℤ, pos, negsuc, ◌+ℤ◌, Some, refl, sym, ◌∙◌, ap, subst, arith, add-one}
 use Rattle.std.proofs.lemmas.Int.{ints}
+use Rattle.mvt_plane.proofs.FirstCodes.{other_command_first, other_count_first, greatest_x_first, greatest_y_first, x_outside_first, y_outside_first, no_step_first}
 use Rattle.mvt_plane.proofs.Parameters.{zigzag-unzigzag, unzigzag-zigzag}
-use Rattle.mvt_plane.specs.CommandFault.{command, x_of_step, y_of_step, greatest_parameter, Applies, other_command, other_count, greatest_x, greatest_y, x_outside, y_outside, no_step, LeavesRange}
+use Rattle.mvt_plane.specs.CommandFault.{command, x_of_step, y_of_step, greatest_parameter, LeavesRange}
 use Rattle.mvt_plane.specs.Drawing.{Leg, to_point, to_first, to_next, State, points_command, path_command, line_command, close_command, step_x, step_y, due, id_of, least, IsMove, IsAllowed, GoesElsewhere, MayEnd, moved, behind, behind_path, next, Passes, state_behind, unzigzag, IsBlamed, not_allowed, FaultFrom}
 use Rattle.mvt_plane.specs.Figure.{GeometryType, point, line_string, polygon, zigzag, move_to, line_to, command_integer, IsParameter}
 use Rattle.mvt_plane.specs.Position.{Position, origin, IsCoordinate}
@@ -90,21 +91,13 @@ command_fits geometry_type _ _ _ _ n (of_path drawn from) allowed = record { fit
 command_fits geometry_type _ _ _ _ n (of_line from) allowed = record { fits = allowed.fits; enough = allowed.enough; few = omega (arith, allowed.counted) }
 command_fits geometry_type _ _ _ _ n (of_close from) allowed = record { fits = omega arith; enough = omega arith; few = omega arith }
 
--- the codes that apply to a command
-command_code_is : (id n code : ℕ) → Applies (command id) n code → ((n % 8 ≢ id) × (code ≡ 401)) ⊎ ((n % 8 ≡ id) × (code ≡ 402))
-command_code_is _ _ _ (other_command id n other) = inl (other, refl)
-command_code_is _ _ _ (other_count id n same) = inr (same, refl)
-
 -- another id
 pub other_command_there : (geometry_type : GeometryType) (from : State) (numbers : List ℕ) (index : ℕ) (state : State) (id fewest most : ℕ) → AsksCommand geometry_type state id fewest most
     → Leads geometry_type from numbers index state → index < length numbers → get_or numbers index 0 % 8 ≢ id → FaultFrom geometry_type from numbers 401 index
 other_command_there geometry_type from numbers index state id fewest most asks leads within other =
     blamed_there geometry_type from numbers index state 401 leads within
     (λ allowed. other (command_fits geometry_type state id fewest most (get_or numbers index 0) asks allowed).fits)
-    (not_allowed (command id) (command_due geometry_type state id fewest most asks) (record {
-      applies = other_command id (get_or numbers index 0) other;
-      first = λ code applies. elim (command_code_is id (get_or numbers index 0) code applies) [ inl same ↦ omega arith | inr count ↦ omega arith ];
-    }))
+    (not_allowed (command id) (command_due geometry_type state id fewest most asks) (other_command_first id (get_or numbers index 0) other))
 
 -- a count that is out of range
 pub other_count_there : (geometry_type : GeometryType) (from : State) (numbers : List ℕ) (index : ℕ) (state : State) (id fewest most : ℕ) → AsksCommand geometry_type state id fewest most
@@ -113,10 +106,7 @@ pub other_count_there : (geometry_type : GeometryType) (from : State) (numbers :
 other_count_there geometry_type from numbers index state id fewest most asks leads within same outside =
     blamed_there geometry_type from numbers index state 402 leads within
     (λ allowed. let fits = command_fits geometry_type state id fewest most (get_or numbers index 0) asks allowed in outside fits.enough fits.few)
-    (not_allowed (command id) (command_due geometry_type state id fewest most asks) (record {
-      applies = other_count id (get_or numbers index 0) same;
-      first = λ code applies. elim (command_code_is id (get_or numbers index 0) code applies) [ inl other ↦ absurd (other.0 same) | inr count ↦ omega arith ];
-    }))
+    (not_allowed (command id) (command_due geometry_type state id fewest most asks) (other_count_first id (get_or numbers index 0) same))
 
 -- behind a command
 pub command_leads : (geometry_type : GeometryType) (from : State) (numbers : List ℕ) (index : ℕ) (state : State) (id fewest most : ℕ) → AsksCommand geometry_type state id fewest most
@@ -160,40 +150,6 @@ stays_inside from n inside leaves =
     let step : unzigzag n ≡ leaves.0 = ap unzigzag (sym leaves.1) ∙ unzigzag-zigzag leaves.0 in
     leaves.2 (subst (λ (d : ℤ). IsCoordinate (from +ℤ d)) step inside)
 
--- the codes that apply to a parameter
-abbrev ParameterCode : ℤ → ℕ → ℕ → Type 0
-ParameterCode from n code = ((n ≡ greatest_parameter) × (code ≡ 404)) ⊎ (LeavesRange from n × (code ≡ 405)) ⊎ ((n ≡ 0) × (code ≡ 406))
-
-x_code_is : (from : ℤ) (n code : ℕ) → Applies (x_of_step from) n code → ParameterCode from n code
-x_code_is _ _ _ (greatest_x from) = inl (refl, refl)
-x_code_is _ _ _ (x_outside from n leaves) = inr (inl (leaves, refl))
-
-y_code_is : (id : ℕ) (from : ℤ) (x n code : ℕ) → Applies (y_of_step id from x) n code → ParameterCode from n code
-y_code_is _ _ _ _ _ (greatest_y id from x) = inl (refl, refl)
-y_code_is _ _ _ _ _ (y_outside id from x n leaves) = inr (inl (leaves, refl))
-y_code_is _ _ _ _ _ (no_step from) = inr (inr (refl, refl))
-
--- 404 is the least of these
-least_404 : (from : ℤ) (n code : ℕ) → ParameterCode from n code → 404 ≤ code
-least_404 from n code is = elim is [
-  | inl greatest ↦ omega arith
-  | inr more ↦ elim more [ inl outside ↦ omega (arith, outside.1) | inr none ↦ omega arith ]
-]
-
--- 405 is, but for the greatest
-least_405 : (from : ℤ) (n code : ℕ) → n ≢ greatest_parameter → ParameterCode from n code → 405 ≤ code
-least_405 from n code other is = elim is [
-  | inl greatest ↦ absurd (other greatest.0)
-  | inr more ↦ elim more [ inl outside ↦ omega (arith, outside.1) | inr none ↦ omega arith ]
-]
-
--- 406 is, of a 0 that leads to a coordinate
-least_406 : (from : ℤ) (n code : ℕ) → n ≡ 0 → IsCoordinate (from +ℤ unzigzag n) → ParameterCode from n code → 406 ≤ code
-least_406 from n code none inside is = elim is [
-  | inl greatest ↦ absurd (omega (arith, greatest.0))
-  | inr more ↦ elim more [ inl outside ↦ absurd (stays_inside from n inside outside.0) | inr same ↦ omega arith ]
-]
-
 -- where a coordinate is asked for, it is no move
 coordinate_moves : (geometry_type : GeometryType) (state : State) (from : ℤ) (n : ℕ) → AsksCoordinate state from → IsAllowed geometry_type state n → IsMove from n
 coordinate_moves geometry_type _ _ n (of_x leg from) allowed = allowed
@@ -206,25 +162,13 @@ coordinate_ends_not _ _ (of_y leg from x) end = end
 
 -- the greatest parameter is to blame
 greatest_blamed : (state : State) (from : ℤ) (n : ℕ) → AsksCoordinate state from → n ≡ greatest_parameter → IsBlamed state n 404
-greatest_blamed _ _ n (of_x leg from) greatest = not_allowed (x_of_step from.x) refl (record {
-  applies = subst (λ (m : ℕ). Applies (x_of_step from.x) m 404) (sym greatest) (greatest_x from.x);
-  first = λ code applies. least_404 from.x n code (x_code_is from.x n code applies);
-})
-greatest_blamed _ _ n (of_y leg from x) greatest = not_allowed (y_of_step (id_of leg) from.y x) refl (record {
-  applies = subst (λ (m : ℕ). Applies (y_of_step (id_of leg) from.y x) m 404) (sym greatest) (greatest_y (id_of leg) from.y x);
-  first = λ code applies. least_404 from.y n code (y_code_is (id_of leg) from.y x n code applies);
-})
+greatest_blamed _ _ n (of_x leg from) greatest = not_allowed (x_of_step from.x) refl (greatest_x_first from.x n greatest)
+greatest_blamed _ _ n (of_y leg from x) greatest = not_allowed (y_of_step (id_of leg) from.y x) refl (greatest_y_first (id_of leg) from.y x n greatest)
 
 -- so is one that leads out of range
 outside_blamed : (state : State) (from : ℤ) (n : ℕ) → AsksCoordinate state from → n ≢ greatest_parameter → (IsCoordinate (from +ℤ unzigzag n) → ⊥) → IsBlamed state n 405
-outside_blamed _ _ n (of_x leg from) other outside = not_allowed (x_of_step from.x) refl (record {
-  applies = x_outside from.x n (unzigzag n, zigzag-unzigzag n, outside);
-  first = λ code applies. least_405 from.x n code other (x_code_is from.x n code applies);
-})
-outside_blamed _ _ n (of_y leg from x) other outside = not_allowed (y_of_step (id_of leg) from.y x) refl (record {
-  applies = y_outside (id_of leg) from.y x n (unzigzag n, zigzag-unzigzag n, outside);
-  first = λ code applies. least_405 from.y n code other (y_code_is (id_of leg) from.y x n code applies);
-})
+outside_blamed _ _ n (of_x leg from) other outside = not_allowed (x_of_step from.x) refl (x_outside_first from.x n other outside)
+outside_blamed _ _ n (of_y leg from x) other outside = not_allowed (y_of_step (id_of leg) from.y x) refl (y_outside_first (id_of leg) from.y x n other outside)
 
 -- The faults of a parameter
 
@@ -278,10 +222,7 @@ no_step_there geometry_type start numbers index (to_next left) from line leads w
     let at_x = get_or numbers index 0 in
     let at_y = get_or numbers (index + 1) 0 in
     blamed_there geometry_type start numbers (index + 1) (step_y (to_next left) from at_x) 406 half within (λ both. both.1 none_x none_y)
-    (not_allowed (y_of_step line_to from.y at_x) refl (record {
-      applies = subst (λ (m : ℕ). Applies (y_of_step line_to from.y m) at_y 406) (sym none_x) (subst (λ (m : ℕ). Applies (y_of_step line_to from.y 0) m 406) (sym none_y) (no_step from.y));
-      first = λ code applies. least_406 from.y at_y code none_y y.there (y_code_is line_to from.y at_x at_y code applies);
-    }))
+    (not_allowed (y_of_step line_to from.y at_x) refl (no_step_first from.y at_x at_y (stays_inside from.y at_y y.there) none_x none_y))
 
 -- a number is one less than the next
 one_less : (left : ℕ) → suc left ≡ suc (suc left) - 1

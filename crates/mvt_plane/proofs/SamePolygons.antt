@@ -5,23 +5,19 @@ use Rattle.mvt_plane.specs.Position.{Position}
 use Rattle.mvt_plane.specs.Polygon.{IsExterior, NoExterior, IsExteriorOf, first, next, PolygonRings, IsPolygon, IsRingOf}
 use Rattle.mvt_plane.proofs.PolygonNumbers.{exterior_within}
 
+-- numbers of which neither is less are the same
+neither_less : (one other : ℕ) → ¬ (one < other) → ¬ (other < one) → one ≡ other
+neither_less one other none none_back = elim (cases_order one other) [ inl same ↦ same | inr apart ↦ absurd (elim apart [ inl less ↦ none less | inr more ↦ none_back more ]) ]
+
 -- Exteriors
 
 -- two exteriors, and none before either from one number on
 same_next : (rings : List (List Position)) (from one other : ℕ) → from ≤ one → from ≤ other → IsExterior rings one → IsExterior rings other → NoExterior rings from one → NoExterior rings from other → one ≡ other
-same_next rings from one other behind_one behind_other is_one is_other none_to_one none_to_other = elim (cases_order one other) [
-  | inl same ↦ same
-  | inr (inl less) ↦ absurd (none_to_other one behind_one less is_one)
-  | inr (inr more) ↦ absurd (none_to_one other behind_other more is_other)
-]
+same_next rings from one other behind_one behind_other is_one is_other none_to_one none_to_other = neither_less one other (λ less. none_to_other one behind_one less is_one) (λ more. none_to_one other behind_other more is_other)
 
 -- two exteriors, and none behind either up to one number
 same_last : (rings : List (List Position)) (to one other : ℕ) → one < to → other < to → IsExterior rings one → IsExterior rings other → NoExterior rings (suc one) to → NoExterior rings (suc other) to → one ≡ other
-same_last rings to one other before_one before_other is_one is_other none_from_one none_from_other = elim (cases_order one other) [
-  | inl same ↦ same
-  | inr (inl less) ↦ absurd (none_from_one other less before_other is_other)
-  | inr (inr more) ↦ absurd (none_from_other one more before_one is_one)
-]
+same_last rings to one other before_one before_other is_one is_other none_from_one none_from_other = neither_less one other (λ less. none_from_one other less before_other is_other) (λ more. none_from_other one more before_one is_one)
 
 -- the exterior of a polygon is one
 pub exterior_of_polygon : (rings : List (List Position)) (polygon exterior : ℕ) → IsExteriorOf rings polygon exterior → IsExterior rings exterior
@@ -77,11 +73,7 @@ not_before rings polygon other exterior one after its others less = elim its.end
 
 -- so they end at one number
 same_end : (rings : List (List Position)) (polygon other exterior one after : ℕ) → IsPolygon rings polygon (record { exterior = exterior; after = one }) → IsPolygon rings other (record { exterior = exterior; after = after }) → one ≡ after
-same_end rings polygon other exterior one after its others = elim (cases_order one after) [
-  | inl same ↦ same
-  | inr (inl less) ↦ absurd (not_before rings polygon other exterior one after its others less)
-  | inr (inr more) ↦ absurd (not_before rings other polygon exterior after one others its more)
-]
+same_end rings polygon other exterior one after its others = neither_less one after (λ less. not_before rings polygon other exterior one after its others less) (λ more. not_before rings other polygon exterior after one others its more)
 
 -- the rings from one number up to another
 abbrev rings_at : ℕ → ℕ → PolygonRings
@@ -111,11 +103,7 @@ not_behind rings ring polygon other it its is_it in_it is_its in_its less =
 
 -- so they have one exterior
 one_exterior : (rings : List (List Position)) (ring polygon other : ℕ) (it its : PolygonRings) → IsPolygon rings polygon it → IsRingOf it ring → IsPolygon rings other its → IsRingOf its ring → it.exterior ≡ its.exterior
-one_exterior rings ring polygon other it its is_it in_it is_its in_its = elim (cases_order it.exterior its.exterior) [
-  | inl same ↦ same
-  | inr (inl less) ↦ absurd (not_behind rings ring polygon other it its is_it in_it is_its in_its less)
-  | inr (inr more) ↦ absurd (not_behind rings ring other polygon its it is_its in_its is_it in_it more)
-]
+one_exterior rings ring polygon other it its is_it in_it is_its in_its = neither_less it.exterior its.exterior (λ less. not_behind rings ring polygon other it its is_it in_it is_its in_its less) (λ more. not_behind rings ring other polygon its it is_its in_its is_it in_it more)
 
 -- and one number
 pub one_polygon : (rings : List (List Position)) (ring polygon other : ℕ) (it its : PolygonRings) → IsPolygon rings polygon it → IsRingOf it ring → IsPolygon rings other its → IsRingOf its ring → (polygon ≡ other) × (it ≡ its)

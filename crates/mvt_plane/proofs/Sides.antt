@@ -1,12 +1,12 @@
 -- On which side of a line a position is, told by the sign of a difference.
-use Rattle.std.proofs.Common.{◌≡◌, ◌↔◌, Bool, true, false, IsTrue, Option, Some, Ordering, is_eq, [], ◌∷◌, ℤ, pos, ◌-ℤ◌, ◌*ℤ◌, ◌<ℤ◌, int_cmp, refl, sym, ◌∙◌, ap, ap₂, arith}
+use Rattle.std.proofs.Common.{◌≡◌, ◌↔◌, Bool, true, false, IsTrue, Option, Some, Ordering, is_eq, ℤ, pos, ◌-ℤ◌, ◌*ℤ◌, ◌<ℤ◌, int_cmp, refl, sym, ◌∙◌, ap₂, arith}
 use Rattle.std.specs.Cmp.{int_cmp_is}
 use Rattle.std.specs.Ordering.{MatchOrdering}
 use Rattle.std.specs.declared.cmp.Ordering.TheVariants.{Less, Equal, Greater}
 use Rattle.std.proofs.lemmas.Cmp.{int_ranked}
 use Rattle.mvt_plane.proofs.Order.{zs}
 use Rattle.mvt_plane.proofs.CrossingLines.{on_line_by_side, side_by_line}
-use Rattle.mvt_plane.proofs.Polynomials.{unknown, constant, ◌⊗◌, ring}
+use Rattle.mvt_plane.proofs.RationalPoints.{times_one}
 use Rattle.mvt_plane.specs.Measure.{orientation}
 use Rattle.mvt_plane.specs.Position.{Position}
 use Rattle.mvt_plane.specs.RationalPoint.{RationalPoint, LiesOn, IsAt, IsBetween, whole}
@@ -26,34 +26,26 @@ pub zero_by_side : (z : ℤ) (r : Ordering) → r ≡ int_cmp z (pos 0) → is_e
 zero_by_side z r side equal = by_case r (int_ranked z (pos 0) r side) equal
   where
     by_case : (r : Ordering) → MatchOrdering r (z <ℤ pos 0) (z ≡ pos 0) (pos 0 <ℤ z) → is_eq r ≡ true → z ≡ pos 0
-    by_case Less below equal = absurd (cc)
     by_case Equal same equal = same
-    by_case Greater above equal = absurd (cc)
+    by_case other order equal = absurd (cc)
 
 -- and 0 compares so
 pub side_by_zero : (z : ℤ) (r : Ordering) → r ≡ int_cmp z (pos 0) → z ≡ pos 0 → is_eq r ≡ true
 side_by_zero z r side zero = by_case r (int_ranked z (pos 0) r side)
   where
     by_case : (r : Ordering) → MatchOrdering r (z <ℤ pos 0) (z ≡ pos 0) (pos 0 <ℤ z) → is_eq r ≡ true
-    by_case Less below = absurd (omega (arith, zs))
     by_case Equal same = refl
-    by_case Greater above = absurd (omega (arith, zs))
+    by_case other order = absurd (omega (arith, zs))
 
 -- ---- positions on an edge
 
 -- a number is between two where it is between their products with 1
 between_one : (a b z : ℤ) → IsBetween a b z → IsBetween (a *ℤ pos 1) (b *ℤ pos 1) z
-between_one a b z between =
-    let from = ring (a ∷ []) (unknown 0 ⊗ constant (pos 1)) (unknown 0) tt in
-    let to = ring (b ∷ []) (unknown 0 ⊗ constant (pos 1)) (unknown 0) tt in
-    rw (from, to) between
+between_one a b z between = rw (times_one a, times_one b) between
 
 -- and the other way round
 one_between : (a b z : ℤ) → IsBetween (a *ℤ pos 1) (b *ℤ pos 1) z → IsBetween a b z
-one_between a b z between =
-    let from = ring (a ∷ []) (unknown 0 ⊗ constant (pos 1)) (unknown 0) tt in
-    let to = ring (b ∷ []) (unknown 0 ⊗ constant (pos 1)) (unknown 0) tt in
-    rw (from, to) at between
+one_between a b z between = rw (times_one a, times_one b) at between
 
 -- both coordinates of the position are between those of the edge's ends
 abbrev pub IsInBox : Edge → Position → Type 0
@@ -81,20 +73,11 @@ IsApart shared point = (vertex : Position) → shared ≡ Some vertex → ¬ IsA
 -- it isn't where it isn't the shared vertex
 apart_by_other : (shared : Option Position) (position : Position) → ¬ (shared ≡ Some position) → IsApart shared (whole position)
 apart_by_other shared position other vertex there at =
-    other (there ∙ ap Some (same_position vertex position (one_is vertex.x ∙ sym at.x) (one_is vertex.y ∙ sym at.y)))
-  where
-    one_is : (z : ℤ) → z ≡ z *ℤ pos 1
-    one_is z = ring (z ∷ []) (unknown 0) (unknown 0 ⊗ constant (pos 1)) tt
-
-    same_position : (one other : Position) → one.x ≡ other.x → one.y ≡ other.y → one ≡ other
-    same_position one other x y = ap₂ (λ (x y : ℤ). record { x = x; y = y }) x y
+    other (there ∙ ap₂ (λ (x y : ℤ). Some (record { x = x; y = y })) (sym (at.x ∙ times_one vertex.x)) (sym (at.y ∙ times_one vertex.y)))
 
 -- and the other way round
 other_by_apart : (shared : Option Position) (position : Position) → IsApart shared (whole position) → ¬ (shared ≡ Some position)
-other_by_apart shared position apart there = apart position there (record { x = one_is position.x; y = one_is position.y })
-  where
-    one_is : (z : ℤ) → z ≡ z *ℤ pos 1
-    one_is z = ring (z ∷ []) (unknown 0) (unknown 0 ⊗ constant (pos 1)) tt
+other_by_apart shared position apart there = apart position there (record { x = sym (times_one position.x); y = sym (times_one position.y) })
 
 -- a test of the box finds what touches, for a position on the line that isn't the shared vertex
 pub touches_by_box : (edge : Edge) (position : Position) (shared : Option Position) (r : Bool) → orientation edge.a edge.b position ≡ pos 0 → ¬ (shared ≡ Some position)

@@ -10,7 +10,7 @@ use Rattle.mvt_plane.specs.RationalPoint.{RationalPoint, LiesOn}
 use Rattle.mvt_plane.specs.Ring.{edges_through, edges}
 use Rattle.mvt_plane.specs.declared.edge.Edge.{Edge}
 use Rattle.mvt_plane.proofs.Order.{zs}
-use Rattle.mvt_plane.proofs.Polynomials.{unknown, constant, negated, ◌⊕◌, ◌⊗◌, ring_from, given}
+use Rattle.mvt_plane.proofs.Polynomials.{constant, negated, once, ◌⊕◌, ◌⊗◌, consequence, given}
 use Rattle.mvt_plane.proofs.Weights.{Weights, weights_of, lies_by_weights}
 
 -- where a position goes
@@ -30,17 +30,7 @@ unslant point = record { x = point.x +ℤ point.y; y = neg_ℤ (point.y *ℤ pos
 -- so does a point of a slanted edge, on the way back
 weights_unslanted : (point : RationalPoint) (edge : Edge) → Weights point (slant_edge edge) → Weights (unslant point) edge
 weights_unslanted point edge weights =
-    let M = unknown 0 in
-    let N = unknown 1 in
-    let AX = unknown 2 in
-    let AY = unknown 3 in
-    let BX = unknown 4 in
-    let BY = unknown 5 in
-    let X = unknown 6 in
-    let Y = unknown 7 in
-    let W = unknown 8 in
     let k = constant (pos (2 ^ 32)) in
-    let once = constant (pos 1) in
     let all = weights.of_a ∷ weights.of_b ∷ edge.a.x ∷ edge.a.y ∷ edge.b.x ∷ edge.b.y ∷ point.x ∷ point.y ∷ point.w ∷ [] in
     record {
       of_a = weights.of_a;
@@ -48,11 +38,17 @@ weights_unslanted point edge weights =
       a_sign = weights.a_sign;
       b_sign = weights.b_sign;
       some = weights.some;
-      x = ring_from all ((M ⊕ N) ⊗ (X ⊕ Y)) ((M ⊗ AX ⊕ N ⊗ BX) ⊗ (W ⊗ k))
-          (given once ((M ⊕ N) ⊗ X) ((M ⊗ (AX ⊗ k ⊕ AY) ⊕ N ⊗ (BX ⊗ k ⊕ BY)) ⊗ W) ∷ given once ((M ⊕ N) ⊗ Y) ((M ⊗ negated AY ⊕ N ⊗ negated BY) ⊗ W) ∷ [])
+      x = consequence all (λ M N AX AY BX BY X Y W. (
+        (M ⊕ N) ⊗ (X ⊕ Y),
+        (M ⊗ AX ⊕ N ⊗ BX) ⊗ (W ⊗ k),
+        given once ((M ⊕ N) ⊗ X) ((M ⊗ (AX ⊗ k ⊕ AY) ⊕ N ⊗ (BX ⊗ k ⊕ BY)) ⊗ W) ∷ given once ((M ⊕ N) ⊗ Y) ((M ⊗ negated AY ⊕ N ⊗ negated BY) ⊗ W) ∷ [],
+      ))
           (weights.x, (weights.y, tt)) tt;
-      y = ring_from all ((M ⊕ N) ⊗ negated (Y ⊗ k)) ((M ⊗ AY ⊕ N ⊗ BY) ⊗ (W ⊗ k))
-          (given (negated k) ((M ⊕ N) ⊗ Y) ((M ⊗ negated AY ⊕ N ⊗ negated BY) ⊗ W) ∷ []) (weights.y, tt) tt;
+      y = consequence all (λ M N AX AY BX BY X Y W. (
+        (M ⊕ N) ⊗ negated (Y ⊗ k),
+        (M ⊗ AY ⊕ N ⊗ BY) ⊗ (W ⊗ k),
+        given (negated k) ((M ⊕ N) ⊗ Y) ((M ⊗ negated AY ⊕ N ⊗ negated BY) ⊗ W) ∷ [],
+      )) (weights.y, tt) tt;
     }
 
 -- a point of a slanted edge comes from a point of the edge

@@ -80,9 +80,4 @@ one_figure geometry_type numbers figure other first second =
     same_figure (lines parts) (lines others) kind able other_able same = ap lines (same_paths 1 [] origin parts others able.0 other_able.0 same)
     same_figure (rings parts) (rings others) kind able other_able same =
         ap rings (same_paths 2 (command_integer close_path 1 ∷ []) origin parts others able.0 other_able.0 same)
-    same_figure (points positions) (lines others) kind able other_able same = absurd (cc)
-    same_figure (points positions) (rings others) kind able other_able same = absurd (cc)
-    same_figure (lines parts) (points others) kind able other_able same = absurd (cc)
-    same_figure (lines parts) (rings others) kind able other_able same = absurd (cc)
-    same_figure (rings parts) (points others) kind able other_able same = absurd (cc)
-    same_figure (rings parts) (lines others) kind able other_able same = absurd (cc)
+    same_figure figure other kind able other_able same = absurd (cc)

@@ -4,11 +4,11 @@ use Rattle.mvt_plane.specs.Position.{Position}
 use Rattle.mvt_plane.specs.RationalPoint.{RationalPoint, whole}
 use Rattle.mvt_plane.specs.CommonPoint.{IsCommon, NoEndIsCommon, cross_product}
 use Rattle.mvt_plane.specs.declared.edge.Edge.{Edge}
-use Rattle.mvt_plane.proofs.CrossingLines.{IsOnLine, one_crossing, end_a_on_line, end_b_on_line, on_line_by_side}
+use Rattle.mvt_plane.proofs.CrossingLines.{IsOnLine, one_crossing, on_line_by_side}
 use Rattle.mvt_plane.proofs.Crossings.{side}
 use Rattle.mvt_plane.proofs.Order.{zs, is_zero}
 use Rattle.mvt_plane.proofs.Overlaps.{end_is_common}
-use Rattle.mvt_plane.proofs.RationalPoints.{is_common_same}
+use Rattle.mvt_plane.proofs.RationalPoints.{is_common_same, begin_lies_on, end_lies_on}
 
 -- one of the four ends is on the line of the other edge
 pub data IsTouching (first second : Edge) : Type 0 where
@@ -28,19 +28,18 @@ position_is_common shared first second point position crossed common on_first on
 end_on_line_is_common : (shared : Option Position) (first second : Edge) (point : RationalPoint) → ¬ (cross_product first second ≡ pos 0)
     → IsTouching first second → IsCommon shared first second point → ¬ NoEndIsCommon shared first second
 end_on_line_is_common shared first second point crossed (first_a none) common no_end =
-    no_end.first_a (position_is_common shared first second point first.a crossed common (end_a_on_line first) (on_line_by_side second first.a none))
+    no_end.first_a (position_is_common shared first second point first.a crossed common (begin_lies_on first).on_line (on_line_by_side second first.a none))
 end_on_line_is_common shared first second point crossed (first_b none) common no_end =
-    no_end.first_b (position_is_common shared first second point first.b crossed common (end_b_on_line first) (on_line_by_side second first.b none))
+    no_end.first_b (position_is_common shared first second point first.b crossed common (end_lies_on first).on_line (on_line_by_side second first.b none))
 end_on_line_is_common shared first second point crossed (second_a none) common no_end =
-    no_end.second_a (position_is_common shared first second point second.a crossed common (on_line_by_side first second.a none) (end_a_on_line second))
+    no_end.second_a (position_is_common shared first second point second.a crossed common (on_line_by_side first second.a none) (begin_lies_on second).on_line)
 end_on_line_is_common shared first second point crossed (second_b none) common no_end =
-    no_end.second_b (position_is_common shared first second point second.b crossed common (on_line_by_side first second.b none) (end_b_on_line second))
+    no_end.second_b (position_is_common shared first second point second.b crossed common (on_line_by_side first second.b none) (end_lies_on second).on_line)
 
 -- no common point where no end is one
 pub none_by_ends : (shared : Option Position) (first second : Edge) → IsTouching first second → NoEndIsCommon shared first second
     → (point : RationalPoint) → ¬ IsCommon shared first second point
-none_by_ends shared first second touching no_end point common = by_cross (is_zero (cross_product first second))
-  where
-    by_cross : Dec (cross_product first second ≡ pos 0) → ⊥
-    by_cross (yes parallel) = end_is_common shared first second point parallel common no_end
-    by_cross (no crossed) = end_on_line_is_common shared first second point crossed touching common no_end
+none_by_ends shared first second touching no_end point common = elim (is_zero (cross_product first second)) [
+  | yes parallel ↦ end_is_common shared first second point parallel common no_end
+  | no crossed ↦ end_on_line_is_common shared first second point crossed touching common no_end
+]

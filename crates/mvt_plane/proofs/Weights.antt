@@ -1,12 +1,12 @@
 -- A point of an edge stands between the edge's ends as a mean of them, with weights that aren't negative. By these weights
 -- an edge needs no cases of its direction.
-use Rattle.std.proofs.Common.{◌≡◌, ◌⊎◌, inl, inr, [], ◌∷◌, ℤ, pos, negsuc, ◌+ℤ◌, ◌-ℤ◌, ◌*ℤ◌, ◌≤ℤ◌, ◌<ℤ◌, sym, ap, arith}
+use Rattle.std.proofs.Common.{◌≡◌, ◌⊎◌, inl, inr, [], ◌∷◌, ℤ, pos, ◌+ℤ◌, ◌-ℤ◌, ◌*ℤ◌, ◌≤ℤ◌, ◌<ℤ◌, sym, ap, arith}
 use Rattle.mvt_plane.specs.Position.{Position}
 use Rattle.mvt_plane.specs.RationalPoint.{RationalPoint, LiesOn, IsBetween}
 use Rattle.mvt_plane.specs.declared.edge.Edge.{Edge}
-use Rattle.mvt_plane.proofs.Polynomials.{unknown, constant, negated, ◌⊕◌, ◌⊖◌, ◌⊗◌, ring, ring_from, given}
+use Rattle.mvt_plane.proofs.Polynomials.{constant, negated, once, ◌⊕◌, ◌⊖◌, ◌⊗◌, identity, consequence, given}
 use Rattle.mvt_plane.proofs.Order.{zs, le_or_lt, is_zero, sign_cases, mul_nonpos_nonneg, mul_nonneg_nonpos, mul_pos, mul_nonneg, mono_lt_right, factor_nonneg, factor_nonpos, cancel_eq}
-use Rattle.mvt_plane.proofs.Lines.{between_back}
+use Rattle.mvt_plane.proofs.RationalPoints.{reversed, lies_on_reversed}
 
 -- the point is the mean of the edge's ends with these weights
 pub record Weights (point : RationalPoint) (edge : Edge) : Type 0 where
@@ -21,17 +21,14 @@ pub record Weights (point : RationalPoint) (edge : Edge) : Type 0 where
 -- ---- the two axes, and the two ends, are alike
 
 -- the axes changed
-abbrev flipped : Position → Position
+abbrev pub flipped : Position → Position
 flipped p = record { x = p.y; y = p.x }
 
-abbrev flipped_edge : Edge → Edge
+abbrev pub flipped_edge : Edge → Edge
 flipped_edge edge = record { a = flipped edge.a; b = flipped edge.b }
 
-abbrev flipped_point : RationalPoint → RationalPoint
+abbrev pub flipped_point : RationalPoint → RationalPoint
 flipped_point point = record { x = point.y; y = point.x; w = point.w }
-
-abbrev turned : Edge → Edge
-turned edge = record { a = edge.b; b = edge.a }
 
 pub flip_lies : (point : RationalPoint) (edge : Edge) → LiesOn point edge → LiesOn (flipped_point point) (flipped_edge edge)
 flip_lies point edge lies = record { positive = lies.positive; on_line = sym lies.on_line; x_between = lies.y_between; y_between = lies.x_between }
@@ -47,41 +44,12 @@ flip_weights point edge weights = record {
   y = weights.x;
 }
 
--- a line is the same from its other end
-turn_line : (ax ay bx by w x y : ℤ) → (bx -ℤ ax) *ℤ (y -ℤ ay *ℤ w) ≡ (by -ℤ ay) *ℤ (x -ℤ ax *ℤ w)
-    → (ax -ℤ bx) *ℤ (y -ℤ by *ℤ w) ≡ (ay -ℤ by) *ℤ (x -ℤ bx *ℤ w)
-turn_line ax ay bx by w x y line =
-    let AX = unknown 0 in
-    let AY = unknown 1 in
-    let BX = unknown 2 in
-    let BY = unknown 3 in
-    let W = unknown 4 in
-    let X = unknown 5 in
-    let Y = unknown 6 in
-    ring_from (ax ∷ ay ∷ bx ∷ by ∷ w ∷ x ∷ y ∷ []) ((AX ⊖ BX) ⊗ (Y ⊖ BY ⊗ W)) ((AY ⊖ BY) ⊗ (X ⊖ BX ⊗ W))
-    (given (constant (negsuc 0)) ((BX ⊖ AX) ⊗ (Y ⊖ AY ⊗ W)) ((BY ⊖ AY) ⊗ (X ⊖ AX ⊗ W)) ∷ []) (line, tt) tt
-
-pub turn_lies : (point : RationalPoint) (edge : Edge) → LiesOn point edge → LiesOn point (turned edge)
-turn_lies point edge lies = record {
-  positive = lies.positive;
-  on_line = turn_line edge.a.x edge.a.y edge.b.x edge.b.y point.w point.x point.y lies.on_line;
-  x_between = between_back _ _ _ lies.x_between;
-  y_between = between_back _ _ _ lies.y_between;
-}
-
 -- a sum of the weighted ends, from the other end
 turn_sum : (m n p q w z : ℤ) → (m +ℤ n) *ℤ z ≡ (m *ℤ p +ℤ n *ℤ q) *ℤ w → (n +ℤ m) *ℤ z ≡ (n *ℤ q +ℤ m *ℤ p) *ℤ w
 turn_sum m n p q w z sum =
-    let M = unknown 0 in
-    let N = unknown 1 in
-    let P = unknown 2 in
-    let Q = unknown 3 in
-    let W = unknown 4 in
-    let Z = unknown 5 in
-    ring_from (m ∷ n ∷ p ∷ q ∷ w ∷ z ∷ []) ((N ⊕ M) ⊗ Z) ((N ⊗ Q ⊕ M ⊗ P) ⊗ W)
-    (given (constant (pos 1)) ((M ⊕ N) ⊗ Z) ((M ⊗ P ⊕ N ⊗ Q) ⊗ W) ∷ []) (sum, tt) tt
+    consequence (m ∷ n ∷ p ∷ q ∷ w ∷ z ∷ []) (λ M N P Q W Z. ((N ⊕ M) ⊗ Z, (N ⊗ Q ⊕ M ⊗ P) ⊗ W, given once ((M ⊕ N) ⊗ Z) ((M ⊗ P ⊕ N ⊗ Q) ⊗ W) ∷ [])) (sum, tt) tt
 
-turn_weights : (point : RationalPoint) (edge : Edge) → Weights point (turned edge) → Weights point edge
+turn_weights : (point : RationalPoint) (edge : Edge) → Weights point (reversed edge) → Weights point edge
 turn_weights point edge weights = record {
   of_a = weights.of_b;
   of_b = weights.of_a;
@@ -100,26 +68,22 @@ weights_rising point edge rising lies = between lies.x_between
   where
     there : (edge.a.x *ℤ point.w) ≤ℤ point.x → point.x ≤ℤ (edge.b.x *ℤ point.w) → Weights point edge
     there from to =
-        let AX = unknown 0 in
-        let AY = unknown 1 in
-        let BX = unknown 2 in
-        let BY = unknown 3 in
-        let W = unknown 4 in
-        let X = unknown 5 in
-        let Y = unknown 6 in
         let all = edge.a.x ∷ edge.a.y ∷ edge.b.x ∷ edge.b.y ∷ point.w ∷ point.x ∷ point.y ∷ [] in
         let positive = lies.positive in
         let length : pos 0 <ℤ ((edge.b.x -ℤ edge.a.x) *ℤ point.w) = mul_pos rising (omega (arith, zs)) in
-        let total = ring all ((BX ⊖ AX) ⊗ W) ((BX ⊗ W ⊖ X) ⊕ (X ⊖ AX ⊗ W)) tt in
+        let total = identity all (λ AX AY BX BY W X Y. ((BX ⊖ AX) ⊗ W, (BX ⊗ W ⊖ X) ⊕ (X ⊖ AX ⊗ W))) tt in
         record {
           of_a = edge.b.x *ℤ point.w -ℤ point.x;
           of_b = point.x -ℤ edge.a.x *ℤ point.w;
           a_sign = omega (arith, zs);
           b_sign = omega (arith, zs);
           some = omega (arith, zs);
-          x = ring all (((BX ⊗ W ⊖ X) ⊕ (X ⊖ AX ⊗ W)) ⊗ X) (((BX ⊗ W ⊖ X) ⊗ AX ⊕ (X ⊖ AX ⊗ W) ⊗ BX) ⊗ W) tt;
-          y = ring_from all (((BX ⊗ W ⊖ X) ⊕ (X ⊖ AX ⊗ W)) ⊗ Y) (((BX ⊗ W ⊖ X) ⊗ AY ⊕ (X ⊖ AX ⊗ W) ⊗ BY) ⊗ W)
-              (given W ((BX ⊖ AX) ⊗ (Y ⊖ AY ⊗ W)) ((BY ⊖ AY) ⊗ (X ⊖ AX ⊗ W)) ∷ []) (lies.on_line, tt) tt;
+          x = identity all (λ AX AY BX BY W X Y. (((BX ⊗ W ⊖ X) ⊕ (X ⊖ AX ⊗ W)) ⊗ X, ((BX ⊗ W ⊖ X) ⊗ AX ⊕ (X ⊖ AX ⊗ W) ⊗ BX) ⊗ W)) tt;
+          y = consequence all (λ AX AY BX BY W X Y. (
+            ((BX ⊗ W ⊖ X) ⊕ (X ⊖ AX ⊗ W)) ⊗ Y,
+            ((BX ⊗ W ⊖ X) ⊗ AY ⊕ (X ⊖ AX ⊗ W) ⊗ BY) ⊗ W,
+            given W ((BX ⊖ AX) ⊗ (Y ⊖ AY ⊗ W)) ((BY ⊖ AY) ⊗ (X ⊖ AX ⊗ W)) ∷ [],
+          )) (lies.on_line, tt) tt;
         }
 
     between : IsBetween (edge.a.x *ℤ point.w) (edge.b.x *ℤ point.w) point.x → Weights point edge
@@ -135,7 +99,7 @@ weights_across : (point : RationalPoint) (edge : Edge) → ¬ (edge.b.x -ℤ edg
 weights_across point edge across lies = by_sign (sign_cases (edge.b.x -ℤ edge.a.x))
   where
     by_sign : ((edge.b.x -ℤ edge.a.x) <ℤ pos 0) ⊎ ((edge.b.x -ℤ edge.a.x ≡ pos 0) ⊎ (pos 0 <ℤ (edge.b.x -ℤ edge.a.x))) → Weights point edge
-    by_sign (inl falling) = turn_weights point edge (weights_rising point (turned edge) (omega (arith, zs)) (turn_lies point edge lies))
+    by_sign (inl falling) = turn_weights point edge (weights_rising point (reversed edge) (omega (arith, zs)) (lies_on_reversed point edge lies))
     by_sign (inr (inl none)) = absurd (across none)
     by_sign (inr (inr rising)) = weights_rising point edge rising lies
 
@@ -153,15 +117,11 @@ weights_nowhere point edge same_x same_y lies = record {
   where
     at_end : (a b w z : ℤ) → b -ℤ a ≡ pos 0 → IsBetween (a *ℤ w) (b *ℤ w) z → (pos 1 +ℤ pos 0) *ℤ z ≡ (pos 1 *ℤ a +ℤ pos 0 *ℤ b) *ℤ w
     at_end a b w z none between =
-        let A = unknown 0 in
-        let B = unknown 1 in
-        let W = unknown 2 in
-        let Z = unknown 3 in
         let same : b ≡ a = omega (arith, zs) in
         let scaled = ap (λ (n : ℤ). n *ℤ w) same in
         let here : z ≡ a *ℤ w = omega (arith, zs, between) in
-        ring_from (a ∷ b ∷ w ∷ z ∷ []) ((constant (pos 1) ⊕ constant (pos 0)) ⊗ Z) ((constant (pos 1) ⊗ A ⊕ constant (pos 0) ⊗ B) ⊗ W)
-        (given (constant (pos 1)) Z (A ⊗ W) ∷ []) (here, tt) tt
+        consequence (a ∷ b ∷ w ∷ z ∷ [])
+        (λ A B W Z. ((once ⊕ constant (pos 0)) ⊗ Z, (once ⊗ A ⊕ constant (pos 0) ⊗ B) ⊗ W, given once Z (A ⊗ W) ∷ [])) (here, tt) tt
 
 -- each point of an edge has them
 pub weights_of : (point : RationalPoint) (edge : Edge) → LiesOn point edge → Weights point edge
@@ -182,16 +142,11 @@ mean_between m n a b w z m_sign n_sign some positive sum = by_order (le_or_lt a 
   where
     by_order : (a ≤ℤ b) ⊎ (b <ℤ a) → IsBetween (a *ℤ w) (b *ℤ w) z
     by_order order =
-        let M = unknown 0 in
-        let N = unknown 1 in
-        let A = unknown 2 in
-        let B = unknown 3 in
-        let W = unknown 4 in
-        let Z = unknown 5 in
         let all = m ∷ n ∷ a ∷ b ∷ w ∷ z ∷ [] in
-        let hold = given (constant (pos 1)) ((M ⊕ N) ⊗ Z) ((M ⊗ A ⊕ N ⊗ B) ⊗ W) ∷ [] in
-        let behind = ring_from all ((M ⊕ N) ⊗ (Z ⊖ A ⊗ W)) (N ⊗ ((B ⊖ A) ⊗ W)) hold (sum, tt) tt in
-        let before = ring_from all ((M ⊕ N) ⊗ (B ⊗ W ⊖ Z)) (M ⊗ ((B ⊖ A) ⊗ W)) (given (negated (constant (pos 1))) ((M ⊕ N) ⊗ Z) ((M ⊗ A ⊕ N ⊗ B) ⊗ W) ∷ []) (sum, tt) tt in
+        let behind = consequence all
+        (λ M N A B W Z. let hold = given once ((M ⊕ N) ⊗ Z) ((M ⊗ A ⊕ N ⊗ B) ⊗ W) ∷ [] in ((M ⊕ N) ⊗ (Z ⊖ A ⊗ W), N ⊗ ((B ⊖ A) ⊗ W), hold)) (sum, tt) tt in
+        let before = consequence all
+        (λ M N A B W Z. ((M ⊕ N) ⊗ (B ⊗ W ⊖ Z), M ⊗ ((B ⊖ A) ⊗ W), given (negated once) ((M ⊕ N) ⊗ Z) ((M ⊗ A ⊕ N ⊗ B) ⊗ W) ∷ [])) (sum, tt) tt in
         let scale : pos 0 ≤ℤ w = omega (arith, zs) in
         elim order [
           | inl rises ↦
@@ -212,20 +167,13 @@ mean_between m n a b w z m_sign n_sign some positive sum = by_order (le_or_lt a 
 mean_on_line : (m n ax ay bx by w x y : ℤ) → pos 0 <ℤ (m +ℤ n) → (m +ℤ n) *ℤ x ≡ (m *ℤ ax +ℤ n *ℤ bx) *ℤ w → (m +ℤ n) *ℤ y ≡ (m *ℤ ay +ℤ n *ℤ by) *ℤ w
     → (bx -ℤ ax) *ℤ (y -ℤ ay *ℤ w) ≡ (by -ℤ ay) *ℤ (x -ℤ ax *ℤ w)
 mean_on_line m n ax ay bx by w x y some x_sum y_sum =
-    let M = unknown 0 in
-    let N = unknown 1 in
-    let AX = unknown 2 in
-    let AY = unknown 3 in
-    let BX = unknown 4 in
-    let BY = unknown 5 in
-    let W = unknown 6 in
-    let X = unknown 7 in
-    let Y = unknown 8 in
     cancel_eq (m +ℤ n) ((bx -ℤ ax) *ℤ (y -ℤ ay *ℤ w)) ((by -ℤ ay) *ℤ (x -ℤ ax *ℤ w)) some
-    (ring_from (m ∷ n ∷ ax ∷ ay ∷ bx ∷ by ∷ w ∷ x ∷ y ∷ [])
-    ((M ⊕ N) ⊗ ((BX ⊖ AX) ⊗ (Y ⊖ AY ⊗ W))) ((M ⊕ N) ⊗ ((BY ⊖ AY) ⊗ (X ⊖ AX ⊗ W)))
-    (given (AY ⊖ BY) ((M ⊕ N) ⊗ X) ((M ⊗ AX ⊕ N ⊗ BX) ⊗ W) ∷ given (BX ⊖ AX) ((M ⊕ N) ⊗ Y) ((M ⊗ AY ⊕ N ⊗ BY) ⊗ W) ∷ [])
-    (x_sum, (y_sum, tt)) tt)
+    (consequence (m ∷ n ∷ ax ∷ ay ∷ bx ∷ by ∷ w ∷ x ∷ y ∷ [])
+    (λ M N AX AY BX BY W X Y. (
+      (M ⊕ N) ⊗ ((BX ⊖ AX) ⊗ (Y ⊖ AY ⊗ W)),
+      (M ⊕ N) ⊗ ((BY ⊖ AY) ⊗ (X ⊖ AX ⊗ W)),
+      given (AY ⊖ BY) ((M ⊕ N) ⊗ X) ((M ⊗ AX ⊕ N ⊗ BX) ⊗ W) ∷ given (BX ⊖ AX) ((M ⊕ N) ⊗ Y) ((M ⊗ AY ⊕ N ⊗ BY) ⊗ W) ∷ [],
+    )) (x_sum, (y_sum, tt)) tt)
 
 pub lies_by_weights : (point : RationalPoint) (edge : Edge) → pos 1 ≤ℤ point.w → Weights point edge → LiesOn point edge
 lies_by_weights point edge positive weights =

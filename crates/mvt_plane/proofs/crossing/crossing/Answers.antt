@@ -1,6 +1,7 @@
 use Rattle.std.proofs.Common.{◌≡◌, ℕ, ◌^◌, ◌+ℤ◌, ◌-ℤ◌, ◌≤ℤ◌, ℤ, pos, nat_abs, to_z, of_z, sym, ◌∙◌, ap, ap₂, subst, arith}
 use mir.Syntax.{w128}
 use Rattle.mvt_plane.specs.CommonPoint.{cross_product}
+use Rattle.mvt_plane.specs.Position.{Position}
 use Rattle.mvt_plane.specs.RationalPoint.{RationalPoint, LiesOn}
 use Rattle.mvt_plane.specs.Measure.{AreOpposite}
 use Rattle.mvt_plane.specs.declared.edge.Edge.{Edge}
@@ -33,52 +34,45 @@ mean_is : (first second : Edge) (w b : ℤ) (point : RationalPoint) → ArePasse
     → point ≡ mean first (to_z w128 (of_z w128 (to_z w128 (of_z w128 w) -ℤ to_z w128 (of_z w128 b)))) (to_z w128 (of_z w128 b)) → point ≡ crossing_of first second
 mean_is first second w b point known found = found ∙ ap₂ (mean first) known.rest known.other
 
+-- the edges
+abbrev edge : Position → Position → Edge
+edge a b = record { a = a; b = b }
+
+-- what is known of the weights in a call
+known : (c : goal.After-cross_size-weight_b)
+    → ArePassed (pos (nat_abs (side (edge c.args.c c.args.d) c.args.b))) (pos (nat_abs (side (edge c.args.c c.args.d) c.args.a))) c.cross_size-w.result c.cross_size-weight_b.result
+known c = weights (edge c.args.a c.args.b) (edge c.args.c c.args.d) c.cross_size-w.result c.cross_size-weight_b.result c.requires.first c.cross_size-w.ensures.value c.cross_size-weight_b.ensures.value c.cross_size-w.ensures.bound
+
+-- and of its result
+is_crossing : (c : goal.After-mean) → c.mean.result ≡ crossing_of (edge c.args.a c.args.b) (edge c.args.c c.args.d)
+is_crossing c =
+    mean_is (edge c.args.a c.args.b) (edge c.args.c c.args.d) c.cross_size-w.result c.cross_size-weight_b.result c.mean.result
+    (weights (edge c.args.a c.args.b) (edge c.args.c c.args.d) c.cross_size-w.result c.cross_size-weight_b.result c.requires.first c.cross_size-w.ensures.value c.cross_size-weight_b.ensures.value c.cross_size-w.ensures.bound)
+    c.mean.ensures.value
+
 pub mean-requires-clause-a_sign : goal.mean-requires-clause-a_sign
-mean-requires-clause-a_sign c =
-    let first : Edge = record { a = c.args.a; b = c.args.b } in
-    let second : Edge = record { a = c.args.c; b = c.args.d } in
-    let known = weights first second c.cross_size-w.result c.cross_size-weight_b.result c.requires.first c.cross_size-w.ensures.value c.cross_size-weight_b.ensures.value c.cross_size-w.ensures.bound in
-    at_least_zero _ _ known.rest
+mean-requires-clause-a_sign c = at_least_zero _ _ (known c).rest
   where
     at_least_zero : (z : ℤ) (n : ℕ) → z ≡ pos n → pos 0 ≤ℤ z
     at_least_zero z n same = omega (arith, zs)
 
 pub mean-requires-clause-some : goal.mean-requires-clause-some
 mean-requires-clause-some c =
-    let first : Edge = record { a = c.args.a; b = c.args.b } in
-    let second : Edge = record { a = c.args.c; b = c.args.d } in
-    let known = weights first second c.cross_size-w.result c.cross_size-weight_b.result c.requires.first c.cross_size-w.ensures.value c.cross_size-weight_b.ensures.value c.cross_size-w.ensures.bound in
-    let some = size_some (side second first.a) (side second first.b) c.requires.first in
-    let whole = crossing_size first second c.requires.first ∙ sym c.cross_size-w.ensures.value ∙ sym known.sum in
+    let some = size_some (side (edge c.args.c c.args.d) c.args.a) (side (edge c.args.c c.args.d) c.args.b) c.requires.first in
+    let whole = crossing_size (edge c.args.a c.args.b) (edge c.args.c c.args.d) c.requires.first ∙ sym c.cross_size-w.ensures.value ∙ sym (known c).sum in
     subst (λ (z : ℤ). pos 1 ≤ℤ z) whole some
 
 pub mean-requires-clause-bound : goal.mean-requires-clause-bound
-mean-requires-clause-bound c =
-    let first : Edge = record { a = c.args.a; b = c.args.b } in
-    let second : Edge = record { a = c.args.c; b = c.args.d } in
-    let known = weights first second c.cross_size-w.result c.cross_size-weight_b.result c.requires.first c.cross_size-w.ensures.value c.cross_size-weight_b.ensures.value c.cross_size-w.ensures.bound in
-    subst (λ (z : ℤ). z ≤ℤ pos (2 ^ 63)) (sym known.sum) c.cross_size-w.ensures.bound
+mean-requires-clause-bound c = subst (λ (z : ℤ). z ≤ℤ pos (2 ^ 63)) (sym (known c).sum) c.cross_size-w.ensures.bound
 
 pub returns-clause-on_first : goal.returns-clause-on_first
 returns-clause-on_first c =
-    let first : Edge = record { a = c.args.a; b = c.args.b } in
-    let second : Edge = record { a = c.args.c; b = c.args.d } in
-    let known = weights first second c.cross_size-w.result c.cross_size-weight_b.result c.requires.first c.cross_size-w.ensures.value c.cross_size-weight_b.ensures.value c.cross_size-w.ensures.bound in
-    let same = mean_is first second c.cross_size-w.result c.cross_size-weight_b.result c.mean.result known c.mean.ensures.value in
-    subst (λ (point : RationalPoint). LiesOn point first) (sym same) (crossing_on_first first second c.requires.first)
+    subst (λ (point : RationalPoint). LiesOn point (edge c.args.a c.args.b)) (sym (is_crossing c)) (crossing_on_first (edge c.args.a c.args.b) (edge c.args.c c.args.d) c.requires.first)
 
 pub returns-clause-on_second : goal.returns-clause-on_second
 returns-clause-on_second c =
-    let first : Edge = record { a = c.args.a; b = c.args.b } in
-    let second : Edge = record { a = c.args.c; b = c.args.d } in
-    let known = weights first second c.cross_size-w.result c.cross_size-weight_b.result c.requires.first c.cross_size-w.ensures.value c.cross_size-weight_b.ensures.value c.cross_size-w.ensures.bound in
-    let same = mean_is first second c.cross_size-w.result c.cross_size-weight_b.result c.mean.result known c.mean.ensures.value in
-    subst (λ (point : RationalPoint). LiesOn point second) (sym same) (crossing_on_second first second c.requires.first c.requires.second)
+    subst (λ (point : RationalPoint). LiesOn point (edge c.args.c c.args.d)) (sym (is_crossing c))
+    (crossing_on_second (edge c.args.a c.args.b) (edge c.args.c c.args.d) c.requires.first c.requires.second)
 
 pub returns-clause-size : goal.returns-clause-size
-returns-clause-size c =
-    let first : Edge = record { a = c.args.a; b = c.args.b } in
-    let second : Edge = record { a = c.args.c; b = c.args.d } in
-    let known = weights first second c.cross_size-w.result c.cross_size-weight_b.result c.requires.first c.cross_size-w.ensures.value c.cross_size-weight_b.ensures.value c.cross_size-w.ensures.bound in
-    let same = mean_is first second c.cross_size-w.result c.cross_size-weight_b.result c.mean.result known c.mean.ensures.value in
-    ap (λ (point : RationalPoint). point.w) same ∙ crossing_size first second c.requires.first
+returns-clause-size c = ap (λ (point : RationalPoint). point.w) (is_crossing c) ∙ crossing_size (edge c.args.a c.args.b) (edge c.args.c c.args.d) c.requires.first
