@@ -1,6 +1,7 @@
 -- Lists with neighbours in a relation, taken apart and put together.
-use Rattle.std.proofs.Common.{◌≡◌, ◌≢◌, ℕ, zero, suc, ◌+◌, ◌-◌, ◌<◌, ◌≤◌, Bool, true, false, ◌⊎◌, inl, inr, List, [], ◌∷◌, ◌++◌, All, drop, insert, length, remove, slice_index, take, refl, sym, ap, subst, ◌∙◌, add-one, arith, length-append, length-drop, length-take, take-append-drop}
+use Rattle.std.proofs.Common.{◌≡◌, ◌≢◌, ℕ, zero, suc, ◌+◌, ◌-◌, ◌<◌, ◌≤◌, Bool, true, false, ◌⊎◌, inl, inr, List, [], ◌∷◌, ◌++◌, All, drop, insert, length, remove, slice_get, slice_index, Some, take, refl, sym, ap, subst, ◌∙◌, add-one, arith, length-append, length-drop, length-take, take-append-drop}
 use Rattle.std.proofs.lemmas.List.{drop_more, get_or_append_left, get_or-append_right, get_or-take, get_or-drop}
+use Rattle.std.proofs.lemmas.Option.{none-some, same_Some}
 use Rattle.mvt_polygon.specs.Chain.{Has, Each, Head, Chain, Joined, Ordered}
 use Rattle.mvt_status.specs.Split.{IsSplit}
 
@@ -45,6 +46,15 @@ pub has_place : (xs : List ℕ) (at : ℕ) → at < length xs → Has xs (slice_
 has_place [] at within = absurd (omega arith)
 has_place (first ∷ rest) zero within = inl refl
 has_place (first ∷ rest) (suc at) within = inr (has_place rest at (omega arith))
+
+-- Places
+
+-- what stands in a list that is one longer
+pub in_longer : {X : Type 0} (xs : List X) (y : X) (i : ℕ) (z : X) → slice_get (xs ++ y ∷ []) i ≡ Some z → (slice_get xs i ≡ Some z) ⊎ ((i ≡ length xs) × (y ≡ z))
+in_longer [] y zero z here = inr (refl, same_Some y z here)
+in_longer [] y (suc i) z here = absurd (none-some z here)
+in_longer (x ∷ xs) y zero z here = inl here
+in_longer (x ∷ xs) y (suc i) z here = elim (in_longer xs y i z here) [ inl before ↦ inl before | inr last ↦ inr (ap suc last.0, last.1) ]
 
 -- Neighbours
 

@@ -21,7 +21,7 @@ use Rattle.mvt_polygon.specs.declared.sweep.corners.Corner.{Corner}
 use Rattle.mvt_polygon.specs.declared.sweep.corners.Pair.{Pair}
 use Rattle.mvt_polygon.proofs.CornerNumbers.{IsVertex, corner_there, vertex_at, numbered_within, one_place, in_order, next_within, previous_within, previous_round, next_previous, previous_next, next_but_one}
 use Rattle.mvt_polygon.proofs.EdgeNumbers.{edge_read, one_edge, within_ring}
-use Rattle.mvt_polygon.proofs.SegmentEnds.{IsBetweenThem, up, down, between_them, rising_between, end_first, end_second}
+use Rattle.mvt_polygon.proofs.SegmentEnds.{up, down, between_them, rising_between, end_first, end_second}
 use Rattle.mvt_polygon.proofs.PairMeetings.{AreSharing, meeting_by_name}
 use Rattle.mvt_polygon.proofs.SharedVertices.{follows_next, only_shared, none_in_two_rings, none_apart, none_is_shared}
 
@@ -111,12 +111,12 @@ data SharedWay (corners : List Corner) (first second : ℕ) : Type 0 where
 
 -- two numbers are one, or are not
 same_or_not : (number other : ℕ) → (number ≡ other) ⊎ (number ≢ other)
-same_or_not number other = either (cases_order number other)
-  where
-    either : (number ≡ other) ⊎ ((number < other) ⊎ (other < number)) → (number ≡ other) ⊎ (number ≢ other)
-    either (inl same) = inl same
-    either (inr (inl fewer)) = inr (λ same. omega arith)
-    either (inr (inr more)) = inr (λ same. omega arith)
+same_or_not number other =
+    elim (cases_order number other) [
+      | inl same ↦ inl same
+      | inr (inl fewer) ↦ inr (λ same. omega arith)
+      | inr (inr more) ↦ inr (λ same. omega arith)
+    ]
 
 -- the first goes on to the second
 pub when_ahead : (corners : List Corner) (first second : ℕ) → next_at corners first ≡ second → shared_at corners first second ≡ Some (position_at corners second)
@@ -163,16 +163,16 @@ shared_alike corners first second linked within inside = either (shared_way corn
 
 -- what is shared is an end of the first
 shared_on_first : (corners : List Corner) (first second : ℕ) (vertex : Position) → shared_at corners first second ≡ Some vertex → IsEndOf vertex ((plan_of corners).segment first)
-shared_on_first corners first second vertex there = either (shared_way corners first second)
-  where
-    either : SharedWay corners first second → IsEndOf vertex ((plan_of corners).segment first)
-    either (ahead next is) =
-        let at : position_at corners (next_at corners first) ≡ vertex = ap (position_at corners) next ∙ same_Some (position_at corners second) vertex (sym is ∙ there) in
-        subst (λ (p : Position). IsEndOf p ((plan_of corners).segment first)) at (end_second (position_at corners first) (position_at corners (next_at corners first)))
-    either (back not its is) =
-        let at : position_at corners first ≡ vertex = same_Some (position_at corners first) vertex (sym is ∙ there) in
-        subst (λ (p : Position). IsEndOf p ((plan_of corners).segment first)) at (end_first (position_at corners first) (position_at corners (next_at corners first)))
-    either (apart not nor is) = absurd (none-some vertex (sym is ∙ there))
+shared_on_first corners first second vertex there =
+    elim (shared_way corners first second) [
+      | ahead next is ↦
+          let at : position_at corners (next_at corners first) ≡ vertex = ap (position_at corners) next ∙ same_Some (position_at corners second) vertex (sym is ∙ there) in
+          subst (λ (p : Position). IsEndOf p ((plan_of corners).segment first)) at (end_second (position_at corners first) (position_at corners (next_at corners first)))
+      | back not its is ↦
+          let at : position_at corners first ≡ vertex = same_Some (position_at corners first) vertex (sym is ∙ there) in
+          subst (λ (p : Position). IsEndOf p ((plan_of corners).segment first)) at (end_first (position_at corners first) (position_at corners (next_at corners first)))
+      | apart not nor is ↦ absurd (none-some vertex (sym is ∙ there))
+    ]
 
 -- corners that are linked are a plan
 pub plan_of_corners : (corners : List Corner) → AreLinked corners → AreInRange corners → IsPlan (plan_of corners)
@@ -188,21 +188,21 @@ plan_of_corners corners linked in_range = record {
 
 -- edges as the sweep and as the ring goes have the same points
 pub on_edge_at : (corners : List Corner) (number : ℕ) (point : RationalPoint) → LiesOn point (edge_at corners number) → LiesOn point (edge_along ((plan_of corners).segment number))
-on_edge_at corners number point lies = either (between_them (position_at corners number) (position_at corners (next_at corners number)))
-  where
-    either : IsBetweenThem (position_at corners number) (position_at corners (next_at corners number)) → LiesOn point (edge_along ((plan_of corners).segment number))
-    either (up rises is) = subst (λ (it : Segment). LiesOn point (edge_along it)) (sym is) lies
-    either (down falls is) = subst (λ (it : Segment). LiesOn point (edge_along it)) (sym is) (lies_on_reversed point (edge_at corners number) lies)
+on_edge_at corners number point lies =
+    elim (between_them (position_at corners number) (position_at corners (next_at corners number))) [
+      | up rises is ↦ subst (λ (it : Segment). LiesOn point (edge_along it)) (sym is) lies
+      | down falls is ↦ subst (λ (it : Segment). LiesOn point (edge_along it)) (sym is) (lies_on_reversed point (edge_at corners number) lies)
+    ]
 
 -- the same back
 pub on_segment_at : (corners : List Corner) (number : ℕ) (point : RationalPoint) → LiesOn point (edge_along ((plan_of corners).segment number)) → LiesOn point (edge_at corners number)
-on_segment_at corners number point lies = either (between_them (position_at corners number) (position_at corners (next_at corners number)))
-  where
-    either : IsBetweenThem (position_at corners number) (position_at corners (next_at corners number)) → LiesOn point (edge_at corners number)
-    either (up rises is) = subst (λ (it : Segment). LiesOn point (edge_along it)) is lies
-    either (down falls is) =
-        let turned = subst (λ (it : Segment). LiesOn point (edge_along it)) is lies in
-        lies_on_reversed point (edge_along (segment (position_at corners (next_at corners number)) (position_at corners number))) turned
+on_segment_at corners number point lies =
+    elim (between_them (position_at corners number) (position_at corners (next_at corners number))) [
+      | up rises is ↦ subst (λ (it : Segment). LiesOn point (edge_along it)) is lies
+      | down falls is ↦
+          let turned = subst (λ (it : Segment). LiesOn point (edge_along it)) is lies in
+          lies_on_reversed point (edge_along (segment (position_at corners (next_at corners number)) (position_at corners number))) turned
+    ]
 
 -- Tests
 
@@ -241,12 +241,12 @@ tested_back_and_forth corners first second (Some pair) linked within inside test
 
 -- corners at one position share no vertex there
 none_together : (corners : List Corner) (first second : ℕ) (vertex : Position) → AreLinked corners → AreTogether corners first second → shared_at corners first second ≡ Some vertex → ⊥
-none_together corners first second vertex linked together there = either (shared_way corners first second)
-  where
-    either : SharedWay corners first second → ⊥
-    either (ahead next is) = linked.apart first together.first_known (ap (position_at corners) next ∙ sym together.together)
-    either (back not next is) = linked.apart second together.second_known (ap (position_at corners) next ∙ together.together)
-    either (apart not nor is) = none-some vertex (sym is ∙ there)
+none_together corners first second vertex linked together there =
+    elim (shared_way corners first second) [
+      | ahead next is ↦ linked.apart first together.first_known (ap (position_at corners) next ∙ sym together.together)
+      | back not next is ↦ linked.apart second together.second_known (ap (position_at corners) next ∙ together.together)
+      | apart not nor is ↦ none-some vertex (sym is ∙ there)
+    ]
 
 -- edges of corners at one position meet wrongly
 pub together_meets : (corners : List Corner) (first second : ℕ) → AreLinked corners → AreTogether corners first second → ¬ Tested (plan_of corners) first second

@@ -1,5 +1,5 @@
 -- The two edges of a corner: which of them end in it, which begin, and in which order.
-use Rattle.std.proofs.Common.{◌≡◌, ◌<◌, ◌⊎◌, inl, inr, ℕ, List, length, true, false, ℤ, pos, ◌<ℤ◌, sym, ◌∙◌, ap, subst, arith}
+use Rattle.std.proofs.Common.{◌≡◌, ◌<◌, inl, inr, ℕ, List, length, true, false, ℤ, pos, ◌<ℤ◌, sym, ◌∙◌, ap, subst, arith}
 use lib.Signed.{lt_z}
 use Rattle.mvt_plane.specs.EdgeOrder.{Segment, segment_between}
 use Rattle.mvt_plane.specs.Measure.{key_of, orientation}
@@ -96,15 +96,11 @@ turn_is : (corners : List Corner) (number : ℕ) → AreLinked corners → numbe
     → orientation (here_of corners number) ((plan_of corners).segment (previous_at corners number)).high ((plan_of corners).segment number).high
     ≡ orientation (here_of corners number) (before_of corners number) (behind_of corners number)
 turn_is corners number linked within begin =
+    let first : ((plan_of corners).segment (previous_at corners number)).high ≡ before_of corners number = high_from_second (before_of corners number) (position_at corners (next_at corners (previous_at corners number)))
+    (begin.first_begins ∙ sym (ap (position_at corners) (linked.back_and_there number within))) in
+    let second : ((plan_of corners).segment number).high ≡ behind_of corners number = high_from_first (here_of corners number) (behind_of corners number) begin.second_begins in
     ap (λ (it : Position). orientation (here_of corners number) it ((plan_of corners).segment number).high) first
     ∙ ap (orientation (here_of corners number) (before_of corners number)) second
-  where
-    first : ((plan_of corners).segment (previous_at corners number)).high ≡ before_of corners number
-    first = high_from_second (before_of corners number) (position_at corners (next_at corners (previous_at corners number)))
-        (begin.first_begins ∙ sym (ap (position_at corners) (linked.back_and_there number within)))
-
-    second : ((plan_of corners).segment number).high ≡ behind_of corners number
-    second = high_from_first (here_of corners number) (behind_of corners number) begin.second_begins
 
 -- and so is that of the two the other way round
 turn_back : (corners : List Corner) (number : ℕ) → AreLinked corners → number < length corners
@@ -133,23 +129,19 @@ pub lower_goes : (corners : List Corner) (number : ℕ) → AreLinked corners �
     → BeginThere (plan_of corners) (here_of corners number) (previous_at corners number) number → Tested (plan_of corners) (previous_at corners number) number
     → ¬ (pos 0 <ℤ orientation (here_of corners number) (before_of corners number) (behind_of corners number))
     → BothBegin (plan_of corners) (here_of corners number) number (previous_at corners number)
-lower_goes corners number linked in_range within begin tested not = record {
-  lower_begins = begin.second_begins;
-  upper_begins = begin.first_begins;
-  in_order = subst (λ (it : ℤ). pos 0 <ℤ it) (sym (turn_back corners number linked within begin)) (positive (compare_ℤ turn (pos 0)));
-}
-  where
-    turn : ℤ
-    turn = orientation (here_of corners number) (before_of corners number) (behind_of corners number)
-
-    straight : ¬ (turn ≡ pos 0)
-    straight is =
-        spike (plan_of corners) (here_of corners number) (previous_at corners number) number (plan_of_corners corners linked in_range)
-        (linked.previous_known number within) within
-        (when_ahead corners (previous_at corners number) number (linked.back_and_there number within)) begin.first_begins begin.second_begins tested
-        (turn_is corners number linked within begin ∙ is)
-
-    positive : (turn <ℤ pos 0) ⊎ ((turn ≡ pos 0) ⊎ (pos 0 <ℤ turn)) → pos 0 <ℤ orientation (here_of corners number) (behind_of corners number) (before_of corners number)
-    positive (inl below) = let turned = turned_round (here_of corners number) (before_of corners number) (behind_of corners number) in omega (arith, zs)
-    positive (inr (inl zero)) = absurd (straight zero)
-    positive (inr (inr above)) = absurd (not above)
+lower_goes corners number linked in_range within begin tested not =
+    let turn : ℤ = orientation (here_of corners number) (before_of corners number) (behind_of corners number) in
+    let straight : ¬ (turn ≡ pos 0) = λ is.
+    spike (plan_of corners) (here_of corners number) (previous_at corners number) number (plan_of_corners corners linked in_range)
+    (linked.previous_known number within) within
+    (when_ahead corners (previous_at corners number) number (linked.back_and_there number within)) begin.first_begins begin.second_begins tested
+    (turn_is corners number linked within begin ∙ is) in
+    record {
+      lower_begins = begin.second_begins;
+      upper_begins = begin.first_begins;
+      in_order = subst (λ (it : ℤ). pos 0 <ℤ it) (sym (turn_back corners number linked within begin)) ((elim (compare_ℤ turn (pos 0)) [
+        | inl below ↦ let turned = turned_round (here_of corners number) (before_of corners number) (behind_of corners number) in omega (arith, zs)
+        | inr (inl zero) ↦ absurd (straight zero)
+        | inr (inr above) ↦ absurd (not above)
+      ]));
+    }

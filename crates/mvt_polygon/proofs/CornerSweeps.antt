@@ -55,54 +55,46 @@ is_before_all position is = omega (arith, ints, is.x, is.y)
 -- where no two have one key, a key is that of one corner
 one_corner : (corners : List Corner) (order : List (ℤ × ℕ)) (number other : ℕ) → IsOrder corners order → IsStrict order → number < length corners → other < length corners
     → key_of (position_at corners number) ≡ key_of (position_at corners other) → number ≡ other
-one_corner corners order number other in_order strict within inside same = either (cases_order here.0 there.0)
-  where
-    here : (at : ℕ) × (slice_get order at ≡ Some (key_of (position_at corners number), number))
-    here = in_order.all number within
-
-    there : (at : ℕ) × (slice_get order at ≡ Some (key_of (position_at corners other), other))
-    there = in_order.all other inside
-
-    either : (here.0 ≡ there.0) ⊎ ((here.0 < there.0) ⊎ (there.0 < here.0)) → number ≡ other
-    either (inl alike) =
-        ap (λ (pair : ℤ × ℕ). pair.1) (same_Some (key_of (position_at corners number), number) (key_of (position_at corners other), other)
-        (sym here.1 ∙ ap (slice_get order) alike ∙ there.1))
-    either (inr (inl before)) =
-        let less = strict here.0 there.0 (key_of (position_at corners number)) (key_of (position_at corners other)) number other before here.1 there.1 in
-        absurd (omega (arith, zs))
-    either (inr (inr behind)) =
-        let less = strict there.0 here.0 (key_of (position_at corners other)) (key_of (position_at corners number)) other number behind there.1 here.1 in
-        absurd (omega (arith, zs))
+one_corner corners order number other in_order strict within inside same =
+    let here : (at : ℕ) × (slice_get order at ≡ Some (key_of (position_at corners number), number)) = in_order.all number within in
+    let there : (at : ℕ) × (slice_get order at ≡ Some (key_of (position_at corners other), other)) = in_order.all other inside in
+    elim (cases_order here.0 there.0) [
+      | inl alike ↦
+          ap (λ (pair : ℤ × ℕ). pair.1) (same_Some (key_of (position_at corners number), number) (key_of (position_at corners other), other)
+          (sym here.1 ∙ ap (slice_get order) alike ∙ there.1))
+      | inr (inl before) ↦
+          let less = strict here.0 there.0 (key_of (position_at corners number)) (key_of (position_at corners other)) number other before here.1 there.1 in
+          absurd (omega (arith, zs))
+      | inr (inr behind) ↦
+          let less = strict there.0 here.0 (key_of (position_at corners other)) (key_of (position_at corners number)) other number behind there.1 here.1 in
+          absurd (omega (arith, zs))
+    ]
 
 -- an edge with an end at the key of a corner is one of the corner's two
 its_edge : (corners : List Corner) (order : List (ℤ × ℕ)) (number edge : ℕ) (end : Position) → AreLinked corners → IsOrder corners order → IsStrict order → number < length corners
     → edge < length corners → IsCorner corners edge end → key_of end ≡ key_of (position_at corners number) → (edge ≡ previous_at corners number) ⊎ (edge ≡ number)
-its_edge corners order number edge end linked in_order strict within inside is same = either is.which
-  where
-    alike : is.corner ≡ number
-    alike = one_corner corners order is.corner number in_order strict is.known within (ap key_of is.here ∙ same)
-
-    either : (is.corner ≡ edge) ⊎ (is.corner ≡ next_at corners edge) → (edge ≡ previous_at corners number) ⊎ (edge ≡ number)
-    either (inl own) = inr (sym own ∙ alike)
-    either (inr next) = inl (sym (linked.there_and_back edge inside) ∙ ap (previous_at corners) (sym next ∙ alike))
+its_edge corners order number edge end linked in_order strict within inside is same =
+    let alike : is.corner ≡ number = one_corner corners order is.corner number in_order strict is.known within (ap key_of is.here ∙ same) in
+    elim is.which [
+      | inl own ↦ inr (sym own ∙ alike)
+      | inr next ↦ inl (sym (linked.there_and_back edge inside) ∙ ap (previous_at corners) (sym next ∙ alike))
+    ]
 
 -- no end is strictly between where the line is and the next corner
 none_between : (corners : List Corner) (order : List (ℤ × ℕ)) (at : ℕ) (its : ℤ) (number edge : ℕ) (end : Position) (edges : List ℕ) → IsOrder corners order
     → (swept : IsSweptTo corners order at edges) → slice_get order at ≡ Some (its, number) → IsCorner corners edge end
     → (key_of end ≤ℤ swept.key) ⊎ (key_of (position_at corners number) ≤ℤ key_of end)
-none_between corners order at its number edge end edges in_order swept there is = either (nat_le_or_lt at place.0)
-  where
-    place : (at : ℕ) × (slice_get order at ≡ Some (key_of (position_at corners is.corner), is.corner))
-    place = in_order.all is.corner is.known
-
-    either : (at ≤ place.0) ⊎ (place.0 < at) → (key_of end ≤ℤ swept.key) ⊎ (key_of (position_at corners number) ≤ℤ key_of end)
-    either (inl ahead) =
-        let sorted = in_order.sorted at place.0 its (key_of (position_at corners is.corner)) number is.corner ahead there place.1 in
-        let at_most = subst (λ (k : ℤ). k ≤ℤ key_of (position_at corners is.corner)) (in_order.keyed at its number there) sorted in
-        inr (subst (λ (p : Position). key_of (position_at corners number) ≤ℤ key_of p) is.here at_most)
-    either (inr before) =
-        let passed = swept.passed place.0 (key_of (position_at corners is.corner)) is.corner before place.1 in
-        inl (subst (λ (p : Position). key_of p ≤ℤ swept.key) is.here passed)
+none_between corners order at its number edge end edges in_order swept there is =
+    let place : (at : ℕ) × (slice_get order at ≡ Some (key_of (position_at corners is.corner), is.corner)) = in_order.all is.corner is.known in
+    elim (nat_le_or_lt at place.0) [
+      | inl ahead ↦
+          let sorted = in_order.sorted at place.0 its (key_of (position_at corners is.corner)) number is.corner ahead there place.1 in
+          let at_most = subst (λ (k : ℤ). k ≤ℤ key_of (position_at corners is.corner)) (in_order.keyed at its number there) sorted in
+          inr (subst (λ (p : Position). key_of (position_at corners number) ≤ℤ key_of p) is.here at_most)
+      | inr before ↦
+          let passed = swept.passed place.0 (key_of (position_at corners is.corner)) is.corner before place.1 in
+          inl (subst (λ (p : Position). key_of p ≤ℤ swept.key) is.here passed)
+    ]
 
 -- From corner to corner
 

@@ -15,7 +15,7 @@ use Rattle.mvt_polygon.specs.Sweep.{Plan, IsPlan, IsSwept, IsEvent, IsActive, Is
 use Rattle.mvt_polygon.specs.declared.sweep.corners.Corner.{Corner}
 use Rattle.mvt_polygon.proofs.ChainParts.{each_has, each_by_has, has_left, has_either, ordered_parts, ordered_map}
 use Rattle.mvt_polygon.proofs.CornerPlans.{plan_of_corners}
-use Rattle.mvt_polygon.proofs.SegmentEnds.{IsBetweenThem, up, down, between_them}
+use Rattle.mvt_polygon.proofs.SegmentEnds.{up, down, between_them}
 use Rattle.mvt_polygon.proofs.SweepSlabs.{slab_of_all, swept_differ}
 
 -- an edge goes past the key of the vertex, from its lower end on, and is below the vertex
@@ -50,19 +50,19 @@ passing_by_below vertex one other order below = by_parts below.parted below.abov
 
 -- so it is with an edge whose ends are told in either order
 below_between : (vertex one other : Position) → IsPassing vertex (segment_between one other) → PassesBelow vertex (record { a = one; b = other })
-below_between vertex one other it = either (between_them one other)
-  where
-    either : IsBetweenThem one other → PassesBelow vertex (record { a = one; b = other })
-    either (up rises is) = below_by_passing vertex one other (subst (IsPassing vertex) is it)
-    either (down falls is) = below_back vertex other one (below_by_passing vertex other one (subst (IsPassing vertex) is it))
+below_between vertex one other it =
+    elim (between_them one other) [
+      | up rises is ↦ below_by_passing vertex one other (subst (IsPassing vertex) is it)
+      | down falls is ↦ below_back vertex other one (below_by_passing vertex other one (subst (IsPassing vertex) is it))
+    ]
 
 -- and back
 passing_between : (vertex one other : Position) → PassesBelow vertex (record { a = one; b = other }) → IsPassing vertex (segment_between one other)
-passing_between vertex one other below = either (between_them one other)
-  where
-    either : IsBetweenThem one other → IsPassing vertex (segment_between one other)
-    either (up rises is) = subst (IsPassing vertex) (sym is) (passing_by_below vertex one other (omega (arith, zs)) below)
-    either (down falls is) = subst (IsPassing vertex) (sym is) (passing_by_below vertex other one falls (below_back vertex one other below))
+passing_between vertex one other below =
+    elim (between_them one other) [
+      | up rises is ↦ subst (IsPassing vertex) (sym is) (passing_by_below vertex one other (omega (arith, zs)) below)
+      | down falls is ↦ subst (IsPassing vertex) (sym is) (passing_by_below vertex other one falls (below_back vertex one other below))
+    ]
 
 -- an edge that goes on up to the next vertex, and is below it, goes past it
 passing_active : (plan : Plan) (key : ℤ) (vertex : Position) (first second edge : ℕ) → IsEvent plan key vertex first second → IsActive plan key edge → IsUnder plan vertex edge
@@ -94,12 +94,14 @@ active_passing plan key vertex first second edge event begin known it =
     record {
       known = known;
       begun = elim (event.next_low edge known) [ inl before ↦ before | inr behind ↦ absurd (omega (arith, zs)) ];
-      lasts = elim (event.next_high edge known) [ inl ended ↦ absurd (refuse (event.only_high edge known (omega (arith, zs)))) | inr behind ↦ omega (arith, zs) ];
+      lasts = elim (event.next_high edge known) [
+        | inl ended ↦ absurd ((elim (event.only_high edge known (omega (arith, zs))) [
+          | inl same ↦ none_begins plan vertex edge (ap (λ (at : ℕ). (plan.segment at).low) same ∙ begin.first_begins) it
+          | inr same ↦ none_begins plan vertex edge (ap (λ (at : ℕ). (plan.segment at).low) same ∙ begin.second_begins) it
+        ]))
+        | inr behind ↦ omega (arith, zs)
+      ];
     }
-  where
-    refuse : (edge ≡ first) ⊎ (edge ≡ second) → ⊥
-    refuse (inl same) = none_begins plan vertex edge (ap (λ (at : ℕ). (plan.segment at).low) same ∙ begin.first_begins) it
-    refuse (inr same) = none_begins plan vertex edge (ap (λ (at : ℕ). (plan.segment at).low) same ∙ begin.second_begins) it
 
 -- so it is in the front
 in_front : (plan : Plan) (key : ℤ) (vertex : Position) (first second edge : ℕ) (edges front rest : List ℕ) → IsSwept plan key edges → IsEvent plan key vertex first second
@@ -125,29 +127,22 @@ front_ordered R edges front rest whole ordered = (ordered_parts R front rest (su
 pub front_is_below : (corners : List Corner) (number : ℕ) (edges front rest : List ℕ) → AreLinked corners → AreInRange corners → number < length corners
     → IsNextCorner corners number (previous_at corners number) number edges → BeginThere (plan_of corners) (position_at corners number) (previous_at corners number) number
     → IsCut (plan_of corners) (position_at corners number) edges front rest → AreBelow corners (position_at corners number) front
-front_is_below corners number edges front rest linked in_range known next begin cut = record {
-  known = each_by_has (λ (edge : ℕ). edge < length corners) front (λ edge here. (active edge here).known);
-  once = front_ordered (λ (one other : ℕ). one ≢ other) edges front rest cut.whole (swept_differ plan next.key edges is_plan next.swept);
-  below = each_by_has (λ (edge : ℕ). PassesBelow vertex (edge_at corners edge)) front (λ edge here.
-      below_between vertex (position_at corners edge) (position_at corners (next_at corners edge))
-      (passing_active plan next.key vertex (previous_at corners number) number edge next.event (active edge here) (each_has (IsUnder plan vertex) front edge cut.below here)));
-  all = λ edge within passes.
-      in_front plan next.key vertex (previous_at corners number) number edge edges front rest next.swept next.event begin cut within
-      (passing_between vertex (position_at corners edge) (position_at corners (next_at corners edge)) passes);
-  rising = ordered_map (IsSlab plan next.key vertex) (λ (one other : ℕ). IsNotAbove vertex (edge_at corners one) (edge_at corners other)) front
-      (λ one other here there slab. slab.below.at_right)
-      (front_ordered (IsSlab plan next.key vertex) edges front rest cut.whole
-      (slab_of_all plan next.key vertex (previous_at corners number) number edges is_plan next.swept next.event));
-}
-  where
-    plan : Plan
-    plan = plan_of corners
-
-    vertex : Position
-    vertex = position_at corners number
-
-    is_plan : IsPlan (plan_of corners)
-    is_plan = plan_of_corners corners linked in_range
-
-    active : (edge : ℕ) → Has front edge → IsActive (plan_of corners) next.key edge
-    active edge here = front_active (plan_of corners) next.key (position_at corners number) edge edges front rest next.swept cut here
+front_is_below corners number edges front rest linked in_range known next begin cut =
+    let plan : Plan = plan_of corners in
+    let vertex : Position = position_at corners number in
+    let is_plan : IsPlan (plan_of corners) = plan_of_corners corners linked in_range in
+    let active : (edge : ℕ) → Has front edge → IsActive (plan_of corners) next.key edge = λ edge here. front_active (plan_of corners) next.key (position_at corners number) edge edges front rest next.swept cut here in
+    record {
+      known = each_by_has (λ (edge : ℕ). edge < length corners) front (λ edge here. (active edge here).known);
+      once = front_ordered (λ (one other : ℕ). one ≢ other) edges front rest cut.whole (swept_differ plan next.key edges is_plan next.swept);
+      below = each_by_has (λ (edge : ℕ). PassesBelow vertex (edge_at corners edge)) front (λ edge here.
+          below_between vertex (position_at corners edge) (position_at corners (next_at corners edge))
+          (passing_active plan next.key vertex (previous_at corners number) number edge next.event (active edge here) (each_has (IsUnder plan vertex) front edge cut.below here)));
+      all = λ edge within passes.
+          in_front plan next.key vertex (previous_at corners number) number edge edges front rest next.swept next.event begin cut within
+          (passing_between vertex (position_at corners edge) (position_at corners (next_at corners edge)) passes);
+      rising = ordered_map (IsSlab plan next.key vertex) (λ (one other : ℕ). IsNotAbove vertex (edge_at corners one) (edge_at corners other)) front
+          (λ one other here there slab. slab.below.at_right)
+          (front_ordered (IsSlab plan next.key vertex) edges front rest cut.whole
+          (slab_of_all plan next.key vertex (previous_at corners number) number edges is_plan next.swept next.event));
+    }

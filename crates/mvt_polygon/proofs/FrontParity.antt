@@ -164,23 +164,16 @@ pub odd_of_rings : (meets : ℕ → Bool) (tells : Edge → Bool) (rings : List 
     → odd_from meets from (vertex_count rings) ≡ odd_of_all tells rings
 odd_of_rings meets tells [] from same = refl
 odd_of_rings meets tells (ring ∷ rest) from same =
+    let here : (number : ℕ) (edge : Edge) → slice_get (edges ring) number ≡ Some edge → meets (from + number) ≡ tells edge = λ number edge there.
+    let at : from + number ≡ from + (0 + number) = omega arith in
+    ap meets at ∙ same (record { ring = 0; edge = number }) edge (record { ring = ring; there = refl; here = there }) in
+    let first : odd_from meets from (length ring) ≡ odd tells (edges ring) =
+    ap (odd_from meets from) (sym (count_of_edges ring))
+    ∙ odd_of_edges meets tells (edges ring) from here in
+    let behind : (number : EdgeNumber) (edge : Edge) → IsEdgeOf rest number edge → meets (from + length ring + (vertex_count (take number.ring rest) + number.edge)) ≡ tells edge = λ number edge is.
+    let before = count_take ring rest number.ring in
+    let at : from + length ring + (vertex_count (take number.ring rest) + number.edge) ≡ from + (vertex_count (take (suc number.ring) (ring ∷ rest)) + number.edge) =
+    omega (arith, before) in
+    ap meets at ∙ same (record { ring = suc number.ring; edge = number.edge }) edge (record { ring = is.ring; there = is.there; here = is.here }) in
     ap (odd_from meets from) (count_cons ring rest) ∙ odd_joined meets from (length ring) (vertex_count rest)
     ∙ ap₂ apart first (odd_of_rings meets tells rest (from + length ring) behind)
-  where
-    here : (number : ℕ) (edge : Edge) → slice_get (edges ring) number ≡ Some edge → meets (from + number) ≡ tells edge
-    here number edge there =
-        let at : from + number ≡ from + (0 + number) = omega arith in
-        ap meets at ∙ same (record { ring = 0; edge = number }) edge (record { ring = ring; there = refl; here = there })
-
-    first : odd_from meets from (length ring) ≡ odd tells (edges ring)
-    first =
-        ap (odd_from meets from) (sym (count_of_edges ring))
-        ∙ odd_of_edges meets tells (edges ring) from here
-
-    behind : (number : EdgeNumber) (edge : Edge) → IsEdgeOf rest number edge
-        → meets (from + length ring + (vertex_count (take number.ring rest) + number.edge)) ≡ tells edge
-    behind number edge is =
-        let before = count_take ring rest number.ring in
-        let at : from + length ring + (vertex_count (take number.ring rest) + number.edge) ≡ from + (vertex_count (take (suc number.ring) (ring ∷ rest)) + number.edge) =
-        omega (arith, before) in
-        ap meets at ∙ same (record { ring = suc number.ring; edge = number.edge }) edge (record { ring = is.ring; there = is.there; here = is.here })

@@ -129,35 +129,23 @@ all_tell position tells each (ring ∷ rest) =
 pub odd_of_front : (rings : List (List Position)) (corners : List Corner) (position : Position) (front : List ℕ) → AreProperRings rings → AreCorners rings corners
     → AreBelow corners position front → IsTrue (is_odd_number (length front)) ↔ HaveOddBelow position rings
 odd_of_front rings corners position front proper are below =
+    let tells : Edge → Bool = λ edge. test (below_or_not position edge.a edge.b) in
+    let each : (edge : Edge) → IsTrue (tells edge) ↔ PassesBelow position edge = λ edge. test_tells (below_or_not position edge.a edge.b) in
+    let meets : ℕ → Bool = λ number. tells (edge_at corners number) in
+    let in_front : (number : ℕ) → number < length corners → is_in front number ≡ meets number = λ number within.
+    same_tests (is_in front number) (meets number)
+    (λ there. (each (edge_at corners number)).1
+    (each_has (λ (edge : ℕ). PassesBelow position (edge_at corners edge)) front number below.below (has_by_in front number there)))
+    (λ passes. in_by_has front number below.once (below.all number within ((each (edge_at corners number)).0 passes))) in
+    let of_edge : (number : EdgeNumber) (edge : Edge) → IsEdgeOf rings number edge → meets (0 + (vertex_count (take number.ring rings) + number.edge)) ≡ tells edge = λ number edge is.
+    let it = corner_of_edge rings corners number edge proper are is in
+    let at : 0 + (vertex_count (take number.ring rings) + number.edge) ≡ it.at = omega (arith, it.numbered.numbered) in
+    ap meets at ∙ ap tells it.its_edge in
+    let same : is_odd_number (length front) ≡ odd_of_all tells rings =
+    odd_of_list front (length corners) below.known
+    ∙ odd_alike (is_in front) meets 0 (length corners) (λ number least most. in_front number (omega arith))
+    ∙ ap (odd_from meets 0) are.count ∙ odd_of_rings meets tells rings 0 of_edge in
     let told = all_tell position tells each rings in (
       λ is_odd. told.0 (subst IsTrue same is_odd),
       λ have. subst IsTrue (sym same) (told.1 have),
     )
-  where
-    tells : Edge → Bool
-    tells edge = test (below_or_not position edge.a edge.b)
-
-    each : (edge : Edge) → IsTrue (tells edge) ↔ PassesBelow position edge
-    each edge = test_tells (below_or_not position edge.a edge.b)
-
-    meets : ℕ → Bool
-    meets number = tells (edge_at corners number)
-
-    in_front : (number : ℕ) → number < length corners → is_in front number ≡ meets number
-    in_front number within =
-        same_tests (is_in front number) (meets number)
-        (λ there. (each (edge_at corners number)).1
-        (each_has (λ (edge : ℕ). PassesBelow position (edge_at corners edge)) front number below.below (has_by_in front number there)))
-        (λ passes. in_by_has front number below.once (below.all number within ((each (edge_at corners number)).0 passes)))
-
-    of_edge : (number : EdgeNumber) (edge : Edge) → IsEdgeOf rings number edge → meets (0 + (vertex_count (take number.ring rings) + number.edge)) ≡ tells edge
-    of_edge number edge is =
-        let it = corner_of_edge rings corners number edge proper are is in
-        let at : 0 + (vertex_count (take number.ring rings) + number.edge) ≡ it.at = omega (arith, it.numbered.numbered) in
-        ap meets at ∙ ap tells it.its_edge
-
-    same : is_odd_number (length front) ≡ odd_of_all tells rings
-    same =
-        odd_of_list front (length corners) below.known
-        ∙ odd_alike (is_in front) meets 0 (length corners) (λ number least most. in_front number (omega arith))
-        ∙ ap (odd_from meets 0) are.count ∙ odd_of_rings meets tells rings 0 of_edge

@@ -11,6 +11,7 @@ use Rattle.mvt_polygon.specs.declared.meeting.Meeting.{Meeting}
 use Rattle.mvt_polygon.specs.declared.sweep.corners.Corner.{Corner}
 use Rattle.mvt_polygon.specs.declared.sweep.corners.Pair.{Pair}
 use Rattle.mvt_polygon.proofs.CornerPlans.{together_meets, meeting_of_rings}
+use Rattle.mvt_polygon.proofs.StatusCounts.{work_then, work_within}
 
 -- The work
 
@@ -36,26 +37,13 @@ no_step probes visits count = record {
 -- the work of one more step
 pub another_step : (at probes visits : ℕ) (before between after : Counted) → AddsWork (3 * at) (at * probes) (at * visits) before between → AddsWork 3 probes visits between after
     → AddsWork (3 * (at + 1)) ((at + 1) * probes) ((at + 1) * visits) before after
-another_step at probes visits before between after passed step = record {
-  tests_added = omega (arith, passed.tests_added, step.tests_added);
-  probes_added = omega (arith, passed.probes_added, step.probes_added, one_more at probes);
-  visits_added = omega (arith, passed.visits_added, step.visits_added, one_more at visits);
-  no_fewer_tests = omega (arith, passed.no_fewer_tests, step.no_fewer_tests);
-  no_fewer_probes = omega (arith, passed.no_fewer_probes, step.no_fewer_probes);
-  no_fewer_visits = omega (arith, passed.no_fewer_visits, step.no_fewer_visits);
-}
+another_step at probes visits before between after passed step =
+    work_within (omega arith) (omega (arith, one_more at probes)) (omega (arith, one_more at visits)) (work_then passed step)
 
 -- at most that of so many steps
 pub so_many_steps : (at many probes visits : ℕ) (before after : Counted) → at ≤ many → AddsWork (3 * at) (at * probes) (at * visits) before after
     → AddsWork (3 * many) (many * probes) (many * visits) before after
-so_many_steps at many probes visits before after most work = record {
-  tests_added = omega (arith, work.tests_added);
-  probes_added = omega (arith, work.probes_added, no_less at many probes most);
-  visits_added = omega (arith, work.visits_added, no_less at many visits most);
-  no_fewer_tests = work.no_fewer_tests;
-  no_fewer_probes = work.no_fewer_probes;
-  no_fewer_visits = work.no_fewer_visits;
-}
+so_many_steps at many probes visits before after most work = work_within (omega arith) (no_less at many probes most) (no_less at many visits most) work
 
 -- What is found
 

@@ -7,13 +7,8 @@ use Rattle.mvt_plane.specs.Apart.{HaveNothingInCommon}
 use Rattle.mvt_plane.specs.Below.{HasOddBelow}
 use Rattle.mvt_plane.specs.Inside.{IsInside}
 use Rattle.mvt_plane.specs.Position.{Position}
-use Rattle.mvt_plane.specs.RationalPoint.{LiesOn, whole}
-use Rattle.mvt_plane.specs.Ring.{edges}
-use Rattle.mvt_plane.specs.declared.edge.Edge.{Edge}
 use Rattle.mvt_plane.proofs.EdgesBelow.{inside_by_edges_below}
 use Rattle.mvt_plane.proofs.OneVertex.{one_vertex_decides}
-use Rattle.mvt_plane.proofs.RationalPoints.{begin_lies_on}
-use Rattle.mvt_plane.proofs.RingEdges.{count_of_edges, ends_of_edge}
 use Rattle.mvt_polygon.specs.Corners.{IsNumbered, vertex_count}
 use Rattle.mvt_polygon.specs.Meeting.{NoMeeting}
 use Rattle.mvt_polygon.specs.Nesting.{IsNestFault, outside, in_hole, IsFirstNestFault, IsOfHole, IsOfVertex, IsFirstOf}
@@ -26,27 +21,10 @@ use Rattle.mvt_polygon.specs.declared.nesting.around.Around.{Around}
 use Rattle.mvt_polygon.specs.declared.nesting.around.Around.TheVariants.{Nothing, Exterior, Others}
 use Rattle.mvt_polygon.proofs.CornerNumbers.{count_step, count_within}
 use Rattle.mvt_polygon.proofs.NestFaults.{first_hole}
-use Rattle.mvt_polygon.proofs.RingsAround.{no_odd_of_ring}
+use Rattle.mvt_polygon.proofs.RingsAround.{no_odd_of_ring, vertex_of_ring, vertex_off}
 use Rattle.mvt_polygon.proofs.NestOnce.{nothing_in_common, first_of_first_vertex}
 
 -- Other rings
-
--- a vertex lies on an edge of its ring
-vertex_on_edge : (ring : List Position) (vertex : ℕ) (position : Position) → slice_get ring vertex ≡ Some position
-    → (edge : Edge) × (slice_get (edges ring) vertex ≡ Some edge) × LiesOn (whole position) edge
-vertex_on_edge ring vertex position here =
-    let edge : Edge = get_or (edges ring) vertex (record { a = position; b = position }) in
-    let there : slice_get (edges ring) vertex ≡ Some edge = slice_get-get_or (edges ring) vertex (record { a = position; b = position })
-    (omega (arith, count_of_edges ring, slice_get_within ring vertex position here)) in
-    let begins : Some edge.a ≡ Some position = sym (ends_of_edge ring vertex edge there).0 ∙ here in
-    (edge, there, subst (λ (it : Position). LiesOn (whole it) edge) (same_Some edge.a position begins) (begin_lies_on edge))
-
--- and on no edge of a ring that has nothing in common with its own
-off_edges : (ring other : List Position) → HaveNothingInCommon ring other → (vertex : ℕ) (position : Position) → slice_get ring vertex ≡ Some position
-    → (number : ℕ) (edge : Edge) → slice_get (edges other) number ≡ Some edge → ¬ LiesOn (whole position) edge
-off_edges ring other apart vertex position here number edge there =
-    let (its, is, lies) = vertex_on_edge ring vertex position here in
-    apart vertex number its edge (whole position) is there lies
 
 -- so any vertex is inside another ring exactly where an odd number of the other's edges pass below this one
 inside_as_below : (rings : List (List Position)) → NoMeeting rings → AreRingsInRange rings → (hole number : ℕ) (ring other : List Position) → hole ≢ number
@@ -55,19 +33,12 @@ inside_as_below : (rings : List (List Position)) → NoMeeting rings → AreRing
 inside_as_below rings none in_range hole number ring other differ there its_there first vertex position its here its_here =
     let apart : HaveNothingInCommon ring other = nothing_in_common rings none hole number ring other differ there its_there in
     let below : IsInside position other ↔ HasOddBelow position other = inside_by_edges_below position other (in_range hole first ring position there here)
-    (λ vertex it is. in_range number vertex other it its_there is) (off_edges ring other apart first position here) in (
+    (λ vertex it is. in_range number vertex other it its_there is) (vertex_off ring other apart first position here) in (
       λ inside. below.0 (one_vertex_decides ring other apart vertex first its position its_here here inside),
       λ has. one_vertex_decides ring other apart first vertex position its here its_here (below.1 has),
     )
 
 -- Holes
-
--- the first vertex by key, in any spelling of its ring
-first_here : (rings : List (List Position)) (hole : ℕ) (position : Position) (first : IsLeastVertex rings hole position) (ring : List Position)
-    → slice_get rings hole ≡ Some ring → slice_get ring first.vertex ≡ Some position
-first_here rings hole position first ring there =
-    let same : first.vertices ≡ ring = same_Some first.vertices ring (sym first.there ∙ there) in
-    subst (λ (vertices : List Position). slice_get vertices first.vertex ≡ Some position) same first.here
 
 -- where the exterior is around it every vertex is inside that
 inside_exterior : (rings : List (List Position)) (hole vertex : ℕ) (its : Position) (ring exterior : List Position) → NoMeeting rings → AreRingsInRange rings → 0 < hole
@@ -77,7 +48,7 @@ inside_exterior rings hole vertex its ring exterior none in_range behind noted t
     let first = noted.first in
     let same : around.ring ≡ exterior = same_Some around.ring exterior (sym around.there ∙ its_there) in
     let as_below : IsInside its exterior ↔ HasOddBelow noted.position exterior = inside_as_below rings none in_range hole 0 ring exterior (omega arith) there its_there
-    first.vertex vertex noted.position its (first_here rings hole noted.position first ring there) here in
+    first.vertex vertex noted.position its (vertex_of_ring rings hole noted.position ring first there) here in
     as_below.1 (subst (HasOddBelow noted.position) same around.odd)
 
 -- and where it is alone none is inside another hole
@@ -87,7 +58,7 @@ in_no_hole : (rings : List (List Position)) (hole vertex number : ℕ) (its : Po
 in_no_hole rings hole vertex number its ring other none in_range behind differ noted there here its_there inside =
     let first = noted.first in
     let as_below : IsInside its other ↔ HasOddBelow noted.position other = inside_as_below rings none in_range hole number ring other differ there its_there
-    first.vertex vertex noted.position its (first_here rings hole noted.position first ring there) here in
+    first.vertex vertex noted.position its (vertex_of_ring rings hole noted.position ring first there) here in
     noted.are.alone number behind (record { ring = other; there = its_there; odd = as_below.0 inside })
 
 -- so where the exterior is noted no vertex has a fault
@@ -111,15 +82,11 @@ not_alone rings position (Others odd) are not alone = are.1 alone
 alone_around : (rings : List (List Position)) (hole : ℕ) → NoMeeting rings → AreRingsInRange rings → 0 < hole → hole < length rings → (position : Position)
     → (first : IsLeastVertex rings hole position) → ((fault : NestFault) → IsOfVertex hole 0 fault → ¬ IsNestFault rings fault) → (its : Position)
     → slice_get first.vertices 0 ≡ Some its → IsRingAround rings position 0 → IsExteriorAround rings position
-alone_around rings hole none in_range behind before position first clear its here exterior = record { exterior = exterior; alone = alone }
-  where
-    own : (it : IsRingAround rings position hole) → ⊥
-    own it =
-        let same : it.ring ≡ first.vertices = same_Some it.ring first.vertices (sym it.there ∙ first.there) in
-        no_odd_of_ring position first.vertices first.first (subst (HasOddBelow position) same it.odd)
-
-    another : (number : ℕ) → 0 < number → hole ≢ number → ¬ IsRingAround rings position number
-    another number further differ it = clear (InHole hole 0 number) (refl, refl) (in_hole hole 0 number (record {
+alone_around rings hole none in_range behind before position first clear its here exterior =
+    let own : (it : IsRingAround rings position hole) → ⊥ = λ it.
+    let same : it.ring ≡ first.vertices = same_Some it.ring first.vertices (sym it.there ∙ first.there) in
+    no_odd_of_ring position first.vertices first.first (subst (HasOddBelow position) same it.odd) in
+    let another : (number : ℕ) → 0 < number → hole ≢ number → ¬ IsRingAround rings position number = λ number further differ it. clear (InHole hole 0 number) (refl, refl) (in_hole hole 0 number (record {
       hole = record { behind = behind; before = before };
       position = its;
       here = record { vertices = first.vertices; there = first.there; here = here };
@@ -128,14 +95,13 @@ alone_around rings hole none in_range behind before position first clear its her
       around = it.ring;
       there = it.there;
       inside = (inside_as_below rings none in_range hole number first.vertices it.ring differ first.there it.there first.vertex 0 position its first.here here).1 it.odd;
-    }))
-
-    alone : (number : ℕ) → 0 < number → ¬ IsRingAround rings position number
-    alone number further it = elim (cases_order hole number) [
+    })) in
+    let alone : (number : ℕ) → 0 < number → ¬ IsRingAround rings position number = λ number further it. elim (cases_order hole number) [
       | inl same ↦ own (subst (IsRingAround rings position) (sym same) it)
       | inr (inl less) ↦ another number further (λ same. omega arith) it
       | inr (inr more) ↦ another number further (λ same. omega arith) it
-    ]
+    ] in
+    record { exterior = exterior; alone = alone }
 
 -- where anything else is noted the first vertex, by number, has one
 pub hole_wrong : (rings : List (List Position)) (hole : ℕ) (around : Around) → NoMeeting rings → AreRingsInRange rings → 0 < hole → hole < length rings

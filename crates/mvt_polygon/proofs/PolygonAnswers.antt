@@ -17,6 +17,7 @@ use Rattle.mvt_polygon.specs.declared.polygon.PolygonFault.{PolygonFault}
 use Rattle.mvt_polygon.specs.declared.polygon.PolygonFault.TheVariants.{Meeting, Nesting}
 use Rattle.mvt_polygon.specs.declared.sweep.corners.Corner.{Corner}
 use Rattle.mvt_polygon.specs.declared.sweep.corners.Pair.{Pair}
+use Rattle.mvt_polygon.proofs.StatusCounts.{work_then, work_within}
 
 -- What the sweep found
 
@@ -72,14 +73,7 @@ pub whole_work : (vertices digits : ℕ) (before between after : Counted) → Ad
 whole_work vertices digits before between after swept probed =
     let more : vertices * (2 * digits + 2) + vertices ≡ vertices * (2 * digits + 3) = grind arith in
     let few : 14 * digits ≤ 20 * digits = omega arith in
-    record {
-      tests_added = omega (arith, swept.tests_added, probed.tests_added);
-      probes_added = omega (arith, swept.probes_added, probed.probes_added, more);
-      visits_added = omega (arith, swept.visits_added, probed.visits_added, no_less vertices (14 * digits) (20 * digits) few);
-      no_fewer_tests = omega (arith, swept.no_fewer_tests, probed.no_fewer_tests);
-      no_fewer_probes = omega (arith, swept.no_fewer_probes, probed.no_fewer_probes);
-      no_fewer_visits = omega (arith, swept.no_fewer_visits, probed.no_fewer_visits);
-    }
+    work_within (omega arith) (omega (arith, more)) (omega (arith, no_less vertices (14 * digits) (20 * digits) few)) (work_then swept probed)
 
 -- that of the sweep alone
 pub sweep_work : (vertices digits : ℕ) (before after : Counted) → AddsWork (3 * vertices) (vertices * (2 * digits + 2)) (vertices * (14 * digits)) before after

@@ -9,15 +9,9 @@ use Rattle.mvt_plane.specs.Polygon.{IsExterior, NoExterior, IsExteriorOf, first,
 use Rattle.mvt_plane.proofs.PolygonNumbers.{polygon_of_ring}
 use Rattle.mvt_plane.proofs.SamePolygons.{one_polygon, exterior_of_polygon}
 use Rattle.mvt_polygon.specs.Polygons.{ArePolygons}
+use Rattle.mvt_polygon.proofs.ChainParts.{in_longer}
 
 -- Lists
-
--- what stands in a list that is one longer
-in_longer : {X : Type 0} (xs : List X) (y : X) (i : ℕ) (z : X) → slice_get (xs ++ y ∷ []) i ≡ Some z → (slice_get xs i ≡ Some z) ⊎ ((i ≡ length xs) × (y ≡ z))
-in_longer [] y zero z here = inr (refl, cc)
-in_longer [] y (suc i) z here = absurd (cc)
-in_longer (x ∷ xs) y zero z here = inl here
-in_longer (x ∷ xs) y (suc i) z here = elim (in_longer xs y i z here) [ inl before ↦ inl before | inr last ↦ inr (ap suc last.0, last.1) ]
 
 -- what stood there stays
 stays : {X : Type 0} (xs : List X) (y : X) (i : ℕ) (z : X) → slice_get xs i ≡ Some z → slice_get (xs ++ y ∷ []) i ≡ Some z

@@ -1,11 +1,11 @@
 -- The rings around one whose first vertex is directly above an edge of another ring: those around the other ring, and that ring
 -- itself where an odd number of its edges pass below the vertex.
-use Rattle.std.proofs.Common.{◌≡◌, ◌≢◌, ◌<◌, ◌⊎◌, inl, inr, ◌↔◌, ℕ, zero, suc, Bool, true, false, IsTrue, cond, List, [], ◌∷◌, length, get_or, slice_get, Some, ◌<ℤ◌, ◌≤ℤ◌, refl, sym, ◌∙◌, ap, subst, arith}
+use Rattle.std.proofs.Common.{◌≡◌, ◌≢◌, ◌<◌, inl, inr, ◌↔◌, ℕ, zero, suc, Bool, true, false, IsTrue, cond, List, [], ◌∷◌, length, get_or, slice_get, Some, ◌<ℤ◌, ◌≤ℤ◌, refl, sym, ◌∙◌, ap, subst, arith}
 use Rattle.std.proofs.lemmas.Bool.{cases_eq}
 use Rattle.std.proofs.lemmas.Option.{same_Some, slice_get_within, slice_get-get_or}
 use Rattle.mvt_plane.specs.Apart.{HaveNothingInCommon}
 use Rattle.mvt_plane.specs.Below.{PassesBelow, HasOddBelow}
-use Rattle.mvt_plane.specs.Inside.{Differ, HoldsOfOdd}
+use Rattle.mvt_plane.specs.Inside.{HoldsOfOdd}
 use Rattle.mvt_plane.specs.Measure.{key_of}
 use Rattle.mvt_plane.specs.Position.{Position, IsPosition}
 use Rattle.mvt_plane.specs.RationalPoint.{LiesOn, whole}
@@ -40,11 +40,11 @@ ComesFirst position ring = (number : ℕ) (vertex : Position) → slice_get ring
 
 -- no edge passes below a position before both of its ends
 none_before : (position : Position) (edge : Edge) → key_of position ≤ℤ key_of edge.a → key_of position ≤ℤ key_of edge.b → ¬ PassesBelow position edge
-none_before position edge begin end below = refuse below.parted
-  where
-    refuse : Differ (key_of edge.a <ℤ key_of position) (key_of edge.b <ℤ key_of position) → ⊥
-    refuse (inl (less, _)) = omega (arith, zs)
-    refuse (inr (_, less)) = omega (arith, zs)
+none_before position edge begin end below =
+    elim below.parted [
+      | inl (less, _) ↦ omega (arith, zs)
+      | inr (_, less) ↦ omega (arith, zs)
+    ]
 
 -- so none of the ring does
 none_of_ring : (position : Position) (ring : List Position) → ComesFirst position ring → (number : ℕ) (edge : Edge) → slice_get (edges ring) number ≡ Some edge
@@ -59,11 +59,11 @@ no_odd_of_ring position ring first = none_odd (PassesBelow position) (edges ring
 
 -- an edge that passes below a position has an end before it, by key
 end_before : (position low : Position) (edge : Edge) → PassesBelow position edge → key_of low ≤ℤ key_of edge.a → key_of low ≤ℤ key_of edge.b → key_of low <ℤ key_of position
-end_before position low edge below begin end = by_end below.parted
-  where
-    by_end : Differ (key_of edge.a <ℤ key_of position) (key_of edge.b <ℤ key_of position) → key_of low <ℤ key_of position
-    by_end (inl (less, _)) = omega (arith, zs)
-    by_end (inr (_, less)) = omega (arith, zs)
+end_before position low edge below begin end =
+    elim below.parted [
+      | inl (less, _) ↦ omega (arith, zs)
+      | inr (_, less) ↦ omega (arith, zs)
+    ]
 
 -- the first vertex of a ring comes before its vertices
 first_of_ring : (rings : List (List Position)) (ring : ℕ) (position : Position) (vertices : List Position) → IsLeastVertex rings ring position → slice_get rings ring ≡ Some vertices
@@ -73,7 +73,7 @@ first_of_ring rings ring position vertices first there =
     subst (λ (its : List Position). ComesFirst position its) same first.first
 
 -- and is one of them
-vertex_of_ring : (rings : List (List Position)) (ring : ℕ) (position : Position) (vertices : List Position) (first : IsLeastVertex rings ring position) → slice_get rings ring ≡ Some vertices
+pub vertex_of_ring : (rings : List (List Position)) (ring : ℕ) (position : Position) (vertices : List Position) (first : IsLeastVertex rings ring position) → slice_get rings ring ≡ Some vertices
     → slice_get vertices first.vertex ≡ Some position
 vertex_of_ring rings ring position vertices first there =
     let same : first.vertices ≡ vertices = same_Some first.vertices vertices (sym first.there ∙ there) in
@@ -83,17 +83,16 @@ vertex_of_ring rings ring position vertices first there =
 
 -- where no edge passes below a ring's first vertex, no ring is around it
 pub nothing_around : (rings : List (List Position)) (ring : ℕ) (position : Position) → IsLeastVertex rings ring position → HaveNoneBelow position rings → AreAroundRing rings ring Nothing
-nothing_around rings ring position first none = record {
-  position = position;
-  first = first;
-  odd = (λ impossible. absurd (no_truth impossible), λ odd. absurd (none_has_odd position rings none_of odd));
-  are = λ number around. none_of number around.ring around.there around.odd;
-}
-  where
-    none_of : (number : ℕ) (vertices : List Position) → slice_get rings number ≡ Some vertices → ¬ HasOddBelow position vertices
-    none_of number vertices there =
-        none_odd (PassesBelow position) (edges vertices)
-        (λ edge it here. none (record { ring = number; edge = edge }) it (record { ring = vertices; there = there; here = here }))
+nothing_around rings ring position first none =
+    let none_of : (number : ℕ) (vertices : List Position) → slice_get rings number ≡ Some vertices → ¬ HasOddBelow position vertices = λ number vertices there.
+    none_odd (PassesBelow position) (edges vertices)
+    (λ edge it here. none (record { ring = number; edge = edge }) it (record { ring = vertices; there = there; here = here })) in
+    record {
+      position = position;
+      first = first;
+      odd = (λ impossible. absurd (no_truth impossible), λ odd. absurd (none_has_odd position rings none_of odd));
+      are = λ number around. none_of number around.ring around.there around.odd;
+    }
 
 -- ---- the rings around two positions
 
@@ -128,19 +127,16 @@ carries rings position other (Others odd) there back are = (
 -- where that ring isn't around the one either
 without_ring : (rings : List (List Position)) (position other : Position) (below : ℕ) (around : Around) → AreAlikeBut rings position other below → ¬ IsRingAround rings position below
     → AreAround rings other around → AreAround rings position around
-without_ring rings position other below around alike none are = carries rings position other around there back are
-  where
-    there : AreWithin rings position other
-    there number it = elim (cases_eq number below) [
+without_ring rings position other below around alike none are =
+    let there : AreWithin rings position other = λ number it. elim (cases_eq number below) [
       | inl same ↦ absurd (none (subst (λ (its : ℕ). IsRingAround rings position its) same it))
       | inr differ ↦ alike.there number differ it
-    ]
-
-    back : AreWithin rings other position
-    back number it = elim (cases_eq number below) [
+    ] in
+    let back : AreWithin rings other position = λ number it. elim (cases_eq number below) [
       | inl same ↦ absurd (alike.without (subst (λ (its : ℕ). IsRingAround rings other its) same it))
       | inr differ ↦ alike.back number differ it
-    ]
+    ] in
+    carries rings position other around there back are
 
 -- where it is around the one, and isn't the exterior, others than the exterior are
 ring_behind : (rings : List (List Position)) (position : Position) (below : ℕ) (odd : Bool) → 0 < below → IsRingAround rings position below → AreAround rings position (Others odd)
@@ -225,7 +221,7 @@ edge_of_vertex ring number vertex here =
     (edge, there, same_Some edge.a vertex (sym ends.0 ∙ here))
 
 -- a vertex lies on no edge of a ring that has nothing in common with its own
-vertex_off : (ring other : List Position) → HaveNothingInCommon ring other → (number : ℕ) (vertex : Position) → slice_get ring number ≡ Some vertex
+pub vertex_off : (ring other : List Position) → HaveNothingInCommon ring other → (number : ℕ) (vertex : Position) → slice_get ring number ≡ Some vertex
     → (another : ℕ) (edge : Edge) → slice_get (edges other) another ≡ Some edge → ¬ LiesOn (whole vertex) edge
 vertex_off ring other nothing number vertex here another edge there =
     let its = edge_of_vertex ring number vertex here in
@@ -275,13 +271,12 @@ first_before rings ring below position other it =
 
 -- so no odd number of the upper ring's edges pass below it
 upper_not_below : (rings : List (List Position)) (ring below : ℕ) (position other : Position) (it : IsAbove rings ring below position other) → ¬ HasOddBelow other it.first.vertices
-upper_not_below rings ring below position other it = no_odd_of_ring other it.first.vertices comes_first
-  where
-    comes_first : ComesFirst other it.first.vertices
-    comes_first number vertex there =
-        let before = first_before rings ring below position other it in
-        let least = it.first.first number vertex there in
-        omega (arith, zs)
+upper_not_below rings ring below position other it =
+    let comes_first : ComesFirst other it.first.vertices = λ number vertex there.
+    let before = first_before rings ring below position other it in
+    let least = it.first.first number vertex there in
+    omega (arith, zs) in
+    no_odd_of_ring other it.first.vertices comes_first
 
 -- of another ring than these two an odd number of edges pass below the one where it is so of the end of the edge below it
 odd_as_below : (rings : List (List Position)) (ring below : ℕ) (position other : Position) (it : IsAbove rings ring below position other) (number : ℕ) (third : List Position)
@@ -308,37 +303,30 @@ odd_as_below rings ring below position other it number third not_ring not_below 
 third_alike : (rings : List (List Position)) (ring below : ℕ) (position other : Position) → IsAbove rings ring below position other → (number : ℕ) (third : List Position)
     → number ≢ ring → number ≢ below → slice_get rings number ≡ Some third → HasOddBelow position third ↔ HasOddBelow other third
 third_alike rings ring below position other it number third not_ring not_below there =
+    let nothing : HaveNothingInCommon it.its_ring third = nothing_in_common rings it.none below number it.its_ring third (λ same. not_below (sym same)) it.there there in
+    let move : (one two : ℕ) (vertex another : Position) → slice_get it.its_ring one ≡ Some vertex → slice_get it.its_ring two ≡ Some another → HasOddBelow vertex third → HasOddBelow another third = vertices_alike it.its_ring third nothing
+    (λ at vertex here. it.in_range below at it.its_ring vertex it.there here) (λ at vertex here. it.in_range number at third vertex there here) in
     let ends = ends_of_edge it.its_ring it.under.number.edge it.under.edge it.here in
     let law = odd_as_below rings ring below position other it number third not_ring not_below there in
     let here = vertex_of_ring rings below other it.its_ring it.its_first it.there in (
       λ has. move it.under.number.edge it.its_first.vertex it.under.edge.a other ends.0 here (law.0 has),
       λ has. law.1 (move it.its_first.vertex it.under.number.edge other it.under.edge.a here ends.0 has),
     )
-  where
-    nothing : HaveNothingInCommon it.its_ring third
-    nothing = nothing_in_common rings it.none below number it.its_ring third (λ same. not_below (sym same)) it.there there
-
-    move : (one two : ℕ) (vertex another : Position) → slice_get it.its_ring one ≡ Some vertex → slice_get it.its_ring two ≡ Some another
-        → HasOddBelow vertex third → HasOddBelow another third
-    move = vertices_alike it.its_ring third nothing
-        (λ at vertex here. it.in_range below at it.its_ring vertex it.there here) (λ at vertex here. it.in_range number at third vertex there here)
 
 -- so it is of each ring but the one below
 alike_but_below : (rings : List (List Position)) (ring below : ℕ) (position other : Position) → IsAbove rings ring below position other → (number : ℕ) (third : List Position)
     → number ≢ below → slice_get rings number ≡ Some third → HasOddBelow position third ↔ HasOddBelow other third
-alike_but_below rings ring below position other it number third not_below there = by_number (cases_eq number ring)
-  where
-    upper : number ≡ ring → HasOddBelow position third ↔ HasOddBelow other third
-    upper same =
-        let its : slice_get rings ring ≡ Some third = subst (λ (at : ℕ). slice_get rings at ≡ Some third) same there in
-        let is : it.first.vertices ≡ third = same_Some it.first.vertices third (sym it.first.there ∙ its) in
-        let none : ¬ HasOddBelow position third = no_odd_of_ring position third (first_of_ring rings ring position third it.first its) in
-        let neither : ¬ HasOddBelow other third = subst (λ (vertices : List Position). ¬ HasOddBelow other vertices) is (upper_not_below rings ring below position other it) in
-        (λ has. absurd (none has), λ has. absurd (neither has))
-
-    by_number : (number ≡ ring) ⊎ (number ≢ ring) → HasOddBelow position third ↔ HasOddBelow other third
-    by_number (inl same) = upper same
-    by_number (inr differ) = third_alike rings ring below position other it number third differ not_below there
+alike_but_below rings ring below position other it number third not_below there =
+    let upper : number ≡ ring → HasOddBelow position third ↔ HasOddBelow other third = λ same.
+    let its : slice_get rings ring ≡ Some third = subst (λ (at : ℕ). slice_get rings at ≡ Some third) same there in
+    let is : it.first.vertices ≡ third = same_Some it.first.vertices third (sym it.first.there ∙ its) in
+    let none : ¬ HasOddBelow position third = no_odd_of_ring position third (first_of_ring rings ring position third it.first its) in
+    let neither : ¬ HasOddBelow other third = subst (λ (vertices : List Position). ¬ HasOddBelow other vertices) is (upper_not_below rings ring below position other it) in
+    (λ has. absurd (none has), λ has. absurd (neither has)) in
+    elim (cases_eq number ring) [
+      | inl same ↦ upper same
+      | inr differ ↦ third_alike rings ring below position other it number third differ not_below there
+    ]
 
 -- no odd number of the edges of the ring below pass below its own first vertex
 lower_not_below : (rings : List (List Position)) (ring below : ℕ) (position other : Position) (it : IsAbove rings ring below position other) → ¬ HasOddBelow other it.its_ring

@@ -1,5 +1,5 @@
 -- The sweep over rings, from one corner to the next.
-use Rattle.std.proofs.Common.{◌≡◌, ◌⊎◌, inl, inr, ℕ, ◌+◌, ◌-◌, ◌*◌, ◌<◌, ◌≤◌, List, [], length, slice_get, slice_index, Option, Some, None, ℤ, ◌≤ℤ◌, sym, ap, subst, ◌∙◌, arith}
+use Rattle.std.proofs.Common.{◌≡◌, inl, inr, ℕ, ◌+◌, ◌-◌, ◌*◌, ◌<◌, ◌≤◌, List, [], length, slice_get, slice_index, Option, Some, None, ℤ, sym, ap, subst, ◌∙◌, arith}
 use Rattle.std.proofs.lemmas.Bool.{cases_order}
 use Rattle.std.proofs.lemmas.Int.{ints}
 use Rattle.std.proofs.lemmas.Option.{same_Some, none-some, slice_get_within}
@@ -31,41 +31,36 @@ pub record AreRingsSwept (rings : List (List Position)) (corners : List Corner) 
 -- before the first corner nothing is noted
 pub rings_to_first : (rings : List (List Position)) (corners : List Corner) (order : List (ℤ × ℕ)) (edges : List ℕ) (notes : List (Option Around)) → AreCorners rings corners → AreLinked corners → AreInRange corners
     → IsOrder corners order → edges ≡ [] → IsNothingNoted (length corners) notes → AreRingsSwept rings corners order 0 edges notes
-rings_to_first rings corners order edges notes are linked in_range in_order empty nothing = record {
-  swept = first;
-  noted = record {
-    size = nothing.count;
-    alike = λ one other at its is their same. nothing_of one at is ∙ sym (nothing_of other its their);
-    right = λ none number at around is there. absurd (none-some around (same_Some None (Some around) (sym (nothing_of number at is) ∙ there)));
-    there = λ number within early.
-        let place = in_order.all number within in
-        let late = first.ahead place.0 (key_of (position_at corners number)) number (omega arith) place.1 in
-        absurd (omega (arith, ints, early, late));
-  };
-}
-  where
-    first : IsSweptTo corners order 0 edges
-    first = swept_to_first corners order edges linked in_range in_order empty
-
-    nothing_of : (number : ℕ) (at : EdgeNumber) → IsNumbered rings number at → slice_get notes number ≡ Some None
-    nothing_of number at is = nothing.none number (numbered_within rings corners number at are is)
+rings_to_first rings corners order edges notes are linked in_range in_order empty nothing =
+    let first : IsSweptTo corners order 0 edges = swept_to_first corners order edges linked in_range in_order empty in
+    let nothing_of : (number : ℕ) (at : EdgeNumber) → IsNumbered rings number at → slice_get notes number ≡ Some None = λ number at is. nothing.none number (numbered_within rings corners number at are is) in
+    record {
+      swept = first;
+      noted = record {
+        size = nothing.count;
+        alike = λ one other at its is their same. nothing_of one at is ∙ sym (nothing_of other its their);
+        right = λ none number at around is there. absurd (none-some around (same_Some None (Some around) (sym (nothing_of number at is) ∙ there)));
+        there = λ number within early.
+            let place = in_order.all number within in
+            let late = first.ahead place.0 (key_of (position_at corners number)) number (omega arith) place.1 in
+            absurd (omega (arith, ints, early, late));
+      };
+    }
 
 -- no corner's key is between the line and the next corner
 pub next_ahead : (corners : List Corner) (order : List (ℤ × ℕ)) (at : ℕ) (its : ℤ) (number : ℕ) (edges : List ℕ) → IsOrder corners order → IsStrict order
     → (swept : IsSweptTo corners order at edges) → slice_get order at ≡ Some (its, number) → IsAhead corners swept.key number
-next_ahead corners order at its number edges in_order strict swept there other inside up = either (cases_order place.0 at)
-  where
-    place : (at : ℕ) × (slice_get order at ≡ Some (key_of (position_at corners other), other))
-    place = in_order.all other inside
-
-    either : (place.0 ≡ at) ⊎ ((place.0 < at) ⊎ (at < place.0)) → (key_of (position_at corners other) ≤ℤ swept.key) ⊎ (other ≡ number)
-    either (inl same) =
-        inr (ap (λ (pair : ℤ × ℕ). pair.1) (same_Some (key_of (position_at corners other), other) (its, number) (sym place.1 ∙ ap (slice_get order) same ∙ there)))
-    either (inr (inl before)) = inl (swept.passed place.0 (key_of (position_at corners other)) other before place.1)
-    either (inr (inr behind)) =
-        let less = strict at place.0 its (key_of (position_at corners other)) number other behind there place.1 in
-        let key = in_order.keyed at its number there in
-        absurd (omega (arith, ints, less, key, up))
+next_ahead corners order at its number edges in_order strict swept there other inside up =
+    let place : (at : ℕ) × (slice_get order at ≡ Some (key_of (position_at corners other), other)) = in_order.all other inside in
+    elim (cases_order place.0 at) [
+      | inl same ↦
+          inr (ap (λ (pair : ℤ × ℕ). pair.1) (same_Some (key_of (position_at corners other), other) (its, number) (sym place.1 ∙ ap (slice_get order) same ∙ there)))
+      | inr (inl before) ↦ inl (swept.passed place.0 (key_of (position_at corners other)) other before place.1)
+      | inr (inr behind) ↦
+          let less = strict at place.0 its (key_of (position_at corners other)) number other behind there place.1 in
+          let key = in_order.keyed at its number there in
+          absurd (omega (arith, ints, less, key, up))
+    ]
 
 -- over a corner in which both edges begin
 pub rings_to_begun : (rings : List (List Position)) (corners : List Corner) (order : List (ℤ × ℕ)) (at : ℕ) (its : ℤ) (number place : ℕ) (before after : List ℕ) (notes more : List (Option Around))
@@ -104,22 +99,17 @@ rings_below rings corners order at number place before after notes proper are li
 pub rings_to_last : (rings : List (List Position)) (corners : List Corner) (order : List (ℤ × ℕ)) (at : ℕ) (edges : List ℕ) (notes : List (Option Around)) → AreProperRings rings
     → AreCorners rings corners → AreLinked corners → AreInRange corners → IsOrder corners order → AreRingsSwept rings corners order at edges notes → length order ≤ at
     → IsSweptWithNotes rings corners notes None
-rings_to_last rings corners order at edges notes proper are linked in_range in_order so_far last = (none, apart, all)
-  where
-    none : NoneWrong corners
-    none = swept_to_last corners order at edges linked in_range in_order so_far.swept last
-
-    apart : NoMeeting rings
-    apart = none_of_rings rings corners proper are none
-
-    all : AreAllNoted rings notes
-    all number at is =
-        let inside = numbered_within rings corners number at are is in
-        let place = in_order.all number inside in
-        let early = slice_get_within order place.0 (key_of (position_at corners number), number) place.1 in
-        let passed = so_far.swept.passed place.0 (key_of (position_at corners number)) number (omega (arith, early, last)) place.1 in
-        let found = so_far.noted.there number inside passed in
-        (found.0, found.1, so_far.noted.right apart number at found.0 is found.1)
+rings_to_last rings corners order at edges notes proper are linked in_range in_order so_far last =
+    let none : NoneWrong corners = swept_to_last corners order at edges linked in_range in_order so_far.swept last in
+    let apart : NoMeeting rings = none_of_rings rings corners proper are none in
+    let all : AreAllNoted rings notes = λ number at is.
+    let inside = numbered_within rings corners number at are is in
+    let place = in_order.all number inside in
+    let early = slice_get_within order place.0 (key_of (position_at corners number), number) place.1 in
+    let passed = so_far.swept.passed place.0 (key_of (position_at corners number)) number (omega (arith, early, last)) place.1 in
+    let found = so_far.noted.there number inside passed in
+    (found.0, found.1, so_far.noted.right apart number at found.0 is found.1) in
+    (none, apart, all)
 
 -- the work of a step and of a note
 pub work_noted : (corners : List Corner) (number : ℕ) (edges : List ℕ) (before between after : Counted) → AreLinked corners → AreInRange corners → IsSweptOver corners number edges

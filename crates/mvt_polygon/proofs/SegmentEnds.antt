@@ -25,11 +25,11 @@ not_less a b is = grind (arith, ints)
 
 -- and it is known which
 pub between_them : (one other : Position) → IsBetweenThem one other
-between_them one other = either (le_or_lt (key_of other) (key_of one))
-  where
-    either : (key_of other ≤ℤ key_of one) ⊎ (key_of one <ℤ key_of other) → IsBetweenThem one other
-    either (inl falls) = down falls (cond-false (lt_z (key_of one) (key_of other)) (segment one other) (segment other one) (not_less (key_of one) (key_of other) falls))
-    either (inr rises) = up rises (cond-true (lt_z (key_of one) (key_of other)) (segment one other) (segment other one) (less (key_of one) (key_of other) rises))
+between_them one other =
+    elim (le_or_lt (key_of other) (key_of one)) [
+      | inl falls ↦ down falls (cond-false (lt_z (key_of one) (key_of other)) (segment one other) (segment other one) (not_less (key_of one) (key_of other) falls))
+      | inr rises ↦ up rises (cond-true (lt_z (key_of one) (key_of other)) (segment one other) (segment other one) (less (key_of one) (key_of other) rises))
+    ]
 
 -- it rises where its ends are apart
 pub rising_between : (one other : Position) → IsPosition one → IsPosition other → one ≢ other → IsRising (segment_between one other)
@@ -45,37 +45,37 @@ rising_between one other within inside apart = either (between_them one other)
 
 -- one position is an end of it
 pub end_first : (one other : Position) → IsEndOf one (segment_between one other)
-end_first one other = either (between_them one other)
-  where
-    either : IsBetweenThem one other → IsEndOf one (segment_between one other)
-    either (up rises is) = subst (IsEndOf one) (sym is) (inl refl)
-    either (down falls is) = subst (IsEndOf one) (sym is) (inr refl)
+end_first one other =
+    elim (between_them one other) [
+      | up rises is ↦ subst (IsEndOf one) (sym is) (inl refl)
+      | down falls is ↦ subst (IsEndOf one) (sym is) (inr refl)
+    ]
 
 -- so is the other
 pub end_second : (one other : Position) → IsEndOf other (segment_between one other)
-end_second one other = either (between_them one other)
-  where
-    either : IsBetweenThem one other → IsEndOf other (segment_between one other)
-    either (up rises is) = subst (IsEndOf other) (sym is) (inr refl)
-    either (down falls is) = subst (IsEndOf other) (sym is) (inl refl)
+end_second one other =
+    elim (between_them one other) [
+      | up rises is ↦ subst (IsEndOf other) (sym is) (inr refl)
+      | down falls is ↦ subst (IsEndOf other) (sym is) (inl refl)
+    ]
 
 -- Which end is which
 
 -- the lower end is one of the positions
 pub low_is : (one other : Position) → ((segment_between one other).low ≡ one) ⊎ ((segment_between one other).low ≡ other)
-low_is one other = either (between_them one other)
-  where
-    either : IsBetweenThem one other → ((segment_between one other).low ≡ one) ⊎ ((segment_between one other).low ≡ other)
-    either (up rises is) = inl (ap (λ (it : Segment). it.low) is)
-    either (down falls is) = inr (ap (λ (it : Segment). it.low) is)
+low_is one other =
+    elim (between_them one other) [
+      | up rises is ↦ inl (ap (λ (it : Segment). it.low) is)
+      | down falls is ↦ inr (ap (λ (it : Segment). it.low) is)
+    ]
 
 -- so is the upper one
 pub high_is : (one other : Position) → ((segment_between one other).high ≡ one) ⊎ ((segment_between one other).high ≡ other)
-high_is one other = either (between_them one other)
-  where
-    either : IsBetweenThem one other → ((segment_between one other).high ≡ one) ⊎ ((segment_between one other).high ≡ other)
-    either (up rises is) = inr (ap (λ (it : Segment). it.high) is)
-    either (down falls is) = inl (ap (λ (it : Segment). it.high) is)
+high_is one other =
+    elim (between_them one other) [
+      | up rises is ↦ inr (ap (λ (it : Segment). it.high) is)
+      | down falls is ↦ inl (ap (λ (it : Segment). it.high) is)
+    ]
 
 -- where the first has the lesser key, the edge begins in it
 pub rises_between : (one other : Position) → lt_z (key_of one) (key_of other) ≡ true → segment_between one other ≡ segment one other
@@ -87,19 +87,19 @@ falls_between one other not = cond-false (lt_z (key_of one) (key_of other)) (seg
 
 -- an edge that begins in the first position ends in the second
 pub high_from_first : (one other : Position) → (segment_between one other).low ≡ one → (segment_between one other).high ≡ other
-high_from_first one other begins = either (between_them one other)
-  where
-    either : IsBetweenThem one other → (segment_between one other).high ≡ other
-    either (up rises is) = ap (λ (it : Segment). it.high) is
-    either (down falls is) = ap (λ (it : Segment). it.high) is ∙ sym begins ∙ ap (λ (it : Segment). it.low) is
+high_from_first one other begins =
+    elim (between_them one other) [
+      | up rises is ↦ ap (λ (it : Segment). it.high) is
+      | down falls is ↦ ap (λ (it : Segment). it.high) is ∙ sym begins ∙ ap (λ (it : Segment). it.low) is
+    ]
 
 -- and one that begins in the second ends in the first
 pub high_from_second : (one other : Position) → (segment_between one other).low ≡ other → (segment_between one other).high ≡ one
-high_from_second one other begins = either (between_them one other)
-  where
-    either : IsBetweenThem one other → (segment_between one other).high ≡ one
-    either (up rises is) = ap (λ (it : Segment). it.high) is ∙ sym begins ∙ ap (λ (it : Segment). it.low) is
-    either (down falls is) = ap (λ (it : Segment). it.high) is
+high_from_second one other begins =
+    elim (between_them one other) [
+      | up rises is ↦ ap (λ (it : Segment). it.high) is ∙ sym begins ∙ ap (λ (it : Segment). it.low) is
+      | down falls is ↦ ap (λ (it : Segment). it.high) is
+    ]
 
 -- Turns
 

@@ -25,12 +25,15 @@ record LeavesOut (bound : ℕ) (edges : List ℕ) : Type 0 where
 -- of distinct numbers up to a greatest one, those that differ from it are below it
 all_below : (bound : ℕ) (edges : List ℕ) → Each (λ (edge : ℕ). edge < suc bound) edges → Each (λ (edge : ℕ). bound ≢ edge) edges → Each (λ (edge : ℕ). edge < bound) edges
 all_below bound [] within apart = tt
-all_below bound (edge ∷ rest) within apart = let less = within.0 in let differ = apart.0 in (strict (cases_order edge bound), all_below bound rest within.1 apart.1)
-  where
-    strict : (edge ≡ bound) ⊎ ((edge < bound) ⊎ (bound < edge)) → edge < bound
-    strict (inl same) = absurd (apart.0 (sym same))
-    strict (inr (inl less)) = less
-    strict (inr (inr more)) = let most = within.0 in absurd (omega arith)
+all_below bound (edge ∷ rest) within apart =
+    let less = within.0 in let differ = apart.0 in (
+      (elim (cases_order edge bound) [
+        | inl same ↦ absurd (apart.0 (sym same))
+        | inr (inl less) ↦ less
+        | inr (inr more) ↦ let most = within.0 in absurd (omega arith)
+      ]),
+      all_below bound rest within.1 apart.1,
+    )
 
 -- the greatest one is left out
 leave_out : (bound : ℕ) (edges : List ℕ) → Each (λ (edge : ℕ). edge < suc bound) edges → Ordered (λ (a b : ℕ). a ≢ b) edges → LeavesOut bound edges

@@ -126,13 +126,11 @@ all_known plan key edges swept = each_by_has (λ (edge : ℕ). edge < plan.count
 pub others_known : (plan : Plan) (key : ℤ) (vertex : Position) (edges fewer : List ℕ) (beginning : ℕ) → IsSwept plan key edges → key <ℤ key_of vertex → (plan.segment beginning).low ≡ vertex
     → ((it : ℕ) → Has fewer it → Has edges it) → Each (λ (other : ℕ). (other < plan.count) × (other ≢ beginning)) fewer
 others_known plan key vertex edges fewer beginning swept later begins among =
+    let early : key_of (plan.segment beginning).low ≤ℤ key → ⊥ = λ begun.
+    let there : key_of vertex ≤ℤ key = subst (λ (low : Position). key_of low ≤ℤ key) begins begun in
+    omega (arith, ints) in
     each_by_has (λ (other : ℕ). (other < plan.count) × (other ≢ beginning)) fewer
     (λ it has. ((swept.active it (among it has)).known, (λ same. early (subst (λ (edge : ℕ). key_of (plan.segment edge).low ≤ℤ key) same (swept.active it (among it has)).begun))))
-  where
-    early : key_of (plan.segment beginning).low ≤ℤ key → ⊥
-    early begun =
-        let there : key_of vertex ≤ℤ key = subst (λ (low : Position). key_of low ≤ℤ key) begins begun in
-        omega (arith, ints)
 
 -- Edits
 
@@ -243,13 +241,11 @@ pub begin_in_order : (plan : Plan) (key : ℤ) (vertex : Position) (first second
     → IsCut plan vertex edges (take place edges) (drop place edges) → Tested plan first second × Tested plan second first → Joined (Tested plan) (take place edges) (pair.0 ∷ [])
     → Head (Tested plan) pair.1 (drop place edges) → more ≡ insert edges place pair.1 → most ≡ insert more place pair.0 → IsSwept plan (key_of vertex) most
 begin_in_order plan key vertex first second pair place edges more most is_plan swept event order begins within cut tested below above one other =
-    begin_over plan key vertex pair.0 pair.1 place edges more most is_plan swept told.0 begins within cut told.1 below above one other
-  where
-    told : IsEvent plan key vertex pair.0 pair.1 × Tested plan pair.0 pair.1
-    told = elim order [
+    let told : IsEvent plan key vertex pair.0 pair.1 × Tested plan pair.0 pair.1 = elim order [
       | inl forward ↦ subst (λ (it : ℕ × ℕ). IsEvent plan key vertex it.0 it.1 × Tested plan it.0 it.1) (sym forward) (event, tested.0)
       | inr backward ↦ subst (λ (it : ℕ × ℕ). IsEvent plan key vertex it.0 it.1 × Tested plan it.0 it.1) (sym backward) (event_back plan key vertex first second is_plan event, tested.1)
-    ]
+    ] in
+    begin_over plan key vertex pair.0 pair.1 place edges more most is_plan swept told.0 begins within cut told.1 below above one other
 
 -- two edges that end, in the order in which they stand
 pub record EndsInOrder (plan : Plan) (key : ℤ) (vertex : Position) (rest : List ℕ) : Type 0 where

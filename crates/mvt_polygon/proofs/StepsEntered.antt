@@ -1,5 +1,5 @@
 -- A step over a corner in which an edge ended.
-use Rattle.std.proofs.Common.{◌≡◌, ◌≢◌, ◌<◌, ◌⊎◌, inl, inr, ℕ, List, Option, Some, None, IfNone, IfSome, length, true, false, ℤ, ◌<ℤ◌, ◌≤ℤ◌, refl, arith}
+use Rattle.std.proofs.Common.{◌≡◌, ◌≢◌, ◌<◌, inl, inr, ℕ, List, Option, Some, None, IfNone, IfSome, length, true, false, ℤ, ◌<ℤ◌, ◌≤ℤ◌, refl, arith}
 use lib.Signed.{lt_z}
 use Rattle.std.proofs.lemmas.Int.{ints}
 use Rattle.mvt_plane.specs.Measure.{key_of}
@@ -33,27 +33,21 @@ entered_from_before corners number test = record {
 -- or the edge to the corner behind
 pub entered_from_behind : (corners : List Corner) (number : ℕ) → AreLinked corners → AreInRange corners → number < length corners
     → lt_z (key_of (position_at corners number)) (key_of (position_at corners (next_at corners number))) ≡ false → IsEntered corners number
-entered_from_behind corners number linked in_range within test = record {
-  neighbour = next;
-  is = inl refl;
-  before = strict (le_or_lt here there);
-}
-  where
-    next : ℕ
-    next = next_at corners number
-
-    here : ℤ
-    here = key_of (position_at corners number)
-
-    there : ℤ
-    there = key_of (position_at corners next)
-
-    strict : (here ≤ℤ there) ⊎ (there <ℤ here) → there <ℤ here
-    strict (inl no_more) =
-        absurd (linked.apart number within
-        (same_key (position_at corners next) (position_at corners number) (in_range next (linked.next_known number within)) (in_range number within)
-        (antisym_ℤ (not_less_by_test here there test) no_more)))
-    strict (inr fewer) = fewer
+entered_from_behind corners number linked in_range within test =
+    let next : ℕ = next_at corners number in
+    let here : ℤ = key_of (position_at corners number) in
+    let there : ℤ = key_of (position_at corners next) in
+    record {
+      neighbour = next;
+      is = inl refl;
+      before = elim (le_or_lt here there) [
+        | inl no_more ↦
+            absurd (linked.apart number within
+            (same_key (position_at corners next) (position_at corners number) (in_range next (linked.next_known number within)) (in_range number within)
+            (antisym_ℤ (not_less_by_test here there test) no_more)))
+        | inr fewer ↦ fewer
+      ];
+    }
 
 -- so the step goes on, or comes to a meeting
 pub step_gone : (corners : List Corner) (number : ℕ) (before after : List ℕ) (answer : Option Pair) → IfNone answer (IsSweptOver corners number after) → IfSome answer (IsMeetingAt corners)

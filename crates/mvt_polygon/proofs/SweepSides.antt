@@ -179,22 +179,20 @@ pub above : (plan : Plan) (key : ℤ) (vertex : Position) (touch : ℕ) (back : 
     → ((edge : ℕ) → Has back edge → IsActive plan key edge) → ((edge : ℕ) → Has back edge → IsActive plan (key_of vertex) edge)
     → (edge : ℕ) → Has back edge → orientation (plan.segment edge).low (plan.segment edge).high vertex <ℤ pos 0
 above plan key vertex touch [] is_plan later touch_known at_touch tested others slabs before behind edge here = absurd here
-above plan key vertex touch (head ∷ back) is_plan later touch_known at_touch tested others slabs before behind edge here = of_all here
-  where
-    of_head : orientation (plan.segment head).low (plan.segment head).high vertex <ℤ pos 0
-    of_head = elim (sign_cases (orientation (plan.segment head).low (plan.segment head).high vertex)) [
+above plan key vertex touch (head ∷ back) is_plan later touch_known at_touch tested others slabs before behind edge here =
+    let of_head : orientation (plan.segment head).low (plan.segment head).high vertex <ℤ pos 0 = elim (sign_cases (orientation (plan.segment head).low (plan.segment head).high vertex)) [
       | inl negative ↦ negative
       | inr (inl on) ↦ absurd (passes_by plan key vertex touch head is_plan later touch_known at_touch tested (before head (inl refl)) (behind head (inl refl)) on)
       | inr (inr under) ↦ absurd (others.0 under)
+    ] in
+    elim here [
+      | inl same ↦ subst (λ (it : ℕ). orientation (plan.segment it).low (plan.segment it).high vertex <ℤ pos 0) same of_head
+      | inr there ↦
+          let slab = each_has (IsSlab plan key vertex head) back edge slabs.0 there in
+          let one = plan.segment head in
+          let other = plan.segment edge in
+          let one_rises = is_plan.rising head (before head (inl refl)).known in
+          let other_rises = is_plan.rising edge (before edge (inr there)).known in
+          above_by_gap (gap one other (key_of vertex) (pos 1)) (orientation one.low one.high vertex) (orientation other.low other.high vertex) (reach one) (reach other)
+          (gap_by_orientation one other vertex) (reach_positive one one_rises) (reach_positive other other_rises) slab.below.at_right of_head
     ]
-
-    of_all : (head ≡ edge) ⊎ Has back edge → orientation (plan.segment edge).low (plan.segment edge).high vertex <ℤ pos 0
-    of_all (inl same) = subst (λ (it : ℕ). orientation (plan.segment it).low (plan.segment it).high vertex <ℤ pos 0) same of_head
-    of_all (inr there) =
-        let slab = each_has (IsSlab plan key vertex head) back edge slabs.0 there in
-        let one = plan.segment head in
-        let other = plan.segment edge in
-        let one_rises = is_plan.rising head (before head (inl refl)).known in
-        let other_rises = is_plan.rising edge (before edge (inr there)).known in
-        above_by_gap (gap one other (key_of vertex) (pos 1)) (orientation one.low one.high vertex) (orientation other.low other.high vertex) (reach one) (reach other)
-        (gap_by_orientation one other vertex) (reach_positive one one_rises) (reach_positive other other_rises) slab.below.at_right of_head

@@ -8,15 +8,35 @@ use Rattle.mvt_plane.specs.RationalPoint.{RationalPoint, LiesOn, IsAt}
 use Rattle.mvt_polygon.specs.Chain.{Has, Each, Ordered}
 use Rattle.mvt_polygon.specs.Sweep.{Plan, IsPlan, IsWrong, Tested, After, IsActive, IsPast, IsSwept, IsEvent, IsUnder, IsCut, IsSlab}
 use Rattle.mvt_plane.proofs.Order.{zs, le_or_lt, compare_ℤ, is_zero, mul_pos, cancel_le, cancel_lt, cancel_eq, cancel_zero, factor_nonneg, factor_pos, antisym_ℤ}
-use Rattle.mvt_plane.proofs.Polynomials.{unknown, constant, negated, ◌⊕◌, ◌⊖◌, ◌⊗◌, ring, given, ring_from}
+use Rattle.mvt_plane.proofs.Polynomials.{unknown, constant, negated, ◌⊕◌, ◌⊖◌, ◌⊗◌, given, ring_from}
 use Rattle.mvt_plane.proofs.RationalPoints.{times_one}
 use Rattle.mvt_polygon.proofs.ChainParts.{each_has, each_by_has, ordered_by_chain, ordered_map, ordered_either, chain_map, chain_both}
+use Rattle.mvt_polygon.proofs.SweepSides.{on_at_end}
 use Rattle.mvt_plane.proofs.GapPoints.{reaches_point, common_has_no_gap, shared_where_no_gap, below_up_to, none_common_between}
 use Rattle.mvt_plane.proofs.Gaps.{reach_positive, gap_between, after_trans, after_apart, below_trans, no_gap_within, gap_by_orientation}
 
 -- an order excludes the other way round
 never : {a b : ℤ} → a ≤ℤ b → b <ℤ a → ⊥
 never at_most less = omega (arith, zs)
+
+-- of numbers in a row the first and the last, and other small steps
+less_by : {a b c : ℤ} → a <ℤ b → b ≤ℤ c → a <ℤ c
+less_by one other = omega (arith, zs)
+
+at_most_by : {a b c : ℤ} → a ≤ℤ b → b ≤ℤ c → a ≤ℤ c
+at_most_by one other = omega (arith, zs)
+
+weaker : {a b : ℤ} → a <ℤ b → a ≤ℤ b
+weaker less = omega (arith, zs)
+
+positive : {z : ℤ} → ¬ (z ≡ pos 0) → pos 0 ≤ℤ z → pos 0 <ℤ z
+positive some sign = omega (arith, zs)
+
+not_zero : {w : ℤ} → pos 1 ≤ℤ w → ¬ (w ≡ pos 0)
+not_zero some none = omega (arith, zs)
+
+no_more : {a b : ℤ} → a ≡ b → a ≤ℤ b
+no_more same = omega (arith, zs)
 
 -- two cases may be told the other way round
 either_back : {A B : Type 0} → A ⊎ B → B ⊎ A
@@ -88,62 +108,40 @@ not_between plan key vertex first second edge position event known end behind = 
 -- neighbours keep their order up to the vertex
 pub slab_of_neighbours : (plan : Plan) (key : ℤ) (vertex : Position) (first second lower upper : ℕ) → IsPlan plan → IsEvent plan key vertex first second → IsActive plan key lower
     → IsActive plan key upper → Tested plan lower upper → After plan key lower upper → IsSlab plan key vertex lower upper
-slab_of_neighbours plan key vertex first second lower upper is_plan event active_lower active_upper tested after = record {
-  below = below_up_to (plan.shared lower upper) (plan.segment lower) (plan.segment upper) key (key_of vertex) rising_lower rising_upper event.later reach_lower.0 reach_upper.0 reach_lower.1
-      reach_upper.1 tested (λ position shared behind. not_between plan key vertex first second lower position event known_lower (is_plan.on_first lower upper position known_lower known_upper shared)
-      behind) after;
-  tied_first = λ tied.
-      let there = meeting tied in
-      end_here plan key vertex first second lower there.0 event known_lower (is_plan.on_first lower upper there.0 known_lower known_upper there.1) there.2;
-  tied_second = λ tied.
-      let there = meeting tied in
-      end_here plan key vertex first second upper there.0 event known_upper (is_plan.on_second lower upper there.0 known_lower known_upper there.1) there.2;
-}
-  where
-    known_lower : lower < plan.count
-    known_lower = active_lower.known
-
-    known_upper : upper < plan.count
-    known_upper = active_upper.known
-
-    rising_lower : IsRising (plan.segment lower)
-    rising_lower = is_plan.rising lower known_lower
-
-    rising_upper : IsRising (plan.segment upper)
-    rising_upper = is_plan.rising upper known_upper
-
-    reach_lower : Reaches key (pos 1) (plan.segment lower) × Reaches (key_of vertex) (pos 1) (plan.segment lower)
-    reach_lower = reaches_next plan key vertex first second lower is_plan event active_lower
-
-    reach_upper : Reaches key (pos 1) (plan.segment upper) × Reaches (key_of vertex) (pos 1) (plan.segment upper)
-    reach_upper = reaches_next plan key vertex first second upper is_plan event active_upper
-
-    meeting : gap (plan.segment lower) (plan.segment upper) (key_of vertex) (pos 1) ≡ pos 0
-        → (position : Position) × (plan.shared lower upper ≡ Some position) × (key_of position ≡ key_of vertex)
-    meeting tied =
-        shared_where_no_gap (plan.shared lower upper) (plan.segment lower) (plan.segment upper) (key_of vertex) rising_lower rising_upper reach_lower.1 reach_upper.1 tested tied
+slab_of_neighbours plan key vertex first second lower upper is_plan event active_lower active_upper tested after =
+    let known_lower : lower < plan.count = active_lower.known in
+    let known_upper : upper < plan.count = active_upper.known in
+    let rising_lower : IsRising (plan.segment lower) = is_plan.rising lower known_lower in
+    let rising_upper : IsRising (plan.segment upper) = is_plan.rising upper known_upper in
+    let reach_lower : Reaches key (pos 1) (plan.segment lower) × Reaches (key_of vertex) (pos 1) (plan.segment lower) = reaches_next plan key vertex first second lower is_plan event active_lower in
+    let reach_upper : Reaches key (pos 1) (plan.segment upper) × Reaches (key_of vertex) (pos 1) (plan.segment upper) = reaches_next plan key vertex first second upper is_plan event active_upper in
+    let meeting : gap (plan.segment lower) (plan.segment upper) (key_of vertex) (pos 1) ≡ pos 0 → (position : Position) × (plan.shared lower upper ≡ Some position) × (key_of position ≡ key_of vertex) = λ tied.
+    shared_where_no_gap (plan.shared lower upper) (plan.segment lower) (plan.segment upper) (key_of vertex) rising_lower rising_upper reach_lower.1 reach_upper.1 tested tied in
+    record {
+      below = below_up_to (plan.shared lower upper) (plan.segment lower) (plan.segment upper) key (key_of vertex) rising_lower rising_upper event.later reach_lower.0 reach_upper.0 reach_lower.1
+          reach_upper.1 tested (λ position shared behind. not_between plan key vertex first second lower position event known_lower (is_plan.on_first lower upper position known_lower known_upper shared)
+          behind) after;
+      tied_first = λ tied.
+          let there = meeting tied in
+          end_here plan key vertex first second lower there.0 event known_lower (is_plan.on_first lower upper there.0 known_lower known_upper there.1) there.2;
+      tied_second = λ tied.
+          let there = meeting tied in
+          end_here plan key vertex first second upper there.0 event known_upper (is_plan.on_second lower upper there.0 known_lower known_upper there.1) there.2;
+    }
 
 -- that order is transitive
 pub slab_trans : (plan : Plan) (key : ℤ) (vertex : Position) (one other third : ℕ) → IsPlan plan → one < plan.count → other < plan.count → third < plan.count
     → IsSlab plan key vertex one other → IsSlab plan key vertex other third → IsSlab plan key vertex one third
-slab_trans plan key vertex one other third is_plan known_one known_other known_third lower upper = record {
-  below = below_trans key (key_of vertex) (plan.segment one) (plan.segment other) (plan.segment third) rising_one rising_other rising_third lower.below upper.below;
-  tied_first = λ tied. lower.tied_first (ties tied).0;
-  tied_second = λ tied. upper.tied_second (ties tied).1;
-}
-  where
-    rising_one : IsRising (plan.segment one)
-    rising_one = is_plan.rising one known_one
-
-    rising_other : IsRising (plan.segment other)
-    rising_other = is_plan.rising other known_other
-
-    rising_third : IsRising (plan.segment third)
-    rising_third = is_plan.rising third known_third
-
-    ties : gap (plan.segment one) (plan.segment third) (key_of vertex) (pos 1) ≡ pos 0
-        → (gap (plan.segment one) (plan.segment other) (key_of vertex) (pos 1) ≡ pos 0) × (gap (plan.segment other) (plan.segment third) (key_of vertex) (pos 1) ≡ pos 0)
-    ties tied = no_gap_within (plan.segment one) (plan.segment other) (plan.segment third) (key_of vertex) (pos 1) rising_one rising_other rising_third lower.below.at_right upper.below.at_right tied
+slab_trans plan key vertex one other third is_plan known_one known_other known_third lower upper =
+    let rising_one : IsRising (plan.segment one) = is_plan.rising one known_one in
+    let rising_other : IsRising (plan.segment other) = is_plan.rising other known_other in
+    let rising_third : IsRising (plan.segment third) = is_plan.rising third known_third in
+    let ties : gap (plan.segment one) (plan.segment third) (key_of vertex) (pos 1) ≡ pos 0 → (gap (plan.segment one) (plan.segment other) (key_of vertex) (pos 1) ≡ pos 0) × (gap (plan.segment other) (plan.segment third) (key_of vertex) (pos 1) ≡ pos 0) = λ tied. no_gap_within (plan.segment one) (plan.segment other) (plan.segment third) (key_of vertex) (pos 1) rising_one rising_other rising_third lower.below.at_right upper.below.at_right tied in
+    record {
+      below = below_trans key (key_of vertex) (plan.segment one) (plan.segment other) (plan.segment third) rising_one rising_other rising_third lower.below upper.below;
+      tied_first = λ tied. lower.tied_first (ties tied).0;
+      tied_second = λ tied. upper.tied_second (ties tied).1;
+    }
 
 -- so all edges keep it
 pub slab_of_all : (plan : Plan) (key : ℤ) (vertex : Position) (first second : ℕ) (edges : List ℕ) → IsPlan plan → IsSwept plan key edges → IsEvent plan key vertex first second
@@ -202,40 +200,32 @@ under_of_slab plan key vertex lower upper is_plan known_lower known_upper slab u
 pub split : (plan : Plan) (key : ℤ) (vertex : Position) (first second : ℕ) (edges : List ℕ) → IsPlan plan → IsSwept plan key edges → IsEvent plan key vertex first second
     → (front : List ℕ) × (rest : List ℕ) × IsCut plan vertex edges front rest
 split plan key vertex first second edges is_plan swept event =
+    let test : (edge : ℕ) → IsUnder plan vertex edge ⊎ ¬ IsUnder plan vertex edge = λ edge. elim (le_or_lt (orientation (plan.segment edge).low (plan.segment edge).high vertex) (pos 0)) [ inl isn't ↦ inr (λ is. never isn't is) | inr is ↦ inl is ] in
+    let in_order : Ordered (λ (one other : ℕ). IsUnder plan vertex other → IsUnder plan vertex one) edges = ordered_map (IsSlab plan key vertex) (λ (one other : ℕ). IsUnder plan vertex other → IsUnder plan vertex one) edges
+    (λ one other is_one is_other slab. under_of_slab plan key vertex one other is_plan (swept.active one is_one).known (swept.active other is_other).known slab)
+    (slab_of_all plan key vertex first second edges is_plan swept event) in
     let parts = split_ordered (IsUnder plan vertex) edges test in_order in
     (parts.0, parts.1, record { whole = parts.2; below = parts.3; others = parts.4 })
-  where
-    test : (edge : ℕ) → IsUnder plan vertex edge ⊎ ¬ IsUnder plan vertex edge
-    test edge = elim (le_or_lt (orientation (plan.segment edge).low (plan.segment edge).high vertex) (pos 0)) [ inl isn't ↦ inr (λ is. never isn't is) | inr is ↦ inl is ]
-
-    in_order : Ordered (λ (one other : ℕ). IsUnder plan vertex other → IsUnder plan vertex one) edges
-    in_order = ordered_map (IsSlab plan key vertex) (λ (one other : ℕ). IsUnder plan vertex other → IsUnder plan vertex one) edges
-        (λ one other is_one is_other slab. under_of_slab plan key vertex one other is_plan (swept.active one is_one).known (swept.active other is_other).known slab)
-        (slab_of_all plan key vertex first second edges is_plan swept event)
 
 -- those that were below and above stay so behind the vertex, where they go on
 pub after_slab : (plan : Plan) (key : ℤ) (vertex : Position) (first second lower upper : ℕ) → IsPlan plan → IsEvent plan key vertex first second → IsActive plan key lower
     → IsActive plan key upper → IsActive plan (key_of vertex) lower → IsActive plan (key_of vertex) upper → IsSlab plan key vertex lower upper → After plan (key_of vertex) lower upper
-after_slab plan key vertex first second lower upper is_plan event before_lower before_upper after_lower after_upper slab = elim (is_zero at_vertex) [
-  | yes none ↦ absurd (elim (slab.tied_first none) [
-    | inl at_low ↦
-        let same = ap (λ (it : Position). key_of it) at_low in
-        let begun = before_lower.begun in
-        let later = event.later in
-        omega (arith, zs)
-    | inr at_high ↦
-        let same = ap (λ (it : Position). key_of it) at_high in
-        let lasts = after_lower.lasts in
-        omega (arith, zs)
-  ])
-  | no some ↦ inl (positive some slab.below.at_right)
-]
-  where
-    at_vertex : ℤ
-    at_vertex = gap (plan.segment lower) (plan.segment upper) (key_of vertex) (pos 1)
-
-    positive : {z : ℤ} → ¬ (z ≡ pos 0) → pos 0 ≤ℤ z → pos 0 <ℤ z
-    positive some sign = omega (arith, zs)
+after_slab plan key vertex first second lower upper is_plan event before_lower before_upper after_lower after_upper slab =
+    let at_vertex : ℤ = gap (plan.segment lower) (plan.segment upper) (key_of vertex) (pos 1) in
+    elim (is_zero at_vertex) [
+      | yes none ↦ absurd (elim (slab.tied_first none) [
+        | inl at_low ↦
+            let same = ap (λ (it : Position). key_of it) at_low in
+            let begun = before_lower.begun in
+            let later = event.later in
+            omega (arith, zs)
+        | inr at_high ↦
+            let same = ap (λ (it : Position). key_of it) at_high in
+            let lasts = after_lower.lasts in
+            omega (arith, zs)
+      ])
+      | no some ↦ inl (positive some slab.below.at_right)
+    ]
 
 -- ---- a point of an edge with the key of a position
 
@@ -273,31 +263,15 @@ same_y vx vy px py w same at_x =
 -- so the point is the position
 point_in_line : (it : Segment) (point : RationalPoint) (vertex : Position) → IsRising it → LiesOn point (edge_along it) → orientation it.low it.high vertex ≡ pos 0
     → key_at point ≡ key_of vertex *ℤ point.w → IsAt point vertex
-point_in_line it point vertex rising lies in_line same = record { x = at_x; y = same_y vertex.x vertex.y point.x point.y point.w same at_x }
-  where
-    at_x : point.x ≡ vertex.x *ℤ point.w
-    at_x = cancel_eq (reach it) point.x (vertex.x *ℤ point.w) (reach_positive it rising)
-        (same_x it.low.x it.low.y it.high.x it.high.y vertex.x vertex.y point.x point.y point.w lies.on_line in_line same)
-
--- an end of an edge is in line with it
-end_in_line : (it : Segment) (vertex : Position) → IsEndOf vertex it → orientation it.low it.high vertex ≡ pos 0
-end_in_line it vertex end = elim end [
-  | inl at_low ↦ subst (λ (position : Position). orientation it.low it.high position ≡ pos 0) (sym at_low) (low_in_line it.low.x it.low.y it.high.x it.high.y)
-  | inr at_high ↦ subst (λ (position : Position). orientation it.low it.high position ≡ pos 0) (sym at_high) (high_in_line it.low.x it.low.y it.high.x it.high.y)
-]
-  where
-    low_in_line : (lx ly hx hy : ℤ) → (hx -ℤ lx) *ℤ (ly -ℤ ly) -ℤ (hy -ℤ ly) *ℤ (lx -ℤ lx) ≡ pos 0
-    low_in_line lx ly hx hy =
-        ring (lx ∷ ly ∷ hx ∷ hy ∷ []) ((unknown 2 ⊖ unknown 0) ⊗ (unknown 1 ⊖ unknown 1) ⊖ (unknown 3 ⊖ unknown 1) ⊗ (unknown 0 ⊖ unknown 0)) (constant (pos 0)) tt
-
-    high_in_line : (lx ly hx hy : ℤ) → (hx -ℤ lx) *ℤ (hy -ℤ ly) -ℤ (hy -ℤ ly) *ℤ (hx -ℤ lx) ≡ pos 0
-    high_in_line lx ly hx hy =
-        ring (lx ∷ ly ∷ hx ∷ hy ∷ []) ((unknown 2 ⊖ unknown 0) ⊗ (unknown 3 ⊖ unknown 1) ⊖ (unknown 3 ⊖ unknown 1) ⊗ (unknown 2 ⊖ unknown 0)) (constant (pos 0)) tt
+point_in_line it point vertex rising lies in_line same =
+    let at_x : point.x ≡ vertex.x *ℤ point.w = cancel_eq (reach it) point.x (vertex.x *ℤ point.w) (reach_positive it rising)
+    (same_x it.low.x it.low.y it.high.x it.high.y vertex.x vertex.y point.x point.y point.w lies.on_line in_line same) in
+    record { x = at_x; y = same_y vertex.x vertex.y point.x point.y point.w same at_x }
 
 -- a point of an edge at an end of it, if it has the key of the end
 point_at_end : (it : Segment) (point : RationalPoint) (vertex : Position) → IsRising it → LiesOn point (edge_along it) → IsEndOf vertex it → key_at point ≡ key_of vertex *ℤ point.w
     → IsAt point vertex
-point_at_end it point vertex rising lies end same = point_in_line it point vertex rising lies (end_in_line it vertex end) same
+point_at_end it point vertex rising lies end same = point_in_line it point vertex rising lies (on_at_end vertex it end) same
 
 -- a position that is a point of an edge is in line with it
 in_line_at : (lx ly hx hy vx vy px py w : ℤ) → (hx -ℤ lx) *ℤ (py -ℤ ly *ℤ w) ≡ (hy -ℤ ly) *ℤ (px -ℤ lx *ℤ w) → px ≡ vx *ℤ w → py ≡ vy *ℤ w
@@ -318,11 +292,9 @@ in_line_at lx ly hx hy vx vy px py w on_line at_x at_y =
 
 -- the same of an edge
 in_line_by_point : (it : Segment) (point : RationalPoint) (vertex : Position) → LiesOn point (edge_along it) → IsAt point vertex → orientation it.low it.high vertex ≡ pos 0
-in_line_by_point it point vertex lies at = cancel_zero point.w (orientation it.low it.high vertex) (some lies.positive)
+in_line_by_point it point vertex lies at =
+    cancel_zero point.w (orientation it.low it.high vertex) (not_zero lies.positive)
     (in_line_at it.low.x it.low.y it.high.x it.high.y vertex.x vertex.y point.x point.y point.w lies.on_line at.x at.y)
-  where
-    some : {w : ℤ} → pos 1 ≤ℤ w → ¬ (w ≡ pos 0)
-    some positive none = omega (arith, zs)
 
 -- ---- meetings from one key to the next
 
@@ -354,19 +326,12 @@ gap_gone left right t w at_point at_left at_right between none same behind =
 active_or_begins : (plan : Plan) (key : ℤ) (vertex : Position) (first second edge : ℕ) (point : RationalPoint) → IsPlan plan → IsEvent plan key vertex first second → edge < plan.count
     → LiesOn point (edge_along (plan.segment edge)) → (key *ℤ point.w) <ℤ key_at point → key_at point ≤ℤ (key_of vertex *ℤ point.w)
     → IsActive plan key edge ⊎ (key_of (plan.segment edge).low ≡ key_of vertex)
-active_or_begins plan key vertex first second edge point is_plan event known lies behind up_to = elim (event.next_low edge known) [
-  | inl before ↦ inl (record { known = known; begun = before; lasts = less_without point.w key (key_of (plan.segment edge).high) lies.positive (less_by behind there.lasts) })
-  | inr after ↦ inr (antisym_ℤ (at_most_without point.w (key_of (plan.segment edge).low) (key_of vertex) lies.positive (at_most_by there.begun up_to)) after)
-]
-  where
-    there : Reaches (key_at point) point.w (plan.segment edge)
-    there = reaches_point (plan.segment edge) point (is_plan.rising edge known) lies
-
-    less_by : {a b c : ℤ} → a <ℤ b → b ≤ℤ c → a <ℤ c
-    less_by one other = omega (arith, zs)
-
-    at_most_by : {a b c : ℤ} → a ≤ℤ b → b ≤ℤ c → a ≤ℤ c
-    at_most_by one other = omega (arith, zs)
+active_or_begins plan key vertex first second edge point is_plan event known lies behind up_to =
+    let there : Reaches (key_at point) point.w (plan.segment edge) = reaches_point (plan.segment edge) point (is_plan.rising edge known) lies in
+    elim (event.next_low edge known) [
+      | inl before ↦ inl (record { known = known; begun = before; lasts = less_without point.w key (key_of (plan.segment edge).high) lies.positive (less_by behind there.lasts) })
+      | inr after ↦ inr (antisym_ℤ (at_most_without point.w (key_of (plan.segment edge).low) (key_of vertex) lies.positive (at_most_by there.begun up_to)) after)
+    ]
 
 -- before the second it goes on behind the first
 active_before : (plan : Plan) (key : ℤ) (vertex : Position) (first second edge : ℕ) (point : RationalPoint) → IsPlan plan → IsEvent plan key vertex first second → edge < plan.count
@@ -376,9 +341,6 @@ active_before plan key vertex first second edge point is_plan event known lies b
       | inl active ↦ active
       | inr begins ↦ absurd (never (subst (λ (z : ℤ). (z *ℤ point.w) ≤ℤ key_at point) begins (reaches_point (plan.segment edge) point (is_plan.rising edge known) lies).begun) before)
     ]
-  where
-    weaker : {a b : ℤ} → a <ℤ b → a ≤ℤ b
-    weaker less = omega (arith, zs)
 
 -- of two edges that go on one keeps below the other
 slab_either : (plan : Plan) (key : ℤ) (vertex : Position) (first second one other : ℕ) (edges : List ℕ) → IsPlan plan → IsSwept plan key edges → IsEvent plan key vertex first second
@@ -402,13 +364,12 @@ none_before plan key vertex first second one other edges point is_plan swept eve
 ends_of_slab : (plan : Plan) (key : ℤ) (vertex : Position) (lower upper : ℕ) (point : RationalPoint) → IsSlab plan key vertex lower upper → LiesOn point (edge_along (plan.segment lower))
     → LiesOn point (edge_along (plan.segment upper)) → (key *ℤ point.w) <ℤ key_at point → key_at point ≡ key_of vertex *ℤ point.w
     → IsEndOf vertex (plan.segment lower) × IsEndOf vertex (plan.segment upper)
-ends_of_slab plan key vertex lower upper point slab on_lower on_upper behind same = (slab.tied_first tied, slab.tied_second tied)
-  where
-    tied : gap (plan.segment lower) (plan.segment upper) (key_of vertex) (pos 1) ≡ pos 0
-    tied = gap_gone key (key_of vertex) (key_at point) point.w (gap (plan.segment lower) (plan.segment upper) (key_at point) point.w)
-        (gap (plan.segment lower) (plan.segment upper) key (pos 1)) (gap (plan.segment lower) (plan.segment upper) (key_of vertex) (pos 1))
-        (gap_between (plan.segment lower) (plan.segment upper) key (key_of vertex) (key_at point) point.w)
-        (common_has_no_gap (plan.segment lower) (plan.segment upper) point on_lower on_upper) same behind
+ends_of_slab plan key vertex lower upper point slab on_lower on_upper behind same =
+    let tied : gap (plan.segment lower) (plan.segment upper) (key_of vertex) (pos 1) ≡ pos 0 = gap_gone key (key_of vertex) (key_at point) point.w (gap (plan.segment lower) (plan.segment upper) (key_at point) point.w)
+    (gap (plan.segment lower) (plan.segment upper) key (pos 1)) (gap (plan.segment lower) (plan.segment upper) (key_of vertex) (pos 1))
+    (gap_between (plan.segment lower) (plan.segment upper) key (key_of vertex) (key_at point) point.w)
+    (common_has_no_gap (plan.segment lower) (plan.segment upper) point on_lower on_upper) same behind in
+    (slab.tied_first tied, slab.tied_second tied)
 
 -- so has an edge with a point that is the vertex, if those that go on through it have
 end_at_point : (plan : Plan) (key : ℤ) (vertex : Position) (first second edge : ℕ) (edges : List ℕ) (point : RationalPoint) → IsSwept plan key edges → IsEvent plan key vertex first second
@@ -426,14 +387,11 @@ both_ends : (plan : Plan) (key : ℤ) (vertex : Position) (first second one othe
     → IsEndOf vertex (plan.segment one) × IsEndOf vertex (plan.segment other)
 both_ends plan key vertex first second one other edges point is_plan swept event through known_one known_other apart wrong behind same = by_cases of_one of_other
   where
-    weaker : {a b : ℤ} → a ≡ b → a ≤ℤ b
-    weaker equal = omega (arith, zs)
-
     of_one : IsActive plan key one ⊎ (key_of (plan.segment one).low ≡ key_of vertex)
-    of_one = active_or_begins plan key vertex first second one point is_plan event known_one wrong.on_first behind (weaker same)
+    of_one = active_or_begins plan key vertex first second one point is_plan event known_one wrong.on_first behind (no_more same)
 
     of_other : IsActive plan key other ⊎ (key_of (plan.segment other).low ≡ key_of vertex)
-    of_other = active_or_begins plan key vertex first second other point is_plan event known_other wrong.on_second behind (weaker same)
+    of_other = active_or_begins plan key vertex first second other point is_plan event known_other wrong.on_second behind (no_more same)
 
     by_cases : IsActive plan key one ⊎ (key_of (plan.segment one).low ≡ key_of vertex) → IsActive plan key other ⊎ (key_of (plan.segment other).low ≡ key_of vertex)
         → IsEndOf vertex (plan.segment one) × IsEndOf vertex (plan.segment other)
@@ -466,6 +424,7 @@ shared_there plan key vertex first second one other is_plan event known_one know
 pub past_vertex : (plan : Plan) (key : ℤ) (vertex : Position) (first second : ℕ) (edges : List ℕ) → IsPlan plan → IsSwept plan key edges → IsEvent plan key vertex first second
     → ((edge : ℕ) → Has edges edge → orientation (plan.segment edge).low (plan.segment edge).high vertex ≡ pos 0 → IsEndOf vertex (plan.segment edge)) → IsPast plan (key_of vertex)
 past_vertex plan key vertex first second edges is_plan swept event through one other point known_one known_other apart wrong =
+    let behind : (key *ℤ point.w) <ℤ key_at point = swept.past one other point known_one known_other apart wrong in
     elim (compare_ℤ (key_at point) (key_of vertex *ℤ point.w)) [
       | inl before ↦ absurd (none_before plan key vertex first second one other edges point is_plan swept event known_one known_other apart wrong behind before)
       | inr more ↦ elim more [
@@ -476,6 +435,3 @@ past_vertex plan key vertex first second edges is_plan swept event through one o
         | inr after ↦ after
       ]
     ]
-  where
-    behind : (key *ℤ point.w) <ℤ key_at point
-    behind = swept.past one other point known_one known_other apart wrong

@@ -161,6 +161,12 @@ pub begin_step : (plan : Plan) (key : ℤ) (vertex : Position) (lower upper : �
     → BothBegin plan vertex lower upper → IsCut plan vertex edges front back → Tested plan lower upper → Joined (Tested plan) front (lower ∷ []) → Head (Tested plan) upper back
     → IsSwept plan (key_of vertex) (front ++ lower ∷ upper ∷ back)
 begin_step plan key vertex lower upper edges front back is_plan swept event begin cut tested under over =
+    let ordered : After plan (key_of vertex) lower upper =
+    let one = plan.segment lower in
+    let other = plan.segment upper in
+    subst (λ (it : Segment). IsAfter (key_of vertex) it other) (sym (begins_at vertex one begin.lower_begins))
+    (subst (λ (it : Segment). IsAfter (key_of vertex) (segment vertex one.high) it) (sym (begins_at vertex other begin.upper_begins))
+    (after_by_orientation vertex one.high other.high begin.in_order)) in
     let now : IsSwept plan key (front ++ back) = subst (IsSwept plan key) cut.whole swept in
     let change : IsChange plan vertex [] (lower ∷ upper ∷ []) = record {
       goes = λ edge here. absurd here;
@@ -193,14 +199,6 @@ begin_step plan key vertex lower upper edges front back is_plan swept event begi
     let chain = chain_join (Tested plan) front (lower ∷ upper ∷ back) (chain_front (Tested plan) front back now.tested) (tested, (over, chain_back (Tested plan) front back now.tested))
     (joined_to_head (Tested plan) front (upper ∷ back) lower under) in
     changed plan key vertex lower upper front [] (lower ∷ upper ∷ []) back ready chain (ordered, (tt, tt))
-  where
-    ordered : After plan (key_of vertex) lower upper
-    ordered =
-        let one = plan.segment lower in
-        let other = plan.segment upper in
-        subst (λ (it : Segment). IsAfter (key_of vertex) it other) (sym (begins_at vertex one begin.lower_begins))
-        (subst (λ (it : Segment). IsAfter (key_of vertex) (segment vertex one.high) it) (sym (begins_at vertex other begin.upper_begins))
-        (after_by_orientation vertex one.high other.high begin.in_order))
 
 -- another takes its place
 pub pass_step : (plan : Plan) (key : ℤ) (vertex : Position) (ending beginning : ℕ) (edges front back : List ℕ) → IsPlan plan → IsSwept plan key edges
