@@ -1,94 +1,62 @@
 -- Faults of known rings.
-use Rattle.std.proofs.Common.{rules, ◌≡◌, ℕ, zero, suc, ◌<◌, [], ◌∷◌, refl, subst, arith}
+use Rattle.std.proofs.Common.{rules, ◌≡◌, ℕ, zero, suc, ◌<◌, List, [], ◌∷◌, slice_get, Some, refl, subst, arith}
 use Rattle.std.proofs.lemmas.Int.{ints}
 use Rattle.std.proofs.lemmas.Option.{slice_get_within}
+use Rattle.mvt_fault.specs.declared.ring.RingEdge.{RingEdge}
 use Rattle.mvt_plane.proofs.ExampleMeetings.{edges_cross, rings_touch}
 use Rattle.mvt_plane.proofs.ExampleNesting.{hole_outside, hole_within, hole_in_other}
 use Rattle.mvt_plane.proofs.ExampleRings.{second_polygon}
 use Rattle.mvt_plane.proofs.SamePolygons.{one_polygon}
 use Rattle.mvt_plane.specs.Examples.{at, fraction, edge_number, rings_from, square, frame, two_polygons, crossed, touching_hole, hole_beside, hole_in_hole, flat}
-use Rattle.mvt_plane.specs.Meeting.{MeetsWrongly}
+use Rattle.mvt_plane.specs.Meeting.{ComesBefore, IsShared, MeetsWrongly}
 use Rattle.mvt_plane.specs.Nesting.{IsOutside}
-use Rattle.mvt_plane.specs.Polygon.{PolygonRings, IsPolygon}
+use Rattle.mvt_plane.specs.Polygon.{PolygonRings, IsPolygon, IsRingOf}
+use Rattle.mvt_plane.specs.Position.{Position}
+use Rattle.mvt_plane.specs.RationalPoint.{RationalPoint, IsAt, IsBounded}
 use Rattle.mvt_plane.specs.Ring.{HasNoArea}
 use Rattle.mvt_confirm.proofs.ExamplePolygons.{exterior_behind, no_other_polygon, crossed_polygon, crossed_second, touching_polygon, beside_polygon, beside_second, two_holes, two_holes_second}
-use Rattle.mvt_confirm.specs.PolygonFault.{IsMeeting, IsVertexOutside, IsVertexInHole}
+use Rattle.mvt_confirm.specs.PolygonFault.{number_of, IsPolygonOf, IsMeeting, IsVertexOutside, IsVertexInHole}
 
 -- Meetings
 
--- two edges that cross
-pub crossing_shown : IsMeeting (crossed ∷ []) 0 (record { ring = 0; edge = 0 }) (record { ring = 0; edge = 2 }) (fraction 800 800 180)
-crossing_shown = record {
-  it = rings_from 0 1;
-  of = crossed_polygon;
-  first_in = search rules;
-  second_in = search rules;
-  in_order = search rules;
-  bounded = search rules;
-  meets = edges_cross;
-}
+-- two edges of a polygon, by what is asked of them
+meeting : {rings : List (List Position)} {polygon : ℕ} {first second : RingEdge} {point : RationalPoint} (it : PolygonRings) → IsPolygonOf rings polygon it
+    → MeetsWrongly rings (number_of first) (number_of second) point → IsRingOf it first.ring → IsRingOf it second.ring → ComesBefore (number_of first) (number_of second) → IsBounded point
+    → IsMeeting rings polygon first second point
+meeting it of meets first_in second_in in_order bounded =
+    record { it = it; of = of; first_in = first_in; second_in = second_in; in_order = in_order; bounded = bounded; meets = meets }
 
--- by the numbers of the point in lowest terms
-edges_cross_reduced : MeetsWrongly (crossed ∷ []) (edge_number 0 0) (edge_number 0 2) (fraction 40 40 9)
-edges_cross_reduced = record {
+-- two that cross
+pub crossing_shown : IsMeeting (crossed ∷ []) 0 (record { ring = 0; edge = 0 }) (record { ring = 0; edge = 2 }) (fraction 800 800 180)
+crossing_shown = meeting (rings_from 0 1) crossed_polygon edges_cross (search rules) (search rules) (search rules) (search rules)
+
+-- wherever their ring stands, by the numbers of the point in lowest terms
+edges_cross_in : (rings : List (List Position)) (ring : ℕ) → slice_get rings ring ≡ Some crossed
+    → ((vertex : Position) → IsShared rings (edge_number ring 0) (edge_number ring 2) vertex → ¬ IsAt (fraction 40 40 9) vertex) → MeetsWrongly rings (edge_number ring 0) (edge_number ring 2) (fraction 40 40 9)
+edges_cross_in rings ring there forbidden = record {
   different = search rules;
   one = record { a = at 0 8; b = at 10 0 };
-  one_there = record { ring = crossed; there = refl; here = refl };
+  one_there = record { ring = crossed; there = there; here = refl };
   other = record { a = at 10 10; b = at 0 0 };
-  other_there = record { ring = crossed; there = refl; here = refl };
+  other_there = record { ring = crossed; there = there; here = refl };
   on_one = search rules;
   on_other = search rules;
-  forbidden = search rules;
+  forbidden = forbidden;
 }
 
 -- they meet there too
 pub crossing_reduced : IsMeeting (crossed ∷ []) 0 (record { ring = 0; edge = 0 }) (record { ring = 0; edge = 2 }) (fraction 40 40 9)
-crossing_reduced = record {
-  it = rings_from 0 1;
-  of = crossed_polygon;
-  first_in = search rules;
-  second_in = search rules;
-  in_order = search rules;
-  bounded = search rules;
-  meets = edges_cross_reduced;
-}
+crossing_reduced =
+    meeting (rings_from 0 1) crossed_polygon (edges_cross_in (crossed ∷ []) 0 refl (search rules)) (search rules) (search rules) (search rules) (search rules)
+
+-- and in a second polygon
+pub crossing_second : IsMeeting (square ∷ crossed ∷ []) 1 (record { ring = 1; edge = 0 }) (record { ring = 1; edge = 2 }) (fraction 40 40 9)
+crossing_second =
+    meeting (rings_from 1 2) crossed_second (edges_cross_in (square ∷ crossed ∷ []) 1 refl (search rules)) (search rules) (search rules) (search rules) (search rules)
 
 -- a hole that touches its exterior
 pub touching_shown : IsMeeting (square ∷ touching_hole ∷ []) 0 (record { ring = 0; edge = 3 }) (record { ring = 1; edge = 0 }) (fraction 0 5 1)
-touching_shown = record {
-  it = rings_from 0 2;
-  of = touching_polygon;
-  first_in = search rules;
-  second_in = search rules;
-  in_order = search rules;
-  bounded = search rules;
-  meets = rings_touch;
-}
-
--- edges that cross in the second ring
-edges_cross_second : MeetsWrongly (square ∷ crossed ∷ []) (edge_number 1 0) (edge_number 1 2) (fraction 40 40 9)
-edges_cross_second = record {
-  different = search rules;
-  one = record { a = at 0 8; b = at 10 0 };
-  one_there = record { ring = crossed; there = refl; here = refl };
-  other = record { a = at 10 10; b = at 0 0 };
-  other_there = record { ring = crossed; there = refl; here = refl };
-  on_one = search rules;
-  on_other = search rules;
-  forbidden = search rules;
-}
-
--- they meet in the second polygon
-pub crossing_second : IsMeeting (square ∷ crossed ∷ []) 1 (record { ring = 1; edge = 0 }) (record { ring = 1; edge = 2 }) (fraction 40 40 9)
-crossing_second = record {
-  it = rings_from 1 2;
-  of = crossed_second;
-  first_in = search rules;
-  second_in = search rules;
-  in_order = search rules;
-  bounded = search rules;
-  meets = edges_cross_second;
-}
+touching_shown = meeting (rings_from 0 2) touching_polygon rings_touch (search rules) (search rules) (search rules) (search rules)
 
 -- Holes
 

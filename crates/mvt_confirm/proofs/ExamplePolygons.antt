@@ -1,5 +1,5 @@
 -- The polygons of known rings.
-use Rattle.std.proofs.Common.{rules, ◌≡◌, ℕ, suc, ◌<◌, ◌≤◌, ◌⊎◌, inl, inr, List, [], ◌∷◌, length, refl, subst, arith}
+use Rattle.std.proofs.Common.{rules, ◌≡◌, ℕ, suc, ◌<◌, ◌≤◌, ◌⊎◌, inl, inr, List, [], ◌∷◌, length, pos, ◌<ℤ◌, refl, subst, arith}
 use Rattle.std.proofs.lemmas.Bool.{cases_lt}
 use Rattle.std.proofs.lemmas.Int.{ints}
 use Rattle.std.proofs.lemmas.Option.{slice_get_within}
@@ -8,6 +8,7 @@ use Rattle.mvt_plane.proofs.SamePolygons.{one_polygon}
 use Rattle.mvt_plane.specs.Examples.{rings_from, square, crossed, triangle, touching_hole, hole_beside, hole_in_hole}
 use Rattle.mvt_plane.specs.Polygon.{IsExterior, NoExterior, IsExteriorOf, first, next, PolygonRings, IsPolygon, IsRingOf}
 use Rattle.mvt_plane.specs.Position.{Position}
+use Rattle.mvt_plane.specs.Ring.{doubled_area, ArePolygonRings}
 use Rattle.mvt_confirm.specs.PolygonFault.{IsPolygonOf}
 use Rattle.mvt_plane.proofs.PolygonNumbers.{none_from_next, none_in_nothing}
 
@@ -20,17 +21,19 @@ none_of_one rings hole none number behind before exterior = none (subst (IsExter
 -- Polygons up to the last ring
 
 -- the first one, where the first ring alone is an exterior
-first_to_last : (rings : List (List Position)) → 0 < length rings → IsExterior rings 0 → NoExterior rings 1 (length rings) → IsPolygon rings 0 (rings_from 0 (length rings))
-first_to_last rings some exterior holes = record { begins = first 0 exterior (none_in_nothing rings 0); further = some; holes = holes; ends = inl refl }
+first_to_last : (exterior : List Position) (holes : List (List Position)) → ArePolygonRings (exterior ∷ holes) → pos 0 <ℤ doubled_area exterior
+    → NoExterior (exterior ∷ holes) 1 (length (exterior ∷ holes)) → IsPolygonOf (exterior ∷ holes) 0 (rings_from 0 (length (exterior ∷ holes)))
+first_to_last exterior holes sound positive none =
+    let begins = first 0 (record { ring = exterior; there = refl; positive = positive }) (none_in_nothing (exterior ∷ holes) 0) in
+    record { sound = sound; there = record { begins = begins; further = omega arith; holes = none; ends = inl refl } }
 
 -- the second one, where the first two rings alone are exteriors
-second_to_last : (rings : List (List Position)) → 1 < length rings → IsExterior rings 0 → IsExterior rings 1 → NoExterior rings 2 (length rings) → IsPolygon rings 1 (rings_from 1 (length rings))
-second_to_last rings some before exterior holes = record {
-  begins = next 0 0 1 (first 0 before (none_in_nothing rings 0)) (omega arith) exterior (none_in_nothing rings 1);
-  further = some;
-  holes = holes;
-  ends = inl refl;
-}
+second_to_last : (before exterior : List Position) (holes : List (List Position)) → ArePolygonRings (before ∷ exterior ∷ holes) → pos 0 <ℤ doubled_area before → pos 0 <ℤ doubled_area exterior
+    → NoExterior (before ∷ exterior ∷ holes) 2 (length (before ∷ exterior ∷ holes)) → IsPolygonOf (before ∷ exterior ∷ holes) 1 (rings_from 1 (length (before ∷ exterior ∷ holes)))
+second_to_last before exterior holes sound one other none =
+    let begun = first 0 (record { ring = before; there = refl; positive = one }) (none_in_nothing (before ∷ exterior ∷ holes) 0) in
+    let begins = next 0 0 1 begun (omega arith) (record { ring = exterior; there = refl; positive = other }) (none_in_nothing (before ∷ exterior ∷ holes) 1) in
+    record { sound = sound; there = record { begins = begins; further = omega arith; holes = none; ends = inl refl } }
 
 -- Other polygons
 
@@ -71,10 +74,7 @@ one_of_two rings middle polygon it before behind other = elim (cases_lt it.exter
 
 -- the standard's ring is an exterior
 pub triangle_polygon : IsPolygonOf (triangle ∷ []) 0 (rings_from 0 1)
-triangle_polygon = record {
-  sound = search rules;
-  there = first_to_last (triangle ∷ []) (omega arith) (record { ring = triangle; there = refl; positive = omega (arith, ints) }) (none_in_nothing (triangle ∷ []) 1);
-}
+triangle_polygon = first_to_last triangle [] (search rules) (omega (arith, ints)) (none_in_nothing (triangle ∷ []) 1)
 
 -- so is the first of two squares
 pub first_square : IsPolygon (square ∷ square ∷ []) 0 (rings_from 0 1)
@@ -87,50 +87,27 @@ first_square = record {
 
 -- the other of the two
 pub second_square : IsPolygonOf (square ∷ square ∷ []) 1 (rings_from 1 2)
-second_square = record {
-  sound = search rules;
-  there = second_to_last (square ∷ square ∷ []) (omega arith) (record { ring = square; there = refl; positive = omega (arith, ints) })
-      (record { ring = square; there = refl; positive = omega (arith, ints) }) (none_in_nothing (square ∷ square ∷ []) 2);
-}
+second_square = second_to_last square square [] (search rules) (omega (arith, ints)) (omega (arith, ints)) (none_in_nothing (square ∷ square ∷ []) 2)
 
 -- so is the one that crosses itself
 pub crossed_polygon : IsPolygonOf (crossed ∷ []) 0 (rings_from 0 1)
-crossed_polygon = record {
-  sound = search rules;
-  there = first_to_last (crossed ∷ []) (omega arith) (record { ring = crossed; there = refl; positive = omega (arith, ints) }) (none_in_nothing (crossed ∷ []) 1);
-}
+crossed_polygon = first_to_last crossed [] (search rules) (omega (arith, ints)) (none_in_nothing (crossed ∷ []) 1)
 
 -- the same behind another
 pub crossed_second : IsPolygonOf (square ∷ crossed ∷ []) 1 (rings_from 1 2)
-crossed_second = record {
-  sound = search rules;
-  there = second_to_last (square ∷ crossed ∷ []) (omega arith) (record { ring = square; there = refl; positive = omega (arith, ints) })
-      (record { ring = crossed; there = refl; positive = omega (arith, ints) }) (none_in_nothing (square ∷ crossed ∷ []) 2);
-}
+crossed_second = second_to_last square crossed [] (search rules) (omega (arith, ints)) (omega (arith, ints)) (none_in_nothing (square ∷ crossed ∷ []) 2)
 
 -- a hole at the square's edge
 pub touching_polygon : IsPolygonOf (square ∷ touching_hole ∷ []) 0 (rings_from 0 2)
-touching_polygon = record {
-  sound = search rules;
-  there = first_to_last (square ∷ touching_hole ∷ []) (omega arith) (record { ring = square; there = refl; positive = omega (arith, ints) })
-      (none_of_one (square ∷ touching_hole ∷ []) 1 (search rules));
-}
+touching_polygon = first_to_last square (touching_hole ∷ []) (search rules) (omega (arith, ints)) (none_of_one (square ∷ touching_hole ∷ []) 1 (search rules))
 
 -- one beside it
 pub beside_polygon : IsPolygonOf (square ∷ hole_beside ∷ []) 0 (rings_from 0 2)
-beside_polygon = record {
-  sound = search rules;
-  there = first_to_last (square ∷ hole_beside ∷ []) (omega arith) (record { ring = square; there = refl; positive = omega (arith, ints) })
-      (none_of_one (square ∷ hole_beside ∷ []) 1 (search rules));
-}
+beside_polygon = first_to_last square (hole_beside ∷ []) (search rules) (omega (arith, ints)) (none_of_one (square ∷ hole_beside ∷ []) 1 (search rules))
 
 -- one beside the second of two
 pub beside_second : IsPolygonOf (square ∷ square ∷ hole_beside ∷ []) 1 (rings_from 1 3)
-beside_second = record {
-  sound = search rules;
-  there = second_to_last (square ∷ square ∷ hole_beside ∷ []) (omega arith) (record { ring = square; there = refl; positive = omega (arith, ints) })
-      (record { ring = square; there = refl; positive = omega (arith, ints) }) (none_of_one (square ∷ square ∷ hole_beside ∷ []) 2 (search rules));
-}
+beside_second = second_to_last square square (hole_beside ∷ []) (search rules) (omega (arith, ints)) (omega (arith, ints)) (none_of_one (square ∷ square ∷ hole_beside ∷ []) 2 (search rules))
 
 -- a hole in another
 pub two_holes : IsPolygonOf hole_in_hole 0 (rings_from 0 3)
@@ -138,9 +115,6 @@ two_holes = record { sound = search rules; there = polygon_with_two_holes }
 
 -- the same in a second polygon
 pub two_holes_second : IsPolygonOf (square ∷ hole_in_hole) 1 (rings_from 1 4)
-two_holes_second = record {
-  sound = search rules;
-  there = second_to_last (square ∷ hole_in_hole) (omega arith) (record { ring = square; there = refl; positive = omega (arith, ints) })
-      (record { ring = _; there = refl; positive = omega (arith, ints) })
-      (none_from_next (square ∷ hole_in_hole) 2 4 (search rules) (none_of_one (square ∷ hole_in_hole) 3 (search rules)));
-}
+two_holes_second =
+    second_to_last square _ _ (search rules) (omega (arith, ints)) (omega (arith, ints))
+    (none_from_next (square ∷ hole_in_hole) 2 4 (search rules) (none_of_one (square ∷ hole_in_hole) 3 (search rules)))

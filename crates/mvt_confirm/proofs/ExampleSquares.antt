@@ -1,63 +1,31 @@
 -- Squares, and a square with a hole, that are the rings of valid polygons.
-use Rattle.std.proofs.Common.{rules, ◌≡◌, ℕ, suc, ◌<◌, ◌≤◌, ◌⊎◌, inl, inr, List, [], ◌∷◌, slice_get, Some, refl, sym, ap, subst, arith, pos, ◌*ℤ◌, ◌≤ℤ◌}
+use Rattle.std.proofs.Common.{rules, ◌≡◌, ℕ, suc, ◌<◌, ◌≤◌, ◌⊎◌, inl, inr, List, [], ◌∷◌, slice_get, Some, refl, sym, ap, subst, arith}
 use Rattle.std.proofs.lemmas.Bool.{cases_lt}
 use Rattle.std.proofs.lemmas.Int.{ints}
-use Rattle.std.specs.List.{AllByRecursion}
 use Rattle.mvt_plane.proofs.ExampleNesting.{hole_within}
 use Rattle.mvt_plane.proofs.ExampleRings.{first_polygon, second_polygon}
 use Rattle.mvt_plane.proofs.RingEdges.{meets_either_way}
-use Rattle.mvt_plane.specs.Examples.{at, rings_from, square, frame, hole_of_frame, two_polygons}
+use Rattle.mvt_plane.specs.Examples.{rings_from, square, frame, hole_of_frame, two_polygons}
 use Rattle.mvt_plane.specs.Meeting.{EdgeNumber, MeetsWrongly}
 use Rattle.mvt_plane.specs.Polygon.{PolygonRings}
 use Rattle.mvt_plane.specs.Position.{Position}
-use Rattle.mvt_plane.specs.RationalPoint.{RationalPoint, LiesOn}
+use Rattle.mvt_plane.specs.RationalPoint.{RationalPoint}
 use Rattle.mvt_plane.specs.Ring.{edges}
 use Rattle.mvt_confirm.proofs.ExamplePolygons.{one_of_two, first_square, second_square}
-use Rattle.mvt_confirm.proofs.FourEdges.{AreFourApart, ring_apart, rings_miss}
+use Rattle.mvt_confirm.proofs.RingsApart.{AllCommon, IsVertexBetween, ring_apart, rings_miss}
 use Rattle.mvt_confirm.specs.Valid.{IsValidPolygon, AreValidRings}
 
--- Squares
-
--- the square's edges
-square_apart : AreFourApart (at 0 0) (at 10 0) (at 10 10) (at 0 10)
-square_apart = record {
-  at_a = λ point one other. record { x = omega (arith, ints); y = omega (arith, ints) };
-  at_b = λ point one other. record { x = omega (arith, ints); y = omega (arith, ints) };
-  at_c = λ point one other. record { x = omega (arith, ints); y = omega (arith, ints) };
-  at_d = λ point one other. record { x = omega (arith, ints); y = omega (arith, ints) };
-  first = λ point one other. omega (arith, ints);
-  second = λ point one other. omega (arith, ints);
-}
-
--- those of the frame
-frame_apart : AreFourApart (at 11 11) (at 20 11) (at 20 20) (at 11 20)
-frame_apart = record {
-  at_a = λ point one other. record { x = omega (arith, ints); y = omega (arith, ints) };
-  at_b = λ point one other. record { x = omega (arith, ints); y = omega (arith, ints) };
-  at_c = λ point one other. record { x = omega (arith, ints); y = omega (arith, ints) };
-  at_d = λ point one other. record { x = omega (arith, ints); y = omega (arith, ints) };
-  first = λ point one other. omega (arith, ints);
-  second = λ point one other. omega (arith, ints);
-}
-
--- and those of its hole
-hole_apart : AreFourApart (at 13 13) (at 13 17) (at 17 17) (at 17 13)
-hole_apart = record {
-  at_a = λ point one other. record { x = omega (arith, ints); y = omega (arith, ints) };
-  at_b = λ point one other. record { x = omega (arith, ints); y = omega (arith, ints) };
-  at_c = λ point one other. record { x = omega (arith, ints); y = omega (arith, ints) };
-  at_d = λ point one other. record { x = omega (arith, ints); y = omega (arith, ints) };
-  first = λ point one other. omega (arith, ints);
-  second = λ point one other. omega (arith, ints);
-}
-
 -- One square
+
+-- its edges
+square_apart : AllCommon (IsVertexBetween 4) (edges square) (edges square)
+square_apart point = search (rules, ints)
 
 -- wherever it stands, the square is a valid polygon without holes
 lone_square : (rings : List (List Position)) (ring : ℕ) → slice_get rings ring ≡ Some square → IsValidPolygon rings (rings_from ring (suc ring))
 lone_square rings ring there = record {
   apart = λ first second point first_in second_in.
-      ring_apart rings ring (at 0 0) (at 10 0) (at 10 10) (at 0 10) first second point there square_apart
+      ring_apart rings ring square first second point there square_apart
       (only first.ring first_in.from first_in.before) (only second.ring second_in.from second_in.before);
   enclosed = λ hole vertex outside. none hole outside.hole.behind outside.hole.before;
   side_by_side = λ hole vertex other inside. none hole inside.hole.behind inside.hole.before;
@@ -85,59 +53,29 @@ squares_valid = record {
 
 -- The frame with its hole
 
--- the square from 13 to 17 has the point
-record IsInMiddle (point : RationalPoint) : Type 0 where
-  pub from_x : (pos 13 *ℤ point.w) ≤ℤ point.x
-  pub to_x : point.x ≤ℤ (pos 17 *ℤ point.w)
-  pub from_y : (pos 13 *ℤ point.w) ≤ℤ point.y
-  pub to_y : point.y ≤ℤ (pos 17 *ℤ point.w)
+-- the frame's edges
+frame_apart : AllCommon (IsVertexBetween 4) (edges frame) (edges frame)
+frame_apart point = search (rules, ints)
 
--- each point of the hole is in it
-hole_in_middle : (point : RationalPoint) → AllByRecursion (λ edge. LiesOn point edge → IsInMiddle point) (edges hole_of_frame)
-hole_in_middle point = (
-  λ on. record { from_x = omega (arith, ints); to_x = omega (arith, ints); from_y = omega (arith, ints); to_y = omega (arith, ints) },
-  (
-    λ on. record { from_x = omega (arith, ints); to_x = omega (arith, ints); from_y = omega (arith, ints); to_y = omega (arith, ints) },
-    (
-      λ on. record { from_x = omega (arith, ints); to_x = omega (arith, ints); from_y = omega (arith, ints); to_y = omega (arith, ints) },
-      (
-        λ on. record { from_x = omega (arith, ints); to_x = omega (arith, ints); from_y = omega (arith, ints); to_y = omega (arith, ints) },
-        tt,
-      ),
-    ),
-  ),
-)
+-- those of its hole
+hole_apart : AllCommon (IsVertexBetween 4) (edges hole_of_frame) (edges hole_of_frame)
+hole_apart point = search (rules, ints)
 
--- none of the frame is
-frame_round_middle : (point : RationalPoint) → AllByRecursion (λ edge. LiesOn point edge → ¬ IsInMiddle point) (edges frame)
-frame_round_middle point = (
-  λ on middle. omega (arith, ints),
-  (
-    λ on middle. omega (arith, ints),
-    (
-      λ on middle. omega (arith, ints),
-      (
-        λ on middle. omega (arith, ints),
-        tt,
-      ),
-    ),
-  ),
-)
+-- none of these has a point in common with one of those
+frame_round_hole : AllCommon (λ i j one other point. ⊥) (edges frame) (edges hole_of_frame)
+frame_round_hole point = search (rules, ints)
 
--- so the two don't meet
-hole_misses_frame : (first second : EdgeNumber) (point : RationalPoint) → first.ring ≡ 2 → second.ring ≡ 1 → ¬ MeetsWrongly two_polygons first second point
-hole_misses_frame first second point hole exterior =
-    rings_miss two_polygons first second hole_of_frame frame IsInMiddle point (ap (slice_get two_polygons) hole) (ap (slice_get two_polygons) exterior)
-    (hole_in_middle point) (frame_round_middle point)
+-- so these don't meet
+frame_misses_hole : (first second : EdgeNumber) (point : RationalPoint) → first.ring ≡ 1 → second.ring ≡ 2 → ¬ MeetsWrongly two_polygons first second point
+frame_misses_hole first second point exterior hole =
+    rings_miss two_polygons first second frame hole_of_frame point (ap (slice_get two_polygons) exterior) (ap (slice_get two_polygons) hole) frame_round_hole
 
--- nor do two edges of either
+-- nor do two of either
 frame_and_hole_apart : (first second : EdgeNumber) (point : RationalPoint) → (first.ring ≡ 1) ⊎ (first.ring ≡ 2) → (second.ring ≡ 1) ⊎ (second.ring ≡ 2) → ¬ MeetsWrongly two_polygons first second point
-frame_and_hole_apart first second point (inl one) (inl other) =
-    ring_apart two_polygons 1 (at 11 11) (at 20 11) (at 20 20) (at 11 20) first second point refl frame_apart one other
-frame_and_hole_apart first second point (inl one) (inr other) = λ meets. hole_misses_frame second first point other one (meets_either_way two_polygons first second point meets)
-frame_and_hole_apart first second point (inr one) (inl other) = hole_misses_frame first second point one other
-frame_and_hole_apart first second point (inr one) (inr other) =
-    ring_apart two_polygons 2 (at 13 13) (at 13 17) (at 17 17) (at 17 13) first second point refl hole_apart one other
+frame_and_hole_apart first second point (inl one) (inl other) = ring_apart two_polygons 1 frame first second point refl frame_apart one other
+frame_and_hole_apart first second point (inl one) (inr other) = frame_misses_hole first second point one other
+frame_and_hole_apart first second point (inr one) (inl other) = λ meets. frame_misses_hole second first point other one (meets_either_way two_polygons first second point meets)
+frame_and_hole_apart first second point (inr one) (inr other) = ring_apart two_polygons 2 hole_of_frame first second point refl hole_apart one other
 
 -- the second polygon has these two rings
 frame_or_hole : (ring : ℕ) → 1 ≤ ring → ring < 3 → (ring ≡ 1) ⊎ (ring ≡ 2)

@@ -1,92 +1,48 @@
 -- Known rings that are those of valid polygons, and others that aren't.
-use Rattle.std.proofs.Common.{rules, ◌≡◌, ℕ, zero, suc, ◌<◌, List, [], ◌∷◌, slice_get, Some, refl, sym, subst, arith}
+use Rattle.std.proofs.Common.{◌≡◌, ℕ, ◌<◌, inl, inr, [], ◌∷◌, refl, sym, subst, arith}
 use Rattle.std.proofs.lemmas.Int.{ints}
 use Rattle.mvt_plane.proofs.ExampleRings.{has_no_area}
-use Rattle.mvt_plane.proofs.RingEdges.{meets_either_way}
-use Rattle.mvt_plane.specs.Examples.{at, fraction, edge_number, rings_from, square, crossed, triangle, hole_beside, hole_in_hole, flat}
-use Rattle.mvt_plane.specs.Meeting.{EdgeNumber, IsEdgeOf, Follows, forward, MeetsWrongly}
-use Rattle.mvt_plane.specs.Position.{Position}
-use Rattle.mvt_plane.specs.RationalPoint.{RationalPoint, IsAt, LiesOn}
+use Rattle.mvt_plane.specs.Examples.{at, fraction, rings_from, square, crossed, triangle, hole_beside, hole_in_hole, flat}
+use Rattle.mvt_plane.specs.RationalPoint.{IsAt, LiesOn}
 use Rattle.mvt_plane.specs.Ring.{edges, no_area}
-use Rattle.mvt_plane.specs.declared.edge.Edge.{Edge}
 use Rattle.mvt_confirm.proofs.ExampleFaults.{crossing_shown, vertex_outside, vertex_in_hole}
 use Rattle.mvt_confirm.proofs.ExamplePolygons.{no_other_polygon, triangle_polygon}
 use Rattle.mvt_confirm.proofs.InvalidRings.{ring_is_invalid, meeting_is_invalid, outside_is_invalid, in_hole_is_invalid}
+use Rattle.mvt_confirm.proofs.RingsApart.{AllCommon, IsVertexBetween, ring_apart}
 use Rattle.mvt_confirm.specs.Valid.{IsValidPolygon, AreValidRings}
-use Rattle.mvt_plane.proofs.ExampleNeighbours.{neighbours_round}
 
 -- The triangle
 
--- its edges 1 and 2 have their vertex in common, and nothing else
-only_the_vertex : (point : RationalPoint) → LiesOn point (record { a = at 8 12; b = at 20 34 }) → LiesOn point (record { a = at 20 34; b = at 3 6 }) → IsAt point (at 20 34)
-only_the_vertex point first second = record { x = omega (arith, ints, first.on_line, second.on_line); y = omega (arith, ints, first.on_line, second.on_line) }
+-- its edges
+edges_apart : AllCommon (IsVertexBetween 3) (edges triangle) (edges triangle)
+edges_apart point = (
+  (λ one same. inl refl, (λ one next. inr (inl (refl, second one next)), (λ one last. inr (inr (refl, first one last)), tt))),
+  (
+    (λ next one. inr (inr (refl, second one next)), (λ one same. inl refl, (λ one next. inr (inl (refl, third one next)), tt))),
+    ((λ last one. inr (inl (refl, first one last)), (λ next one. inr (inr (refl, third one next)), (λ one same. inl refl, tt))), tt),
+  ),
+)
+  where
+    first : LiesOn point (record { a = at 3 6; b = at 8 12 }) → LiesOn point (record { a = at 20 34; b = at 3 6 }) → IsAt point (at 3 6)
+    first one other = record { x = omega (arith, ints, one.on_line, other.on_line); y = omega (arith, ints, one.on_line, other.on_line) }
 
--- an edge of this number is this one
-edge_is : (number : ℕ) (edge it : Edge) → slice_get (edges triangle) number ≡ Some edge → IsEdgeOf (triangle ∷ []) (edge_number 0 number) it → it ≡ edge
-edge_is number edge it there its =
-    let ring : triangle ≡ its.ring = cc in
-    let here : slice_get (edges triangle) number ≡ Some it = subst (λ (ring : List Position). slice_get (edges ring) number ≡ Some it) (sym ring) its.here in
-    cc (there, here)
+    second : LiesOn point (record { a = at 3 6; b = at 8 12 }) → LiesOn point (record { a = at 8 12; b = at 20 34 }) → IsAt point (at 8 12)
+    second one other = record { x = omega (arith, ints, one.on_line, other.on_line); y = omega (arith, ints, one.on_line, other.on_line) }
 
--- there are three
-no_fourth : (number : ℕ) (edge : Edge) → ¬ IsEdgeOf (triangle ∷ []) (edge_number 0 (suc (suc (suc number)))) edge
-no_fourth number edge its =
-    let ring : triangle ≡ its.ring = cc in
-    let here : slice_get (edges triangle) (suc (suc (suc number))) ≡ Some edge =
-    subst (λ (ring : List Position). slice_get (edges ring) (suc (suc (suc number))) ≡ Some edge) (sym ring) its.here in
-    cc here
-
--- edge 2 follows edge 1
-follows : Follows (triangle ∷ []) (edge_number 0 1) (edge_number 0 2) (at 20 34)
-follows = record { ring = triangle; there = refl; same = refl; next = refl; between = refl }
-
--- so they don't meet wrongly
-not_one_two : (point : RationalPoint) → ¬ MeetsWrongly (triangle ∷ []) (edge_number 0 1) (edge_number 0 2) point
-not_one_two point meets =
-    let one = edge_is 1 (record { a = at 8 12; b = at 20 34 }) meets.one refl meets.one_there in
-    let other = edge_is 2 (record { a = at 20 34; b = at 3 6 }) meets.other refl meets.other_there in
-    meets.forbidden (at 20 34) (forward follows)
-    (only_the_vertex point (subst (LiesOn point) one meets.on_one) (subst (LiesOn point) other meets.on_other))
-
--- edges that don't meet wrongly don't the other way round
-turned : (first second : ℕ) (point : RationalPoint) → ¬ MeetsWrongly (triangle ∷ []) (edge_number 0 first) (edge_number 0 second) point
-    → ¬ MeetsWrongly (triangle ∷ []) (edge_number 0 second) (edge_number 0 first) point
-turned first second point apart meets = apart (meets_either_way (triangle ∷ []) (edge_number 0 second) (edge_number 0 first) point meets)
-
--- edge 0 doesn't with the next one
-not_zero_one : (point : RationalPoint) → ¬ MeetsWrongly (triangle ∷ []) (edge_number 0 0) (edge_number 0 1) point
-not_zero_one point = search rules
-
--- no two of its edges do
-edges_apart : (first second : ℕ) (point : RationalPoint) → ¬ MeetsWrongly (triangle ∷ []) (edge_number 0 first) (edge_number 0 second) point
-edges_apart zero zero point meets = meets.different refl
-edges_apart zero (suc zero) point meets = not_zero_one point meets
-edges_apart zero (suc (suc zero)) point meets = neighbours_round point meets
-edges_apart (suc zero) zero point meets = turned 0 1 point (not_zero_one point) meets
-edges_apart (suc zero) (suc zero) point meets = meets.different refl
-edges_apart (suc zero) (suc (suc zero)) point meets = not_one_two point meets
-edges_apart (suc (suc zero)) zero point meets = turned 0 2 point (neighbours_round point) meets
-edges_apart (suc (suc zero)) (suc zero) point meets = turned 1 2 point (not_one_two point) meets
-edges_apart (suc (suc zero)) (suc (suc zero)) point meets = meets.different refl
-edges_apart (suc (suc (suc first))) second point meets = no_fourth first meets.one meets.one_there
-edges_apart first (suc (suc (suc second))) point meets = no_fourth second meets.other meets.other_there
-
--- nor do edges of rings that are there
-rings_apart : (first second : EdgeNumber) (point : RationalPoint) → first.ring < 1 → second.ring < 1 → ¬ MeetsWrongly (triangle ∷ []) first second point
-rings_apart first second point one another meets =
-    let same : first.ring ≡ 0 = omega arith in
-    let same_second : second.ring ≡ 0 = omega arith in
-    edges_apart first.edge second.edge point
-    (subst (λ (ring : ℕ). MeetsWrongly (triangle ∷ []) (edge_number 0 first.edge) (edge_number ring second.edge) point) same_second
-    (subst (λ (ring : ℕ). MeetsWrongly (triangle ∷ []) (edge_number ring first.edge) second point) same meets))
+    third : LiesOn point (record { a = at 8 12; b = at 20 34 }) → LiesOn point (record { a = at 20 34; b = at 3 6 }) → IsAt point (at 20 34)
+    third one other = record { x = omega (arith, ints, one.on_line, other.on_line); y = omega (arith, ints, one.on_line, other.on_line) }
 
 -- it is a valid polygon
 triangle_is_valid : IsValidPolygon (triangle ∷ []) (rings_from 0 1)
 triangle_is_valid = record {
-  apart = λ first second point first_in second_in. rings_apart first second point first_in.before second_in.before;
+  apart = λ first second point first_in second_in.
+      ring_apart (triangle ∷ []) 0 triangle first second point refl edges_apart (only first.ring first_in.before) (only second.ring second_in.before);
   enclosed = λ ring vertex outside. let behind = outside.hole.behind in let before = outside.hole.before in omega arith;
   side_by_side = λ ring vertex other inside. let behind = inside.hole.behind in let before = inside.hole.before in omega arith;
 }
+  where
+    only : (ring : ℕ) → ring < 1 → ring ≡ 0
+    only ring before = omega arith
 
 -- and the only one
 pub triangle_valid : AreValidRings (triangle ∷ [])

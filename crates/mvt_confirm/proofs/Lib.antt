@@ -12,11 +12,9 @@ pub mod FieldCounts
 pub mod FieldFaults
 pub mod FieldForms
 pub mod FieldWalks
-pub mod FourEdges
 pub mod HoleVertices
 pub mod InvalidRings
 pub mod LayerTexts
-pub mod LayerVersions
 pub mod MessageFaults
 pub mod MovedPositions
 pub mod NextStates
@@ -29,6 +27,7 @@ pub mod PolygonMembers
 pub mod RingCounts
 pub mod RingPlaces
 pub mod RingWalks
+pub mod RingsApart
 pub mod RuleWalks
 pub mod SchemaRules
 pub mod Searching

@@ -13,21 +13,9 @@ use Rattle.mvt_confirm.proofs.Shown.{wire_faults_alone}
 use Rattle.mvt_confirm.proofs.TileFeatures.{of_this_tile, feature_of_this_tile}
 use Rattle.mvt_confirm.specs.Shows.{OfTile, OfFeature, IsOfPolygon, Shows}
 
--- what a test tells of a fault by its case
-pub of_case : (bytes : List ℕ) (test : Bool) (fault case : Fault) → fault ≡ case → (IsTrue test ↔ Shows bytes case) → IsTrue test ↔ Shows bytes fault
-of_case bytes test fault case same tells = subst (λ (other : Fault). IsTrue test ↔ Shows bytes other) (sym same) tells
-
--- and of one of a polygon
-pub of_polygon_case : (bytes : List ℕ) (test : Bool) (fault case : Fault) → fault ≡ case → IsOfPolygon case → (IsTrue test ↔ Shows bytes case)
-    → IsTrue test ↔ IsOfPolygon fault × Shows bytes fault
-of_polygon_case bytes test fault case same is_polygon tells =
-    subst (λ (other : Fault). IsTrue test ↔ IsOfPolygon other × Shows bytes other) (sym same)
-    (λ holds. (is_polygon, tells.0 holds), λ shown. tells.1 shown.1)
-
--- a meeting by equal numbers of its point
-pub at_point : (fault : Fault) (layer feature polygon : ℕ) (first second : RingEdge) (x y w its_x its_y its_w : ℤ) → its_x ≡ x → its_y ≡ y → its_w ≡ w
-    → fault ≡ Meeting layer feature polygon first second x y w → fault ≡ Meeting layer feature polygon first second its_x its_y its_w
-at_point fault layer feature polygon first second x y w its_x its_y its_w same_x same_y same_w is = cc
+-- what a test tells of a fault that is one of a polygon
+pub with_polygon : {Found Is Told : Type 0} → Is → (Found ↔ Told) → Found ↔ Is × Told
+with_polygon is tells = (λ holds. (is, tells.0 holds), λ both. tells.1 both.1)
 
 -- where the fault is one of a polygon, nothing but that it is true is told
 pub of_polygon : (bytes : List ℕ) (test : Bool) (fault : Fault) → IsOfPolygon fault → (IsTrue test ↔ IsOfPolygon fault × Shows bytes fault) → IsTrue test ↔ Shows bytes fault

@@ -1,6 +1,6 @@
 -- Shown faults by their parts: the wire, the rules between a tile's parts, and the geometry of each feature.
 use Rattle.std.proofs.Common.{◌↔◌, ◌⊎◌, inl, inr, ℕ, List}
-use Rattle.mvt_fault.specs.Truth.{IsWireFault, wire, IsFaultOfLayers, version, name, IsFaultOfTags, tag, OneFeatureHas, BreaksRule}
+use Rattle.mvt_fault.specs.Truth.{IsWireFault, wire, IsFaultOfLayers, version, name, IsFaultOfTags, tag, FeatureFault, OneFeatureHas, BreaksRule}
 use Rattle.mvt_fault.specs.declared.fault.Fault.{Fault}
 use Rattle.mvt_fault.specs.declared.fault.Fault.TheVariants.{Wire, Version, Name, Tag, Command, Ring, Meeting, Outside, HoleInHole}
 use Rattle.mvt_wire.specs.Rules.{IsFeatureOf}
@@ -10,44 +10,23 @@ use Rattle.mvt_confirm.specs.Geometry.{IsFaultOfGeometry, command, ring, meeting
 use Rattle.mvt_confirm.specs.Shows.{OfTile, Shows}
 
 -- of a tile's geometry, or of the rules between its parts
-abbrev BreaksOne : TileRecord → Fault → Type 0
+abbrev pub BreaksOne : TileRecord → Fault → Type 0
 BreaksOne tile fault = BreaksRule tile fault ⊎ OneFeatureHas (λ layer_record. IsFaultOfGeometry) tile fault
 
 -- a fault by its part
 abbrev ByParts : List ℕ → Fault → Type 0
 ByParts bytes fault = IsWireFault bytes fault ⊎ OfTile bytes (λ tile. BreaksOne tile fault)
 
--- it is in the geometry of a feature of the bytes
+-- a feature of the bytes has it
+pub one_has : {IsFaultOf : FeatureFault} {tile : TileRecord} {layer feature : ℕ} {whose : LayerRecord} {it : FeatureRecord} {fault : Fault}
+    → IsFeatureOf tile layer feature whose it → IsFaultOf whose it layer feature fault → OneFeatureHas IsFaultOf tile fault
+one_has {layer = layer} {feature = feature} {whose = whose} {it = it} there broken =
+    record { layer = layer; feature = feature; whose = whose; it = it; there = there; broken = broken }
+
+-- in its geometry
 in_geometry : (bytes : List ℕ) (layer feature : ℕ) (whose : LayerRecord) (it : FeatureRecord) (fault : Fault)
     → IsFeatureIn bytes layer feature whose it → IsFaultOfGeometry it layer feature fault → ByParts bytes fault
-in_geometry bytes layer feature whose it fault there broken = inr (
-  there.tile,
-  there.is,
-  inr (record {
-    layer = layer;
-    feature = feature;
-    whose = whose;
-    it = it;
-    there = there.there;
-    broken = broken;
-  }),
-)
-
--- it is in the tags of one
-in_tags : (bytes : List ℕ) (layer feature : ℕ) (whose : LayerRecord) (it : FeatureRecord) (fault : Fault)
-    → IsFeatureIn bytes layer feature whose it → IsFaultOfTags whose it layer feature fault → ByParts bytes fault
-in_tags bytes layer feature whose it fault there broken = inr (
-  there.tile,
-  there.is,
-  inl (inr (record {
-    layer = layer;
-    feature = feature;
-    whose = whose;
-    it = it;
-    there = there.there;
-    broken = broken;
-  })),
-)
+in_geometry bytes layer feature whose it fault there broken = inr (there.tile, there.is, inr (one_has there.there broken))
 
 -- so a shown fault is one of these
 by_parts : (bytes : List ℕ) (fault : Fault) → Shows bytes fault → ByParts bytes fault
@@ -55,7 +34,7 @@ by_parts bytes (Wire code scope at field) shown = inl (wire code scope at field 
 by_parts bytes (Version layer) shown = inr (shown.0, shown.1, inl (inl (version layer shown.2)))
 by_parts bytes (Name first second) shown = inr (shown.0, shown.1, inl (inl (name first second shown.2)))
 by_parts bytes (Tag code layer feature index) shown =
-    in_tags bytes layer feature shown.0 shown.1 (Tag code layer feature index) shown.2 (tag code index shown.3)
+    inr (shown.2.tile, shown.2.is, inl (inr (one_has shown.2.there (tag code index shown.3))))
 by_parts bytes (Command code layer feature index) shown =
     in_geometry bytes layer feature shown.0 shown.1 (Command code layer feature index) shown.2 (command code index shown.3)
 by_parts bytes (Ring code layer feature index) shown =
@@ -88,29 +67,14 @@ layers_show : (bytes : List ℕ) (tile : TileRecord) (fault : Fault) → IsTile 
 layers_show bytes tile fault is (version layer broken) = (tile, is, broken)
 layers_show bytes tile fault is (name first second broken) = (tile, is, broken)
 
--- one of the wire is
-wire_shows : (bytes : List ℕ) (fault : Fault) → IsWireFault bytes fault → Shows bytes fault
-wire_shows bytes fault (wire code scope at field broken) = broken
-
--- a feature of the tile that bytes are
-feature_in : (bytes : List ℕ) (tile : TileRecord) (layer feature : ℕ) (whose : LayerRecord) (it : FeatureRecord)
-    → IsTile bytes tile → IsFeatureOf tile layer feature whose it → IsFeatureIn bytes layer feature whose it
-feature_in bytes tile layer feature whose it is there = record { tile = tile; is = is; there = there }
-
 -- so each of these is shown
 parts_show : (bytes : List ℕ) (fault : Fault) → ByParts bytes fault → Shows bytes fault
-parts_show bytes fault (inl broken) = wire_shows bytes fault broken
-parts_show bytes fault (inr broken) = elim broken.2 [
-  | inl rule ↦ elim rule [
-    | inl layers ↦ layers_show bytes broken.0 fault broken.1 layers
-    | inr tags ↦
-        tags_show bytes tags.layer tags.feature tags.whose tags.it fault
-        (feature_in bytes broken.0 tags.layer tags.feature tags.whose tags.it broken.1 tags.there) tags.broken
-  ]
-  | inr geometry ↦
-      geometry_shows bytes geometry.layer geometry.feature geometry.whose geometry.it fault
-      (feature_in bytes broken.0 geometry.layer geometry.feature geometry.whose geometry.it broken.1 geometry.there) geometry.broken
-]
+parts_show bytes _ (inl (wire code scope at field broken)) = broken
+parts_show bytes fault (inr (tile, is, inl (inl layers))) = layers_show bytes tile fault is layers
+parts_show bytes fault (inr (tile, is, inl (inr one))) =
+    tags_show bytes one.layer one.feature one.whose one.it fault (record { tile = tile; is = is; there = one.there }) one.broken
+parts_show bytes fault (inr (tile, is, inr one)) =
+    geometry_shows bytes one.layer one.feature one.whose one.it fault (record { tile = tile; is = is; there = one.there }) one.broken
 
 -- and these alone
 pub shown_by_parts : (bytes : List ℕ) (fault : Fault) → Shows bytes fault ↔ (IsWireFault bytes fault

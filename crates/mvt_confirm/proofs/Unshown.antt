@@ -4,7 +4,7 @@ use Rattle.mvt_fault.specs.Code.{command_code}
 use Rattle.mvt_fault.specs.declared.command.CommandCode.{CommandCode}
 use Rattle.mvt_fault.specs.declared.command.CommandCode.TheVariants.{OtherCommand, OtherCount, Unfinished, GreatestParameter, OutOfBounds, NoStep}
 use Rattle.mvt_fault.specs.declared.fault.Fault.{Fault}
-use Rattle.mvt_fault.specs.declared.fault.Fault.TheVariants.{Wire, Version, Name, Tag, Command, Ring, Meeting, Outside, HoleInHole}
+use Rattle.mvt_fault.specs.declared.fault.Fault.TheVariants.{Wire, Command, Ring, Meeting, Outside, HoleInHole}
 use Rattle.mvt_fault.specs.declared.ring.RingCode.TheVariants as ring_codes
 use Rattle.mvt_plane.proofs.CommandFaults.{figure_or_command_fault}
 use Rattle.mvt_plane.specs.CommandFault.{Part, Applies, other_command, other_count, greatest_x, greatest_y, x_outside, y_outside, no_step, IsCause, ends, nothing_due, due, HasCommandFault}
@@ -16,12 +16,14 @@ use Rattle.mvt_plane.specs.Ring.{ends_at_its_beginning, no_area, begins_with_hol
 use Rattle.mvt_wire.proofs.SmallNumbers.{geometry_small}
 use Rattle.mvt_wire.proofs.Tiles.{tile_or_fault}
 use Rattle.mvt_wire.specs.Number.{AreSmall}
-use Rattle.mvt_wire.specs.Tile.{FeatureRecord, LayerRecord, TileRecord, IsTile}
+use Rattle.mvt_wire.specs.Tile.{FeatureRecord, LayerRecord}
+use Rattle.mvt_confirm.proofs.ShownParts.{shown_by_parts}
+use Rattle.mvt_confirm.proofs.ValidParts.{valid_by_parts}
 use Rattle.mvt_confirm.proofs.UnshownMeetings.{none_meets}
 use Rattle.mvt_confirm.specs.Feature.{IsFeatureIn}
 use Rattle.mvt_confirm.specs.PolygonFault.{IsPolygonOf}
 use Rattle.mvt_confirm.specs.Shows.{Shows}
-use Rattle.mvt_confirm.specs.Valid.{IsValidPolygon, IsValidGeometry, IsValidTile, Valid}
+use Rattle.mvt_confirm.specs.Valid.{IsValidPolygon, IsValidGeometry, Valid}
 
 -- Commands
 
@@ -94,20 +96,14 @@ module _ (bytes : List ℕ) (none : (fault : Fault) → ¬ Shows bytes fault) (l
 
 -- Tiles
 
--- a tile of which no fault is true is valid
-tile_unshown : (bytes : List ℕ) (tile : TileRecord) → IsTile bytes tile → ((fault : Fault) → ¬ Shows bytes fault) → IsValidTile tile
-tile_unshown bytes tile is none = record {
-  versions = λ layer other. none (Version layer) (tile, is, other);
-  names = λ first second same. none (Name first second) (tile, is, same);
-  features = λ layer feature whose it there. record {
-    tags = λ code index broken. none (Tag code layer feature index) (whose, it, record { tile = tile; is = is; there = there }, broken);
-    geometry = geometry_unshown bytes none layer feature whose it (record { tile = tile; is = is; there = there });
-  };
-}
-
--- the law: so are bytes
+-- the law: bytes of which no fault is true are valid
 pub unshown_is_valid : (bytes : List ℕ) → ((fault : Fault) → ¬ Shows bytes fault) → Valid bytes
 unshown_is_valid bytes none = elim (tile_or_fault bytes) [
-  | inl whole ↦ record { tile = whole.0; is = whole.1; valid = tile_unshown bytes whole.0 whole.1 none }
+  | inl (tile, is) ↦ (valid_by_parts bytes).1 (
+    tile,
+    is,
+    λ fault broken. none fault ((shown_by_parts bytes fault).1 (inr (tile, is, inl broken))),
+    λ layer feature whose it there. geometry_unshown bytes none layer feature whose it (record { tile = tile; is = is; there = there }),
+  )
   | inr broken ↦ absurd (none (Wire broken.1.code broken.0 broken.1.at broken.1.field) broken.2)
 ]

@@ -1,10 +1,14 @@
 -- Valid tiles by their parts: the rules between a tile's parts, and the geometry of each feature.
 use Rattle.std.proofs.Common.{◌↔◌, inl, inr, ℕ, List}
+use Rattle.mvt_fault.specs.Code.{ring_code}
 use Rattle.mvt_fault.specs.Truth.{IsFaultOfLayers, version, name, IsFaultOfTags, tag, BreaksRule}
 use Rattle.mvt_fault.specs.declared.fault.Fault.{Fault}
 use Rattle.mvt_fault.specs.declared.fault.Fault.TheVariants.{Version, Name, Tag}
 use Rattle.mvt_wire.specs.Rules.{IsFeatureOf}
 use Rattle.mvt_wire.specs.Tile.{FeatureRecord, LayerRecord, TileRecord, IsTile}
+use Rattle.mvt_confirm.proofs.InvalidRings.{ring_is_invalid, meeting_is_invalid, outside_is_invalid, in_hole_is_invalid}
+use Rattle.mvt_confirm.proofs.ShownParts.{BreaksOne, one_has}
+use Rattle.mvt_confirm.specs.Geometry.{IsFaultOfGeometry, command, ring, meeting, outside, hole_in_hole}
 use Rattle.mvt_confirm.specs.Valid.{IsValidGeometry, IsValidFeature, IsValidTile, Valid}
 
 -- the layers of a valid tile have no fault
@@ -23,11 +27,22 @@ rules_kept tile fault valid (inr broken) =
     tags_kept broken.layer broken.feature broken.whose broken.it fault
     (valid.features broken.layer broken.feature broken.whose broken.it broken.there) broken.broken
 
--- a feature's wrong tags are a fault that names it
-tags_break : (tile : TileRecord) (layer feature : ℕ) (whose : LayerRecord) (it : FeatureRecord) (fault : Fault)
-    → IsFeatureOf tile layer feature whose it → IsFaultOfTags whose it layer feature fault → BreaksRule tile fault
-tags_break tile layer feature whose it fault there broken =
-    inr (record { layer = layer; feature = feature; whose = whose; it = it; there = there; broken = broken })
+-- a valid geometry has none
+geometry_kept : (it : FeatureRecord) (layer feature : ℕ) (fault : Fault) → IsValidGeometry it → ¬ IsFaultOfGeometry it layer feature fault
+geometry_kept it layer feature fault valid (command code index broken) = let drawn = valid.figure broken.0 broken.1 in broken.2.unspelled drawn.0 drawn.1
+geometry_kept it layer feature fault valid (ring code number (rings, has, broken)) = ring_is_invalid rings (ring_code code) number broken (valid.polygons rings has)
+geometry_kept it layer feature fault valid (meeting polygon first second x y w (rings, has, broken)) =
+    meeting_is_invalid rings polygon first second (record { x = x; y = y; w = w }) broken (valid.polygons rings has)
+geometry_kept it layer feature fault valid (outside polygon number vertex (rings, has, broken)) = outside_is_invalid rings polygon number vertex broken (valid.polygons rings has)
+geometry_kept it layer feature fault valid (hole_in_hole polygon number vertex other (rings, has, broken)) =
+    in_hole_is_invalid rings polygon number vertex other broken (valid.polygons rings has)
+
+-- so none of these is true of a valid tile
+pub parts_kept : (tile : TileRecord) (fault : Fault) → IsValidTile tile → ¬ BreaksOne tile fault
+parts_kept tile fault valid (inl broken) = rules_kept tile fault valid broken
+parts_kept tile fault valid (inr one) =
+    let its = valid.features one.layer one.feature one.whose one.it one.there in
+    geometry_kept one.it one.layer one.feature fault its.geometry one.broken
 
 -- each feature of the tile has a valid geometry
 abbrev GeometriesValid : TileRecord → Type 0
@@ -39,8 +54,7 @@ valid_tile tile kept valid = record {
   versions = λ layer other. kept (Version layer) (inl (version layer other));
   names = λ first second same. kept (Name first second) (inl (name first second same));
   features = λ layer feature whose it there. record {
-    tags = λ code index broken.
-        kept (Tag code layer feature index) (tags_break tile layer feature whose it (Tag code layer feature index) there (tag code index broken));
+    tags = λ code index broken. kept (Tag code layer feature index) (inr (one_has there (tag code index broken)));
     geometry = valid layer feature whose it there;
   };
 }

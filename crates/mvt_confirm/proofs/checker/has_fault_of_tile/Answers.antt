@@ -1,40 +1,30 @@
-use Rattle.std.proofs.Common.{length, false}
+use Rattle.std.proofs.Common.{length}
 use Rattle.mvt_fault.specs.Truth.{TagsBreak}
-use Rattle.mvt_fault.specs.declared.fault.Fault.TheVariants.{Wire, Version, Name, Tag, Command, Ring}
 use Rattle.mvt_wire.specs.Rules.{OtherVersion, SameName}
-use Rattle.mvt_confirm.proofs.ShownByCases.{of_case, of_tile, of_feature, no_wire, of_polygon, any_of_polygon}
+use Rattle.mvt_confirm.proofs.ShownByCases.{of_tile, of_feature, no_wire, of_polygon, any_of_polygon}
 use Rattle.mvt_confirm.proofs.checker.has_fault_of_tile.Goals as goal
 
 pub returns-in-Wire : goal.returns-in-Wire
-returns-in-Wire c = λ tile is.
-    of_case c.args.bytes.now false c.args.fault.now (Wire c.in-Wire.code c.in-Wire.scope c.in-Wire.at c.in-Wire.field) c.in-Wire.is
-    (no_wire c.args.bytes.now tile is c.in-Wire.code c.in-Wire.scope c.in-Wire.at c.in-Wire.field)
+returns-in-Wire c = λ tile is. rw c.in-Wire.is (no_wire c.args.bytes.now tile is c.in-Wire.code c.in-Wire.scope c.in-Wire.at c.in-Wire.field)
 
 pub returns-in-Version : goal.returns-in-Version
 returns-in-Version c = λ tile is.
-    of_case c.args.bytes.now c.has_other_version.result c.args.fault.now (Version c.in-Version.layer) c.in-Version.is
-    (of_tile c.args.bytes.now tile is c.has_other_version.result (λ its. OtherVersion its c.in-Version.layer) (c.has_other_version.ensures tile is))
+    rw c.in-Version.is (of_tile c.args.bytes.now tile is c.has_other_version.result (λ its. OtherVersion its c.in-Version.layer) (c.has_other_version.ensures tile is))
 
 pub returns-in-Name : goal.returns-in-Name
 returns-in-Name c = λ tile is.
-    of_case c.args.bytes.now c.has_same_name.result c.args.fault.now (Name c.in-Name.first c.in-Name.second) c.in-Name.is
-    (of_tile c.args.bytes.now tile is c.has_same_name.result (λ its. SameName its c.in-Name.first c.in-Name.second) (c.has_same_name.ensures tile is))
+    rw c.in-Name.is (of_tile c.args.bytes.now tile is c.has_same_name.result (λ its. SameName its c.in-Name.first c.in-Name.second) (c.has_same_name.ensures tile is))
 
 pub returns-in-Tag : goal.returns-in-Tag
 returns-in-Tag c = λ tile is.
-    of_case c.args.bytes.now c.breaks_tags.result c.args.fault.now (Tag c.in-Tag.code c.in-Tag.layer c.in-Tag.feature c.in-Tag.index) c.in-Tag.is
-    (of_feature c.args.bytes.now tile is c.breaks_tags.result c.in-Tag.layer c.in-Tag.feature
+    rw c.in-Tag.is (of_feature c.args.bytes.now tile is c.breaks_tags.result c.in-Tag.layer c.in-Tag.feature
     (λ whose it. TagsBreak c.in-Tag.code (length whose.keys) (length whose.values) it.tags c.in-Tag.index) (c.breaks_tags.ensures tile is))
 
 pub returns-in-Command : goal.returns-in-Command
-returns-in-Command c = λ tile is.
-    of_case c.args.bytes.now c.has_command_fault.result c.args.fault.now
-    (Command c.in-Command.code c.in-Command.layer c.in-Command.feature c.in-Command.index) c.in-Command.is (c.has_command_fault.ensures tile is)
+returns-in-Command c = λ tile is. rw c.in-Command.is (c.has_command_fault.ensures tile is)
 
 pub returns-in-Ring : goal.returns-in-Ring
-returns-in-Ring c = λ tile is.
-    of_case c.args.bytes.now c.has_ring_fault.result c.args.fault.now
-    (Ring c.in-Ring.code c.in-Ring.layer c.in-Ring.feature c.in-Ring.ring) c.in-Ring.is (c.has_ring_fault.ensures tile is)
+returns-in-Ring c = λ tile is. rw c.in-Ring.is (c.has_ring_fault.ensures tile is)
 
 pub returns-in-Meeting : goal.returns-in-Meeting
 returns-in-Meeting c = λ tile is.

@@ -1,8 +1,12 @@
-use Rattle.mvt_confirm.proofs.Shown.{one_polygon_of_first, one_polygon_of_second}
+use Rattle.mvt_confirm.proofs.Shown.{one_polygon_of_ring}
 use Rattle.mvt_confirm.proofs.laws.one_polygon_of_meeting.Goals as goal
 
 pub returns-clause-by_first : goal.returns-clause-by_first
-returns-clause-by_first c = one_polygon_of_first
+returns-clause-by_first c bytes layer feature polygon other first second its_first its_second x y w its_x its_y its_w one another =
+    one_polygon_of_ring bytes layer feature polygon other first.ring its_first.ring first second its_first its_second x y w its_x its_y its_w
+    one another one.3.2.first_in another.3.2.first_in
 
 pub returns-clause-by_second : goal.returns-clause-by_second
-returns-clause-by_second c = one_polygon_of_second
+returns-clause-by_second c bytes layer feature polygon other first second its_first its_second x y w its_x its_y its_w one another =
+    one_polygon_of_ring bytes layer feature polygon other second.ring its_second.ring first second its_first its_second x y w its_x its_y its_w
+    one another one.3.2.second_in another.3.2.second_in
