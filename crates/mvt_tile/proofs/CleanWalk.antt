@@ -1,14 +1,14 @@
 -- A walk over the fields of a whole message that looks at each message of one field number in turn, for as long as it
 -- finds nothing there.
-use Rattle.std.proofs.Common.{◌≡◌, ◌≢◌, ℕ, ◌+◌, ◌<◌, ◌≤◌, List, [], ◌∷◌, ◌++◌, length, Some, filter_map, slice_get, refl, sym, ◌∙◌, ap, subst, arith, length-append}
-use Rattle.std.proofs.lemmas.List.Elements.{filter_map-append}
+use Rattle.std.proofs.Common.{◌≡◌, ◌≢◌, ℕ, ◌+◌, ◌<◌, ◌≤◌, List, [], ◌∷◌, ◌++◌, length, Some, slice_get, refl, sym, ◌∙◌, ap, subst, arith, length-append}
 use Rattle.mvt_wire.specs.Field.{Entry}
 use Rattle.mvt_wire.specs.Message.{IsMessage}
-use Rattle.mvt_wire.specs.Scope.{contents_of, Span, span_of, spans_of}
+use Rattle.mvt_wire.specs.Scope.{Span, span_of, spans_of}
 use Rattle.mvt_wire.specs.Walk.{Walk, IsOver, GivesField}
 use Rattle.mvt_tile.specs.First.{AreClean}
-use Rattle.mvt_tile.proofs.Filters.{contents_of-append, picked-push, picked-other}
-use Rattle.mvt_tile.proofs.ReadingWalk.{IsWalking-front, IsWalking-over}
+use Rattle.mvt_tile.proofs.Filters.{picked-push, picked-other}
+use Rattle.mvt_tile.proofs.ReadingWalk.{IsWalking-none, IsWalking-over}
+use Rattle.mvt_tile.proofs.Stretches.{spans_front}
 use Rattle.mvt_tile.proofs.Spans.{AreClean-push, slice_get-append, slice_get-some}
 use Rattle.mvt_wire.proofs.Walking.{IsWalking, IsWalking-more}
 use Rattle.mvt_wire.proofs.Payloads.{slice_get-last}
@@ -22,9 +22,9 @@ pub record CleanWalk (Clean : ℕ → Span → Type 0) (field_number : ℕ) (mes
   pub few : count ≤ walk.at
 
 -- they are clean in another sense too, where this one is the stricter
-pub CleanWalk-weaker : (Clean Other : ℕ → Span → Type 0) (field_number : ℕ) (message : List ℕ) (from : ℕ) (walk : Walk) (count : ℕ) → ((ordinal : ℕ) (span : Span) → Clean ordinal span → Other ordinal span)
-    → CleanWalk Clean field_number message from walk count → CleanWalk Other field_number message from walk count
-CleanWalk-weaker Clean Other field_number message from walk count weaker so_far = record {
+pub CleanWalk-weaker : {Clean : ℕ → Span → Type 0} {field_number : ℕ} {message : List ℕ} {from : ℕ} {walk : Walk} {count : ℕ} (Other : ℕ → Span → Type 0)
+    → ((ordinal : ℕ) (span : Span) → Clean ordinal span → Other ordinal span) → CleanWalk Clean field_number message from walk count → CleanWalk Other field_number message from walk count
+CleanWalk-weaker Other weaker so_far = record {
   entries = so_far.entries;
   walking = so_far.walking;
   counted = so_far.counted;
@@ -37,76 +37,68 @@ pub record IsNext (Clean : ℕ → Span → Type 0) (spans : List Span) (ordinal
   pub here : slice_get spans ordinal ≡ Some span
   pub before : (earlier : ℕ) (other : Span) → earlier < ordinal → slice_get spans earlier ≡ Some other → Clean earlier other
 
-module _ (Clean : ℕ → Span → Type 0) (field_number : ℕ) (message : List ℕ) (from : ℕ) where
-  -- before the first field
-  pub CleanWalk-nothing : (walk : Walk) → walk ≡ record { bytes = message; at = from } → CleanWalk Clean field_number message from walk 0
-  CleanWalk-nothing walk begins = record {
-    entries = [];
-    walking = record { same_bytes = ap (λ (w : Walk). w.bytes) begins; passed = sym (ap (λ (w : Walk). w.at) begins) };
-    counted = refl;
-    clean = λ ordinal span here. absurd (cc);
-    few = omega arith;
-  }
+-- before the first field
+pub CleanWalk-nothing : {Clean : ℕ → Span → Type 0} {field_number : ℕ} {message : List ℕ} {from : ℕ} {walk : Walk} → walk ≡ record { bytes = message; at = from } → CleanWalk Clean field_number message from walk 0
+CleanWalk-nothing begins = record {
+  entries = [];
+  walking = IsWalking-none begins;
+  counted = refl;
+  clean = λ ordinal span here. absurd (cc);
+  few = omega arith;
+}
 
-  module _ (old new : Walk) (count : ℕ) (so_far : CleanWalk Clean field_number message from old count) where
-    module _ (entry : Entry) (given : GivesField old new entry) where
-      -- a field of another number
-      pub CleanWalk-other : entry.number ≢ field_number → CleanWalk Clean field_number message from new count
-      CleanWalk-other other =
-          let same : spans_of field_number (so_far.entries ++ entry ∷ []) ≡ spans_of field_number so_far.entries = picked-other span_of field_number so_far.entries entry other in
-          let few = so_far.few in
-          let further = given.further in
+module _ {Clean : ℕ → Span → Type 0} {field_number : ℕ} {message : List ℕ} {from : ℕ} {old new : Walk} {count : ℕ} (so_far : CleanWalk Clean field_number message from old count) where
+  module _ {entry : Entry} (given : GivesField old new entry) where
+    further : IsWalking message from new (so_far.entries ++ entry ∷ [])
+    further = IsWalking-more message from old new so_far.entries entry so_far.walking given
+
+    -- a field of another number
+    pub CleanWalk-other : entry.number ≢ field_number → CleanWalk Clean field_number message from new count
+    CleanWalk-other other =
+        let same : spans_of field_number (so_far.entries ++ entry ∷ []) ≡ spans_of field_number so_far.entries = picked-other span_of field_number so_far.entries entry other in
+        record {
+          entries = so_far.entries ++ entry ∷ [];
+          walking = further;
+          counted = so_far.counted ∙ ap length (sym same);
+          clean = subst (AreClean Clean) (sym same) so_far.clean;
+          few = omega (arith, so_far.few, given.further);
+        }
+
+    module _ (own : entry.number ≡ field_number) (span : Span) (there : span_of entry.content ≡ Some span) where
+      abbrev passed : List Span
+      passed = spans_of field_number so_far.entries
+
+      one_more : count + 1 ≡ length (passed ++ span ∷ [])
+      one_more = ap (λ (n : ℕ). n + 1) so_far.counted ∙ sym (length-append passed (span ∷ []))
+
+      -- a field with a message that is clean
+      pub CleanWalk-more : Clean count span → CleanWalk Clean field_number message from new (count + 1)
+      CleanWalk-more clean =
+          let longer : spans_of field_number (so_far.entries ++ entry ∷ []) ≡ passed ++ span ∷ [] = picked-push span_of field_number so_far.entries entry span own there in
           record {
             entries = so_far.entries ++ entry ∷ [];
-            walking = IsWalking-more message from old new so_far.entries entry so_far.walking given;
-            counted = so_far.counted ∙ ap length (sym same);
-            clean = subst (AreClean Clean) (sym same) so_far.clean;
-            few = omega arith;
+            walking = further;
+            counted = one_more ∙ ap length (sym longer);
+            clean = subst (AreClean Clean) (sym longer) (AreClean-push Clean passed span so_far.clean (subst (λ (ordinal : ℕ). Clean ordinal span) so_far.counted clean));
+            few = omega (arith, so_far.few, given.further);
           }
 
-      module _ (own : entry.number ≡ field_number) (span : Span) (there : span_of entry.content ≡ Some span) where
-        -- a field with a message that is clean
-        pub CleanWalk-more : Clean count span → CleanWalk Clean field_number message from new (count + 1)
-        CleanWalk-more clean =
-            let passed : List Span = spans_of field_number so_far.entries in
-            let longer : spans_of field_number (so_far.entries ++ entry ∷ []) ≡ passed ++ span ∷ [] = picked-push span_of field_number so_far.entries entry span own there in
-            let size : length (passed ++ span ∷ []) ≡ length passed + 1 = length-append passed (span ∷ []) in
-            let counted : count ≡ length passed = so_far.counted in
-            let one_more : count + 1 ≡ length (passed ++ span ∷ []) = omega arith in
-            let few = so_far.few in
-            let further = given.further in
-            record {
-              entries = so_far.entries ++ entry ∷ [];
-              walking = IsWalking-more message from old new so_far.entries entry so_far.walking given;
-              counted = one_more ∙ ap length (sym longer);
-              clean = subst (AreClean Clean) (sym longer) (AreClean-push Clean passed span so_far.clean (subst (λ (ordinal : ℕ). Clean ordinal span) counted clean));
-              few = omega arith;
-            }
+      -- which is one of the whole message's, behind those that were passed
+      pub CleanWalk-next : (whole : List Entry) → IsMessage message from whole → IsNext Clean (spans_of field_number whole) count span
+      CleanWalk-next whole is_whole =
+          let front = spans_front whole so_far.walking is_whole given field_number span own there in
+          let counted : count ≡ length passed = so_far.counted in
+          record {
+            here = ap (λ (list : List Span). slice_get list count) front.1
+                ∙ slice_get-some (passed ++ span ∷ []) front.0 count span (ap (slice_get (passed ++ span ∷ [])) counted ∙ slice_get-last passed span);
+            before = λ earlier other less at.
+                so_far.clean earlier other
+                (sym (slice_get-append passed (span ∷ []) earlier (omega arith))
+                ∙ sym (slice_get-append (passed ++ span ∷ []) front.0 earlier (omega (arith, one_more)))
+                ∙ ap (λ (list : List Span). slice_get list earlier) (sym front.1) ∙ at);
+          }
 
-        -- which is one of the whole message's, behind those that were passed
-        pub CleanWalk-next : (whole : List Entry) → IsMessage message from whole → IsNext Clean (spans_of field_number whole) count span
-        CleanWalk-next whole is_whole =
-            let passed : List Span = spans_of field_number so_far.entries in
-            let front = IsWalking-front message from new (so_far.entries ++ entry ∷ []) whole (IsWalking-more message from old new so_far.entries entry so_far.walking given) is_whole in
-            let rest : List Span = spans_of field_number front.0 in
-            let all : spans_of field_number whole ≡ (passed ++ span ∷ []) ++ rest =
-            ap (spans_of field_number) front.1
-            ∙ ap (filter_map span_of) (contents_of-append field_number (so_far.entries ++ entry ∷ []) front.0)
-            ∙ filter_map-append span_of (contents_of field_number (so_far.entries ++ entry ∷ [])) (contents_of field_number front.0)
-            ∙ ap (λ (list : List Span). list ++ rest) (picked-push span_of field_number so_far.entries entry span own there) in
-            let size : length (passed ++ span ∷ []) ≡ length passed + 1 = length-append passed (span ∷ []) in
-            let counted : count ≡ length passed = so_far.counted in
-            record {
-              here = ap (λ (list : List Span). slice_get list count) all
-                  ∙ slice_get-some (passed ++ span ∷ []) rest count span (ap (slice_get (passed ++ span ∷ [])) counted ∙ slice_get-last passed span);
-              before = λ earlier other less at.
-                  so_far.clean earlier other
-                  (sym (slice_get-append passed (span ∷ []) earlier (omega arith))
-                  ∙ sym (slice_get-append (passed ++ span ∷ []) rest earlier (omega arith))
-                  ∙ ap (λ (list : List Span). slice_get list earlier) (sym all) ∙ at);
-            }
-
-    -- behind the last field all the message's were passed
-    pub CleanWalk-over : IsOver old new → (whole : List Entry) → IsMessage message from whole → AreClean Clean (spans_of field_number whole)
-    CleanWalk-over over whole is_whole =
-        subst (λ (entries : List Entry). AreClean Clean (spans_of field_number entries)) (IsWalking-over message from old new so_far.entries whole so_far.walking over is_whole) so_far.clean
+  -- behind the last field all the message's were passed
+  pub CleanWalk-over : IsOver old new → (whole : List Entry) → IsMessage message from whole → AreClean Clean (spans_of field_number whole)
+  CleanWalk-over over whole is_whole =
+      subst (λ (entries : List Entry). AreClean Clean (spans_of field_number entries)) (IsWalking-over whole so_far.walking is_whole over) so_far.clean

@@ -78,9 +78,8 @@ only (n ∷ []) few = refl
 only (n ∷ m ∷ numbers) few = absurd (omega arith)
 
 -- a record that has what all fields tell is the one that stands there
-pub told_is : (bytes : List ℕ) (span : Span) (feature told : FeatureRecord) (is : IsFeature bytes span feature)
-    → TellsFeature is.entries told → told ≡ feature
-told_is bytes span feature told is tells =
+pub told_is : {bytes : List ℕ} {span : Span} {feature told : FeatureRecord} (is : IsFeature bytes span feature) → TellsFeature is.entries told → told ≡ feature
+told_is {feature = feature} {told = told} is tells =
     let id : told.id ≡ feature.id = tells.id ∙ only (numbers_of 1 is.entries) (few_picked number_in 1 is.entries (is.keeps.at_most 1 _ refl refl)) ∙ sym is.id in
     let tags : told.tags ≡ feature.tags = one_stated_together (contents_of 2 is.entries) told.tags feature.tags tells.tags is.tags in
     let kind : told.kind ≡ feature.kind = tells.kind ∙ ap (last_of 0) is.kind in

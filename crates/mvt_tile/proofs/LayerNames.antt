@@ -1,5 +1,5 @@
 -- What the names of the layers that were passed say of a tile's layers.
-use Rattle.std.proofs.Common.{◌≡◌, ◌≢◌, ℕ, ◌+◌, ◌<◌, ◌≤◌, true, false, List, [], ◌∷◌, ◌++◌, length, slice_get, Some, inl, inr, refl, sym, ◌∙◌, ap, true≢false, length-append, arith}
+use Rattle.std.proofs.Common.{◌≡◌, ℕ, ◌+◌, ◌<◌, ◌≤◌, true, false, List, [], ◌∷◌, ◌++◌, length, slice_get, Some, inl, inr, refl, sym, ◌∙◌, ap, true≢false, length-append, arith}
 use Rattle.std.proofs.lemmas.Bool.{cases_lt}
 use Rattle.std.proofs.lemmas.Option.{slice_get_within, same_Some}
 use Rattle.mvt_wire.specs.Rules.{OtherVersion, SameName}
@@ -156,20 +156,6 @@ module _ (rules more : LayerRules) (tile : TileRecord) (version : ℕ) (name : L
         | inl before ↦ so_far.layers.there layer before
         | inr behind ↦ let place : passed rules ≡ layer = omega (arith, count) in (next.layer_record, ap (slice_get tile.layers) (sym place) ∙ next.there)
       ]
-
-  -- the next layer has another version
-  pub EndsLayers-other : PassesLayers rules tile → version ≢ 2 → more.names ≡ rules.names → more.other_version ≡ true → EndsLayers more tile
-  EndsLayers-other so_far other same ends = record {
-    layers = record {
-      version = λ layer it below there. so_far.layers.version layer it (omega (arith, count)) there;
-      named = λ layer it below there. ap (λ (list : List (List ℕ)). slice_get list layer) same ∙ so_far.layers.named layer it (omega (arith, count)) there;
-      there = λ layer below. so_far.layers.there layer (omega (arith, count));
-    };
-    end = inl (ends, record { layer_record = next.layer_record; there = ap (slice_get tile.layers) count ∙ next.there; other = λ is. other (next.of_version ∙ is) });
-  }
-    where
-      count : passed more ≡ passed rules
-      count = ap length same
 
 -- all layers were passed
 pub EndsLayers-all : (rules : LayerRules) (tile : TileRecord) → PassesLayers rules tile → length tile.layers ≡ passed rules → EndsLayers rules tile

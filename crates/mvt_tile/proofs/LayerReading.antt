@@ -101,9 +101,8 @@ only_or otherwise (n ∷ []) few = refl
 only_or otherwise (n ∷ m ∷ numbers) few = absurd (omega arith)
 
 -- a record that has what all fields tell is the one that stands there
-pub IsLayer-from_told : (bytes : List ℕ) (span : Span) (layer told : LayerRecord) (is : IsLayer bytes span layer)
-    → TellsLayer bytes is.entries told → IsLayer bytes span told
-IsLayer-from_told bytes span layer told is tells = record {
+pub IsLayer-from_told : {bytes : List ℕ} {span : Span} {layer told : LayerRecord} (is : IsLayer bytes span layer) → TellsLayer bytes is.entries told → IsLayer bytes span told
+IsLayer-from_told is tells = record {
   entries = is.entries;
   whole = is.whole;
   keeps = is.keeps;

@@ -25,8 +25,8 @@ pub mod StatedNumbers
 pub mod TagFaults
 pub mod LayerNames
 pub mod Names
-pub mod NamesWalk
 pub mod CleanWalk
+pub mod Found
 pub mod FeatureFaults
 pub mod FeatureScan
 pub mod TileScan

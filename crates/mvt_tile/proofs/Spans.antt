@@ -1,34 +1,18 @@
 -- Where embedded messages lie, one field behind others, and the first in which something is found.
-use Rattle.std.proofs.Common.{◌≡◌, ℕ, suc, zero, ◌+◌, ◌<◌, ◌==◌, true, false, List, [], ◌∷◌, ◌++◌, length, map, filter_map, is_some, Option, Some, None, slice_get, inl, inr, refl, sym, ◌∙◌, ap, subst, arith, append-nil, length-append}
-use Rattle.std.proofs.lemmas.Bool.{cases_lt, ne_eqb, eq-eqb, cond-true, cond-false}
+use Rattle.std.proofs.Common.{◌≡◌, ℕ, suc, zero, ◌+◌, ◌<◌, true, false, List, [], ◌∷◌, ◌++◌, length, filter_map, is_some, Option, Some, None, slice_get, inl, inr, refl, sym, ◌∙◌, ap, subst, arith, append-nil, length-append}
+use Rattle.std.proofs.lemmas.Bool.{cases_lt}
+use Rattle.std.proofs.lemmas.List.Elements.{filter_map-append}
 use Rattle.std.proofs.lemmas.Option.{slice_get_within}
-use Rattle.mvt_wire.specs.Field.{Content, delimited, Entry, content_of, entry_of}
-use Rattle.mvt_wire.specs.Scope.{Span, span_of, spans_of}
+use Rattle.mvt_wire.specs.Field.{Entry, content_of, entry_of}
+use Rattle.mvt_wire.specs.Scope.{contents_of, Span, span_of, spans_of}
 use Rattle.std.specs.Borrow.{Bor}
 use Rattle.mvt_wire.specs.declared.field.Field.{Field}
 use Rattle.mvt_wire.specs.declared.field.Body.{Body}
 use Rattle.mvt_wire.specs.declared.field.Body.TheVariants.{Varint, Fixed64, Bytes, Fixed32}
 use Rattle.mvt_tile.specs.First.{AreClean, IsFirst, FindsFirst}
 use Rattle.mvt_tile.specs.LayerFault.{stretch}
+use Rattle.mvt_tile.proofs.Filters.{contents_of-push, picked-push, picked-other}
 use Rattle.mvt_wire.proofs.Payloads.{spans_of-append, slice_get-last}
-
--- a field of another number holds none
-spans_of-other : (field_number : ℕ) (entries : List Entry) (entry : Entry) → ¬ (entry.number ≡ field_number) → spans_of field_number (entries ++ entry ∷ []) ≡ spans_of field_number entries
-spans_of-other field_number entries entry other =
-    let none : spans_of field_number (entry ∷ []) ≡ [] =
-    ap (λ (fields : List Entry). filter_map span_of (map (λ (e : Entry). e.content) fields)) (cond-false (entry.number == field_number) (entry ∷ []) [] (ne_eqb entry.number field_number other)) in
-    spans_of-append field_number entries (entry ∷ []) ∙ ap (λ (rest : List Span). spans_of field_number entries ++ rest) none ∙ append-nil (spans_of field_number entries)
-
--- a field of the number holds the message in its payload, if it has one
-spans_of-own : (field_number : ℕ) (entry : Entry) → entry.number ≡ field_number → spans_of field_number (entry ∷ []) ≡ filter_map span_of (entry.content ∷ [])
-spans_of-own field_number entry own =
-    ap (λ (fields : List Entry). filter_map span_of (map (λ (e : Entry). e.content) fields)) (cond-true (entry.number == field_number) (entry ∷ []) [] (eq-eqb entry.number field_number own))
-
-spans_of-part : (field_number : ℕ) (entries : List Entry) (entry : Entry) (from : ℕ) (part : List ℕ) → entry.number ≡ field_number → entry.content ≡ delimited from part
-    → spans_of field_number (entries ++ entry ∷ []) ≡ spans_of field_number entries ++ stretch from (from + length part) ∷ []
-spans_of-part field_number entries entry from part own content =
-    spans_of-append field_number entries (entry ∷ [])
-    ∙ ap (λ (rest : List Span). spans_of field_number entries ++ rest) (spans_of-own field_number entry own ∙ ap (λ (c : Content). filter_map span_of (c ∷ [])) content)
 
 -- a payload of another wire type holds none
 abbrev pub IsNoPart : Body → Type 0
@@ -42,9 +26,9 @@ no_span (Fixed32 part) not = refl
 
 spans_of-no_part : (field_number : ℕ) (entries : List Entry) (field : Field) → field.number ≡ field_number → IsNoPart field.body → spans_of field_number (entries ++ entry_of field ∷ []) ≡ spans_of field_number entries
 spans_of-no_part field_number entries field own not =
-    spans_of-append field_number entries (entry_of field ∷ [])
-    ∙ ap (λ (rest : List Span). spans_of field_number entries ++ rest) (spans_of-own field_number (entry_of field) own ∙ no_span field.body not)
-    ∙ append-nil (spans_of field_number entries)
+    ap (filter_map span_of) (contents_of-push field_number entries (entry_of field) own)
+    ∙ filter_map-append span_of (contents_of field_number entries) (content_of field.body ∷ [])
+    ∙ ap (λ (rest : List Span). spans_of field_number entries ++ rest) (no_span field.body not) ∙ append-nil (spans_of field_number entries)
 
 -- what stands in a list stands in a longer one
 pub slice_get-append : {X : Type 0} (xs ys : List X) (i : ℕ) → i < length xs → slice_get (xs ++ ys) i ≡ slice_get xs i
@@ -118,7 +102,7 @@ module _ {R : Type 0} (Clean : ℕ → Span → Type 0) (Found : R → ℕ → S
   pub passes_other : (entries : List Entry) (field : Field) (field_number count : ℕ) (first : Option R) → ¬ (field.number ≡ field_number)
       → FindsFirst Clean Found (spans_of field_number entries) count first → FindsFirst Clean Found (spans_of field_number (entries ++ entry_of field ∷ [])) count first
   passes_other entries field field_number count first other finds =
-      subst (λ (spans : List Span). FindsFirst Clean Found spans count first) (sym (spans_of-other field_number entries (entry_of field) other)) finds
+      subst (λ (spans : List Span). FindsFirst Clean Found spans count first) (sym (picked-other span_of field_number entries (entry_of field) other)) finds
 
   pub passes_no_part : (entries : List Entry) (field : Field) (field_number count : ℕ) (first : Option R) → field.number ≡ field_number → IsNoPart field.body
       → FindsFirst Clean Found (spans_of field_number entries) count first → FindsFirst Clean Found (spans_of field_number (entries ++ entry_of field ∷ [])) count first
@@ -129,12 +113,12 @@ module _ {R : Type 0} (Clean : ℕ → Span → Type 0) (Found : R → ℕ → S
       → Clean count (stretch from (from + length slice.now))
       → FindsFirst Clean Found (spans_of field_number entries) count first → FindsFirst Clean Found (spans_of field_number (entries ++ entry_of field ∷ [])) (count + 1) first
   passes_clean entries field field_number count first from slice own body none clean finds =
-      subst (λ (spans : List Span). FindsFirst Clean Found spans (count + 1) first) (sym (spans_of-part field_number entries (entry_of field) from slice.now own (ap content_of body)))
+      subst (λ (spans : List Span). FindsFirst Clean Found spans (count + 1) first) (sym (picked-push span_of field_number entries (entry_of field) (stretch from (from + length slice.now)) own (ap (λ (b : Body). span_of (content_of b)) body)))
       (FindsFirst-clean (spans_of field_number entries) (stretch from (from + length slice.now)) count first none clean finds)
 
   pub passes_first : (entries : List Entry) (field : Field) (field_number count : ℕ) (first : Option R) (found : R) (from : ℕ) (slice : Bor (List ℕ)) → field.number ≡ field_number → field.body ≡ Bytes from slice → is_some first ≡ false
       → Found found count (stretch from (from + length slice.now))
       → FindsFirst Clean Found (spans_of field_number entries) count first → FindsFirst Clean Found (spans_of field_number (entries ++ entry_of field ∷ [])) count (Some found)
   passes_first entries field field_number count first found from slice own body none here finds =
-      subst (λ (spans : List Span). FindsFirst Clean Found spans count (Some found)) (sym (spans_of-part field_number entries (entry_of field) from slice.now own (ap content_of body)))
+      subst (λ (spans : List Span). FindsFirst Clean Found spans count (Some found)) (sym (picked-push span_of field_number entries (entry_of field) (stretch from (from + length slice.now)) own (ap (λ (b : Body). span_of (content_of b)) body)))
       (FindsFirst-found (spans_of field_number entries) (stretch from (from + length slice.now)) count first found none here finds)

@@ -1,16 +1,15 @@
 -- Where the messages lie that a message embeds, and the records that stand for them.
-use Rattle.std.proofs.Common.{◌≡◌, ◌≢◌, ℕ, List, [], ◌∷◌, ◌++◌, take, filter_map, Some, sym, ◌∙◌, ap, subst, arith, length-take}
-use Rattle.std.proofs.lemmas.List.Elements.{filter_map-append}
+use Rattle.std.proofs.Common.{◌≡◌, ◌≢◌, ℕ, List, [], ◌∷◌, ◌++◌, take, Some, sym, ◌∙◌, ap, subst, arith, length-take}
 use Rattle.mvt_wire.specs.Field.{Entry, IsField}
 use Rattle.mvt_wire.specs.Message.{IsMessage}
-use Rattle.mvt_wire.specs.Scope.{contents_of, Span, span_of, spans_of}
+use Rattle.mvt_wire.specs.Scope.{Span, span_of, spans_of}
 use Rattle.mvt_wire.specs.Tile.{Each}
 use Rattle.mvt_wire.specs.Walk.{Walk, GivesField}
 use Rattle.mvt_tile.specs.Reading.{Embeds, LiesIn}
-use Rattle.mvt_tile.proofs.Filters.{contents_of-append, picked-push, picked-other}
+use Rattle.mvt_tile.proofs.Filters.{picked-push, picked-other}
 use Rattle.mvt_tile.proofs.ReadingWalk.{IsWalking-front}
-use Rattle.mvt_wire.proofs.Walking.{IsWalking, IsWalking-more}
-use Rattle.mvt_wire.proofs.Payloads.{payload_within}
+use Rattle.mvt_wire.proofs.Walking.{IsWalking}
+use Rattle.mvt_wire.proofs.Payloads.{payload_within, spans_of-append}
 
 -- one more stretch, and the record that stands for it
 Each-push : {A B : Type 0} (R : A → B → Type 0) (xs : List A) (ys : List B) (x : A) (y : B) → Each R xs ys → R x y → Each R (xs ++ x ∷ []) (ys ++ y ∷ [])
@@ -39,22 +38,29 @@ module _ {B : Type 0} (Stands : Span → B → Type 0) (field_number : ℕ) (ent
   Each-other records other each =
       subst (λ (spans : List Span). Each Stands spans records) (sym (picked-other span_of field_number entries entry other)) each
 
--- a record stands for the stretch of a field that was given
-pub Embeds-given : {B : Type 0} (Stands : Span → B → Type 0) (field_number : ℕ) (message : List ℕ) (from : ℕ) (old new : Walk) (entries whole : List Entry) (entry : Entry) (records : List B)
-    → IsWalking message from old entries → GivesField old new entry → IsMessage message from whole → Each Stands (spans_of field_number whole) records
-    → Embeds field_number (λ span. (read : B) × Stands span read) entry
-Embeds-given Stands field_number message from old new entries whole entry records so_far given is_whole each = λ span is there.
-    let front = IsWalking-front message from new (entries ++ entry ∷ []) whole (IsWalking-more message from old new entries entry so_far given) is_whole in
-    let spans : spans_of field_number whole ≡ (spans_of field_number entries ++ span ∷ []) ++ spans_of field_number front.0 =
-    ap (spans_of field_number) front.1
-    ∙ ap (filter_map span_of) (contents_of-append field_number (entries ++ entry ∷ []) front.0)
-    ∙ filter_map-append span_of (contents_of field_number (entries ++ entry ∷ [])) (contents_of field_number front.0)
-    ∙ ap (λ (list : List Span). list ++ spans_of field_number front.0) (picked-push span_of field_number entries entry span is there) in
-    Each-at Stands (spans_of field_number entries) (spans_of field_number front.0) records span (subst (λ (list : List Span). Each Stands list records) spans each)
+-- a field that was given holds the stretch behind those of the fields that were passed
+module _ {message : List ℕ} {from : ℕ} {old new : Walk} {entries : List Entry} {entry : Entry} (whole : List Entry) (so_far : IsWalking message from old entries) (is_whole : IsMessage message from whole)
+    (given : GivesField old new entry) (field_number : ℕ) where
+  pub spans_front : (span : Span) → entry.number ≡ field_number → span_of entry.content ≡ Some span
+      → (rest : List Span) × (spans_of field_number whole ≡ (spans_of field_number entries ++ span ∷ []) ++ rest)
+  spans_front span is there =
+      let front = IsWalking-front whole so_far is_whole given in (
+        spans_of field_number front.0,
+        ap (spans_of field_number) front.1
+            ∙ spans_of-append field_number (entries ++ entry ∷ []) front.0
+            ∙ ap (λ (list : List Span). list ++ spans_of field_number front.0) (picked-push span_of field_number entries entry span is there),
+      )
 
-pub LiesIn-given : (bytes : List ℕ) (end from : ℕ) (old new : Walk) (entries : List Entry) (entry : Entry)
-    → IsWalking (take end bytes) from old entries → GivesField old new entry → LiesIn bytes entry
-LiesIn-given bytes end from old new entries entry so_far given = λ span there.
+  -- a record stands for it
+  pub Embeds-given : {B : Type 0} (Stands : Span → B → Type 0) (records : List B) → Each Stands (spans_of field_number whole) records
+      → Embeds field_number (λ span. (read : B) × Stands span read) entry
+  Embeds-given Stands records each = λ span is there.
+      let front = spans_front span is there in
+      Each-at Stands (spans_of field_number entries) front.0 records span (subst (λ (list : List Span). Each Stands list records) front.1 each)
+
+-- it lies within the bytes
+pub LiesIn-given : (bytes : List ℕ) (end : ℕ) {from : ℕ} {old new : Walk} {entries : List Entry} {entry : Entry} → IsWalking (take end bytes) from old entries → GivesField old new entry → LiesIn bytes entry
+LiesIn-given bytes end {from} {old} {new} {entries} {entry} so_far given = λ span there.
     let spelled : IsField (take end bytes) new.at entry = subst (λ (message : List ℕ). IsField message new.at entry) so_far.same_bytes given.spelled in
     let inside = payload_within (take end bytes) spelled.key_end new.at entry.content span spelled.payload there in
     let shorter = length-take end bytes in

@@ -109,9 +109,9 @@ few_of_list pick field_number entries =
     )
 
 -- the counts leave room for one more, where one more field is given
-pub few_counted : (bytes : List ℕ) (from to : ℕ) (old new : Walk) (entries : List Entry) (entry : Entry) (summary : LayerSummary)
+pub few_counted : (bytes : List ℕ) (to : ℕ) {from : ℕ} {old new : Walk} {entries : List Entry} {entry : Entry} {summary : LayerSummary}
     → IsWalking (take to bytes) from old entries → GivesField old new entry → TellsSummary entries summary → (summary.keys < to) × (summary.values < to)
-few_counted bytes from to old new entries entry summary so_far given tells =
+few_counted bytes to {from} {old} {new} {entries} so_far given tells =
     let fields = few_fields (take to bytes) from old.at entries so_far.passed in
     let left = given.left in
     let size : length old.bytes ≤ to = omega (arith, ap length so_far.same_bytes, length-take to bytes) in
@@ -127,9 +127,8 @@ few_keys bytes from to layer is forward =
     omega (arith, length-take to bytes, ap length is.keys)
 
 -- what all fields tell is the summary of the layer that stands there
-pub IsSummary-from_told : (bytes : List ℕ) (span : Span) (layer : LayerRecord) (told : LayerSummary) (is : IsLayer bytes span layer)
-    → TellsSummary is.entries told → IsSummary told layer
-IsSummary-from_told bytes span layer told is tells = record {
+pub IsSummary-from_told : {bytes : List ℕ} {span : Span} {layer : LayerRecord} {told : LayerSummary} (is : IsLayer bytes span layer) → TellsSummary is.entries told → IsSummary told layer
+IsSummary-from_told {layer = layer} is tells = record {
   version = tells.version ∙ ap (last_of 0) is.version;
   name = tells.name ∙ ap (last_of []) is.name;
   keys = tells.keys ∙ ap length is.keys;

@@ -11,7 +11,7 @@ use Rattle.mvt_fault.specs.declared.tag.TagCode.{TagCode}
 use Rattle.mvt_fault.specs.declared.tag.TagCode.TheVariants.{OddLength, NoKey, NoValue, Repeated}
 use Rattle.mvt_wire.specs.Rules.{OddTags, IsKeyAt, NoSuchKey, NoSuchValue}
 use Rattle.mvt_wire.specs.Tile.{FeatureRecord, LayerRecord}
-use Rattle.mvt_tile.specs.RuleFaults.{HasEnough, IsFirstTagFault}
+use Rattle.mvt_tile.specs.RuleFaults.{IsFirstTagFault}
 use Rattle.mvt_tile.specs.TagNeeds.{AreMetBy}
 use Rattle.mvt_tile.specs.View.{feature_of}
 use Rattle.mvt_tile.specs.declared.record.Feature.{Feature}
@@ -311,28 +311,3 @@ AreMetBy-all needs tags to all met = record { keys = no_key; values = no_value }
         let beyond : count ≤ broken.value = broken.beyond in
         let held : broken.value < needs.values = met.value broken.here.pair broken.value below (subst (λ (at : ℕ). slice_get tags at ≡ Some broken.value) second broken.here.here) in
         absurd (omega arith)
-
-module _ (needs : TagNeeds) (tags : List ℕ) (met : AreMetBy needs tags) where
-  -- where tags find their keys and values, only their pairs can be wrong, whatever the layer
-  TagsBreak-met : (keys values more_keys more_values : ℕ) → needs.keys ≤ keys → needs.values ≤ values → (code : TagCode) (place : ℕ)
-      → TagsBreak code keys values tags place → TagsBreak code more_keys more_values tags place
-  TagsBreak-met keys values more_keys more_values keys_enough values_enough OddLength place broken = broken
-  TagsBreak-met keys values more_keys more_values keys_enough values_enough NoKey place broken = absurd (met.keys keys place keys_enough broken)
-  TagsBreak-met keys values more_keys more_values keys_enough values_enough NoValue place broken = absurd (met.values values place values_enough broken)
-  TagsBreak-met keys values more_keys more_values keys_enough values_enough Repeated place broken = broken
-
-  module _ (layer : LayerRecord) (enough : HasEnough needs layer) where
-    -- tags with no fault in a layer that has just what they need have none in a layer that has enough
-    pub no_tag_fault-enough : ((code : TagCode) (place : ℕ) → ¬ TagsBreak code needs.keys needs.values tags place)
-        → (code : TagCode) (place : ℕ) → ¬ TagsBreak code (length layer.keys) (length layer.values) tags place
-    no_tag_fault-enough none code place broken =
-        none code place (TagsBreak-met (length layer.keys) (length layer.values) needs.keys needs.values enough.keys enough.values code place broken)
-
-    -- and their first fault is the same
-    pub IsFirstTagFault-enough : (code : TagCode) (place : ℕ) → IsFirstTagFault needs.keys needs.values tags code place
-        → IsFirstTagFault (length layer.keys) (length layer.values) tags code place
-    IsFirstTagFault-enough code place first = record {
-      broken = TagsBreak-met needs.keys needs.values (length layer.keys) (length layer.values) (omega arith) (omega arith) code place first.broken;
-      first = λ other other_place broken. first.first other other_place
-          (TagsBreak-met (length layer.keys) (length layer.values) needs.keys needs.values enough.keys enough.values other other_place broken);
-    }

@@ -59,10 +59,10 @@ first_known front rest entry known none test one =
     cc
 
 -- and its value is the one that stands there
-pub IsValue-from_known : (bytes : List ℕ) (span : Span) (value told : ValueRecord) (is : IsValue bytes span value) (front rest : List Entry) (entry : Entry)
+pub IsValue-from_known : {bytes : List ℕ} {span : Span} {value told : ValueRecord} (is : IsValue bytes span value) (front rest : List Entry) (entry : Entry)
     → filter is_known front ≡ [] → is_known entry ≡ true → is.entries ≡ (front ++ entry ∷ []) ++ rest
     → Says entry.number entry.content told → IsValue bytes span told
-IsValue-from_known bytes span value told is front rest entry none test split says =
+IsValue-from_known {told = told} is front rest entry none test split says =
     let same : entry ≡ is.entry = first_known front rest entry is.entry none test (ap (filter is_known) (sym split) ∙ is.known) in
     record {
       entries = is.entries;
@@ -80,8 +80,7 @@ none_known-more front entry none test =
     ∙ ap (λ (t : Bool). cond t (entry ∷ []) []) test
 
 -- a value has a known field
-pub none_known-over : (bytes : List ℕ) (span : Span) (value : ValueRecord) (is : IsValue bytes span value) (entries : List Entry)
-    → filter is_known entries ≡ [] → entries ≡ is.entries → ⊥
-none_known-over bytes span value is entries none all =
+pub none_known-over : {bytes : List ℕ} {span : Span} {value : ValueRecord} {entries : List Entry} (is : IsValue bytes span value) → filter is_known entries ≡ [] → entries ≡ is.entries → ⊥
+none_known-over is none all =
     let lists : [] ≡ is.entry ∷ [] = sym none ∙ ap (filter is_known) all ∙ is.known in
     absurd (cc)

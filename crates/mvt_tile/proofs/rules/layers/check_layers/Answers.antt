@@ -1,12 +1,13 @@
-use Rattle.std.proofs.Common.{◌≡◌, ℕ, ◌<◌, List, Option, Some, None, IfNone, IfSome, length, map, slice_get, get_or, refl, sym, ◌∙◌, ap, subst, arith}
+use Rattle.std.proofs.Common.{◌≡◌, ℕ, ◌<◌, List, length, map, slice_get, get_or, refl, sym, ◌∙◌, ap, subst, arith}
 use Rattle.std.proofs.lemmas.List.{length-map}
-use Rattle.std.proofs.lemmas.Option.{slice_get-map, slice_get_read}
+use Rattle.std.proofs.lemmas.Option.{IfSome_then, slice_get-map, slice_get_read}
 use Rattle.std.specs.Option.{option_map}
 use Rattle.mvt_tile.specs.PassedLayers.{passed, EndsLayers, IsNextLayer}
 use Rattle.mvt_tile.specs.View.{layer_of, tile_of}
 use Rattle.mvt_tile.specs.declared.record.Layer.{Layer}
 use Rattle.mvt_tile.specs.declared.record.Tile.{Tile}
 use Rattle.mvt_tile.specs.declared.rules.layer_rules.LayerRules.{LayerRules}
+use Rattle.mvt_tile.proofs.Found.{IfNone_then}
 use Rattle.mvt_tile.proofs.LayerNames.{EndsLayers-all}
 use Rattle.mvt_tile.proofs.rules.layers.check_layers.Goals.{else-loop-layer-test, then-loop-layer-test+in_ok-note+then-not-branch}
 use Rattle.mvt_tile.proofs.rules.layers.check_layers.Goals as goal
@@ -49,16 +50,8 @@ ends c =
           c.deref-layer-items.ensures.value c.loop-layer.invariant.1 w.loop-layer-test.true w.layer-item.is w.as_bytes.ensures.value))
     ]
 
-none_as : {X A B : Type 0} (found : Option X) → IfNone found A → (A → B) → IfNone found B
-none_as None here turn = turn here
-none_as (Some x) here turn = tt
-
-some_as : {X : Type 0} {P Q : X → Type 0} (found : Option X) → IfSome found P → ((x : X) → P x → Q x) → IfSome found Q
-some_as None here turn = tt
-some_as (Some x) here turn = turn x here
-
 pub returns-clause-none : goal.returns-clause-none
-returns-clause-none c = none_as c.fault.result c.fault.ensures.none (λ of_all. of_all (tile_of c.args.tile.now) (ends c))
+returns-clause-none c = IfNone_then c.fault.result c.fault.ensures.none (λ of_all. of_all (tile_of c.args.tile.now) (ends c))
 
 pub returns-clause-least : goal.returns-clause-least
-returns-clause-least c = some_as c.fault.result c.fault.ensures.least (λ fault of_all. of_all (tile_of c.args.tile.now) (ends c))
+returns-clause-least c = IfSome_then c.fault.result c.fault.ensures.least (λ fault of_all. of_all (tile_of c.args.tile.now) (ends c))
