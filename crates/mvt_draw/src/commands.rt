@@ -1,7 +1,7 @@
 //! The commands of a geometry, read number by number from a list (Mapbox Vector Tile Specification 2.1,
 //! section 4.3). Each reader begins at a place in the list. An error is the cause and the place of the
 //! first number that isn't allowed.
-ghost use Rattle.std.specs.Prelude.{◌≡◌, ◌+◌, ◌*◌, ◌<◌, ◌≤◌, ◌∷◌, ℕ, Bool, true, false, IfErr, IfOk, List, OnOk, length, slice_index, ◌+ℤ◌};
+ghost use Rattle.std.specs.Prelude.{◌≡◌, ◌+◌, ◌<◌, ◌≤◌, ◌∷◌, ℕ, Bool, true, false, IfErr, IfOk, List, OnOk, length, slice_index, ◌+ℤ◌};
 ghost use Rattle.mvt_plane.specs.Reading.{StandsAt, IsFaulty, AsksCommand, AsksCoordinate, is_line, path_type, with_left};
 ghost use Rattle.mvt_plane.specs.Position.{Position, IsPosition};
 ghost use Rattle.mvt_draw.specs.Cursor.{position_of};
@@ -148,30 +148,4 @@ fn fewest_further(closed: bool) -> u32
     ensures { result ≡ least (path_type closed) }
 {
     if closed { 2 } else { 1 }
-}
-
-/// Where so many steps lead that begin at a place.
-pub(crate) fn steps(
-    numbers: &[u32],
-    start: usize,
-    count: u32,
-    from: Cursor,
-    line: bool,
-) -> Result<Cursor, (CommandCode, usize)>
-    requires { start ≤ length numbers.now }
-    ensures within { IfOk result (λ _. start + 2 * count ≤ length numbers.now) }
-    ensures goes { IfOk result (λ to. (geometry_type : GeometryType) → StandsAt geometry_type numbers.now start (with_left geometry_type line count (position_of from))
-        → StandsAt geometry_type numbers.now (start + 2 * count) (with_left geometry_type line 0 (position_of to))) }
-    ensures fault { IfErr result (λ it. (geometry_type : GeometryType) → StandsAt geometry_type numbers.now start (with_left geometry_type line count (position_of from))
-        → IsFaulty geometry_type numbers.now (command_code it.0) it.1) }
-{
-    let mut cursor = from;
-    let mut at = start;
-    let mut left = count;
-    'steps: while left > 0 {
-        step(numbers, at, &mut cursor, line)?;
-        at += 2;
-        left -= 1;
-    }
-    Ok(cursor)
 }

@@ -9,9 +9,9 @@ ghost use Rattle.mvt_plane.specs.Geometry.{HasFigure};
 mod tests;
 
 use crate::checking::command_fault;
-use crate::commands::{Cursor, GREATEST_COUNT, MOVE_TO, command};
+use crate::commands::Cursor;
 use crate::figure::Figure;
-use crate::pushing::{push_path, push_steps};
+use crate::reading::{read_path, read_points};
 use mvt_fault::CommandCode;
 use mvt_plane::Point;
 use mvt_tile::Kind;
@@ -90,8 +90,7 @@ fn draw_points(alloc: Global, numbers: &[u32]) -> Result<Vec<Point>, DrawFault>
         → IsRunAhead (record { here = origin; left = numbers.now }) positions [] → points.items ≡ positions) }
 {
     let mut points = Vec::new(alloc);
-    let count = command(numbers, 0, MOVE_TO, 1, GREATEST_COUNT)?;
-    push_steps(&mut points, numbers, 1, count, Cursor { x: 0, y: 0 }, false)?;
+    read_points(&mut points, numbers)?;
     Ok(points)
 }
 
@@ -105,7 +104,7 @@ fn draw_paths(alloc: Global, numbers: &[u32], closed: bool) -> Result<Vec<Vec<Po
     let mut cursor = Cursor { x: 0, y: 0 };
     'paths: while at < numbers.len() {
         let mut points = Vec::new(alloc);
-        (at, cursor) = push_path(&mut points, numbers, at, cursor, closed)?;
+        (at, cursor) = read_path(&mut points, numbers, at, cursor, closed)?;
         parts.push(points)?;
     }
     Ok(parts)

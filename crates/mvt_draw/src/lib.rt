@@ -6,8 +6,9 @@ mod checking;
 mod commands;
 mod drawing;
 mod figure;
-mod pushing;
+mod reading;
 mod ring_buffer;
+mod sink;
 mod spelling;
 
 pub use checking::command_fault;

@@ -13,7 +13,7 @@ mod tests;
 
 use crate::commands::Cursor;
 use crate::drawing::DrawFault;
-use crate::pushing::push_path;
+use crate::reading::read_path;
 use mvt_plane::Point;
 use std::alloc::Global;
 use std::marker::Model;
@@ -95,7 +95,7 @@ impl RingBuffer {
         }
         let ring = &mut self.parts[self.count];
         ring.clear();
-        let behind = push_path(ring, numbers, start, from, true)?;
+        let behind = read_path(ring, numbers, start, from, true)?;
         self.count += 1;
         Ok(behind)
     }

@@ -10,7 +10,7 @@ pub returns-clause-drawn : goal.returns-clause-drawn
 returns-clause-drawn c = λ ring rest ahead.
     let inside = c.if-self-len.self-inside in
     let HasRoom : Inside → Type 0 = λ it. (map (λ ring. ring.items) (take it.count it.parts.items) ≡ c.args.self.now) × (it.count < length it.parts.items) in
-    let told = c.in_ok-behind.ensures.drawn ring rest ahead in
+    let told = c.in_ok-behind.ensures.drawn tt ring rest ahead in
     let room : HasRoom inside =
     elim c.if-self-len.branch [
       | then-self-len+in_ok-push w ↦
@@ -24,8 +24,8 @@ returns-clause-drawn c = λ ring rest ahead.
           )
       | else-self-len w ↦ subst HasRoom (sym w.self-inside-is) (c.self.view_is, omega (arith, c.self.invariant, c.len.ensures))
     ] in (
-      one_more_ring (λ ring. ring.items) inside.parts.items inside.count c.push_path.new.points room.1
-          ∙ (ap (λ (it : List (List Position)). it ++ c.push_path.new.points.items ∷ []) room.0
+      one_more_ring (λ ring. ring.items) inside.parts.items inside.count c.read_path.new.sink room.1
+          ∙ (ap (λ (it : List (List Position)). it ++ c.read_path.new.sink.items ∷ []) room.0
           ∙ ap (λ (it : List Position). c.args.self.now ++ it ∷ []) (told.0 ∙ ap (λ (it : List Position). it ++ ring) c.clear.ensures.items)),
       told.1,
     )

@@ -5,18 +5,18 @@ use Rattle.mvt_plane.specs.Position.{Position}
 use Rattle.mvt_plane.specs.Reading.{StandsAt, with_left}
 use Rattle.mvt_draw.specs.Cursor.{position_of}
 use Rattle.mvt_draw.proofs.Courses.{IsAmidRun}
-use Rattle.mvt_draw.proofs.pushing.push_steps.Given as goal
+use Rattle.mvt_draw.proofs.reading.read_steps.Given as goal
 
 -- whichever steps are ahead, the first of them are drawn
 abbrev pub invariant-steps : goal.invariant-steps
-invariant-steps l = record {
+invariant-steps g l = record {
   place : l.at + 2 * l.left ≡ l.start + 2 * l.count;
   within : l.at ≤ length l.numbers;
   goes : (geometry_type : GeometryType) → StandsAt geometry_type l.numbers l.start (with_left geometry_type l.line l.count (position_of l.fn.from))
       → StandsAt geometry_type l.numbers l.at (with_left geometry_type l.line l.left (position_of l.cursor));
-  drawn : (positions : List Position) (rest : List ℕ) → AreStepsAhead (course_at l.numbers l.start (position_of l.fn.from)) l.count positions rest
-      → IsAmidRun l.fn.points.items (course_at l.numbers l.start (position_of l.fn.from)) positions rest l.points.items (course_at l.numbers l.at (position_of l.cursor)) l.left;
+  drawn : g.S.PositionSink.Keeps → (positions : List Position) (rest : List ℕ) → AreStepsAhead (course_at l.numbers l.start (position_of l.fn.from)) l.count positions rest
+      → IsAmidRun (g.S.PositionSink.kept l.fn.sink) (course_at l.numbers l.start (position_of l.fn.from)) positions rest (g.S.PositionSink.kept l.sink) (course_at l.numbers l.at (position_of l.cursor)) l.left;
 }
 
 abbrev pub decreases-steps : goal.decreases-steps
-decreases-steps l = l.left
+decreases-steps g l = l.left

@@ -8,10 +8,10 @@ use Rattle.mvt_plane.specs.Position.{Position}
 use Rattle.mvt_draw.specs.Cursor.{position_of}
 use Rattle.mvt_plane.proofs.Readers.{behind_line, behind_ring}
 use Rattle.mvt_draw.proofs.Courses.{one_ahead}
-use Rattle.mvt_draw.proofs.pushing.push_path.Goals as goal
+use Rattle.mvt_draw.proofs.reading.read_path.Goals as goal
 
 pub returns-in_err-command-clause-fault : goal.returns-in_err-command-clause-fault
-returns-in_err-command-clause-fault c =
+returns-in_err-command-clause-fault g c =
     let kind = path_type c.args.closed in
     let p = err_from_is_err_and c.from_residual-in_err-command.result c.from_residual-in_err-command.ensures.1 in
     rw (p.1, p.2) (λ drawn exists leads.
@@ -21,7 +21,7 @@ returns-in_err-command-clause-fault c =
     (subst (λ (state : State). StandsAt kind c.args.numbers.now (c.args.start + 4 + 2 * c.in_ok-first.count) state) (behind_ring c.args.closed last c.if-closed.true) behind))
 
 pub returns-then-closed-clause-goes : goal.returns-then-closed-clause-goes
-returns-then-closed-clause-goes c = λ drawn leads.
+returns-then-closed-clause-goes g c = λ drawn leads.
     let kind = path_type c.args.closed in
     let last = position_of c.in_ok-last.last in
     let behind = c.in_ok-last.ensures.goes kind (c.in_ok-first.ensures.goes drawn leads) in
@@ -29,44 +29,42 @@ returns-then-closed-clause-goes c = λ drawn leads.
     (subst (λ (state : State). StandsAt kind c.args.numbers.now (c.args.start + 4 + 2 * c.in_ok-first.count) state) (behind_ring c.args.closed last c.if-closed.true) behind)
 
 pub returns-clause-goes : goal.returns-clause-goes
-returns-clause-goes c = λ drawn leads.
+returns-clause-goes g c = λ drawn leads.
     let kind = path_type c.args.closed in
     let last = position_of c.in_ok-last.last in
     let behind = c.in_ok-last.ensures.goes kind (c.in_ok-first.ensures.goes drawn leads) in
     subst (λ (state : State). StandsAt kind c.args.numbers.now (c.args.start + 4 + 2 * c.in_ok-first.count) state) (behind_line c.args.closed last c.if-closed.false) behind
 
 pub returns-then-closed-clause-drawn : goal.returns-then-closed-clause-drawn
-returns-then-closed-clause-drawn c = λ part rest ahead.
+returns-then-closed-clause-drawn g c = λ keeps part rest ahead.
     let numbers = c.args.numbers.now in
     let end = c.args.start + 4 + 2 * c.in_ok-first.count in
-    let before = c.args.points.now.items in
+    let before = g.S.PositionSink.kept c.args.sink.now in
     let from = position_of c.args.from in
     let path = subst (λ (it : Bool). IsPathAhead (course_at numbers c.args.start from) part (ending_of it ++ rest)) c.if-closed.true ahead in
     let started = c.in_ok-first.ensures.drawn part (15 ∷ rest) path in
-    let told = c.in_ok-last.ensures.drawn started.0 (15 ∷ rest) started.2 in
+    let told = c.in_ok-last.ensures.drawn keeps started.0 (15 ∷ rest) started.2 in
     let here = ap (λ (it : Course). it.here) told.1 ∙ ap (λ (it : List Position). cursor from it) started.1 in
     let left = (one_ahead end numbers 15 rest (ap (λ (it : Course). it.left) told.1)).1 in (
       told.0
-          ∙ (ap (λ (it : List Position). it ++ started.0) c.in_ok-push.ensures.items
-          ∙ (append_assoc before (c.point.result ∷ []) started.0
-          ∙ (ap (λ (it : Position). before ++ it ∷ started.0) c.point.ensures ∙ ap (λ (it : List Position). before ++ it) started.1))),
+          ∙ (ap (λ (it : List Position). it ++ started.0) (c.in_ok-take.ensures.kept keeps)
+          ∙ (append_assoc before (position_of c.in_ok-first.first ∷ []) started.0 ∙ ap (λ (it : List Position). before ++ it) started.1)),
       λ i. record { here = here i; left = left i },
     )
 
 pub returns-clause-drawn : goal.returns-clause-drawn
-returns-clause-drawn c = λ part rest ahead.
+returns-clause-drawn g c = λ keeps part rest ahead.
     let numbers = c.args.numbers.now in
     let end = c.args.start + 4 + 2 * c.in_ok-first.count in
-    let before = c.args.points.now.items in
+    let before = g.S.PositionSink.kept c.args.sink.now in
     let from = position_of c.args.from in
     let path = subst (λ (it : Bool). IsPathAhead (course_at numbers c.args.start from) part (ending_of it ++ rest)) c.if-closed.false ahead in
     let started = c.in_ok-first.ensures.drawn part (rest) path in
-    let told = c.in_ok-last.ensures.drawn started.0 (rest) started.2 in
+    let told = c.in_ok-last.ensures.drawn keeps started.0 (rest) started.2 in
     let here = ap (λ (it : Course). it.here) told.1 ∙ ap (λ (it : List Position). cursor from it) started.1 in
     let left = ap (λ (it : Course). it.left) told.1 in (
       told.0
-          ∙ (ap (λ (it : List Position). it ++ started.0) c.in_ok-push.ensures.items
-          ∙ (append_assoc before (c.point.result ∷ []) started.0
-          ∙ (ap (λ (it : Position). before ++ it ∷ started.0) c.point.ensures ∙ ap (λ (it : List Position). before ++ it) started.1))),
+          ∙ (ap (λ (it : List Position). it ++ started.0) (c.in_ok-take.ensures.kept keeps)
+          ∙ (append_assoc before (position_of c.in_ok-first.first ∷ []) started.0 ∙ ap (λ (it : List Position). before ++ it) started.1)),
       λ i. record { here = here i; left = left i },
     )
