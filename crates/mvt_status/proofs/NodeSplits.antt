@@ -1,10 +1,12 @@
 -- The split of a node's edges, from the answer of the test on its own edge and the split of one side.
-use Rattle.std.proofs.Common.{◌≡◌, ℕ, zero, suc, Option, Some, get_or, slice_get, unwrap_or, refl, ◌+◌, ◌-◌, ◌<◌, ◌≤◌, Bool, true, false, true≢false, All, inl, inr, List, [], ◌∷◌, ◌++◌, length, length-append, slice_index, ap, sym, subst, ◌∙◌, arith}
+use Rattle.std.proofs.Common.{◌≡◌, ℕ, zero, suc, Option, Some, None, Box, Global, get_or, slice_get, unwrap_or, refl, ◌+◌, ◌-◌, ◌<◌, ◌≤◌, Bool, true, false, true≢false, All, inl, inr, List, [], ◌∷◌, ◌++◌, length, length-append, slice_index, ap, sym, subst, ◌∙◌, arith}
 use Rattle.std.proofs.lemmas.Bool.{cases_lt}
 use Rattle.std.proofs.lemmas.Option.{slice_get-get_or, unwrap_or-slice_get}
 use Rattle.std.proofs.lemmas.List.{get_or_append_left, get_or-append-add}
 use Rattle.std.proofs.Math.Seq.{get_or-append_seam}
+use Rattle.std.specs.Option.{option_or}
 use Rattle.mvt_status.specs.Split.{AreBeside, IsSplit, before}
+use Rattle.mvt_status.specs.Tree.{edges_of}
 use Rattle.mvt_status.specs.declared.status.Split.{Split}
 
 -- what is true of all edges of a node is true of its own
@@ -167,3 +169,74 @@ beside_on_the_left left right edges edge own split same within beside is = recor
   behind = ap Some (is ∙ ap (λ (behind : Option ℕ). unwrap_or behind edge) beside.behind) ∙ behind_on_the_left left right edge split.point within
       ∙ ap (λ (all : List ℕ). slice_get all split.point) same;
 }
+
+-- Splits of a part
+
+-- the split of a part of all edges, told of all: so many stand in front of the part, and these two beside it
+pub record IsSplitOfPart (answers : ℕ → Bool → Type 0) (edges : List ℕ) (passed : ℕ) (front behind : Option ℕ) (split : Split) : Type 0 where
+  pub own : Split
+  pub splits : IsSplit answers edges own.point
+  pub beside : AreBeside edges own
+  pub point_told : split.point ≡ passed + own.point
+  pub front_told : split.front ≡ option_or own.front front
+  pub behind_told : split.behind ≡ option_or own.behind behind
+
+-- what is found in front of a split, or else the edge there, is known
+found_or : (found other : Option ℕ) (edge : ℕ) → option_or found (Some edge) ≡ option_or (Some (unwrap_or found edge)) other
+found_or None other edge = refl
+found_or (Some it) other edge = refl
+
+-- where nothing is left
+pub part_of_none : (answers : ℕ → Bool → Type 0) (side : Option (Box (List ℕ × ℕ) Global)) (passed : ℕ) (front behind : Option ℕ) → side ≡ None
+    → IsSplitOfPart answers (edges_of side) passed front behind (record { point = passed; front = front; behind = behind })
+part_of_none answers side passed front behind none = rw none (record {
+  own = record { point = 0; front = None; behind = None };
+  splits = record { within = omega arith; front = λ i below. absurd (omega (arith, below)); rest = λ i from below. absurd (omega (arith, below)) };
+  beside = record { front = refl; behind = refl };
+  point_told = omega arith;
+  front_told = refl;
+  behind_told = refl;
+})
+
+-- with the split of the right side there is that of the node
+pub part_from_the_right : (answers : ℕ → Bool → Type 0) (left right edges : List ℕ) (edge many passed further : ℕ) (answer : Bool) (front behind : Option ℕ) (split : Split)
+    → left ++ edge ∷ right ≡ edges → many ≡ length left → answers edge answer → answer ≡ true → (point : ℕ) × IsSplit answers edges point → further ≡ passed + many + 1
+    → IsSplitOfPart answers right further (Some edge) behind split → IsSplitOfPart answers edges passed front behind split
+part_from_the_right answers left right edges edge many passed further answer front behind split same counted answered is splits so_far part = record {
+  own = record { point = many + 1 + part.own.point; front = Some (unwrap_or part.own.front edge); behind = part.own.behind };
+  splits = from_the_right answers left right edges edge many part.own.point answer same counted answered is splits part.splits;
+  beside = beside_on_the_right left right edges edge many (unwrap_or part.own.front edge) part.own same counted part.splits.within part.beside refl;
+  point_told = omega (arith, part.point_told, so_far);
+  front_told = part.front_told ∙ found_or part.own.front front edge;
+  behind_told = part.behind_told;
+}
+
+-- with that of the left side too
+pub part_from_the_left : (answers : ℕ → Bool → Type 0) (left right edges : List ℕ) (edge passed : ℕ) (answer : Bool) (front behind : Option ℕ) (split : Split)
+    → left ++ edge ∷ right ≡ edges → answers edge answer → answer ≡ false → (point : ℕ) × IsSplit answers edges point
+    → IsSplitOfPart answers left passed front (Some edge) split → IsSplitOfPart answers edges passed front behind split
+part_from_the_left answers left right edges edge passed answer front behind split same answered is splits part = record {
+  own = record { point = part.own.point; front = part.own.front; behind = Some (unwrap_or part.own.behind edge) };
+  splits = from_the_left answers left right edges edge part.own.point answer same answered is splits part.splits;
+  beside = beside_on_the_left left right edges edge (unwrap_or part.own.behind edge) part.own same part.splits.within part.beside refl;
+  point_told = part.point_told;
+  front_told = part.front_told;
+  behind_told = part.behind_told ∙ found_or part.own.behind behind edge;
+}
+
+-- what is told of a part that is all
+pub split_of_all : (answers : ℕ → Bool → Type 0) (edges : List ℕ) (split : Split) → IsSplitOfPart answers edges 0 None None split → IsSplit answers edges split.point
+split_of_all answers edges split part = let at : part.own.point ≡ split.point = omega (arith, part.point_told) in subst (IsSplit answers edges) at part.splits
+
+-- and beside it
+pub beside_of_all : (answers : ℕ → Bool → Type 0) (edges : List ℕ) (split : Split) → IsSplitOfPart answers edges 0 None None split → AreBeside edges split
+beside_of_all answers edges split part =
+    let at : part.own.point ≡ split.point = omega (arith, part.point_told) in
+    record {
+      front = part.front_told ∙ or_none part.own.front ∙ part.beside.front ∙ ap (before edges) at;
+      behind = part.behind_told ∙ or_none part.own.behind ∙ part.beside.behind ∙ ap (slice_get edges) at;
+    }
+  where
+    or_none : (found : Option ℕ) → option_or found None ≡ found
+    or_none None = refl
+    or_none (Some it) = refl

@@ -1,11 +1,11 @@
 //! What a tree answers without a change: the edge at a place, and where its edges split.
-ghost use Rattle.std.specs.Prelude.{◌≡◌, ℕ, ◌<◌, ◌≤◌, suc, All, IfSome, length, slice_index};
+ghost use Rattle.std.specs.Prelude.{◌≡◌, ℕ, ◌+◌, ◌^◌, ◌<◌, ◌≤◌, suc, All, IfSome, length, slice_index};
 ghost use Rattle.mvt_plane.specs.Counted.{ticked};
 ghost use Rattle.mvt_status.specs.Counts.{AddsAtMost};
 ghost use Rattle.mvt_status.specs.Split.{AreBeside, IsSplit};
 ghost use Rattle.mvt_status.specs.Tree.{edges_of, fewest, height_of};
 
-use super::{Node, Side, probe, size, visit};
+use super::{Node, Side, is_filled, probe, size, visit};
 use crate::Split;
 use mvt_plane::Count;
 
@@ -32,6 +32,7 @@ pub(crate) fn edge_at(side: &Side, at: usize, count: &mut Count) -> usize
 
 /// How many edges of which `below` is true stand at the front, with the edges in front of the split and behind it.
 /// Ticks a visit and a probe for each node on the way there.
+#[inline]
 pub(crate) fn split_of<F: Fn(usize) -> bool>(side: &Side, below: &F, count: &mut Count) -> Split
     requires callable { All (F.pre below.now) (edges_of side.now) }
     requires splits { (point : ℕ) × IsSplit (F.post below.now) (edges_of side.now) point }
@@ -42,31 +43,29 @@ pub(crate) fn split_of<F: Fn(usize) -> bool>(side: &Side, below: &F, count: &mut
     ensures probed { IfSome side.now (λ _. ticked count.old.probes ≤ count.new.probes) }
     ensures filled { fewest (height_of side.now) ≤ suc (length (edges_of side.now)) }
 {
-    let Some(node) = side else {
-        return Split {
-            point: 0,
-            front: None,
-            behind: None,
-        };
-    };
-    let node: &Node = node;
-    visit(count);
-    probe(count);
-    if below(node.edge) {
-        let split = split_of(&node.right, below, count);
-        // (the sum is no more than the node's own size)
-        prove!(node.size <= usize::MAX);
-        Split {
-            point: size(&node.left) + 1 + split.point,
-            front: Some(split.front.unwrap_or(node.edge)),
-            behind: split.behind,
+    is_filled(side);
+    // (they are no more than a word can count)
+    size(side);
+    let mut part: &Side = side;
+    let mut passed: usize = 0;
+    let mut front = None;
+    let mut behind = None;
+    'levels: while let Some(node) = part {
+        let node: &Node = node;
+        visit(count);
+        probe(count);
+        if below(node.edge) {
+            passed += size(&node.left) + 1;
+            front = Some(node.edge);
+            part = &node.right;
+        } else {
+            behind = Some(node.edge);
+            part = &node.left;
         }
-    } else {
-        let split = split_of(&node.left, below, count);
-        Split {
-            point: split.point,
-            front: split.front,
-            behind: Some(split.behind.unwrap_or(node.edge)),
-        }
+    }
+    Split {
+        point: passed,
+        front,
+        behind,
     }
 }
