@@ -1,5 +1,5 @@
 -- Lists with neighbours in a relation, taken apart and put together.
-use Rattle.std.proofs.Common.{◌≡◌, ◌≢◌, ℕ, zero, suc, ◌+◌, ◌-◌, ◌<◌, ◌≤◌, Bool, true, false, ◌⊎◌, inl, inr, List, [], ◌∷◌, ◌++◌, All, drop, insert, length, remove, slice_get, slice_index, Some, take, refl, sym, ap, subst, ◌∙◌, add-one, arith, length-append, length-drop, length-take, take-append-drop}
+use Rattle.std.proofs.Common.{◌≡◌, ◌≢◌, ℕ, zero, suc, ◌+◌, ◌-◌, ◌<◌, ◌≤◌, Bool, true, false, ◌⊎◌, inl, inr, List, [], ◌∷◌, ◌++◌, All, drop, insert, length, slice_get, slice_index, Some, take, refl, sym, ap, subst, ◌∙◌, arith, length-append, length-drop, length-take, take-append-drop}
 use Rattle.std.proofs.lemmas.List.{drop_more, get_or_append_left, get_or-append_right, get_or-take, get_or-drop}
 use Rattle.std.proofs.lemmas.Option.{none-some, same_Some}
 use Rattle.mvt_polygon.specs.Chain.{Has, Each, Head, Chain, Joined, Ordered}
@@ -55,6 +55,14 @@ in_longer [] y zero z here = inr (refl, same_Some y z here)
 in_longer [] y (suc i) z here = absurd (none-some z here)
 in_longer (x ∷ xs) y zero z here = inl here
 in_longer (x ∷ xs) y (suc i) z here = elim (in_longer xs y i z here) [ inl before ↦ inl before | inr last ↦ inr (ap suc last.0, last.1) ]
+
+-- up to a place a list has the same
+pub take_there : {X : Type 0} (xs : List X) (many number : ℕ) → number < many → slice_get (take many xs) number ≡ slice_get xs number
+take_there [] zero number within = refl
+take_there [] (suc many) number within = refl
+take_there (first ∷ rest) zero number within = absurd (omega arith)
+take_there (first ∷ rest) (suc many) zero within = refl
+take_there (first ∷ rest) (suc many) (suc number) within = take_there rest many number (omega arith)
 
 -- Neighbours
 
@@ -150,25 +158,16 @@ take_drop xs at = sym (take-append-drop at xs)
 pub insert_between : (xs : List ℕ) (at it : ℕ) → at ≤ length xs → insert xs at it ≡ take at xs ++ it ∷ drop at xs
 insert_between xs at it within = refl
 
--- behind a front the one at its end is taken out
-pub remove_behind : (front back : List ℕ) (it : ℕ) → remove (front ++ it ∷ back) (length front) ≡ front ++ back
-remove_behind [] back it = refl
-remove_behind (first ∷ front) back it = ap (λ (xs : List ℕ). first ∷ xs) (remove_behind front back it)
-
 -- the first from a place on
 pub drop_first : (xs : List ℕ) (at : ℕ) → at < length xs → drop at xs ≡ slice_index xs at ∷ drop (at + 1) xs
 drop_first xs at within = drop_more xs at 0 within
 
--- the same, with the number written as the lists count
-joined_at : (R : ℕ → ℕ → Type 0) (xs back : List ℕ) (at : ℕ) → at < length xs → Head R (slice_index xs at) back → Joined R (take (suc at) xs) back
-joined_at R [] back at within head = absurd (omega arith)
-joined_at R (first ∷ rest) back zero within head = head
-joined_at R (first ∷ []) back (suc at) within head = absurd (omega arith)
-joined_at R (first ∷ next ∷ rest) back (suc at) within head = joined_at R (next ∷ rest) back at (omega arith) head
-
--- the one before a place is the last of those in front
-pub joined_before : (R : ℕ → ℕ → Type 0) (xs back : List ℕ) (at : ℕ) → at < length xs → Head R (slice_index xs at) back → Joined R (take (at + 1) xs) back
-joined_before R xs back at within head = rw add-one (joined_at R xs back at within head)
+-- the one at a place is the last of those up to it
+pub joined_last : (R : ℕ → ℕ → Type 0) (xs back : List ℕ) (at : ℕ) → at < length xs → Head R (slice_index xs at) back → Joined R (take (suc at) xs) back
+joined_last R [] back at within head = absurd (omega arith)
+joined_last R (first ∷ rest) back zero within head = head
+joined_last R (first ∷ []) back (suc at) within head = absurd (omega arith)
+joined_last R (first ∷ next ∷ rest) back (suc at) within head = joined_last R (next ∷ rest) back at (omega arith) head
 
 -- a front of which this is true and a rest of which it isn't are a split for a test of it
 pub split_of_parts : (P : ℕ → Type 0) (answers : ℕ → Bool → Type 0) (front rest : List ℕ) → ((it : ℕ) (answer : Bool) → answers it answer → P it → answer ≡ true)

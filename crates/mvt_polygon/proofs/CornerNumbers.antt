@@ -1,5 +1,5 @@
 -- Corners of rings by their numbers: which vertex of which ring has a number.
-use Rattle.std.proofs.Common.{◌≡◌, ◌≢◌, ◌+◌, ◌-◌, ◌==◌, ◌<◌, ◌≤◌, ltb, cond, ℕ, zero, suc, inl, inr, List, [], ◌∷◌, ◌++◌, length, map, sum, take, slice_get, Some, refl, sym, ◌∙◌, ap, ap₂, subst, arith}
+use Rattle.std.proofs.Common.{◌≡◌, ◌≢◌, ◌+◌, ◌-◌, ◌==◌, ◌<◌, ◌≤◌, ltb, cond, ℕ, zero, suc, inl, inr, List, [], ◌∷◌, ◌++◌, length, map, sum, take, slice_get, Some, sym, ◌∙◌, ap, ap₂, subst, arith}
 use Rattle.std.proofs.lemmas.Bool.{cases_lt, cases_order}
 use Rattle.std.proofs.lemmas.Bool.Decides.{nat_tests}
 use Rattle.std.proofs.lemmas.List.{length-append, length-take, take_all, take-map, take-take}
@@ -11,7 +11,7 @@ use Rattle.mvt_plane.specs.Ring.{next_round}
 use Rattle.mvt_polygon.specs.Corners.{AreCorners, IsCornerOf, IsNumbered, corner_at, far_end_of, next_at, no_corner, position_at, previous_at, vertex_count}
 use Rattle.mvt_polygon.specs.Rings.{AreProperRings}
 use Rattle.mvt_polygon.specs.declared.sweep.corners.Corner.{Corner}
-use Rattle.mvt_polygon.proofs.ChainParts.{in_longer}
+use Rattle.mvt_polygon.proofs.ChainParts.{in_longer, take_there}
 
 -- Going round
 
@@ -188,14 +188,6 @@ first_more rings many next corners items last are is one_more pushed = record {
     | inr same ↦ subst (λ (n : ℕ). IsCornerOf rings n it) (sym (same.0 ∙ are.count)) (subst (IsCornerOf rings many) same.1 is)
   ];
 }
-
--- the first rings are rings
-take_there : (rings : List (List Position)) (many number : ℕ) → number < many → slice_get (take many rings) number ≡ slice_get rings number
-take_there [] zero number within = refl
-take_there [] (suc many) number within = refl
-take_there (first ∷ rest) zero number within = absurd (omega arith)
-take_there (first ∷ rest) (suc many) zero within = refl
-take_there (first ∷ rest) (suc many) (suc number) within = let less : number < many = omega arith in take_there rest many number less
 
 -- a corner of rings is one of others in which the rings before it and its own are the same
 corner_moved : (rings others : List (List Position)) (number : ℕ) (it : Corner) (is : IsCornerOf rings number it) → slice_get others is.place.ring ≡ slice_get rings is.place.ring

@@ -123,7 +123,7 @@ pub when_ahead : (corners : List Corner) (first second : ℕ) → next_at corner
 when_ahead corners first second same = cond-true (next_at corners first == second) _ _ (eq-eqb (next_at corners first) second same)
 
 -- the second to the first
-when_back : (corners : List Corner) (first second : ℕ) → next_at corners first ≢ second → next_at corners second ≡ first
+pub when_back : (corners : List Corner) (first second : ℕ) → next_at corners first ≢ second → next_at corners second ≡ first
     → shared_at corners first second ≡ Some (position_at corners first)
 when_back corners first second not same =
     cond-false (next_at corners first == second) _ _ (ne_eqb (next_at corners first) second not)

@@ -1,4 +1,3 @@
-pub mod BeginSteps
 pub mod ChainParts
 pub mod CornerNumbers
 pub mod CornerOrders
@@ -17,6 +16,7 @@ pub mod NestOnce
 pub mod NotedHoles
 pub mod NumbersInOrder
 pub mod PairMeetings
+pub mod PairsEnough
 pub mod PolygonAnswers
 pub mod PolygonList
 pub mod RingFaults
@@ -30,6 +30,7 @@ pub mod SegmentEnds
 pub mod SharedVertices
 pub mod StatusCounts
 pub mod StatusPlaces
+pub mod StatusSteps
 pub mod StepsEntered
 pub mod SweepChanges
 pub mod SweepSides

@@ -1,5 +1,6 @@
 -- The work of a sweep, step by step, and what it finds, told of the rings.
 use Rattle.std.proofs.Common.{◌≡◌, ℕ, ◌+◌, ◌*◌, ◌<◌, ◌≤◌, List, Option, Some, None, IfNone, IfSome, subst, arith}
+use Rattle.std.proofs.Math.Nat.{mul-le-mul_right}
 use Rattle.mvt_plane.specs.Counted.{Counted}
 use Rattle.mvt_plane.specs.Position.{Position}
 use Rattle.mvt_polygon.specs.CornerOrder.{AddsWork, AreTogether}
@@ -15,35 +16,16 @@ use Rattle.mvt_polygon.proofs.StatusCounts.{work_then, work_within}
 
 -- The work
 
--- one more of so many
-one_more : (at each : ℕ) → (at + 1) * each ≡ at * each + each
-one_more at each = grind arith
-
--- more of so many are no less
-no_less : (at many each : ℕ) → at ≤ many → at * each ≤ many * each
-no_less at many each most = grind arith
-
--- no step is no work
-pub no_step : (probes visits : ℕ) (count : Counted) → AddsWork (3 * 0) (0 * probes) (0 * visits) count count
-no_step probes visits count = record {
-  tests_added = omega arith;
-  probes_added = omega arith;
-  visits_added = omega arith;
-  no_fewer_tests = omega arith;
-  no_fewer_probes = omega arith;
-  no_fewer_visits = omega arith;
-}
-
 -- the work of one more step
 pub another_step : (at probes visits : ℕ) (before between after : Counted) → AddsWork (3 * at) (at * probes) (at * visits) before between → AddsWork 3 probes visits between after
     → AddsWork (3 * (at + 1)) ((at + 1) * probes) ((at + 1) * visits) before after
 another_step at probes visits before between after passed step =
-    work_within (omega arith) (omega (arith, one_more at probes)) (omega (arith, one_more at visits)) (work_then passed step)
+    work_within (omega arith) (grind arith) (grind arith) (work_then passed step)
 
 -- at most that of so many steps
 pub so_many_steps : (at many probes visits : ℕ) (before after : Counted) → at ≤ many → AddsWork (3 * at) (at * probes) (at * visits) before after
     → AddsWork (3 * many) (many * probes) (many * visits) before after
-so_many_steps at many probes visits before after most work = work_within (omega arith) (no_less at many probes most) (no_less at many visits most) work
+so_many_steps at many probes visits before after most work = work_within (omega arith) (mul-le-mul_right probes most) (mul-le-mul_right visits most) work
 
 -- What is found
 

@@ -1,5 +1,6 @@
 -- What is answered of a polygon, by what its sweep found.
 use Rattle.std.proofs.Common.{◌≡◌, ◌+◌, ◌*◌, ◌≤◌, ℕ, List, Option, Some, None, IfNone, IfSome, option_map, ◌++◌, drop, length, take, sym, ◌∙◌, ap, subst, arith}
+use Rattle.std.proofs.Math.Nat.{mul-le-mul_left}
 use Rattle.std.proofs.lemmas.List.{append-nil, drop_all, take_all}
 use Rattle.mvt_plane.specs.Counted.{Counted}
 use Rattle.mvt_plane.specs.Position.{Position}
@@ -17,7 +18,7 @@ use Rattle.mvt_polygon.specs.declared.polygon.PolygonFault.{PolygonFault}
 use Rattle.mvt_polygon.specs.declared.polygon.PolygonFault.TheVariants.{Meeting, Nesting}
 use Rattle.mvt_polygon.specs.declared.sweep.corners.Corner.{Corner}
 use Rattle.mvt_polygon.specs.declared.sweep.corners.Pair.{Pair}
-use Rattle.mvt_polygon.proofs.StatusCounts.{work_then, work_within}
+use Rattle.mvt_polygon.proofs.StatusCounts.{no_work, work_then, work_within}
 
 -- What the sweep found
 
@@ -63,26 +64,15 @@ nesting_answer rings (Some fault) result same clear none least = subst (IsPolygo
 
 -- The work
 
--- more of each are no less
-no_less : (many few each : ℕ) → few ≤ each → many * few ≤ many * each
-no_less many few each most = grind arith
-
 -- that of the sweep, and a probe for each vertex
 pub whole_work : (vertices digits : ℕ) (before between after : Counted) → AddsWork (3 * vertices) (vertices * (2 * digits + 2)) (vertices * (14 * digits)) before between
     → AddsWork 0 vertices 0 between after → AddsWork (3 * vertices) (vertices * (2 * digits + 3)) (vertices * (20 * digits)) before after
 whole_work vertices digits before between after swept probed =
     let more : vertices * (2 * digits + 2) + vertices ≡ vertices * (2 * digits + 3) = grind arith in
     let few : 14 * digits ≤ 20 * digits = omega arith in
-    work_within (omega arith) (omega (arith, more)) (omega (arith, no_less vertices (14 * digits) (20 * digits) few)) (work_then swept probed)
+    work_within (omega arith) (omega (arith, more)) (omega (arith, mul-le-mul_left vertices few)) (work_then swept probed)
 
 -- that of the sweep alone
 pub sweep_work : (vertices digits : ℕ) (before after : Counted) → AddsWork (3 * vertices) (vertices * (2 * digits + 2)) (vertices * (14 * digits)) before after
     → AddsWork (3 * vertices) (vertices * (2 * digits + 3)) (vertices * (20 * digits)) before after
-sweep_work vertices digits before after swept = whole_work vertices digits before after after swept (record {
-  tests_added = omega arith;
-  probes_added = omega arith;
-  visits_added = omega arith;
-  no_fewer_tests = omega arith;
-  no_fewer_probes = omega arith;
-  no_fewer_visits = omega arith;
-})
+sweep_work vertices digits before after swept = whole_work vertices digits before after after swept (no_work after)

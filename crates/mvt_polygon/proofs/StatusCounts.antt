@@ -1,12 +1,16 @@
 -- How many edges a status has, and what that says of its work.
-use Rattle.std.proofs.Common.{◌≡◌, ◌≢◌, ◌<◌, ◌≤◌, ◌+◌, ◌*◌, ◌⊎◌, inl, inr, ℕ, zero, suc, List, [], ◌∷◌, drop, length, remove, take, ℤ, sym, subst, arith}
-use Rattle.std.proofs.lemmas.Bool.{cases_eq, cases_order}
-use Rattle.std.proofs.lemmas.List.{length-append, length-drop, length-take}
+use Rattle.std.proofs.Common.{◌≡◌, ◌≢◌, ◌<◌, ◌≤◌, ◌+◌, ◌*◌, ℕ, false, List, [], ◌∷◌, eqb, length, ℤ, arith}
+use Rattle.std.proofs.Math.Nat.{mul-le-mul_left}
+use Rattle.std.proofs.lemmas.Bool.{eqb-true, ne_eqb}
+use Rattle.std.proofs.lemmas.List.Elements.{All-contains}
+use Rattle.std.proofs.lemmas.Map.Steps.{length-le_from_distinct_below}
+use Rattle.std.proofs.lemmas.Map.Views.{Contains-from_any}
+use Rattle.std.specs.List.{AllByRecursion, IsDistinct}
 use Rattle.mvt_plane.specs.Counted.{Counted}
-use Rattle.mvt_polygon.specs.Chain.{Has, Each, Ordered}
+use Rattle.mvt_polygon.specs.Chain.{Each, Ordered}
 use Rattle.mvt_polygon.specs.CornerOrder.{AddsWork}
 use Rattle.mvt_polygon.specs.Sweep.{Plan, IsPlan, IsSwept}
-use Rattle.mvt_polygon.proofs.ChainParts.{each_has, each_by_has}
+use Rattle.mvt_polygon.proofs.ChainParts.{each_all}
 use Rattle.mvt_polygon.proofs.StatusPlaces.{all_known}
 use Rattle.mvt_polygon.proofs.SweepSlabs.{swept_differ}
 use Rattle.mvt_status.specs.Counts.{AddsAtMost, bits}
@@ -14,72 +18,38 @@ use Rattle.mvt_status.proofs.BinaryDigits.{no_more_digits}
 
 -- How many edges
 
--- a list without the greatest number
-record LeavesOut (bound : ℕ) (edges : List ℕ) : Type 0 where
-  rest : List ℕ
-  shorter : length edges ≤ suc (length rest)
-  among : (it : ℕ) → Has rest it → Has edges it
-  differ : Ordered (λ (a b : ℕ). a ≢ b) rest
-  below : Each (λ (edge : ℕ). edge < bound) rest
-
--- of distinct numbers up to a greatest one, those that differ from it are below it
-all_below : (bound : ℕ) (edges : List ℕ) → Each (λ (edge : ℕ). edge < suc bound) edges → Each (λ (edge : ℕ). bound ≢ edge) edges → Each (λ (edge : ℕ). edge < bound) edges
-all_below bound [] within apart = tt
-all_below bound (edge ∷ rest) within apart =
-    let less = within.0 in let differ = apart.0 in (
-      (elim (cases_order edge bound) [
-        | inl same ↦ absurd (apart.0 (sym same))
-        | inr (inl less) ↦ less
-        | inr (inr more) ↦ let most = within.0 in absurd (omega arith)
-      ]),
-      all_below bound rest within.1 apart.1,
-    )
-
--- the greatest one is left out
-leave_out : (bound : ℕ) (edges : List ℕ) → Each (λ (edge : ℕ). edge < suc bound) edges → Ordered (λ (a b : ℕ). a ≢ b) edges → LeavesOut bound edges
-leave_out bound [] within apart = record { rest = []; shorter = omega arith; among = λ it here. here; differ = tt; below = tt }
-leave_out bound (edge ∷ rest) within apart = either (cases_eq bound edge) (leave_out bound rest within.1 apart.1)
+-- numbers that differ are distinct, as the library says it
+distinct : (edges : List ℕ) → Ordered (λ (a b : ℕ). a ≢ b) edges → IsDistinct eqb edges
+unfolding IsDistinct
+distinct [] apart = tt
+distinct (edge ∷ rest) apart = (others rest apart.0, distinct rest apart.1)
   where
-    either : (bound ≡ edge) ⊎ (bound ≢ edge) → LeavesOut bound rest → LeavesOut bound (edge ∷ rest)
-    either (inl same) left = record {
-      rest = rest;
-      shorter = omega arith;
-      among = λ it here. inr here;
-      differ = apart.1;
-      below = all_below bound rest within.1 (subst (λ (it : ℕ). Each (λ (that : ℕ). it ≢ that) rest) (sym same) apart.0);
-    }
-    either (inr not) left = record {
-      rest = edge ∷ left.rest;
-      shorter = let fewer = left.shorter in omega arith;
-      among = λ it here. elim here [ inl own ↦ inl own | inr later ↦ inr (left.among it later) ];
-      differ = (each_by_has (λ (that : ℕ). edge ≢ that) left.rest (λ it here. each_has (λ (that : ℕ). edge ≢ that) rest it apart.0 (left.among it here)), left.differ);
-      below = ((all_below bound (edge ∷ []) (within.0, tt) (not, tt)).0, left.below);
-    }
+    others : (rest : List ℕ) → Each (λ (that : ℕ). edge ≢ that) rest → AllByRecursion (λ (that : ℕ). eqb edge that ≡ false) rest
+    others [] apart = tt
+    others (that ∷ rest) apart = (ne_eqb edge that apart.0, others rest apart.1)
 
 -- distinct numbers below a bound are at most so many
 few_below : (bound : ℕ) (edges : List ℕ) → Each (λ (edge : ℕ). edge < bound) edges → Ordered (λ (a b : ℕ). a ≢ b) edges → length edges ≤ bound
-few_below zero [] within apart = omega arith
-few_below zero (edge ∷ rest) within apart = let none = within.0 in absurd (omega arith)
-few_below (suc bound) edges within apart =
-    let left = leave_out bound edges within apart in
-    let fewer = few_below bound left.rest left.below left.differ in
-    let shorter = left.shorter in
-    omega arith
+few_below bound edges within apart =
+    length-le_from_distinct_below edges bound (distinct edges apart)
+    (λ it found. All-contains (λ (edge : ℕ). edge < bound) edges it (each_all (λ (edge : ℕ). edge < bound) edges within) (Contains-from_any eqb-true it edges found))
 
 -- the line meets no more edges than there are
 pub few_swept : (plan : Plan) (key : ℤ) (edges : List ℕ) → IsPlan plan → IsSwept plan key edges → length edges ≤ plan.count
 few_swept plan key edges is_plan swept = few_below plan.count edges (all_known plan key edges swept) (swept_differ plan key edges is_plan swept)
 
--- and no more are left where one was taken out
-pub few_left : (edges fewer : List ℕ) (place bound : ℕ) → fewer ≡ remove edges place → length edges ≤ bound → length fewer ≤ bound
-few_left edges fewer place bound removed few =
-    let front = length-take place edges in
-    let back = length-drop (suc place) edges in
-    let whole = length-append (take place edges) (drop (suc place) edges) in
-    let shorter : length (remove edges place) ≤ bound = omega arith in
-    subst (λ (list : List ℕ). length list ≤ bound) (sym removed) shorter
-
 -- Work
+
+-- no work is within any bounds
+pub no_work : {tests probes visits : ℕ} (count : Counted) → AddsWork tests probes visits count count
+no_work count = record {
+  tests_added = omega arith;
+  probes_added = omega arith;
+  visits_added = omega arith;
+  no_fewer_tests = omega arith;
+  no_fewer_probes = omega arith;
+  no_fewer_visits = omega arith;
+}
 
 -- one work and then another
 pub work_then : {tests probes visits other_tests other_probes other_visits : ℕ} {before between after : Counted} → AddsWork tests probes visits before between
@@ -116,27 +86,13 @@ work_of_status added = record {
   no_fewer_visits = added.no_fewer_visits;
 }
 
--- for a place in it
-pub work_of_place : (edges corners : ℕ) {before after : Counted} → edges ≤ corners → AddsAtMost 0 (2 * bits edges) before after → AddsWork 0 0 (2 * bits corners) before after
-work_of_place edges corners few added =
-    let digits = no_more_digits edges corners few in
-    work_within (omega arith) (omega arith) (omega arith) (work_of_status added)
+-- for so many edits of it, or looks for a place
+pub work_of_edits : (times edges corners : ℕ) {before after : Counted} → edges ≤ corners → AddsAtMost 0 (times * bits edges) before after → AddsWork 0 0 (times * bits corners) before after
+work_of_edits times edges corners few added = work_within (omega arith) (omega arith) (mul-le-mul_left times (no_more_digits edges corners few)) (work_of_status added)
 
--- to put one in the place of another
-pub work_of_both : (edges corners : ℕ) {before after : Counted} → edges ≤ corners → AddsAtMost 0 (4 * bits edges) before after → AddsWork 0 0 (4 * bits corners) before after
-work_of_both edges corners few added =
-    let digits = no_more_digits edges corners few in
-    work_within (omega arith) (omega arith) (omega arith) (work_of_status added)
-
--- to look for one, with those beside it
+-- to look for an edge's place, with those beside it
 pub work_of_split : (edges corners : ℕ) {before after : Counted} → edges ≤ corners → AddsAtMost (2 * bits edges) (6 * bits edges) before after
     → AddsWork 0 (2 * bits corners) (6 * bits corners) before after
 work_of_split edges corners few added =
     let digits = no_more_digits edges corners few in
-    work_within (omega arith) (omega arith) (omega arith) (work_of_status added)
-
--- and to put two in
-pub work_of_two : (edges corners : ℕ) {before after : Counted} → suc edges ≤ corners → AddsAtMost 0 (6 * bits (suc edges)) before after → AddsWork 0 0 (6 * bits corners) before after
-work_of_two edges corners few added =
-    let digits = no_more_digits (suc edges) corners few in
     work_within (omega arith) (omega arith) (omega arith) (work_of_status added)

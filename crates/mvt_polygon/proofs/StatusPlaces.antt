@@ -1,16 +1,17 @@
 -- The places of a status before and behind an edit, and what stands beside them.
-use Rattle.std.proofs.Common.{◌≡◌, ◌≢◌, ℕ, zero, suc, ◌+◌, ◌-◌, ◌<◌, ◌≤◌, ◌⊎◌, inl, inr, IfSome, List, [], ◌∷◌, ◌++◌, Option, Some, None, drop, insert, slice_get, length, remove, slice_index, take, ℤ, ◌<ℤ◌, ◌≤ℤ◌, refl, sym, ap, subst, ◌∙◌, arith}
+use Rattle.std.proofs.Common.{◌≡◌, ◌≢◌, ℕ, zero, suc, ◌+◌, ◌<◌, ◌≤◌, ◌⊎◌, inl, inr, IfSome, List, [], ◌∷◌, ◌++◌, Option, Some, None, drop, insert, slice_get, length, remove, slice_index, take, ℤ, ◌<ℤ◌, ◌≤ℤ◌, refl, sym, ap, subst, ◌∙◌, arith}
 use Rattle.std.proofs.lemmas.Int.{ints}
-use Rattle.std.proofs.lemmas.List.{length-take-le, length-drop, get_or-take}
-use Rattle.std.proofs.lemmas.Option.{get_or_from_slice_get}
+use Rattle.std.proofs.Math.Seq.{drop-append_seam, drop-cons, take-append_seam}
+use Rattle.std.proofs.lemmas.List.{drop_all, length-append, length-take-le, length-drop}
+use Rattle.std.proofs.lemmas.Option.{slice_get-get_or}
 use Rattle.mvt_plane.specs.Measure.{key_of}
 use Rattle.mvt_plane.specs.Position.{Position}
 use Rattle.mvt_polygon.specs.Chain.{Has, Each, Head, Joined, Ordered}
 use Rattle.mvt_status.specs.Split.{before}
 use Rattle.mvt_polygon.specs.Sweep.{Plan, IsPlan, Tested, IsSwept, IsEvent, BothBegin, PassesOn, BothEnd, IsCut}
-use Rattle.mvt_polygon.proofs.ChainParts.{each_has, each_by_has, has_left, has_right, has_either, has_place, ordered_parts, take_drop, insert_between, remove_behind, drop_first, joined_before}
+use Rattle.mvt_polygon.proofs.ChainParts.{each_has, each_by_has, has_left, has_right, has_either, ordered_parts, take_there, take_drop, insert_between, drop_first, joined_last}
 use Rattle.mvt_polygon.proofs.SweepSteps.{begin_step, pass_step, end_found, end_step}
-use Rattle.mvt_polygon.proofs.SweepSlabs.{event_back}
+use Rattle.mvt_polygon.proofs.SweepSlabs.{event_back, swept_differ}
 
 -- Beside a place
 
@@ -18,12 +19,6 @@ use Rattle.mvt_polygon.proofs.SweepSlabs.{event_back}
 pub head_at : (R : ℕ → ℕ → Type 0) (edges : List ℕ) (at it above : ℕ) → at < length edges → above ≡ slice_index edges at → R it above → Head R it (drop at edges)
 head_at R edges at it above within is holds =
     subst (λ (list : List ℕ). Head R it list) (sym (drop_first edges at within)) (subst (R it) is holds)
-
--- the last before it
-pub joined_at : (R : ℕ → ℕ → Type 0) (edges back : List ℕ) (at below : ℕ) → 0 < at → at ≤ length edges → below ≡ slice_index edges (at - 1) → Head R below back → Joined R (take at edges) back
-joined_at R edges back at below some within is holds =
-    subst (λ (place : ℕ). Joined R (take place edges) back) (omega arith)
-    (joined_before R edges back (at - 1) (omega arith) (subst (λ (edge : ℕ). Head R edge back) is holds))
 
 -- the same of the first from a place on, if there is one
 head_behind : (R : ℕ → ℕ → Type 0) (edges : List ℕ) (at it : ℕ) (behind : Option ℕ) → behind ≡ slice_get edges at → IfSome behind (R it) → Head R it (drop at edges)
@@ -36,16 +31,14 @@ head_behind R edges at it behind is holds = there edges at (subst (λ (found : O
     there (first ∷ rest) (suc at) holds = there rest at holds
 
 -- and of the last before the place
-joined_before_place : (R : ℕ → ℕ → Type 0) (edges back : List ℕ) (at : ℕ) (front : Option ℕ) → at ≤ length edges → front ≡ before edges at
+pub joined_before_place : (R : ℕ → ℕ → Type 0) (edges back : List ℕ) (at : ℕ) (front : Option ℕ) → at ≤ length edges → front ≡ before edges at
     → IfSome front (λ below. Head R below back) → Joined R (take at edges) back
-joined_before_place R edges back at front within is holds = there edges at within (subst (λ (found : Option ℕ). IfSome found (λ below. Head R below back)) is holds)
+joined_before_place R edges back at front within is holds = there at within (subst (λ (found : Option ℕ). IfSome found (λ below. Head R below back)) is holds)
   where
-    there : (edges : List ℕ) (at : ℕ) → at ≤ length edges → IfSome (before edges at) (λ below. Head R below back) → Joined R (take at edges) back
-    there edges zero within holds = tt
-    there [] (suc at) within holds = absurd (omega arith)
-    there (first ∷ rest) (suc zero) within holds = holds
-    there (first ∷ []) (suc (suc at)) within holds = absurd (omega arith)
-    there (first ∷ next ∷ rest) (suc (suc at)) within holds = there (next ∷ rest) (suc at) (omega arith) holds
+    there : (at : ℕ) → at ≤ length edges → IfSome (before edges at) (λ below. Head R below back) → Joined R (take at edges) back
+    there zero within holds = tt
+    there (suc at) within holds =
+        joined_last R edges back at (omega arith) (subst (λ (found : Option ℕ). IfSome found (λ below. Head R below back)) (slice_get-get_or edges at 0 (omega arith)) holds)
 
 -- what is true of each edge is so of the one behind a place
 pub each_behind : (P : ℕ → Type 0) (edges : List ℕ) (at : ℕ) (behind : Option ℕ) → Each P edges → behind ≡ slice_get edges at → IfSome behind P
@@ -60,12 +53,6 @@ each_behind P edges at behind all is = subst (λ (found : Option ℕ). IfSome fo
 pub each_before : (P : ℕ → Type 0) (edges : List ℕ) (at : ℕ) (front : Option ℕ) → Each P edges → front ≡ before edges at → IfSome front P
 each_before P edges zero front all is = subst (λ (found : Option ℕ). IfSome found P) (sym is) tt
 each_before P edges (suc at) front all is = each_behind P edges at front all is
-
--- where it is told, there is one
-pub front_at : (edges : List ℕ) (at front : ℕ) → at ≤ length edges → Some front ≡ before edges at → (0 < at) × (front ≡ slice_index edges (at - 1))
-front_at edges zero front within is = absurd cc
-front_at edges (suc at) front within is =
-    (omega arith, subst (λ (place : ℕ). front ≡ slice_index edges place) (omega arith) (sym (get_or_from_slice_get edges at front 0 (sym is))))
 
 some_map : {P Q : ℕ → Type 0} (found : Option ℕ) → ((it : ℕ) → P it → Q it) → IfSome found P → IfSome found Q
 some_map None follows holds = tt
@@ -82,39 +69,31 @@ pub tested_behind : (plan : Plan) (edges : List ℕ) (at edge : ℕ) (behind : O
     → IfSome behind (λ other. Tested plan edge other × Tested plan other edge) → Head (Tested plan) edge (drop at edges)
 tested_behind plan edges at edge behind is both = head_behind (Tested plan) edges at edge behind is (some_map behind (λ it tested. tested.0) both)
 
--- behind all there is none
-drop_end : (edges : List ℕ) (at : ℕ) → length edges ≤ at → drop at edges ≡ []
-drop_end [] zero short = refl
-drop_end [] (suc at) short = refl
-drop_end (first ∷ rest) zero short = absurd (omega arith)
-drop_end (first ∷ rest) (suc at) short = drop_end rest at (omega arith)
-
+-- nothing is joined to none
 joined_none : (R : ℕ → ℕ → Type 0) (edges : List ℕ) → Joined R edges []
 joined_none R [] = tt
 joined_none R (last ∷ []) = tt
 joined_none R (first ∷ next ∷ rest) = joined_none R (next ∷ rest)
 
--- so nothing is joined there
+-- so it is behind all
 pub joined_end : (R : ℕ → ℕ → Type 0) (edges : List ℕ) (at : ℕ) → length edges ≤ at → Joined R (take at edges) (drop at edges)
-joined_end R edges at short = subst (Joined R (take at edges)) (sym (drop_end edges at short)) (joined_none R (take at edges))
-
--- both of them differ where all do
-pub apart_at : (edges : List ℕ) (at : ℕ) → 0 < at → at < length edges → Ordered (λ (one other : ℕ). one ≢ other) edges → slice_index edges (at - 1) ≢ slice_index edges at
-apart_at edges at some within differ =
-    let all = ordered_parts (λ (one other : ℕ). one ≢ other) (take at edges) (drop at edges) (subst (Ordered (λ (one other : ℕ). one ≢ other)) (take_drop edges at) differ) in
-    all.2 (slice_index edges (at - 1)) (slice_index edges at)
-    (subst (Has (take at edges)) (get_or-take at edges (at - 1) 0 (omega arith)) (has_place (take at edges) (at - 1) (omega (arith, length-take-le at edges (omega arith)))))
-    (subst (λ (list : List ℕ). Has list (slice_index edges at)) (sym (drop_first edges at within)) (inl refl))
+joined_end R edges at short = subst (Joined R (take at edges)) (sym (drop_all at edges short)) (joined_none R (take at edges))
 
 -- lists that are alike up to a place have one edge before it
 before_taken : (edges : List ℕ) (at : ℕ) → before (take at edges) at ≡ before edges at
 before_taken edges zero = refl
-before_taken [] (suc at) = refl
-before_taken (first ∷ rest) (suc zero) = refl
-before_taken (first ∷ rest) (suc (suc at)) = before_taken rest (suc at)
+before_taken edges (suc at) = take_there edges (suc at) at (omega arith)
 
-pub before_kept : (edges fewer : List ℕ) (at : ℕ) → take at edges ≡ take at fewer → before edges at ≡ before fewer at
+before_kept : (edges fewer : List ℕ) (at : ℕ) → take at edges ≡ take at fewer → before edges at ≡ before fewer at
 before_kept edges fewer at alike = sym (before_taken edges at) ∙ ap (λ (list : List ℕ). before list at) alike ∙ before_taken fewer at
+
+-- the edge before a place differs from the one there where all do
+pub apart_at : (edges : List ℕ) (at below : ℕ) → Some below ≡ before edges at → at < length edges → Ordered (λ (one other : ℕ). one ≢ other) edges → below ≢ slice_index edges at
+apart_at edges at below is within differ =
+    let all = ordered_parts (λ (one other : ℕ). one ≢ other) (take at edges) (drop at edges) (subst (Ordered (λ (one other : ℕ). one ≢ other)) (take_drop edges at) differ) in
+    let there : Has (drop at edges) (slice_index edges at) = subst (λ (list : List ℕ). Has list (slice_index edges at)) (sym (drop_first edges at within)) (inl refl) in
+    each_before (λ (it : ℕ). it ≢ slice_index edges at) (take at edges) at (Some below)
+    (each_by_has (λ (it : ℕ). it ≢ slice_index edges at) (take at edges) (λ it has. all.2 it (slice_index edges at) has there)) (is ∙ sym (before_taken edges at))
 
 -- Edges of the status
 
@@ -136,18 +115,8 @@ others_known plan key vertex edges fewer beginning swept later begins among =
 
 -- where the parts come together, the place is between them
 parts_at : (front back : List ℕ) (place : ℕ) → length front ≡ place → (take place (front ++ back) ≡ front) × (drop place (front ++ back) ≡ back)
-parts_at [] back zero same = (refl, refl)
-parts_at [] back (suc place) same = absurd (omega arith)
-parts_at (first ∷ front) back zero same = absurd (omega arith)
-parts_at (first ∷ front) back (suc place) same =
-    let rest = parts_at front back place (omega arith) in
-    (ap (λ (list : List ℕ). first ∷ list) rest.0, rest.1)
-
--- it is one of theirs
-fits_front : (front back : List ℕ) (place : ℕ) → length front ≡ place → place ≤ length (front ++ back)
-fits_front [] back place long = omega arith
-fits_front (one ∷ front) back zero long = omega arith
-fits_front (one ∷ front) back (suc place) long = omega (arith, fits_front front back place (omega arith))
+parts_at front back place same =
+    (ap (λ (n : ℕ). take n (front ++ back)) (sym same) ∙ take-append_seam front back, ap (λ (n : ℕ). drop n (front ++ back)) (sym same) ∙ drop-append_seam front back)
 
 -- with one more between them nothing is lost
 among : (front back : List ℕ) (it other : ℕ) → Has (front ++ back) other → Has (front ++ it ∷ back) other
@@ -165,6 +134,10 @@ differ_without (first ∷ front) back it differ = (
   differ_without front back it differ.1,
 )
 
+-- what is behind the first of the rest
+rest_behind : (edges : List ℕ) (place it : ℕ) (back : List ℕ) → place < length edges → drop place edges ≡ it ∷ back → drop (suc place) edges ≡ back
+rest_behind edges place it back within first = ap (drop 1) (sym (drop-cons edges place 0 within) ∙ first)
+
 -- one taken out at the place
 pub record TakesOut (edges fewer : List ℕ) (place it : ℕ) (back : List ℕ) : Type 0 where
   pub within : place < length edges
@@ -179,28 +152,20 @@ pub takes_out : (edges fewer : List ℕ) (place it : ℕ) (back : List ℕ) → 
 takes_out edges fewer place it back within first removed =
     let front = take place edges in
     let long : length front ≡ place = length-take-le place edges within in
+    let there : place < length edges = omega (arith, length-drop place edges, ap length first) in
     let parted : edges ≡ front ++ it ∷ back = take_drop edges place ∙ ap (λ (list : List ℕ). front ++ list) first in
-    let is : fewer ≡ front ++ back =
-    removed ∙ ap (λ (list : List ℕ). remove list place) parted ∙ ap (λ (at : ℕ). remove (front ++ it ∷ back) at) (sym long) ∙ remove_behind front back it in
+    let is : fewer ≡ front ++ back = removed ∙ ap (λ (list : List ℕ). front ++ list) (rest_behind edges place it back there first) in
     let parts = parts_at front back place long in
-    let more : 0 < length (drop place edges) = subst (λ (list : List ℕ). 0 < length list) (sym first) (omega arith) in
     record {
-      within = omega (arith, length-drop place edges);
+      within = there;
       front = ap (take place) is ∙ parts.0;
       rest = ap (drop place) is ∙ parts.1;
-      fits = subst (λ (list : List ℕ). place ≤ length list) (sym is) (fits_front front back place long);
+      fits = omega (arith, ap length is, length-append front back);
       among = λ other has. subst (λ (list : List ℕ). Has list other) (sym parted) (among front back it other (subst (λ (list : List ℕ). Has list other) is has));
       differ = λ all. subst (Ordered (λ (one other : ℕ). one ≢ other)) (sym is) (differ_without front back it (subst (Ordered (λ (one other : ℕ). one ≢ other)) parted all));
     }
 
 -- Steps
-
--- what is behind the first of the rest
-rest_behind : (edges : List ℕ) (place it : ℕ) (back : List ℕ) → drop place edges ≡ it ∷ back → drop (suc place) edges ≡ back
-rest_behind [] zero it back same = absurd (cc)
-rest_behind [] (suc place) it back same = absurd (cc)
-rest_behind (first ∷ rest) zero it back same = ap (drop 1) same
-rest_behind (first ∷ rest) (suc place) it back same = rest_behind rest place it back same
 
 -- an edge takes the place of the one that ends
 pub pass_over : (plan : Plan) (key : ℤ) (vertex : Position) (ending beginning place : ℕ) (edges more back : List ℕ) → IsPlan plan → IsSwept plan key edges
@@ -216,30 +181,31 @@ pass_over plan key vertex ending beginning place edges more back is_plan swept e
     ∙ ap (λ (rest : List ℕ). take place edges ++ beginning ∷ rest) out.rest in
     subst (IsSwept plan (key_of vertex)) (sym is)
     (pass_step plan key vertex ending beginning edges (take place edges) back is_plan swept event passes (subst (IsCut plan vertex edges (take place edges)) first cut)
-    below (subst (Head (Tested plan) beginning) (ap (λ (at : ℕ). drop at edges) behind ∙ rest_behind edges place ending back first) above))
+    below (subst (Head (Tested plan) beginning) (ap (λ (at : ℕ). drop at edges) behind ∙ rest_behind edges place ending back out.within first) above))
 
--- two edges begin at the place
-pub begin_over : (plan : Plan) (key : ℤ) (vertex : Position) (lower upper place : ℕ) (edges more most : List ℕ) → IsPlan plan → IsSwept plan key edges → IsEvent plan key vertex lower upper
+-- two edges begin at the place, and what is before it is kept
+begin_over : (plan : Plan) (key : ℤ) (vertex : Position) (lower upper place : ℕ) (edges more most : List ℕ) → IsPlan plan → IsSwept plan key edges → IsEvent plan key vertex lower upper
     → BothBegin plan vertex lower upper → place ≤ length edges → IsCut plan vertex edges (take place edges) (drop place edges) → Tested plan lower upper
     → Joined (Tested plan) (take place edges) (lower ∷ []) → Head (Tested plan) upper (drop place edges) → more ≡ insert edges place upper → most ≡ insert more place lower
-    → IsSwept plan (key_of vertex) most
+    → IsSwept plan (key_of vertex) most × (take place most ≡ take place edges)
 begin_over plan key vertex lower upper place edges more most is_plan swept event begins within cut tested below above one other =
     let front = take place edges in
     let back = drop place edges in
     let long : length front ≡ place = length-take-le place edges within in
-    let first : more ≡ front ++ upper ∷ back = one ∙ insert_between edges place upper within in
     let parts = parts_at front (upper ∷ back) place long in
-    let fits : place ≤ length more = subst (λ (list : List ℕ). place ≤ length list) (sym first) (fits_front front (upper ∷ back) place long) in
     let is : most ≡ front ++ lower ∷ upper ∷ back =
-    other ∙ insert_between more place lower fits ∙ ap (λ (list : List ℕ). take place list ++ lower ∷ drop place list) first
-    ∙ ap (λ (list : List ℕ). list ++ lower ∷ drop place (front ++ upper ∷ back)) parts.0 ∙ ap (λ (list : List ℕ). front ++ lower ∷ list) parts.1 in
-    subst (IsSwept plan (key_of vertex)) (sym is) (begin_step plan key vertex lower upper edges front back is_plan swept event begins cut tested below above)
+    other ∙ ap (λ (list : List ℕ). take place list ++ lower ∷ drop place list) one
+    ∙ ap (λ (list : List ℕ). list ++ lower ∷ drop place (front ++ upper ∷ back)) parts.0 ∙ ap (λ (list : List ℕ). front ++ lower ∷ list) parts.1 in (
+      subst (IsSwept plan (key_of vertex)) (sym is) (begin_step plan key vertex lower upper edges front back is_plan swept event begins cut tested below above),
+      ap (take place) is ∙ (parts_at front (lower ∷ upper ∷ back) place long).0,
+    )
 
 -- two edges begin, in one order or the other
 pub begin_in_order : (plan : Plan) (key : ℤ) (vertex : Position) (first second : ℕ) (pair : ℕ × ℕ) (place : ℕ) (edges more most : List ℕ) → IsPlan plan → IsSwept plan key edges
     → IsEvent plan key vertex first second → (pair ≡ (first, second)) ⊎ (pair ≡ (second, first)) → BothBegin plan vertex pair.0 pair.1 → place ≤ length edges
     → IsCut plan vertex edges (take place edges) (drop place edges) → Tested plan first second × Tested plan second first → Joined (Tested plan) (take place edges) (pair.0 ∷ [])
-    → Head (Tested plan) pair.1 (drop place edges) → more ≡ insert edges place pair.1 → most ≡ insert more place pair.0 → IsSwept plan (key_of vertex) most
+    → Head (Tested plan) pair.1 (drop place edges) → more ≡ insert edges place pair.1 → most ≡ insert more place pair.0
+    → IsSwept plan (key_of vertex) most × (take place most ≡ take place edges)
 begin_in_order plan key vertex first second pair place edges more most is_plan swept event order begins within cut tested below above one other =
     let told : IsEvent plan key vertex pair.0 pair.1 × Tested plan pair.0 pair.1 = elim order [
       | inl forward ↦ subst (λ (it : ℕ × ℕ). IsEvent plan key vertex it.0 it.1 × Tested plan it.0 it.1) (sym forward) (event, tested.0)
@@ -248,16 +214,16 @@ begin_in_order plan key vertex first second pair place edges more most is_plan s
     begin_over plan key vertex pair.0 pair.1 place edges more most is_plan swept told.0 begins within cut told.1 below above one other
 
 -- two edges that end, in the order in which they stand
-pub record EndsInOrder (plan : Plan) (key : ℤ) (vertex : Position) (rest : List ℕ) : Type 0 where
-  pub one : ℕ
-  pub other : ℕ
-  pub back : List ℕ
-  pub first : rest ≡ one ∷ other ∷ back
-  pub event : IsEvent plan key vertex one other
-  pub ends : BothEnd plan vertex one other
+record EndsInOrder (plan : Plan) (key : ℤ) (vertex : Position) (rest : List ℕ) : Type 0 where
+  one : ℕ
+  other : ℕ
+  back : List ℕ
+  first : rest ≡ one ∷ other ∷ back
+  event : IsEvent plan key vertex one other
+  ends : BothEnd plan vertex one other
 
 -- are the first of those that aren't below the vertex
-pub ends_in_order : (plan : Plan) (key : ℤ) (vertex : Position) (first second : ℕ) (edges front rest : List ℕ) → IsPlan plan → IsSwept plan key edges → IsEvent plan key vertex first second
+ends_in_order : (plan : Plan) (key : ℤ) (vertex : Position) (first second : ℕ) (edges front rest : List ℕ) → IsPlan plan → IsSwept plan key edges → IsEvent plan key vertex first second
     → BothEnd plan vertex first second → IsCut plan vertex edges front rest → EndsInOrder plan key vertex rest
 ends_in_order plan key vertex first second edges front rest is_plan swept event ends cut =
     let found = end_found plan key vertex first second edges front rest is_plan swept event ends cut in
@@ -274,27 +240,32 @@ ends_in_order plan key vertex first second edges front rest is_plan swept event 
           }
     ]
 
--- both are taken out
-pub end_over : (plan : Plan) (key : ℤ) (vertex : Position) (place : ℕ) (edges fewer fewest : List ℕ) → IsPlan plan → IsSwept plan key edges
-    → IsCut plan vertex edges (take place edges) (drop place edges) → (pair : EndsInOrder plan key vertex (drop place edges)) → TakesOut edges fewer place pair.one (pair.other ∷ pair.back)
-    → TakesOut fewer fewest place pair.other pair.back → Joined (Tested plan) (take place fewest) (drop place fewest) → IsSwept plan (key_of vertex) fewest
-end_over plan key vertex place edges fewer fewest is_plan swept cut pair out out' joined =
-    let front = out'.front ∙ out.front in
-    let is : fewest ≡ take place edges ++ pair.back = take_drop fewest place ∙ ap (λ (list : List ℕ). list ++ drop place fewest) front ∙ ap (λ (list : List ℕ). take place edges ++ list) out'.rest in
-    subst (IsSwept plan (key_of vertex)) (sym is)
-    (end_step plan key vertex pair.one pair.other edges (take place edges) pair.back is_plan swept pair.event pair.ends (subst (IsCut plan vertex edges (take place edges)) pair.first cut)
-    (subst (Joined (Tested plan) (take place edges)) out'.rest (subst (λ (list : List ℕ). Joined (Tested plan) list (drop place fewest)) front joined)))
+-- both are taken out, one after the other
+pub record AreOut (plan : Plan) (vertex : Position) (place : ℕ) (edges fewer fewest : List ℕ) : Type 0 where
+  pub one_there : place < length edges
+  pub other_there : place < length fewer
+  pub below : before edges place ≡ before fewest place
+  pub known : Each (λ (edge : ℕ). edge < plan.count) fewest
+  pub differ : Ordered (λ (one other : ℕ). one ≢ other) fewest
+  pub over : Joined (Tested plan) (take place fewest) (drop place fewest) → IsSwept plan (key_of vertex) fewest
 
--- what is before the place where one is put in is kept
-kept_once : (edges more : List ℕ) (place it : ℕ) → place ≤ length edges → more ≡ insert edges place it → (take place more ≡ take place edges) × (place ≤ length more)
-kept_once edges more place it within inserted =
-    let front = take place edges in
-    let long : length front ≡ place = length-take-le place edges within in
-    let is : more ≡ front ++ it ∷ drop place edges = inserted ∙ insert_between edges place it within in
-    (ap (take place) is ∙ (parts_at front (it ∷ drop place edges) place long).0, subst (λ (list : List ℕ). place ≤ length list) (sym is) (fits_front front (it ∷ drop place edges) place long))
-
--- also where two are
-pub kept_twice : (edges more most : List ℕ) (place lower upper : ℕ) → place ≤ length edges → more ≡ insert edges place upper → most ≡ insert more place lower → take place most ≡ take place edges
-kept_twice edges more most place lower upper within one other =
-    let first = kept_once edges more place upper within one in
-    (kept_once more most place lower first.1 other).0 ∙ first.0
+-- so the line goes over the vertex, where those that are neighbours then were tested
+pub both_out : (plan : Plan) (key : ℤ) (vertex : Position) (first second place : ℕ) (edges fewer fewest : List ℕ) → IsPlan plan → IsSwept plan key edges
+    → IsEvent plan key vertex first second → BothEnd plan vertex first second → IsCut plan vertex edges (take place edges) (drop place edges) → place ≤ length edges
+    → fewer ≡ remove edges place → fewest ≡ remove fewer place → AreOut plan vertex place edges fewer fewest
+both_out plan key vertex first second place edges fewer fewest is_plan swept event ends cut within one_removed other_removed =
+    let pair = ends_in_order plan key vertex first second edges (take place edges) (drop place edges) is_plan swept event ends cut in
+    let out = takes_out edges fewer place pair.one (pair.other ∷ pair.back) within pair.first one_removed in
+    let next = takes_out fewer fewest place pair.other pair.back out.fits out.rest other_removed in
+    let front = next.front ∙ out.front in
+    let is : fewest ≡ take place edges ++ pair.back = take_drop fewest place ∙ ap (λ (list : List ℕ). list ++ drop place fewest) front ∙ ap (λ (list : List ℕ). take place edges ++ list) next.rest in
+    record {
+      one_there = out.within;
+      other_there = next.within;
+      below = before_kept edges fewest place (sym front);
+      known = each_by_has (λ (edge : ℕ). edge < plan.count) fewest (λ it has. (swept.active it (out.among it (next.among it has))).known);
+      differ = next.differ (out.differ (swept_differ plan key edges is_plan swept));
+      over = λ joined. subst (IsSwept plan (key_of vertex)) (sym is)
+          (end_step plan key vertex pair.one pair.other edges (take place edges) pair.back is_plan swept pair.event pair.ends (subst (IsCut plan vertex edges (take place edges)) pair.first cut)
+          (subst (Joined (Tested plan) (take place edges)) next.rest (subst (λ (list : List ℕ). Joined (Tested plan) list (drop place fewest)) front joined)));
+    }

@@ -4,6 +4,7 @@ pub mod Corners
 pub mod FrontEdges
 pub mod Meeting
 pub mod Nesting
+pub mod Pairs
 pub mod PolygonFault
 pub mod Polygons
 pub mod RingNotes

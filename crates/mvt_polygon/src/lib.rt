@@ -4,6 +4,7 @@
 
 mod meeting;
 mod nesting;
+mod pairs;
 mod polygon;
 mod polygons;
 mod rings;

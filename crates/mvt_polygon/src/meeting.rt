@@ -3,12 +3,15 @@ ghost use Rattle.std.specs.Prelude.{◌≡◌, ◌+◌, ◌*◌, ◌<◌, IfOk, 
 ghost use Rattle.mvt_plane.specs.Meeting.{EdgeNumber, MeetsWrongly};
 ghost use Rattle.mvt_plane.specs.RationalPoint.{RationalPoint};
 ghost use Rattle.mvt_polygon.specs.CornerOrder.{AddsWork};
-ghost use Rattle.mvt_polygon.specs.Corners.{IsNumbered, IsTold, vertex_count};
-ghost use Rattle.mvt_polygon.specs.Meeting.{IsMeetingOf};
+ghost use Rattle.mvt_polygon.specs.Corners.{AreCorners, IsNumbered, IsTold, vertex_count};
+ghost use Rattle.mvt_polygon.specs.Meeting.{IsMeetingOf, NoMeeting};
 ghost use Rattle.mvt_polygon.specs.Rings.{rings_of, AreProperRings};
 ghost use Rattle.mvt_status.specs.Counts.{bits};
 
-use crate::sweep::{Pair, corners_of, meeting_at, numbers_of, one_position, order_of, sweep};
+use crate::pairs::{Pairs, find_pairs, meeting_among};
+use crate::sweep::{
+    Corner, Pair, corners_of, meeting_at, numbers_of, one_position, order_of, sweep,
+};
 use mvt_plane::{Count, Hpoint, Point};
 use mvt_status::{Status, TreeStatus};
 use std::alloc::{AllocError, Global};
@@ -37,7 +40,7 @@ pub struct Meeting {
 /// Each ring is to have three vertices or more, none at the position of the next one. `count` counts the
 /// work: of n vertices at most 3 * n tests of two edges, n * (2 * bits(n) + 2) comparisons of an edge with a vertex and
 /// n * 20 * bits(n) nodes of the status that are visited, where bits(n) is the number of n's binary digits; none of its
-/// numbers falls. The only error is that memory was refused.
+/// numbers falls. Of few edges all pairs are looked at; others are swept over. The only error is that memory was refused.
 pub fn find_meeting(
     alloc: Global,
     rings: &[Vec<Point>],
@@ -48,10 +51,15 @@ pub fn find_meeting(
     ensures some { IfOk result (λ found. IfSome found (IsMeetingOf (rings_of rings.now))) }
     ensures counted { let vertices = vertex_count (rings_of rings.now) in AddsWork (3 * vertices) (vertices * (2 * bits vertices + 2)) (vertices * (20 * bits vertices)) count.old count.new }
 {
-    find_meeting_with(alloc, rings, &mut TreeStatus::new(alloc), count)
+    let corners = corners_of(alloc, rings)?;
+    let mut pairs = Pairs::new();
+    if find_pairs(&corners, &mut pairs) {
+        return Ok(told(rings, meeting_among(&corners, &pairs, count)));
+    }
+    meeting_by_sweep(alloc, rings, &corners, &mut TreeStatus::new(alloc), count)
 }
 
-/// The same over a status of the caller's, which is empty at the call. A status that was refused memory counts as a
+/// The same by a sweep, also of few edges, over a status of the caller's, which is empty at the call. A status that was refused memory counts as a
 /// refusal of memory.
 pub fn find_meeting_with<S: Status>(
     alloc: Global,
@@ -66,12 +74,30 @@ pub fn find_meeting_with<S: Status>(
     ensures counted { let vertices = vertex_count (rings_of rings.now) in AddsWork (3 * vertices) (vertices * (2 * bits vertices + 2)) (vertices * (20 * bits vertices)) count.old count.new }
 {
     let corners = corners_of(alloc, rings)?;
-    let order = order_of(alloc, &corners)?;
-    if let Some((first, second)) = one_position(&corners, &order) {
-        return Ok(told(rings, meeting_at(&corners, first, second, count)));
+    meeting_by_sweep(alloc, rings, &corners, status, count)
+}
+
+/// The same, where the corners of the rings are at hand.
+fn meeting_by_sweep<S: Status>(
+    alloc: Global,
+    rings: &[Vec<Point>],
+    corners: &[Corner],
+    status: &mut S,
+    count: &mut Count,
+) -> Result<Option<Meeting>, AllocError>
+    requires rings { AreProperRings (rings_of rings.now) }
+    requires corners { AreCorners (rings_of rings.now) corners.now }
+    requires empty { S.edges status.old ≡ [] }
+    ensures none { IfOk result (λ found. IfNone found (NoMeeting (rings_of rings.now))) }
+    ensures some { IfOk result (λ found. IfSome found (IsMeetingOf (rings_of rings.now))) }
+    ensures counted { let vertices = vertex_count (rings_of rings.now) in AddsWork (3 * vertices) (vertices * (2 * bits vertices + 2)) (vertices * (20 * bits vertices)) count.old count.new }
+{
+    let order = order_of(alloc, corners)?;
+    if let Some((first, second)) = one_position(corners, &order) {
+        return Ok(told(rings, meeting_at(corners, first, second, count)));
     }
     let order = numbers_of(alloc, order)?;
-    let found = sweep(&corners, &order, status, count)?;
+    let found = sweep(corners, &order, status, count)?;
     Ok(told(rings, found))
 }
 

@@ -16,7 +16,7 @@ mod rings;
 mod step;
 
 use crate::sweep::step::{Step, go_over};
-pub(crate) use corners::{Corner, Pair, corners_of, meeting_at};
+pub(crate) use corners::{Corner, Pair, corners_of, edge_at, meeting_at, next_of};
 use mvt_plane::Count;
 use mvt_status::Status;
 pub(crate) use notes::nothing_noted;

@@ -5,7 +5,7 @@ ghost use Rattle.mvt_polygon.specs.Rings.{rings_of, AreProperRings};
 
 use super::{Meeting, find_meeting, find_meeting_with};
 use mvt_plane::{Count, Edge, Point};
-use mvt_status::VecStatus;
+use mvt_status::{TreeStatus, VecStatus};
 use std::alloc::{AllocError, Global};
 use std::process::Abort;
 
@@ -88,33 +88,52 @@ fn vertices_of(rings: &[Vec<Point>]) -> usize {
     vertices
 }
 
-/// The meeting that is found in rings, and what was counted: over a tree, and over a vector of the caller's, which
-/// gives the same meeting.
-fn meeting_in(
-    rt: &impl Abort,
-    alloc: Global,
-    rings: &[Vec<Point>],
-) -> Result<(Option<Meeting>, Count, Count), AllocError>
+/// What is found in rings, and what was counted.
+#[derive(Drop)]
+struct Findings {
+    /// By `find_meeting`, which looks at all pairs of few edges.
+    found: Option<Meeting>,
+    /// By the sweep, over a tree and over a vector alike.
+    swept: Option<Meeting>,
+    /// By `find_meeting`.
+    count: Count,
+    /// By the sweep over a vector.
+    in_vector: Count,
+}
+
+/// The meetings that are found in rings. Where the sweep finds one, `find_meeting` does, and neither makes more tests than
+/// three for each vertex.
+fn meeting_in(rt: &impl Abort, alloc: Global, rings: &[Vec<Point>]) -> Result<Findings, AllocError>
     requires { AreProperRings (rings_of rings.now) }
 {
     let mut count = Count::new();
     let found = find_meeting(alloc, rings, &mut count)?;
-    let mut other = Count::new();
-    let again = find_meeting_with(alloc, rings, &mut VecStatus::new(alloc), &mut other)?;
-    let same = found == again && count.tests() == other.tests();
+    let mut in_tree = Count::new();
+    let swept = find_meeting_with(alloc, rings, &mut TreeStatus::new(alloc), &mut in_tree)?;
+    let mut in_vector = Count::new();
+    let again = find_meeting_with(alloc, rings, &mut VecStatus::new(alloc), &mut in_vector)?;
+    let same = swept == again && in_tree.tests() == in_vector.tests();
     assert!(rt; same, "{rings:?}");
-    let tests = count.tests();
-    let most = vertices_of(rings).saturating_mul(3);
-    assert!(rt; tests <= most as u64, "{rings:?}");
-    Ok((found, count, other))
+    assert_eq!(rt; found.is_some(), swept.is_some(), "{rings:?}");
+    let most = vertices_of(rings).saturating_mul(3) as u64;
+    assert!(rt;
+        count.tests() <= most && in_tree.tests() <= most,
+        "{rings:?}"
+    );
+    Ok(Findings {
+        found,
+        swept,
+        count,
+        in_vector,
+    })
 }
 
 /// The same in rings through these coordinates.
-fn counted_at(
+fn findings_at(
     rt: &impl Abort,
     alloc: Global,
     coordinates: &[&[(i32, i32)]],
-) -> Result<(Option<Meeting>, Count, Count), AllocError> {
+) -> Result<Findings, AllocError> {
     let rings = rings_at(rt, alloc, coordinates)?;
     assert!(rt; are_drawn(&rings), "{rings:?}");
     meeting_in(rt, alloc, &rings)
@@ -122,11 +141,31 @@ fn counted_at(
 
 /// The meeting that is found in rings through these coordinates.
 fn meeting_at(rt: &impl Abort, alloc: Global, coordinates: &[&[(i32, i32)]]) -> Option<Meeting> {
-    let (found, _, _) = counted_at(rt, alloc, coordinates).expect(rt, "memory");
-    found
+    findings_at(rt, alloc, coordinates)
+        .expect(rt, "memory")
+        .found
 }
 
-/// That one of these pairs of edges is found, each by ring and edge, with this point.
+/// That a meeting is one of these pairs of edges, each by ring and edge, with this point.
+fn expect_one_of(
+    rt: &impl Abort,
+    found: Option<Meeting>,
+    pairs: &[((usize, usize), (usize, usize))],
+    point: (i128, i128, i128),
+) {
+    match found {
+        Some(meeting) => {
+            let Meeting { point: at, .. } = meeting;
+            let first = (meeting.first_ring, meeting.first_edge);
+            let second = (meeting.second_ring, meeting.second_edge);
+            assert!(rt; pairs.contains(&(first, second)), "{meeting:?}");
+            assert_eq!(rt; (at.x(), at.y(), at.w()), point, "{meeting:?}");
+        }
+        None => assert!(rt; false, "nothing found"),
+    }
+}
+
+/// That one of these pairs of edges is found, with and without the sweep.
 fn expect_meeting(
     rt: &impl Abort,
     alloc: Global,
@@ -134,16 +173,9 @@ fn expect_meeting(
     pairs: &[((usize, usize), (usize, usize))],
     point: (i128, i128, i128),
 ) {
-    match meeting_at(rt, alloc, coordinates) {
-        Some(meeting) => {
-            let Meeting { point: at, .. } = meeting;
-            let first = (meeting.first_ring, meeting.first_edge);
-            let second = (meeting.second_ring, meeting.second_edge);
-            assert!(rt; pairs.contains(&(first, second)), "{meeting:?}");
-            assert_eq!(rt; (at.x(), at.y(), at.w()), point, "{coordinates:?}");
-        }
-        None => assert!(rt; false, "nothing found in {coordinates:?}"),
-    }
+    let findings = findings_at(rt, alloc, coordinates).expect(rt, "memory");
+    expect_one_of(rt, findings.found, pairs, point);
+    expect_one_of(rt, findings.swept, pairs, point);
 }
 
 // The polygon of Mapbox Vector Tile Specification 2.1, section 4.3.5.5.
@@ -286,20 +318,30 @@ fn two_combs(rt: HostRuntime) {
 fn work_of_two_combs(rt: HostRuntime) {
     let alloc = rt.alloc();
     let ring = combs(alloc, 40, (80, 20)).expect(&rt, "memory");
-    let (found, count, other) = counted_at(&rt, alloc, &[&ring]).expect(&rt, "memory");
+    let Findings {
+        found,
+        count,
+        in_vector,
+        ..
+    } = findings_at(&rt, alloc, &[&ring]).expect(&rt, "memory");
     assert_eq!(&rt; found, None);
     assert!(&rt; (1..=948).contains(&count.tests()), "{count:?}");
     assert!(&rt; (1..=6320).contains(&count.probes()), "{count:?}");
     assert!(&rt; (1..=56880).contains(&count.visits()), "{count:?}");
-    assert!(&rt; (1..=6320).contains(&other.probes()), "{other:?}");
-    assert_eq!(&rt; other.visits(), 0);
+    assert!(&rt; (1..=6320).contains(&in_vector.probes()), "{in_vector:?}");
+    assert_eq!(&rt; in_vector.visits(), 0);
 }
 
 // No edges, so no work.
 #[test]
 fn no_rings(rt: HostRuntime) {
-    let (found, count, other) = counted_at(&rt, rt.alloc(), &[]).expect(&rt, "memory");
+    let Findings {
+        found,
+        count,
+        in_vector,
+        ..
+    } = findings_at(&rt, rt.alloc(), &[]).expect(&rt, "memory");
     assert_eq!(&rt; found, None);
     assert_eq!(&rt; (count.tests(), count.probes()), (0, 0));
-    assert_eq!(&rt; (other.tests(), other.probes()), (0, 0));
+    assert_eq!(&rt; (in_vector.tests(), in_vector.probes()), (0, 0));
 }

@@ -33,7 +33,13 @@ fn fault_in(
 ) -> Result<Option<PolygonFault>, AllocError> {
     assert!(rt; are_drawn(rings), "{rings:?}");
     let fault = check_polygon(alloc, rings, &mut Count::new())?;
-    assert_eq!(rt; fault, told_by_both(alloc, rings)?, "{rings:?}");
+    let told = told_by_both(alloc, rings)?;
+    // (of several meetings each may find another one)
+    let same = match (fault, told) {
+        (Some(PolygonFault::Meeting(_)), Some(PolygonFault::Meeting(_))) => true,
+        _ => fault == told,
+    };
+    assert!(rt; same, "{rings:?}");
     Ok(fault)
 }
 

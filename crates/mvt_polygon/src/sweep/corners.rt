@@ -172,7 +172,7 @@ fn meeting_in_order(
 
 /// The edge that begins in the corner of this number.
 #[inline]
-fn edge_at(corners: &[Corner], number: usize) -> Edge
+pub(crate) fn edge_at(corners: &[Corner], number: usize) -> Edge
     requires linked { AreLinked corners.now }
     requires known { number < length corners.now }
     ensures { result ≡ edge_at corners.now number }

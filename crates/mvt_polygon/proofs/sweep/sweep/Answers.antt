@@ -4,15 +4,16 @@ use Rattle.mvt_status.specs.Counts.{bits}
 use Rattle.mvt_polygon.specs.CornerOrder.{with_keys}
 use Rattle.mvt_polygon.specs.Corners.{position_at}
 use Rattle.mvt_polygon.proofs.CornerSweeps.{swept_to_first, next_corner, swept_to_next, swept_to_last}
-use Rattle.mvt_polygon.proofs.MeetingsFound.{no_step, another_step, so_many_steps}
+use Rattle.mvt_polygon.proofs.MeetingsFound.{another_step, so_many_steps}
 use Rattle.mvt_polygon.proofs.NumbersInOrder.{number_there, with_keys_size}
+use Rattle.mvt_polygon.proofs.StatusCounts.{no_work}
 use Rattle.mvt_polygon.proofs.StepsEntered.{step_over}
 use Rattle.mvt_polygon.proofs.sweep.sweep.Goals as goal
 
 pub loop-at-init : goal.loop-at-init
 loop-at-init g c = record {
   swept = swept_to_first c.args.corners.now (with_keys c.args.corners.now c.args.order.now) (g.S.Status.edges c.args.status.now) c.requires.linked c.requires.in_range c.requires.order c.requires.empty;
-  counted = no_step (2 * bits (length c.args.corners.now) + 2) (12 * bits (length c.args.corners.now)) c.args.count.now;
+  counted = no_work c.args.count.now;
 }
 
 pub go_over-requires-clause-number : goal.go_over-requires-clause-number

@@ -1,7 +1,7 @@
-//! Meetings in generated rings: the sweep finds one where a test of all pairs of edges does.
+//! Meetings in generated rings: one is found, with and without the sweep, where a test of all pairs of edges finds one.
 ghost use Rattle.mvt_polygon.specs.Rings.{rings_of, AreProperRings};
 
-use super::{Meeting, are_drawn, edge_of, meeting_in, next_round};
+use super::{Findings, Meeting, are_drawn, edge_of, meeting_in, next_round};
 use mvt_plane::{Count, Edge, Hpoint, Point, common};
 use std::alloc::{AllocError, Global};
 use std::process::Abort;
@@ -148,24 +148,20 @@ fn is_one_of(meeting: &Meeting, edges: &[Placed]) -> bool {
     first < second && point_at(edges, first, second) == Some(meeting.point)
 }
 
-/// Holds the sweep of drawn rings against the test of all pairs. Answers whether edges of them meet wrongly.
+/// Holds what is found in drawn rings against the test of all pairs. Answers whether edges of them meet wrongly.
 fn compare(rt: &impl Abort, alloc: Global, rings: &[Vec<Point>]) -> Result<bool, AllocError>
     requires { AreProperRings (rings_of rings.now) }
 {
     let edges = all_edges(alloc, rings)?;
-    let (found, _, _) = meeting_in(rt, alloc, rings)?;
-    match found {
-        Some(meeting) => {
-            let right = is_one_of(&meeting, &edges);
-            assert!(rt; right, "{rings:?}");
-            Ok(true)
-        }
-        None => {
-            let right = !any_meet(&edges);
-            assert!(rt; right, "{rings:?}");
-            Ok(false)
-        }
+    let Findings { found, swept, .. } = meeting_in(rt, alloc, rings)?;
+    for meeting in [found, swept] {
+        let right = match meeting {
+            Some(meeting) => is_one_of(&meeting, &edges),
+            None => !any_meet(&edges),
+        };
+        assert!(rt; right, "{rings:?}");
     }
+    Ok(found.is_some())
 }
 
 /// How many of 400 sets of rings in a square of this width are drawn with a meeting, and without one.

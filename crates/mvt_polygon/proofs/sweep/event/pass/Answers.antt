@@ -1,11 +1,41 @@
-use Rattle.std.proofs.Common.{◌≢◌, ◌<◌, ℕ, refl, take, drop, length, remove, arith}
-use Rattle.mvt_polygon.specs.Corners.{plan_of, position_at}
+use Rattle.std.proofs.Common.{◌≡◌, ◌≢◌, ◌<◌, ◌≤◌, ℕ, List, ◌∷◌, ap, take, drop, length, arith}
+use Rattle.std.proofs.lemmas.List.{length-drop}
+use Rattle.mvt_polygon.specs.CornerOrder.{AddsStep, IsNextCorner}
+use Rattle.mvt_polygon.specs.Corners.{AreInRange, AreLinked, plan_of, position_at}
+use Rattle.mvt_polygon.specs.Sweep.{IsCut, PassesOn}
+use Rattle.mvt_polygon.specs.declared.sweep.corners.Corner.{Corner}
 use Rattle.mvt_polygon.proofs.CornerPlans.{plan_of_corners}
-use Rattle.mvt_polygon.proofs.StatusCounts.{few_swept, work_then, work_within, work_of_both}
-use Rattle.mvt_polygon.proofs.StatusPlaces.{takes_out, all_known, others_known, each_before, tested_before, pass_over}
+use Rattle.mvt_polygon.proofs.StatusCounts.{few_swept, work_then, work_within, work_of_edits}
+use Rattle.mvt_polygon.proofs.StatusPlaces.{all_known, others_known, each_before, tested_before, pass_over}
 use Rattle.mvt_polygon.proofs.SweepSlabs.{split}
 use Rattle.mvt_polygon.proofs.SweepSteps.{pass_found}
+use Rattle.mvt_polygon.proofs.sweep.event.pass.Given as given
 use Rattle.mvt_polygon.proofs.sweep.event.pass.Goals as goal
+use Rattle.mvt_polygon.proofs.sweep.event.pass.Goals.{After-replace}
+
+-- the edge that ends is at the place
+found : {corners : List Corner} {number ending beginning place : ℕ} {edges : List ℕ} → AreLinked corners → AreInRange corners → IsNextCorner corners number ending beginning edges
+    → PassesOn (plan_of corners) (position_at corners number) ending beginning → IsCut (plan_of corners) (position_at corners number) edges (take place edges) (drop place edges)
+    → place ≤ length edges → (back : List ℕ) × (drop place edges ≡ ending ∷ back)
+found {corners = corners} {number = number} linked in_range next passes cut within =
+    pass_found (plan_of corners) next.key (position_at corners number) _ _ _ _ _ (plan_of_corners corners linked in_range) next.swept next.event passes cut
+
+-- so there is one
+there : {corners : List Corner} {number ending beginning place : ℕ} {edges : List ℕ} → AreLinked corners → AreInRange corners → IsNextCorner corners number ending beginning edges
+    → PassesOn (plan_of corners) (position_at corners number) ending beginning → IsCut (plan_of corners) (position_at corners number) edges (take place edges) (drop place edges)
+    → place ≤ length edges → place < length edges
+there {place = place} {edges = edges} linked in_range next passes cut within =
+    omega (arith, length-drop place edges, ap length (found linked in_range next passes cut within).1)
+
+-- the work of all
+work : (g : given.Over) (c : After-replace g) → AddsStep 2 (length c.args.corners.now) c.args.count.now c.replace.new.count
+work g c =
+    let edges = g.S.Status.edges c.args.status.now in
+    let corners = length c.args.corners.now in
+    let few = few_swept (plan_of c.args.corners.now) c.requires.next.key edges (plan_of_corners c.args.corners.now c.requires.linked c.requires.in_range) c.requires.next.swept in
+    let tested = work_then c.meeting_with.ensures.counted c.meeting_above.ensures.counted in
+    work_within (omega arith) (omega arith) (omega arith)
+    (work_then c.place_of-place.ensures.counted (work_then tested (work_of_edits 4 (length edges) corners few c.replace.ensures.counted)))
 
 pub place_of-place-requires-clause-known : goal.place_of-place-requires-clause-known
 place_of-place-requires-clause-known g c = all_known (plan_of c.args.corners.now) c.requires.next.key (g.S.Status.edges c.args.status.now) c.requires.next.swept
@@ -21,12 +51,7 @@ place_of-place-requires-clause-cut g c =
     (plan_of_corners c.args.corners.now c.requires.linked c.requires.in_range) c.requires.next.swept c.requires.next.event
 
 pub replace-requires : goal.replace-requires
-replace-requires g c =
-    let edges = g.S.Status.edges c.args.status.now in
-    let place = c.place_of-place.result.point in
-    let found = pass_found (plan_of c.args.corners.now) c.requires.next.key (position_at c.args.corners.now c.args.number) c.args.ending c.args.beginning edges (take place edges) (drop place edges)
-    (plan_of_corners c.args.corners.now c.requires.linked c.requires.in_range) c.requires.next.swept c.requires.next.event c.requires.passes c.place_of-place.ensures.cut in
-    (takes_out edges (remove edges place) place c.args.ending found.0 c.place_of-place.ensures.within found.1 refl).within
+replace-requires g c = there c.requires.linked c.requires.in_range c.requires.next c.requires.passes c.place_of-place.ensures.cut c.place_of-place.ensures.within
 
 pub meeting_with-requires-clause-known : goal.meeting_with-requires-clause-known
 meeting_with-requires-clause-known g c =
@@ -37,13 +62,7 @@ meeting_with-requires-clause-known g c =
     c.place_of-place.ensures.beside.front
 
 pub meeting_above-requires-clause-place : goal.meeting_above-requires-clause-place
-meeting_above-requires-clause-place g c =
-    let edges = g.S.Status.edges c.args.status.now in
-    let place = c.place_of-place.result.point in
-    let found = pass_found (plan_of c.args.corners.now) c.requires.next.key (position_at c.args.corners.now c.args.number) c.args.ending c.args.beginning edges (take place edges) (drop place edges)
-    (plan_of_corners c.args.corners.now c.requires.linked c.requires.in_range) c.requires.next.swept c.requires.next.event c.requires.passes c.place_of-place.ensures.cut in
-    let within = (takes_out edges (remove edges place) place c.args.ending found.0 c.place_of-place.ensures.within found.1 refl).within in
-    omega (arith, within)
+meeting_above-requires-clause-place g c = omega (arith, there c.requires.linked c.requires.in_range c.requires.next c.requires.passes c.place_of-place.ensures.cut c.place_of-place.ensures.within)
 
 pub meeting_above-requires-clause-few : goal.meeting_above-requires-clause-few
 meeting_above-requires-clause-few g c =
@@ -60,41 +79,21 @@ pub returns-clause-none : goal.returns-clause-none
 returns-clause-none g c =
     let edges = g.S.Status.edges c.args.status.now in
     let place = c.place_of-place.result.point in
-    let is_plan = plan_of_corners c.args.corners.now c.requires.linked c.requires.in_range in
-    let found = pass_found (plan_of c.args.corners.now) c.requires.next.key (position_at c.args.corners.now c.args.number) c.args.ending c.args.beginning edges (take place edges) (drop place edges)
-    is_plan c.requires.next.swept c.requires.next.event c.requires.passes c.place_of-place.ensures.cut in
+    let ends = found c.requires.linked c.requires.in_range c.requires.next c.requires.passes c.place_of-place.ensures.cut c.place_of-place.ensures.within in
     pass_over (plan_of c.args.corners.now) c.requires.next.key (position_at c.args.corners.now c.args.number) c.args.ending c.args.beginning place edges
-    (g.S.Status.edges c.replace.new.self) found.0 is_plan c.requires.next.swept c.requires.next.event c.requires.passes c.place_of-place.ensures.within c.place_of-place.ensures.cut found.1
+    (g.S.Status.edges c.replace.new.self) ends.0 (plan_of_corners c.args.corners.now c.requires.linked c.requires.in_range) c.requires.next.swept c.requires.next.event c.requires.passes
+    c.place_of-place.ensures.within c.place_of-place.ensures.cut ends.1
     (tested_before (plan_of c.args.corners.now) edges place c.args.beginning c.place_of-place.result.front c.place_of-place.ensures.within c.place_of-place.ensures.beside.front c.in_default.ensures.none)
     c.in_default-meeting_above.ensures.none c.in_ok-replace.ensures.list
 
 pub returns-in_err-replace-clause-counted : goal.returns-in_err-replace-clause-counted
-returns-in_err-replace-clause-counted g c =
-    let edges = g.S.Status.edges c.args.status.now in
-    let corners = length c.args.corners.now in
-    let is_plan = plan_of_corners c.args.corners.now c.requires.linked c.requires.in_range in
-    let few = few_swept (plan_of c.args.corners.now) c.requires.next.key edges is_plan c.requires.next.swept in
-    let tested = work_then c.meeting_with.ensures.counted c.meeting_above.ensures.counted in
-    work_within (omega arith) (omega arith) (omega arith)
-    (work_then c.place_of-place.ensures.counted (work_then tested (work_of_both (length edges) corners few c.replace.ensures.counted)))
+returns-in_err-replace-clause-counted g c = work g (goal.at.returns-in_err-replace-clause-counted g c).After-replace
 
 pub returns-clause-counted : goal.returns-clause-counted
-returns-clause-counted g c =
-    let edges = g.S.Status.edges c.args.status.now in
-    let corners = length c.args.corners.now in
-    let is_plan = plan_of_corners c.args.corners.now c.requires.linked c.requires.in_range in
-    let few = few_swept (plan_of c.args.corners.now) c.requires.next.key edges is_plan c.requires.next.swept in
-    let tested = work_then c.meeting_with.ensures.counted c.meeting_above.ensures.counted in
-    work_within (omega arith) (omega arith) (omega arith)
-    (work_then c.place_of-place.ensures.counted (work_then tested (work_of_both (length edges) corners few c.replace.ensures.counted)))
+returns-clause-counted g c = work g (goal.at.returns-clause-counted g c).After-replace
 
 pub prove-unreachable-requires : goal.prove-unreachable-requires
 prove-unreachable-requires g c =
-    let edges = g.S.Status.edges c.args.status.now in
-    let place = c.place_of-place.result.point in
-    let is_plan = plan_of_corners c.args.corners.now c.requires.linked c.requires.in_range in
-    let few = few_swept (plan_of c.args.corners.now) c.requires.next.key edges is_plan c.requires.next.swept in
-    let found = pass_found (plan_of c.args.corners.now) c.requires.next.key (position_at c.args.corners.now c.args.number) c.args.ending c.args.beginning edges (take place edges) (drop place edges)
-    is_plan c.requires.next.swept c.requires.next.event c.requires.passes c.place_of-place.ensures.cut in
-    let within = (takes_out edges (remove edges place) place c.args.ending found.0 c.place_of-place.ensures.within found.1 refl).within in
-    omega (arith, c.if-prove.true, few, within)
+    let few = few_swept (plan_of c.args.corners.now) c.requires.next.key (g.S.Status.edges c.args.status.now) (plan_of_corners c.args.corners.now c.requires.linked c.requires.in_range)
+    c.requires.next.swept in
+    omega (arith, c.if-prove.true, few, there c.requires.linked c.requires.in_range c.requires.next c.requires.passes c.place_of-place.ensures.cut c.place_of-place.ensures.within)

@@ -2,7 +2,7 @@ use Rattle.std.proofs.Common.{length, arith}
 use Rattle.mvt_polygon.specs.Corners.{plan_of}
 use Rattle.mvt_polygon.specs.Sweep.{Tested}
 use Rattle.mvt_polygon.proofs.MeetingsTold.{none_map}
-use Rattle.mvt_polygon.proofs.StatusCounts.{work_then, work_within, work_of_place}
+use Rattle.mvt_polygon.proofs.StatusCounts.{work_then, work_within, work_of_edits}
 use Rattle.mvt_polygon.proofs.StatusPlaces.{head_at}
 use Rattle.mvt_polygon.proofs.sweep.neighbors.meeting_above.Goals as goal
 
@@ -15,4 +15,4 @@ returns-clause-none g c =
 pub returns-clause-counted : goal.returns-clause-counted
 returns-clause-counted g c =
     work_within (omega arith) (omega arith) (omega arith)
-    (work_then (work_of_place (length (g.S.Status.edges c.args.status.now)) (length c.args.corners.now) c.requires.few c.get-above.ensures.counted) c.meeting_at.ensures.counted)
+    (work_then (work_of_edits 2 (length (g.S.Status.edges c.args.status.now)) (length c.args.corners.now) c.requires.few c.get-above.ensures.counted) c.meeting_at.ensures.counted)

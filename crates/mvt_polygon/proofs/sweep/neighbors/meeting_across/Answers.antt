@@ -2,8 +2,8 @@ use Rattle.std.proofs.Common.{◌<◌, ℕ, drop, length, sym, arith, ◌∙◌,
 use Rattle.mvt_polygon.specs.Corners.{plan_of}
 use Rattle.mvt_polygon.specs.Sweep.{Tested}
 use Rattle.mvt_polygon.proofs.MeetingsTold.{none_map}
-use Rattle.mvt_polygon.proofs.StatusCounts.{work_then, work_within, work_of_place}
-use Rattle.mvt_polygon.proofs.StatusPlaces.{head_at, joined_at, joined_end, each_before, front_at, apart_at}
+use Rattle.mvt_polygon.proofs.StatusCounts.{work_then, work_within, work_of_edits}
+use Rattle.mvt_polygon.proofs.StatusPlaces.{head_at, joined_before_place, joined_end, each_before, apart_at}
 use Rattle.mvt_polygon.proofs.sweep.neighbors.meeting_across.Goals as goal
 
 pub returns-then-place-len-clause-none : goal.returns-then-place-len-clause-none
@@ -15,23 +15,19 @@ meeting_at-requires-clause-one g c =
     (sym c.in_ok-below.was ∙ c.requires.below)
 
 pub meeting_at-requires-clause-differ : goal.meeting_at-requires-clause-differ
-meeting_at-requires-clause-differ g c =
-    let edges = g.S.Status.edges c.args.status.now in
-    let front = front_at edges c.args.place c.in_ok-below.below c.requires.place (sym c.in_ok-below.was ∙ c.requires.below) in
-    let apart = apart_at edges c.args.place front.0 (omega arith) c.requires.differ in
-    λ same. apart (sym front.1 ∙ same ∙ c.get-above.ensures.value)
+meeting_at-requires-clause-differ g c = λ same.
+    apart_at (g.S.Status.edges c.args.status.now) c.args.place c.in_ok-below.below (sym c.in_ok-below.was ∙ c.requires.below) (omega arith) c.requires.differ (same ∙ c.get-above.ensures.value)
 
 pub returns-clause-none : goal.returns-clause-none
 returns-clause-none g c =
     let edges = g.S.Status.edges c.args.status.now in
     let tested = Tested (plan_of c.args.corners.now) in
-    let front = front_at edges c.args.place c.in_ok-below.below c.requires.place (sym c.in_ok-below.was ∙ c.requires.below) in
     none_map c.meeting_at.result
-    (λ both. joined_at tested edges (drop c.args.place edges) c.args.place c.in_ok-below.below front.0 c.requires.place front.1
+    (λ both. joined_before_place tested edges (drop c.args.place edges) c.args.place (Some c.in_ok-below.below) c.requires.place (sym c.in_ok-below.was ∙ c.requires.below)
     (head_at tested edges c.args.place c.in_ok-below.below c.get-above.result (omega arith) c.get-above.ensures.value both.0))
     c.meeting_at.ensures.none
 
 pub returns-clause-counted : goal.returns-clause-counted
 returns-clause-counted g c =
     work_within (omega arith) (omega arith) (omega arith)
-    (work_then (work_of_place (length (g.S.Status.edges c.args.status.now)) (length c.args.corners.now) c.requires.few c.get-above.ensures.counted) c.meeting_at.ensures.counted)
+    (work_then (work_of_edits 2 (length (g.S.Status.edges c.args.status.now)) (length c.args.corners.now) c.requires.few c.get-above.ensures.counted) c.meeting_at.ensures.counted)

@@ -7,9 +7,10 @@ use Rattle.mvt_polygon.specs.Corners.{position_at}
 use Rattle.mvt_polygon.specs.Rings.{rings_of}
 use Rattle.mvt_polygon.specs.Steps.{IsStep}
 use Rattle.mvt_polygon.proofs.CornerSweeps.{next_corner}
-use Rattle.mvt_polygon.proofs.MeetingsFound.{no_step, another_step, so_many_steps}
+use Rattle.mvt_polygon.proofs.MeetingsFound.{another_step, so_many_steps}
 use Rattle.mvt_polygon.proofs.NumbersInOrder.{number_there, with_keys_size}
 use Rattle.mvt_polygon.proofs.RingsSwept.{AreRingsSwept, rings_to_first, rings_to_begun, rings_to_entered, rings_below, rings_to_last, work_noted, work_gone}
+use Rattle.mvt_polygon.proofs.StatusCounts.{no_work}
 use Rattle.mvt_polygon.proofs.sweep.rings.sweep_rings.Goals as goal
 use Rattle.mvt_polygon.proofs.sweep.rings.sweep_rings.Goals.{in-Begins, in-Goes}
 
@@ -17,7 +18,7 @@ pub loop-at-init : goal.loop-at-init
 loop-at-init g c = record {
   swept = rings_to_first (rings_of c.args.rings.now) c.args.corners.now (with_keys c.args.corners.now c.args.order.now) (g.S.Status.edges c.args.status.now) c.args.notes.now c.requires.corners c.requires.linked
       c.requires.in_range c.requires.order c.requires.empty c.requires.nothing;
-  counted = no_step (2 * bits (length c.args.corners.now) + 2) (14 * bits (length c.args.corners.now)) c.args.count.now;
+  counted = no_work c.args.count.now;
 }
 
 pub go_over-requires-clause-number : goal.go_over-requires-clause-number

@@ -1,0 +1,23 @@
+-- Two edges that begin in one corner: how many the status has then, and the work of it.
+use Rattle.std.proofs.Common.{◌≤◌, ℕ, suc, ◌+◌, ◌*◌, List, insert, length, ℤ, arith}
+use Rattle.std.proofs.lemmas.List.Edits.{length-insert}
+use Rattle.mvt_plane.specs.Counted.{Counted}
+use Rattle.mvt_polygon.specs.CornerOrder.{AddsWork}
+use Rattle.mvt_polygon.specs.Sweep.{Plan, IsPlan, IsSwept}
+use Rattle.mvt_polygon.proofs.StatusCounts.{few_swept, work_then, work_within, work_of_edits}
+use Rattle.mvt_status.specs.Counts.{AddsAtMost, bits}
+
+-- with the first of two edges in it the status still has no more edges than there are: both fit
+pub few_between : (plan : Plan) (key : ℤ) (place lower upper : ℕ) (edges : List ℕ) → IsPlan plan → place ≤ length edges → IsSwept plan key (insert (insert edges place upper) place lower)
+    → suc (length edges) ≤ plan.count
+few_between plan key place lower upper edges is_plan within swept =
+    let most = few_swept plan key (insert (insert edges place upper) place lower) is_plan swept in
+    let longer = length-insert edges place upper within in
+    omega (arith, length-insert (insert edges place upper) place lower (omega arith))
+
+-- the work of all: a test, two comparisons' worth of a turn and a place, two tests beside it, and two edges put in
+pub work_of_begin : (edges corners : ℕ) (start tested ordered placed under over done : Counted) → suc edges ≤ corners → AddsWork 1 0 0 start tested → AddsWork 0 1 0 tested ordered
+    → AddsWork 0 (2 * bits corners) (6 * bits corners) ordered placed → AddsWork 1 0 0 placed under → AddsWork 1 0 0 under over
+    → AddsAtMost 0 (6 * bits (suc edges)) over done → AddsWork 3 (2 * bits corners + 2) (12 * bits corners) start done
+work_of_begin edges corners start tested ordered placed under over done few one two three four five six =
+    work_within (omega arith) (omega arith) (omega arith) (work_then one (work_then two (work_then three (work_then four (work_then five (work_of_edits 6 (suc edges) corners few six))))))

@@ -1,0 +1,6 @@
+use Rattle.mvt_polygon.specs.Pairs.{AreEnough}
+use Rattle.mvt_polygon.proofs.pairs.add_pairs.Given as goal
+
+-- the edge was held against those so far
+abbrev pub invariant-loop-first : goal.invariant-loop-first
+invariant-loop-first l = AreEnough l.corners l.pairs.items l.second l.first

@@ -1,0 +1,122 @@
+//! Few edges: of all their pairs those are found that may meet, and only these are tested. It takes no memory, and no
+//! order of the vertices.
+ghost use Rattle.std.specs.Prelude.{◌≡◌, ◌<◌, IfNone, IfSome, IsTrue, false, [], length};
+ghost use Rattle.mvt_polygon.specs.CornerOrder.{AddsWork};
+ghost use Rattle.mvt_polygon.specs.Corners.{AreLinked, IsMeetingAt, NoneWrong, plan_of};
+ghost use Rattle.mvt_polygon.specs.Pairs.{AreBoxesApart, AreEnough, AreEnoughForAll, AreLess};
+ghost use Rattle.mvt_polygon.specs.Sweep.{Tested};
+
+use crate::sweep::{Corner, Pair, edge_at, meeting_at, next_of};
+use arrayvec::ArrayVec;
+use mvt_plane::{Count, Edge, orient};
+
+/// The most edges of which all pairs are looked at. A sweep over so few takes longer.
+const MOST_EDGES: usize = 16;
+
+/// Three pairs for each of so many edges.
+const MOST_PAIRS: usize = 48;
+
+/// Pairs of edges by their numbers, the lesser one first.
+pub(crate) type Pairs = ArrayVec<(usize, usize), MOST_PAIRS>;
+
+/// Finds the pairs of edges that may meet wrongly, and answers whether these are all. It gives up where the edges are
+/// many, or such pairs more than three times as many as the edges.
+pub(crate) fn find_pairs(corners: &[Corner], pairs: &mut Pairs) -> bool
+    requires linked { AreLinked corners.now }
+    requires empty { pairs.old.items ≡ [] }
+    ensures { IsTrue result → AreEnoughForAll corners.now pairs.new.items }
+{
+    if corners.len() > MOST_EDGES {
+        return false;
+    }
+    for second in 0..corners.len() {
+        if !add_pairs(corners, second, pairs) {
+            return false;
+        }
+    }
+    true
+}
+
+/// Adds the pairs of an edge with those of lesser numbers that it may meet wrongly, and answers whether there was room.
+fn add_pairs(corners: &[Corner], second: usize, pairs: &mut Pairs) -> bool
+    requires linked { AreLinked corners.now }
+    requires few { length corners.now < 17 }
+    requires known { second < length corners.now }
+    requires before { AreEnough corners.now pairs.old.items second 0 }
+    ensures { IsTrue result → AreEnough corners.now pairs.new.items second second }
+{
+    for first in 0..second {
+        if may_meet(corners, first, second) {
+            if pairs.len() >= 3 * corners.len() {
+                return false;
+            }
+            pairs.push((first, second));
+        }
+    }
+    true
+}
+
+/// Whether two edges may meet wrongly: neighbours in a ring where they lie along one line, others where the boxes
+/// around them overlap.
+#[inline]
+fn may_meet(corners: &[Corner], first: usize, second: usize) -> bool
+    requires linked { AreLinked corners.now }
+    requires first { first < length corners.now }
+    requires second { second < length corners.now }
+    ensures { result ≡ false → Tested (plan_of corners.now) first second }
+{
+    let one = edge_at(corners, first);
+    let other = edge_at(corners, second);
+    if next_of(corners, first) == second {
+        orient(one.a, one.b, other.b) == 0
+    } else if next_of(corners, second) == first {
+        orient(other.a, other.b, one.b) == 0
+    } else {
+        !boxes_apart(&one, &other)
+    }
+}
+
+/// Whether the boxes around two edges have nothing in common.
+#[inline]
+fn boxes_apart(one: &Edge, other: &Edge) -> bool
+    ensures { IsTrue result → AreBoxesApart one.now other.now }
+{
+    is_left(one, other) || is_left(other, one) || is_under(one, other) || is_under(other, one)
+}
+
+/// Whether all x of one edge are less than all of another.
+#[inline]
+fn is_left(one: &Edge, other: &Edge) -> bool
+    ensures { IsTrue result → AreLess one.now.a.x one.now.b.x other.now.a.x other.now.b.x }
+{
+    one.a.x().max(one.b.x()) < other.a.x().min(other.b.x())
+}
+
+/// Whether all y of one edge are less than all of another.
+#[inline]
+fn is_under(one: &Edge, other: &Edge) -> bool
+    ensures { IsTrue result → AreLess one.now.a.y one.now.b.y other.now.a.y other.now.b.y }
+{
+    one.a.y().max(one.b.y()) < other.a.y().min(other.b.y())
+}
+
+/// The first wrong meeting of edges of which these pairs are to be tested.
+pub(crate) fn meeting_among(
+    corners: &[Corner],
+    pairs: &[(usize, usize)],
+    count: &mut Count,
+) -> Option<Pair>
+    requires linked { AreLinked corners.now }
+    requires pairs { AreEnoughForAll corners.now pairs.now }
+    ensures none { IfNone result (NoneWrong corners.now) }
+    ensures some { IfSome result (IsMeetingAt corners.now) }
+    ensures counted { AddsWork (length pairs.now) 0 0 count.old count.new }
+{
+    for at in 0..pairs.len() {
+        let (first, second) = pairs[at];
+        if let Some(pair) = meeting_at(corners, first, second, count) {
+            return Some(pair);
+        }
+    }
+    None
+}
