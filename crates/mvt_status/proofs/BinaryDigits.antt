@@ -6,7 +6,7 @@ use Rattle.std.proofs.Math.Nat.{pow-suc}
 use Rattle.mvt_status.specs.Counts.{bits}
 
 -- a power of two below another has the lesser exponent
-lesser_exponent : (digits other : ℕ) → 2 ^ digits < 2 ^ other → suc digits ≤ other
+pub lesser_exponent : (digits other : ℕ) → 2 ^ digits < 2 ^ other → suc digits ≤ other
 lesser_exponent zero zero below = omega arith
 lesser_exponent zero (suc other) below = omega arith
 lesser_exponent (suc digits) zero below = absurd (omega (arith, pow-suc 2 digits, pow_pos digits))

@@ -1,24 +1,24 @@
 -- How high a side of a node can be, for as many edges as it has.
-use Rattle.std.proofs.Common.{◌≡◌, ℕ, zero, suc, max, ◌+◌, ◌*◌, ◌^◌, ◌<◌, ◌≤◌, inl, inr, Box, Global, List, length, length-append, ◌∷◌, ◌++◌, ◌∙◌, sym, Option, Some, None, IfSome, refl, ap, subst, arith}
+use Rattle.std.proofs.Common.{◌≡◌, ℕ, zero, suc, max, ◌+◌, ◌*◌, ◌^◌, ◌<◌, ◌≤◌, inl, inr, Box, Global, List, length, append-nil, [], ◌∷◌, ◌++◌, ◌∙◌, ◌-◌, sym, Option, Some, None, IfSome, refl, ap, subst, arith}
 use Rattle.std.proofs.lemmas.Bool.{cases_lt}
 use Rattle.std.proofs.Math.Nat.{pow-suc}
 use Rattle.mvt_plane.specs.Counted.{Counted}
 use Rattle.mvt_status.specs.Counts.{AddsAtMost, bits}
 use Rattle.mvt_status.specs.Tree.{DifferByAtMost, IsNode, edges_of, fewest, height_of}
-use Rattle.mvt_status.proofs.BinaryDigits.{within_digits}
+use Rattle.mvt_status.proofs.BinaryDigits.{least_digits, lesser_exponent, no_more_digits, within_digits}
 
 at_least_one : (height : ℕ) → 1 ≤ fewest height
 unfolding fewest
 at_least_one zero = omega arith
 at_least_one (suc zero) = omega arith
-at_least_one (suc (suc height)) = omega (arith, at_least_one height)
+at_least_one (suc (suc height)) = omega (arith, at_least_one (suc height))
 
 -- what is a level higher has no fewer edges
 no_fewer : (height : ℕ) → fewest height ≤ fewest (suc height)
 unfolding fewest
 no_fewer zero = omega arith
 no_fewer (suc zero) = omega arith
-no_fewer (suc (suc height)) = omega (arith, no_fewer height)
+no_fewer (suc (suc height)) = omega (arith, no_fewer (suc height))
 
 -- a node over a side and one that is as high or a level lower
 over_both : (low high : ℕ) → low ≤ high → high ≤ low + 1 → fewest (suc high) ≤ fewest low + fewest high
@@ -28,10 +28,10 @@ over_both low (suc high) no_higher near =
     elim (cases_lt low (suc high)) [
       | inl lower ↦
           (let same : high ≡ low = omega arith in
-          subst (λ (level : ℕ). 2 * fewest high ≤ fewest level + fewest (suc high)) same (omega (arith, no_fewer high)))
+          subst (λ (level : ℕ). fewest (suc high) + fewest high ≤ fewest level + fewest (suc high)) same (omega (arith, no_fewer high)))
       | inr as_high ↦
           (let same : suc high ≡ low = omega arith in
-          subst (λ (level : ℕ). 2 * fewest high ≤ fewest level + fewest (suc high)) same (omega (arith, no_fewer high)))
+          subst (λ (level : ℕ). fewest (suc high) + fewest high ≤ fewest level + fewest (suc high)) same (omega (arith, no_fewer high)))
     ]
 
 -- a node over two sides of nearly one height has enough edges for its own
@@ -51,11 +51,11 @@ unfolding fewest
 at_most_twice zero digits filled = omega arith
 at_most_twice (suc zero) zero filled = absurd (omega arith)
 at_most_twice (suc zero) (suc digits) filled = omega arith
-at_most_twice (suc (suc height)) zero filled = absurd (omega (arith, at_least_one height))
-at_most_twice (suc (suc height)) (suc digits) filled = omega (arith, at_most_twice height digits (omega (arith, pow-suc 2 digits)))
+at_most_twice (suc (suc height)) zero filled = absurd (omega (arith, at_least_one height, at_least_one (suc height)))
+at_most_twice (suc (suc height)) (suc digits) filled = omega (arith, at_most_twice height digits (omega (arith, no_fewer height, pow-suc 2 digits)))
 
 -- no more levels than twice the binary digits of the number of edges
-height_by_digits : (height edges : ℕ) → fewest height ≤ suc edges → height ≤ 2 * bits edges
+pub height_by_digits : (height edges : ℕ) → fewest height ≤ suc edges → height ≤ 2 * bits edges
 height_by_digits height edges filled = at_most_twice height (bits edges) (omega (arith, within_digits edges))
 
 -- edges that a word can count are on at most 128 levels
@@ -73,17 +73,58 @@ visits_by_digits height edges all before after same added filled = record {
   visits_added = omega (arith, added.visits_added, height_by_digits height (length all) (omega (arith, filled, ap length same)));
 }
 
--- and so with a probe for each level
-pub probes_by_digits : (height : ℕ) (edges all : List ℕ) (before after : Counted) → edges ≡ all → AddsAtMost height height before after → fewest height ≤ suc (length edges)
+-- and so with the probes of a search
+pub split_by_digits : (height : ℕ) (edges all : List ℕ) (before after : Counted) → edges ≡ all → AddsAtMost (2 * bits (length edges)) height before after → fewest height ≤ suc (length edges)
     → AddsAtMost (2 * bits (length all)) (2 * bits (length all)) before after
-probes_by_digits height edges all before after same added filled =
-    let within = height_by_digits height (length all) (omega (arith, filled, ap length same)) in
+split_by_digits height edges all before after same added filled = record {
+  tests = added.tests;
+  no_fewer_probes = added.no_fewer_probes;
+  probes_added = subst (λ (list : List ℕ). after.probes ≤ before.probes + 2 * bits (length list)) same added.probes_added;
+  no_fewer_visits = added.no_fewer_visits;
+  visits_added = omega (arith, added.visits_added, height_by_digits height (length all) (omega (arith, filled, ap length same)));
+}
+
+-- three more than the levels are no more than two for each digit, from five levels on
+three_more : (height digits : ℕ) → fewest (suc (suc (suc (suc (suc height))))) ≤ 2 ^ digits → height + 8 ≤ 2 * digits
+unfolding fewest
+three_more zero digits filled = omega (arith, lesser_exponent 3 digits (omega (arith, filled)))
+three_more (suc zero) digits filled = omega (arith, lesser_exponent 4 digits (omega (arith, filled)))
+three_more (suc (suc height)) zero filled = absurd (omega (arith, filled, at_least_one (suc (suc (suc (suc (suc height))))), at_least_one (suc (suc (suc (suc (suc (suc height))))))))
+three_more (suc (suc height)) (suc digits) filled =
+    omega (arith, three_more height digits (omega (arith, filled, no_fewer (suc (suc (suc (suc (suc height))))), pow-suc 2 digits)))
+
+-- a probe for each level, and a search by halves among the edges of one node but its first
+pub probes_by_digits : (height own edges : ℕ) → 0 < height → 0 < own → own ≤ 8 → fewest height + own ≤ edges + 2 → height + bits (own - 1) ≤ 2 * bits edges
+unfolding fewest
+probes_by_digits zero own edges some filled few within = absurd (omega (arith, some))
+probes_by_digits (suc zero) own edges some filled few within =
+    omega (arith, no_more_digits (own - 1) edges (omega arith), lesser_exponent 0 (bits edges) (omega (arith, within_digits edges)))
+probes_by_digits (suc (suc zero)) own edges some filled few within =
+    omega (arith, no_more_digits (own - 1) edges (omega arith), lesser_exponent 1 (bits edges) (omega (arith, within_digits edges)))
+probes_by_digits (suc (suc (suc zero))) own edges some filled few within =
+    omega (arith, no_more_digits (own - 1) edges (omega arith), lesser_exponent 2 (bits edges) (omega (arith, within_digits edges)))
+probes_by_digits (suc (suc (suc (suc zero)))) own edges some filled few within =
+    elim (cases_lt own 2) [
+      | inl one ↦
+          (let none : bits (own - 1) ≤ 0 = least_digits (own - 1) 0 (omega arith) in
+          omega (arith, none, lesser_exponent 2 (bits edges) (omega (arith, within_digits edges))))
+      | inr more ↦ omega (arith, no_more_digits (own - 1) edges (omega arith), lesser_exponent 3 (bits edges) (omega (arith, within_digits edges)))
+    ]
+probes_by_digits (suc (suc (suc (suc (suc height))))) own edges some filled few within =
+    let most : bits (own - 1) ≤ 3 = least_digits (own - 1) 3 (omega arith) in
+    omega (arith, most, three_more height (bits edges) (omega (arith, within, within_digits edges)))
+
+-- what a search counts that went down some of the levels, and then by halves among the edges of one node but its first
+pub found_in_node : {levels : ℕ} {start before after : Counted} (part height own edges : ℕ) → AddsAtMost levels levels start before → AddsAtMost (bits (own - 1)) 0 before after → levels + part ≤ height
+    → 0 < height → 0 < own → own ≤ 8 → fewest height + own ≤ edges + 2 → AddsAtMost (2 * bits edges) height start after
+found_in_node part height own edges down among within high some few filled =
+    let most = probes_by_digits height own edges high some few filled in
     record {
-      tests = added.tests;
-      no_fewer_probes = added.no_fewer_probes;
-      probes_added = omega (arith, added.probes_added, within);
-      no_fewer_visits = added.no_fewer_visits;
-      visits_added = omega (arith, added.visits_added, within);
+      tests = among.tests ∙ down.tests;
+      no_fewer_probes = omega (arith, down.no_fewer_probes, among.no_fewer_probes);
+      probes_added = omega (arith, down.probes_added, among.probes_added, within, most);
+      no_fewer_visits = omega (arith, down.no_fewer_visits, among.no_fewer_visits);
+      visits_added = omega (arith, down.visits_added, among.visits_added, within);
     }
 
 -- a visit and a probe more
@@ -102,20 +143,25 @@ no_level : (side : Option (Box (List ℕ × ℕ) Global)) → IfSome side (λ _.
 no_level None some none = refl
 no_level (Some node) some none = absurd (omega (arith, some))
 
--- a node of one level has one edge
-pub edge_alone : (left right : Option (Box (List ℕ × ℕ) Global)) (edge size height : ℕ) (edges : List ℕ) → edges_of left ++ edge ∷ edges_of right ≡ edges → IsNode left right size height
-    → height ≡ 1 → IfSome left (λ _. 0 < height_of left) → IfSome right (λ _. 0 < height_of right) → length edges ≡ 1
-edge_alone left right edge size height edges same node low left_some right_some =
+-- a node of one level has its own edges alone
+pub own_alone : (left right : Option (Box (List ℕ × ℕ) Global)) (own : List ℕ) (size height : ℕ) (edges : List ℕ) → edges_of left ++ (own ++ edges_of right) ≡ edges → IsNode left own right size height
+    → height ≡ 1 → IfSome left (λ _. 0 < height_of left) → IfSome right (λ _. 0 < height_of right) → own ≡ edges
+own_alone left right own size height edges same node low left_some right_some =
     let left_none = no_level left left_some (omega (arith, node.measured)) in
     let right_none = no_level right right_some (omega (arith, node.measured)) in
-    sym (ap length same) ∙ omega (arith, length-append (edges_of left) (edge ∷ edges_of right), left_none, right_none)
+    sym (append-nil own) ∙ ap (λ (rest : List ℕ). own ++ rest) (sym (no_edge (edges_of right) right_none)) ∙ ap (λ (front : List ℕ). front ++ (own ++ edges_of right)) (sym (no_edge (edges_of left) left_none)) ∙ same
+  where
+    no_edge : (list : List ℕ) → length list ≡ 0 → list ≡ []
+    no_edge [] none = refl
+    no_edge (first ∷ rest) none = absurd (omega (arith, none))
 
 -- a node with nothing on either side
-pub node_alone : (left right : Option (Box (List ℕ × ℕ) Global)) → left ≡ None → right ≡ None → IsNode left right 1 1
+pub node_alone : (left right : Option (Box (List ℕ × ℕ) Global)) (own : List ℕ) → left ≡ None → right ≡ None → 0 < length own → IsNode left own right (length own) 1
 unfolding fewest
-node_alone left right none nothing =
+node_alone left right own none nothing some =
     rw (none, nothing) (record {
-      counted = refl;
+      some = some;
+      counted = omega arith;
       measured = refl;
       near = record {
         first = omega arith;
@@ -124,20 +170,28 @@ node_alone left right none nothing =
       filled = omega arith;
     })
 
--- a node whose sides are as high as before, with an edge less
-pub with_one_less : (left right new_left new_right : Option (Box (List ℕ × ℕ) Global)) (size height new_size new_height : ℕ) → IsNode left right size height
-    → new_size ≡ length (edges_of new_left) + 1 + length (edges_of new_right) → new_height ≡ height
+-- a node over two sides of nearly one height
+pub node_over : (left right : Option (Box (List ℕ × ℕ) Global)) (own : List ℕ) (size height : ℕ) → 0 < length own → size ≡ length (edges_of left) + length own + length (edges_of right)
+    → height ≡ suc (max (height_of left) (height_of right)) → DifferByAtMost 1 (height_of left) (height_of right)
+    → fewest (height_of left) ≤ suc (length (edges_of left)) → fewest (height_of right) ≤ suc (length (edges_of right)) → IsNode left own right size height
+node_over left right own size height some counted measured near left_filled right_filled = record {
+  some = some;
+  counted = counted;
+  measured = measured;
+  near = near;
+  filled = omega (arith, filled_over_both _ _ _ near measured, left_filled, right_filled, counted);
+}
+
+-- a node whose sides are as high as before
+pub as_high_as_before : (left right new_left new_right : Option (Box (List ℕ × ℕ) Global)) (own new_own : List ℕ) (size height new_size new_height : ℕ) → IsNode left own right size height
+    → 0 < length new_own → new_size ≡ length (edges_of new_left) + length new_own + length (edges_of new_right) → new_height ≡ height
     → height_of new_left ≡ height_of left → height_of new_right ≡ height_of right
-    → fewest (height_of new_left) ≤ suc (length (edges_of new_left)) → fewest (height_of new_right) ≤ suc (length (edges_of new_right)) → IsNode new_left new_right new_size new_height
-with_one_less left right new_left new_right size height new_size new_height node counted as_high left_level right_level left_filled right_filled =
-    let near : DifferByAtMost 1 (height_of new_left) (height_of new_right) = record {
+    → fewest (height_of new_left) ≤ suc (length (edges_of new_left)) → fewest (height_of new_right) ≤ suc (length (edges_of new_right)) → IsNode new_left new_own new_right new_size new_height
+as_high_as_before left right new_left new_right own new_own size height new_size new_height node some counted as_high left_level right_level left_filled right_filled =
+    node_over new_left new_right new_own new_size new_height some counted
+    (omega (arith, node.measured, as_high, left_level, right_level))
+    (record {
       first = omega (arith, node.near.first, left_level, right_level);
       second = omega (arith, node.near.second, left_level, right_level);
-    } in
-    let measured : new_height ≡ suc (max (height_of new_left) (height_of new_right)) = omega (arith, node.measured, as_high, left_level, right_level) in
-    record {
-      counted = counted;
-      measured = measured;
-      near = near;
-      filled = omega (arith, filled_over_both _ _ _ near measured, left_filled, right_filled, counted);
-    }
+    })
+    left_filled right_filled

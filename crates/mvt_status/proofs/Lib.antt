@@ -1,7 +1,8 @@
 pub mod BinaryDigits
 pub mod Halves
 pub mod Heights
+pub mod Insertions
 pub mod ListEdits
 pub mod NodeSplits
-pub mod Sides
+pub mod Removals
 pub mod SplitPoints

@@ -1,122 +1,12 @@
--- The split of a node's edges, from the answer of the test on its own edge and the split of one side.
-use Rattle.std.proofs.Common.{◌≡◌, ℕ, zero, suc, Option, Some, None, Box, Global, get_or, slice_get, unwrap_or, refl, ◌+◌, ◌-◌, ◌<◌, ◌≤◌, Bool, true, false, true≢false, All, inl, inr, List, [], ◌∷◌, ◌++◌, length, length-append, slice_index, ap, sym, subst, ◌∙◌, arith}
+-- The split of the edges of a tree, which is found in one of its nodes.
+use Rattle.std.proofs.Common.{◌≡◌, ℕ, zero, suc, Option, Some, None, refl, ◌+◌, ◌-◌, ◌<◌, ◌≤◌, Bool, true, false, true≢false, All, Bor, IfSome, inl, inr, List, [], ◌∷◌, ◌++◌, append_assoc, drop, take, length, length-append, get_or, slice_get, slice_index, ap, sym, subst, ◌∙◌, arith}
 use Rattle.std.proofs.lemmas.Bool.{cases_lt}
-use Rattle.std.proofs.lemmas.Option.{slice_get-get_or, unwrap_or-slice_get}
+use Rattle.std.proofs.lemmas.Option.{slice_get-get_or}
 use Rattle.std.proofs.lemmas.List.{get_or_append_left, get_or-append-add}
-use Rattle.std.proofs.Math.Seq.{get_or-append_seam}
-use Rattle.std.specs.Option.{option_or}
 use Rattle.mvt_status.specs.Split.{AreBeside, IsSplit, before}
-use Rattle.mvt_status.specs.Tree.{edges_of}
-use Rattle.mvt_status.specs.declared.status.Split.{Split}
 
--- what is true of all edges of a node is true of its own
-pub of_middle : (P : ℕ → Type 0) (left right edges : List ℕ) (edge : ℕ) → left ++ edge ∷ right ≡ edges → All P edges → P edge
-of_middle P left right edges edge same all =
-    let here = subst (All P) (sym same) all (length left) edge (omega (arith, length-append left (edge ∷ right))) in
-    subst P (get_or-append_seam left edge right edge) here
+-- Places in a list that is put together of others
 
--- and of each on its left
-pub of_left : (P : ℕ → Type 0) (left right edges : List ℕ) (edge : ℕ) → left ++ edge ∷ right ≡ edges → All P edges → All P left
-of_left P left right edges edge same all = λ i default within.
-    let here = subst (All P) (sym same) all i default (omega (arith, length-append left (edge ∷ right))) in
-    subst P (get_or_append_left left (edge ∷ right) default i within) here
-
--- and of each on its right
-pub of_right : (P : ℕ → Type 0) (left right edges : List ℕ) (edge : ℕ) → left ++ edge ∷ right ≡ edges → All P edges → All P right
-of_right P left right edges edge same all = λ i default within.
-    let here = subst (All P) (sym same) all (length left + suc i) default (omega (arith, length-append left (edge ∷ right))) in
-    subst P (get_or-append-add left (edge ∷ right) (suc i) default) here
-
--- the edge of a node, among all its edges
-middle : (left right edges : List ℕ) (edge : ℕ) → left ++ edge ∷ right ≡ edges → edge ≡ slice_index edges (length left)
-middle left right edges edge same = sym (get_or-append_seam left edge right 0) ∙ ap (λ all. slice_index all (length left)) same
-
-on_left : (left right edges : List ℕ) (edge i : ℕ) → left ++ edge ∷ right ≡ edges → i < length left → slice_index left i ≡ slice_index edges i
-on_left left right edges edge i same within = sym (get_or_append_left left (edge ∷ right) 0 i within) ∙ ap (λ all. slice_index all i) same
-
-on_right : (left right edges : List ℕ) (edge i : ℕ) → left ++ edge ∷ right ≡ edges → slice_index right i ≡ slice_index edges (length left + suc i)
-on_right left right edges edge i same = sym (get_or-append-add left (edge ∷ right) (suc i) 0) ∙ ap (λ all. slice_index all (length left + suc i)) same
-
--- where the test is true, the split is behind the edge
-behind : (answers : ℕ → Bool → Type 0) (left right edges : List ℕ) (edge point : ℕ) → left ++ edge ∷ right ≡ edges → IsSplit answers edges point → answers edge true → length left < point
-behind answers left right edges edge point same split answered =
-    let here = subst (λ (it : ℕ). answers it true) (middle left right edges edge same) answered in
-    elim (cases_lt (length left) point) [
-      | inl further ↦ further
-      | inr no_further ↦ absurd (true≢false (split.rest (length left) no_further (omega (arith, length-append left (edge ∷ right), ap length same)) true here))
-    ]
-
--- where it is false, the split is not
-not_behind : (answers : ℕ → Bool → Type 0) (left right edges : List ℕ) (edge point : ℕ) → left ++ edge ∷ right ≡ edges → IsSplit answers edges point → answers edge false → point ≤ length left
-not_behind answers left right edges edge point same split answered =
-    let here = subst (λ (it : ℕ). answers it false) (middle left right edges edge same) answered in
-    elim (cases_lt (length left) point) [
-      | inl further ↦ absurd (true≢false (sym (split.front (length left) further false here)))
-      | inr no_further ↦ no_further
-    ]
-
--- the split of the right side, where the test is true
-pub on_the_right : (answers : ℕ → Bool → Type 0) (left right edges : List ℕ) (edge : ℕ) (answer : Bool) → left ++ edge ∷ right ≡ edges → answers edge answer → answer ≡ true
-    → (point : ℕ) × IsSplit answers edges point → (point : ℕ) × IsSplit answers right point
-on_the_right answers left right edges edge answer same answered is (point, split) =
-    let further = behind answers left right edges edge point same split (subst (answers edge) is answered) in
-    let counted : length left + suc (length right) ≡ length edges = sym (length-append left (edge ∷ right)) ∙ ap length same in (
-      point - suc (length left),
-      record {
-        within = omega (arith, split.within);
-        front = λ i below answer there. split.front (length left + suc i) (omega arith) answer (subst (λ (it : ℕ). answers it answer) (on_right left right edges edge i same) there);
-        rest = λ i from below answer there. split.rest (length left + suc i) (omega arith) (omega arith) answer (subst (λ (it : ℕ). answers it answer) (on_right left right edges edge i same) there);
-      },
-    )
-
--- the split of the left side, where the test is false
-pub on_the_left : (answers : ℕ → Bool → Type 0) (left right edges : List ℕ) (edge : ℕ) (answer : Bool) → left ++ edge ∷ right ≡ edges → answers edge answer → answer ≡ false
-    → (point : ℕ) × IsSplit answers edges point → (point : ℕ) × IsSplit answers left point
-on_the_left answers left right edges edge answer same answered is (point, split) =
-    let no_further = not_behind answers left right edges edge point same split (subst (answers edge) is answered) in
-    let counted : length left + suc (length right) ≡ length edges = sym (length-append left (edge ∷ right)) ∙ ap length same in (
-      point,
-      record {
-        within = no_further;
-        front = λ i below answer there. split.front i below answer (subst (λ (it : ℕ). answers it answer) (on_left left right edges edge i same (omega arith)) there);
-        rest = λ i from below answer there. split.rest i from (omega arith) answer (subst (λ (it : ℕ). answers it answer) (on_left left right edges edge i same below) there);
-      },
-    )
-
--- with that of the right side there is the split of the node
-pub from_the_right : (answers : ℕ → Bool → Type 0) (left right edges : List ℕ) (edge before point : ℕ) (answer : Bool) → left ++ edge ∷ right ≡ edges → before ≡ length left
-    → answers edge answer → answer ≡ true → (other : ℕ) × IsSplit answers edges other → IsSplit answers right point → IsSplit answers edges (before + 1 + point)
-from_the_right answers left right edges edge before point answer same many answered is (other, split) part =
-    let further = behind answers left right edges edge other same split (subst (answers edge) is answered) in
-    let counted : length left + suc (length right) ≡ length edges = sym (length-append left (edge ∷ right)) ∙ ap length same in
-    let at : (i : ℕ) → before + 1 ≤ i → slice_index right (i - (before + 1)) ≡ slice_index edges i =
-    λ i from. on_right left right edges edge (i - (before + 1)) same ∙ ap (slice_index edges) (omega arith) in
-    record {
-      within = omega (arith, part.within);
-      front = λ i below answer there. elim (cases_lt i (before + 1)) [
-        | inl earlier ↦ split.front i (omega arith) answer there
-        | inr later ↦ part.front (i - (before + 1)) (omega arith) answer (subst (λ (it : ℕ). answers it answer) (sym (at i later)) there)
-      ];
-      rest = λ i from below answer there. part.rest (i - (before + 1)) (omega arith) (omega arith) answer (subst (λ (it : ℕ). answers it answer) (sym (at i (omega arith))) there);
-    }
-
--- with that of the left side there is the split of the node
-pub from_the_left : (answers : ℕ → Bool → Type 0) (left right edges : List ℕ) (edge point : ℕ) (answer : Bool) → left ++ edge ∷ right ≡ edges
-    → answers edge answer → answer ≡ false → (other : ℕ) × IsSplit answers edges other → IsSplit answers left point → IsSplit answers edges point
-from_the_left answers left right edges edge point answer same answered is (other, split) part =
-    let no_further = not_behind answers left right edges edge other same split (subst (answers edge) is answered) in
-    let counted : length left + suc (length right) ≡ length edges = sym (length-append left (edge ∷ right)) ∙ ap length same in
-    record {
-      within = omega (arith, part.within);
-      front = λ i below answer there. part.front i below answer
-          (subst (λ (it : ℕ). answers it answer) (sym (on_left left right edges edge i same (omega (arith, part.within)))) there);
-      rest = λ i from below answer there. elim (cases_lt i (length left)) [
-        | inl earlier ↦ part.rest i from earlier answer (subst (λ (it : ℕ). answers it answer) (sym (on_left left right edges edge i same earlier)) there)
-        | inr later ↦ split.rest i (omega arith) below answer there
-      ];
-    }
-
--- edges of a list behind another, and of one in front of another
 past : (left rest : List ℕ) (i : ℕ) → slice_get (left ++ rest) (length left + i) ≡ slice_get rest i
 past [] rest i = ap (slice_get rest) (omega arith)
 past (edge ∷ left) rest i =
@@ -128,115 +18,260 @@ in_front [] rest i within = absurd (omega arith)
 in_front (edge ∷ left) rest zero within = refl
 in_front (edge ∷ left) rest (suc i) within = in_front left rest i (omega arith)
 
--- the edge in front of a split on the right side, or that of the node
-front_on_the_right : (left right edges : List ℕ) (edge many point : ℕ) → left ++ edge ∷ right ≡ edges → many ≡ length left → point ≤ length right
-    → Some (unwrap_or (before right point) edge) ≡ before edges (many + 1 + point)
-front_on_the_right left right edges edge many zero same counted within =
-    let at : many + 1 + 0 ≡ suc (length left + 0) = omega arith in
-    sym (past left (edge ∷ right) 0) ∙ ap (λ (all : List ℕ). slice_get all (length left + 0)) same ∙ sym (ap (before edges) at)
-front_on_the_right left right edges edge many (suc point) same counted within =
-    let at : many + 1 + suc point ≡ suc (length left + suc point) = omega arith in
-    let some : slice_get right point ≡ Some (get_or right point edge) = slice_get-get_or right point edge (omega arith) in
-    ap Some (unwrap_or-slice_get right point edge) ∙ sym some
-    ∙ sym (past left (edge ∷ right) (suc point)) ∙ ap (λ (all : List ℕ). slice_get all (length left + suc point)) same ∙ sym (ap (before edges) at)
+-- an edge of the list in the middle
+there : (front own back edges : List ℕ) (i : ℕ) → edges ≡ front ++ (own ++ back) → i < length own → slice_index own i ≡ slice_index edges (length front + i)
+there front own back edges i whole within =
+    sym (get_or_append_left own back 0 i within) ∙ sym (get_or-append-add front (own ++ back) i 0) ∙ ap (λ (all : List ℕ). slice_index all (length front + i)) (sym whole)
 
--- the edges beside a split on the right side of a node
-pub beside_on_the_right : (left right edges : List ℕ) (edge many own : ℕ) (split : Split) → left ++ edge ∷ right ≡ edges → many ≡ length left → split.point ≤ length right
-    → AreBeside right split → own ≡ unwrap_or split.front edge → AreBeside edges (record { point = many + 1 + split.point; front = Some own; behind = split.behind })
-beside_on_the_right left right edges edge many own split same counted within beside is = record {
-  front = ap Some (is ∙ ap (λ (front : Option ℕ). unwrap_or front edge) beside.front) ∙ front_on_the_right left right edges edge many split.point same counted within;
-  behind = beside.behind ∙ sym (past left (edge ∷ right) (suc split.point)) ∙ ap (λ (all : List ℕ). slice_get all (length left + suc split.point)) same
-      ∙ ap (slice_get edges) (omega arith);
-}
+-- and so where it is read
+read_there : (front own back edges : List ℕ) (i : ℕ) → edges ≡ front ++ (own ++ back) → i < length own → slice_get edges (length front + i) ≡ Some (slice_index own i)
+read_there front own back edges i whole within =
+    ap (λ (all : List ℕ). slice_get all (length front + i)) whole ∙ past front (own ++ back) i ∙ in_front own back i within ∙ slice_get-get_or own i 0 within
 
--- the edge in front of a split on the left side
-front_on_the_left : (left rest edges : List ℕ) (point : ℕ) → left ++ rest ≡ edges → point ≤ length left → before left point ≡ before edges point
-front_on_the_left left rest edges zero same within = refl
-front_on_the_left left rest edges (suc point) same within = sym (in_front left rest point (omega arith)) ∙ ap (λ (all : List ℕ). slice_get all point) same
+-- the first edge behind the list in the middle
+read_behind : (front own back edges : List ℕ) → edges ≡ front ++ (own ++ back) → slice_get edges (length front + length own) ≡ slice_get back 0
+read_behind front own back edges whole =
+    let at : length own ≡ length own + 0 = omega arith in
+    ap (λ (all : List ℕ). slice_get all (length front + length own)) whole ∙ past front (own ++ back) (length own) ∙ ap (slice_get (own ++ back)) at ∙ past own back 0
 
--- the edge behind it, or that of the node
-behind_on_the_left : (left right : List ℕ) (edge point : ℕ) → point ≤ length left → Some (unwrap_or (slice_get left point) edge) ≡ slice_get (left ++ edge ∷ right) point
-behind_on_the_left [] right edge zero within = refl
-behind_on_the_left [] right edge (suc point) within = absurd (omega arith)
-behind_on_the_left (first ∷ left) right edge zero within = refl
-behind_on_the_left (first ∷ left) right edge (suc point) within = behind_on_the_left left right edge point (omega arith)
+counted : (front own back edges : List ℕ) → edges ≡ front ++ (own ++ back) → length edges ≡ length front + length own + length back
+counted front own back edges whole = omega (arith, ap length whole, length-append front (own ++ back), length-append own back)
 
--- the edges beside a split on the left side of a node
-pub beside_on_the_left : (left right edges : List ℕ) (edge own : ℕ) (split : Split) → left ++ edge ∷ right ≡ edges → split.point ≤ length left
-    → AreBeside left split → own ≡ unwrap_or split.behind edge → AreBeside edges (record { point = split.point; front = split.front; behind = Some own })
-beside_on_the_left left right edges edge own split same within beside is = record {
-  front = beside.front ∙ front_on_the_left left (edge ∷ right) edges split.point same within;
-  behind = ap Some (is ∙ ap (λ (behind : Option ℕ). unwrap_or behind edge) beside.behind) ∙ behind_on_the_left left right edge split.point within
-      ∙ ap (λ (all : List ℕ). slice_get all split.point) same;
-}
+-- The split of a list whose first edge is in front of it
 
--- Splits of a part
+take_all : (list : List ℕ) → take (length list) list ≡ list
+take_all [] = refl
+take_all (first ∷ rest) = ap (λ (back : List ℕ). first ∷ back) (take_all rest)
 
--- the split of a part of all edges, told of all: so many stand in front of the part, and these two beside it
-pub record IsSplitOfPart (answers : ℕ → Bool → Type 0) (edges : List ℕ) (passed : ℕ) (front behind : Option ℕ) (split : Split) : Type 0 where
-  pub own : Split
-  pub splits : IsSplit answers edges own.point
-  pub beside : AreBeside edges own
-  pub point_told : split.point ≡ passed + own.point
-  pub front_told : split.front ≡ option_or own.front front
-  pub behind_told : split.behind ≡ option_or own.behind behind
+whole_rest : (first : ℕ) (rest : List ℕ) → take (length (first ∷ rest) - 1) rest ≡ rest
+whole_rest first rest =
+    let many : length (first ∷ rest) - 1 ≡ length rest = omega arith in
+    ap (λ (number : ℕ). take number rest) many ∙ take_all rest
 
--- what is found in front of a split, or else the edge there, is known
-found_or : (found other : Option ℕ) (edge : ℕ) → option_or found (Some edge) ≡ option_or (Some (unwrap_or found edge)) other
-found_or None other edge = refl
-found_or (Some it) other edge = refl
+-- the split of what is behind the first edge
+pub without_first : (answers : ℕ → Bool → Type 0) (edges : List ℕ) → (point : ℕ) × (0 < point) × IsSplit answers edges point
+    → (point : ℕ) × IsSplit answers (take (length edges - 1) (drop 1 edges)) point
+without_first answers [] (point, some, split) = absurd (omega (arith, split.within, some))
+without_first answers (first ∷ rest) (point, some, split) = (
+  point - 1,
+  subst (λ (list : List ℕ). IsSplit answers list (point - 1)) (sym (whole_rest first rest)) (record {
+    within = omega (arith, split.within);
+    front = λ i below answer is. split.front (suc i) (omega arith) answer is;
+    rest = λ i from below answer is. split.rest (suc i) (omega arith) (omega arith) answer is;
+  }),
+)
 
--- where nothing is left
-pub part_of_none : (answers : ℕ → Bool → Type 0) (side : Option (Box (List ℕ × ℕ) Global)) (passed : ℕ) (front behind : Option ℕ) → side ≡ None
-    → IsSplitOfPart answers (edges_of side) passed front behind (record { point = passed; front = front; behind = behind })
-part_of_none answers side passed front behind none = rw none (record {
-  own = record { point = 0; front = None; behind = None };
-  splits = record { within = omega arith; front = λ i below. absurd (omega (arith, below)); rest = λ i from below. absurd (omega (arith, below)) };
-  beside = record { front = refl; behind = refl };
-  point_told = omega arith;
-  front_told = refl;
-  behind_told = refl;
-})
-
--- with the split of the right side there is that of the node
-pub part_from_the_right : (answers : ℕ → Bool → Type 0) (left right edges : List ℕ) (edge many passed further : ℕ) (answer : Bool) (front behind : Option ℕ) (split : Split)
-    → left ++ edge ∷ right ≡ edges → many ≡ length left → answers edge answer → answer ≡ true → (point : ℕ) × IsSplit answers edges point → further ≡ passed + many + 1
-    → IsSplitOfPart answers right further (Some edge) behind split → IsSplitOfPart answers edges passed front behind split
-part_from_the_right answers left right edges edge many passed further answer front behind split same counted answered is splits so_far part = record {
-  own = record { point = many + 1 + part.own.point; front = Some (unwrap_or part.own.front edge); behind = part.own.behind };
-  splits = from_the_right answers left right edges edge many part.own.point answer same counted answered is splits part.splits;
-  beside = beside_on_the_right left right edges edge many (unwrap_or part.own.front edge) part.own same counted part.splits.within part.beside refl;
-  point_told = omega (arith, part.point_told, so_far);
-  front_told = part.front_told ∙ found_or part.own.front front edge;
-  behind_told = part.behind_told;
-}
-
--- with that of the left side too
-pub part_from_the_left : (answers : ℕ → Bool → Type 0) (left right edges : List ℕ) (edge passed : ℕ) (answer : Bool) (front behind : Option ℕ) (split : Split)
-    → left ++ edge ∷ right ≡ edges → answers edge answer → answer ≡ false → (point : ℕ) × IsSplit answers edges point
-    → IsSplitOfPart answers left passed front (Some edge) split → IsSplitOfPart answers edges passed front behind split
-part_from_the_left answers left right edges edge passed answer front behind split same answered is splits part = record {
-  own = record { point = part.own.point; front = part.own.front; behind = Some (unwrap_or part.own.behind edge) };
-  splits = from_the_left answers left right edges edge part.own.point answer same answered is splits part.splits;
-  beside = beside_on_the_left left right edges edge (unwrap_or part.own.behind edge) part.own same part.splits.within part.beside refl;
-  point_told = part.point_told;
-  front_told = part.front_told;
-  behind_told = part.behind_told ∙ found_or part.own.behind behind edge;
-}
-
--- what is told of a part that is all
-pub split_of_all : (answers : ℕ → Bool → Type 0) (edges : List ℕ) (split : Split) → IsSplitOfPart answers edges 0 None None split → IsSplit answers edges split.point
-split_of_all answers edges split part = let at : part.own.point ≡ split.point = omega (arith, part.point_told) in subst (IsSplit answers edges) at part.splits
-
--- and beside it
-pub beside_of_all : (answers : ℕ → Bool → Type 0) (edges : List ℕ) (split : Split) → IsSplitOfPart answers edges 0 None None split → AreBeside edges split
-beside_of_all answers edges split part =
-    let at : part.own.point ≡ split.point = omega (arith, part.point_told) in
+-- and with that the split of all
+pub with_first : (answers : ℕ → Bool → Type 0) (edges : List ℕ) (further : ℕ) → (point : ℕ) × (0 < point) × IsSplit answers edges point
+    → IsSplit answers (take (length edges - 1) (drop 1 edges)) further → IsSplit answers edges (1 + further)
+with_first answers [] further (point, some, split) part = absurd (omega (arith, split.within, some))
+with_first answers (first ∷ rest) further (point, some, split) part =
+    let behind : IsSplit answers rest further = subst (λ (list : List ℕ). IsSplit answers list further) (whole_rest first rest) part in
     record {
-      front = part.front_told ∙ or_none part.own.front ∙ part.beside.front ∙ ap (before edges) at;
-      behind = part.behind_told ∙ or_none part.own.behind ∙ part.beside.behind ∙ ap (slice_get edges) at;
+      within = omega (arith, behind.within);
+      front = each behind;
+      rest = each_other behind;
     }
   where
-    or_none : (found : Option ℕ) → option_or found None ≡ found
-    or_none None = refl
-    or_none (Some it) = refl
+    each : IsSplit answers rest further → (i : ℕ) → i < 1 + further → (answer : Bool) → answers (slice_index (first ∷ rest) i) answer → answer ≡ true
+    each behind zero below answer is = split.front 0 some answer is
+    each behind (suc i) below answer is = behind.front i (omega arith) answer is
+
+    each_other : IsSplit answers rest further → (i : ℕ) → 1 + further ≤ i → i < length (first ∷ rest) → (answer : Bool) → answers (slice_index (first ∷ rest) i) answer → answer ≡ false
+    each_other behind zero from below answer is = absurd (omega (arith, from))
+    each_other behind (suc i) from below answer is = behind.rest i (omega arith) (omega arith) answer is
+
+-- A search that goes down
+
+-- the edges of the last node, if there is one
+abbrev pub edges_in : Option (Bor (List ℕ)) → List ℕ
+edges_in None = []
+edges_in (Some own) = own.now
+
+-- the edges of the last node whose first edge is in front of the split, the part of the tree where the split is looked
+-- for, how many edges stand in front of that part, and the first edge behind it
+pub record IsSearched (answers : ℕ → Bool → Type 0) (edges own part : List ℕ) (passed : ℕ) (behind : Option ℕ) : Type 0 where
+  pub front : List ℕ
+  pub back : List ℕ
+  pub whole : edges ≡ front ++ (own ++ (part ++ back))
+  pub none : length own ≡ 0 → length front ≡ 0
+  pub passed_is : passed ≡ length front + length own
+  pub behind_is : behind ≡ slice_get back 0
+  pub after : (point : ℕ) → IsSplit answers edges point → 0 < length own → length front < point
+  pub no_further : (point : ℕ) → IsSplit answers edges point → point ≤ passed + length part
+
+-- where there is a last node
+pub searched_in : (answers : ℕ → Bool → Type 0) (edges : List ℕ) (last : Option (Bor (List ℕ))) (own : Bor (List ℕ)) (part : List ℕ) (passed : ℕ) (behind : Option ℕ) → last ≡ Some own
+    → IsSearched answers edges (edges_in last) part passed behind → IsSearched answers edges own.now part passed behind
+searched_in answers edges last own part passed behind is found = subst (λ (list : List ℕ). IsSearched answers edges list part passed behind) (ap edges_in is) found
+
+-- what is true of it
+pub of_last : (P : Bor (List ℕ) → Type 0) (last : Option (Bor (List ℕ))) (own : Bor (List ℕ)) → last ≡ Some own → IfSome last P → P own
+of_last P last own is true_of_last = subst (λ (it : Option (Bor (List ℕ))). IfSome it P) is true_of_last
+
+-- at first the part is all
+pub searched_all : (answers : ℕ → Bool → Type 0) (edges : List ℕ) → IsSearched answers edges [] edges 0 None
+searched_all answers edges = record {
+  front = [];
+  back = [];
+  whole = sym (append_none edges);
+  none = λ nothing. refl;
+  passed_is = refl;
+  behind_is = refl;
+  after = λ point split some. absurd (omega (arith, some));
+  no_further = λ point split. omega (arith, split.within);
+}
+  where
+    append_none : (list : List ℕ) → list ++ [] ≡ list
+    append_none [] = refl
+    append_none (first ∷ rest) = ap (λ (back : List ℕ). first ∷ back) (append_none rest)
+
+-- the part is that of a node, whose first edge is in front of the split
+pub searched_right : (answers : ℕ → Bool → Type 0) (edges own part left middle right : List ℕ) (passed more first : ℕ) (behind : Option ℕ) (answer : Bool)
+    → IsSearched answers edges own part passed behind → left ++ (middle ++ right) ≡ part → 0 < length middle → first ≡ slice_index middle 0
+    → answers first answer → answer ≡ true → more ≡ passed + (length left + length middle) → IsSearched answers edges middle right more behind
+searched_right answers edges own part left middle right passed more first behind answer so_far same some is answered holds sum =
+    let front : List ℕ = so_far.front ++ (own ++ left) in
+    let many : length front ≡ passed + length left = omega (arith, length-append so_far.front (own ++ left), length-append own left, so_far.passed_is) in
+    let whole : edges ≡ front ++ (middle ++ (right ++ so_far.back)) = so_far.whole ∙ rw (sym same) (grind (arith, append_assoc)) in
+    let here : first ≡ slice_index edges (length front + 0) = is ∙ there front middle (right ++ so_far.back) edges 0 whole some in
+    record {
+      front = front;
+      back = so_far.back;
+      whole = whole;
+      none = λ nothing. absurd (omega (arith, some, nothing));
+      passed_is = omega (arith, sum, many);
+      behind_is = so_far.behind_is;
+      after = λ point split more. elim (cases_lt (length front) point) [
+        | inl further ↦ further
+        | inr no_further ↦ absurd (true≢false (sym holds
+            ∙ split.rest (length front + 0) (omega arith) (omega (arith, counted front middle (right ++ so_far.back) edges whole, some)) answer (subst (λ (it : ℕ). answers it answer) here answered)))
+      ];
+      no_further = λ point split. omega (arith, so_far.no_further point split, sum, ap length same, length-append left (middle ++ right), length-append middle right);
+    }
+
+-- or whose first edge is behind it
+pub searched_left : (answers : ℕ → Bool → Type 0) (edges own part left middle right : List ℕ) (passed first : ℕ) (behind : Option ℕ) (answer : Bool)
+    → IsSearched answers edges own part passed behind → left ++ (middle ++ right) ≡ part → 0 < length middle → first ≡ slice_index middle 0
+    → answers first answer → answer ≡ false → IsSearched answers edges own left passed (Some first)
+searched_left answers edges own part left middle right passed first behind answer so_far same some is answered fails =
+    let front : List ℕ = so_far.front ++ (own ++ left) in
+    let many : length front ≡ passed + length left = omega (arith, length-append so_far.front (own ++ left), length-append own left, so_far.passed_is) in
+    let whole : edges ≡ front ++ (middle ++ (right ++ so_far.back)) = so_far.whole ∙ rw (sym same) (grind (arith, append_assoc)) in
+    let here : first ≡ slice_index edges (length front + 0) = is ∙ there front middle (right ++ so_far.back) edges 0 whole some in
+    record {
+      front = so_far.front;
+      back = middle ++ (right ++ so_far.back);
+      whole = whole ∙ append_assoc so_far.front (own ++ left) _ ∙ ap (λ (rest : List ℕ). so_far.front ++ rest) (append_assoc own left _);
+      none = so_far.none;
+      passed_is = so_far.passed_is;
+      behind_is = ap Some is ∙ sym (in_front middle (right ++ so_far.back) 0 some ∙ slice_get-get_or middle 0 0 some);
+      after = so_far.after;
+      no_further = λ point split. elim (cases_lt (length front) point) [
+        | inl further ↦ absurd (true≢false (sym (split.front (length front + 0) (omega arith) answer (subst (λ (it : ℕ). answers it answer) here answered)) ∙ fails))
+        | inr no_further ↦ omega (arith, no_further, many)
+      ];
+    }
+
+-- What the search has found
+
+-- where the part is empty, the split is among the edges of the last node
+pub split_among : (answers : ℕ → Bool → Type 0) (edges own part : List ℕ) (passed : ℕ) (behind : Option ℕ) → IsSearched answers edges own part passed behind → part ≡ []
+    → 0 < length own → (point : ℕ) × IsSplit answers edges point → (point : ℕ) × (0 < point) × IsSplit answers own point
+split_among answers edges own part passed behind found empty some (point, split) =
+    let further = found.after point split some in
+    let within = found.no_further point split in
+    let whole : edges ≡ found.front ++ (own ++ found.back) = found.whole ∙ ap (λ (it : List ℕ). found.front ++ (own ++ (it ++ found.back))) empty in (
+      point - length found.front,
+      omega (arith, further),
+      record {
+        within = omega (arith, within, found.passed_is, ap length empty);
+        front = λ i below answer is. split.front (length found.front + i) (omega (arith, below)) answer
+            (subst (λ (it : ℕ). answers it answer) (there found.front own found.back edges i whole (omega (arith, below, within, found.passed_is, ap length empty))) is);
+        rest = λ i from below answer is. split.rest (length found.front + i) (omega (arith, from)) (omega (arith, below, counted found.front own found.back edges whole)) answer
+            (subst (λ (it : ℕ). answers it answer) (there found.front own found.back edges i whole below) is);
+      },
+    )
+
+-- with it there is the split of all
+pub split_of_all : (answers : ℕ → Bool → Type 0) (edges own part : List ℕ) (passed there_point all_point : ℕ) (behind : Option ℕ) → IsSearched answers edges own part passed behind → part ≡ []
+    → 0 < length own → (point : ℕ) × IsSplit answers edges point → IsSplit answers own there_point → all_point ≡ passed - (length own - there_point) → IsSplit answers edges all_point
+split_of_all answers edges own part passed there_point all_point behind found empty some (point, split) part_split is =
+    let further = found.after point split some in
+    let within = found.no_further point split in
+    let whole : edges ≡ found.front ++ (own ++ found.back) = found.whole ∙ ap (λ (it : List ℕ). found.front ++ (own ++ (it ++ found.back))) empty in
+    let many = counted found.front own found.back edges whole in
+    let at : all_point ≡ length found.front + there_point = omega (arith, is, found.passed_is, part_split.within) in
+    let moved : (i : ℕ) (answer : Bool) → length found.front ≤ i → i < length found.front + length own → answers (slice_index edges i) answer → answers (slice_index own (i - length found.front)) answer =
+    λ i answer from below here. subst (λ (it : ℕ). answers it answer) (ap (slice_index edges) (omega (arith, from)) ∙ sym (there found.front own found.back edges (i - length found.front) whole (omega (arith, from, below)))) here in
+    record {
+      within = omega (arith, at, many, part_split.within);
+      front = λ i below answer here. elim (cases_lt i (length found.front)) [
+        | inl earlier ↦ split.front i (omega (arith, earlier, further)) answer here
+        | inr later ↦ part_split.front (i - length found.front) (omega (arith, at, below, later)) answer (moved i answer later (omega (arith, at, below, part_split.within)) here)
+      ];
+      rest = λ i from below answer here. elim (cases_lt i (length found.front + length own)) [
+        | inl earlier ↦ part_split.rest (i - length found.front) (omega (arith, at, from)) (omega (arith, at, from, earlier)) answer (moved i answer (omega (arith, at, from)) earlier here)
+        | inr later ↦ split.rest i (omega (arith, later, within, found.passed_is, ap length empty)) below answer here
+      ];
+    }
+
+-- the edges beside it, both in the node
+pub beside_in_node : (answers : ℕ → Bool → Type 0) (edges own part : List ℕ) (passed there_point all_point in_front_of next : ℕ) (behind : Option ℕ) → IsSearched answers edges own part passed behind → part ≡ []
+    → 0 < there_point → there_point < length own → all_point ≡ passed - (length own - there_point) → in_front_of ≡ slice_index own (there_point - 1) → next ≡ slice_index own there_point
+    → AreBeside edges (record { point = all_point; front = Some in_front_of; behind = Some next })
+beside_in_node answers edges own part passed there_point all_point in_front_of next behind found empty some within is front_is next_is =
+    let whole : edges ≡ found.front ++ (own ++ found.back) = found.whole ∙ ap (λ (it : List ℕ). found.front ++ (own ++ (it ++ found.back))) empty in
+    let at : suc (length found.front + (there_point - 1)) ≡ all_point = omega (arith, is, found.passed_is, some, within) in
+    let at_next : length found.front + there_point ≡ all_point = omega (arith, is, found.passed_is, within) in
+    record {
+      front = ap Some front_is ∙ sym (read_there found.front own found.back edges (there_point - 1) whole (omega (arith, within))) ∙ ap (before edges) at;
+      behind = ap Some next_is ∙ sym (read_there found.front own found.back edges there_point whole within) ∙ ap (slice_get edges) at_next;
+    }
+
+-- or the last one of the node and what is behind it
+pub beside_node : (answers : ℕ → Bool → Type 0) (edges own part : List ℕ) (passed there_point all_point in_front_of : ℕ) (behind : Option ℕ) → IsSearched answers edges own part passed behind → part ≡ []
+    → 0 < there_point → there_point ≡ length own → all_point ≡ passed - (length own - there_point) → in_front_of ≡ slice_index own (there_point - 1)
+    → AreBeside edges (record { point = all_point; front = Some in_front_of; behind = behind })
+beside_node answers edges own part passed there_point all_point in_front_of behind found empty some last is front_is =
+    let whole : edges ≡ found.front ++ (own ++ found.back) = found.whole ∙ ap (λ (it : List ℕ). found.front ++ (own ++ (it ++ found.back))) empty in
+    let at : suc (length found.front + (there_point - 1)) ≡ all_point = omega (arith, is, found.passed_is, some, last) in
+    let at_next : length found.front + length own ≡ all_point = omega (arith, is, found.passed_is, last) in
+    record {
+      front = ap Some front_is ∙ sym (read_there found.front own found.back edges (there_point - 1) whole (omega (arith, some, last))) ∙ ap (before edges) at;
+      behind = found.behind_is ∙ sym (read_behind found.front own found.back edges whole) ∙ ap (slice_get edges) at_next;
+    }
+
+-- where no edge is in front of the split
+pub none_in_front : (answers : ℕ → Bool → Type 0) (edges own part : List ℕ) (passed : ℕ) (behind : Option ℕ) → IsSearched answers edges own part passed behind → part ≡ [] → own ≡ []
+    → (point : ℕ) × IsSplit answers edges point → IsSplit answers edges 0
+none_in_front answers edges own part passed behind found empty nothing (point, split) =
+    let same : point ≡ 0 = omega (arith, found.no_further point split, found.passed_is, found.none (ap length nothing), ap length nothing, ap length empty) in
+    subst (IsSplit answers edges) same split
+
+-- there is none, and the first edge is behind it
+pub beside_none : (answers : ℕ → Bool → Type 0) (edges own part : List ℕ) (passed : ℕ) (behind : Option ℕ) → IsSearched answers edges own part passed behind → part ≡ [] → own ≡ []
+    → AreBeside edges (record { point = 0; front = None; behind = behind })
+beside_none answers edges own part passed behind found empty nothing =
+    let whole : edges ≡ found.front ++ (own ++ found.back) = found.whole ∙ ap (λ (it : List ℕ). found.front ++ (own ++ (it ++ found.back))) empty in
+    let at : length found.front + length own ≡ 0 = omega (arith, found.none (ap length nothing), ap length nothing) in
+    record {
+      front = refl;
+      behind = found.behind_is ∙ sym (read_behind found.front own found.back edges whole) ∙ ap (slice_get edges) at;
+    }
+
+-- what is true of all edges is true of those of the last node
+pub of_own : (P : ℕ → Type 0) (answers : ℕ → Bool → Type 0) (edges own part : List ℕ) (passed : ℕ) (behind : Option ℕ) → IsSearched answers edges own part passed behind → All P edges → All P own
+of_own P answers edges own part passed behind found all = λ i default within.
+    let here = all (length found.front + i) default (omega (arith, within, counted found.front own (part ++ found.back) edges found.whole)) in
+    subst P (ap (λ (list : List ℕ). get_or list (length found.front + i) default) found.whole
+    ∙ get_or-append-add found.front (own ++ (part ++ found.back)) i default ∙ get_or_append_left own (part ++ found.back) default i within) here
+
+-- and of the first edge of a node
+pub of_first : (P : ℕ → Type 0) (answers : ℕ → Bool → Type 0) (edges own part left middle right : List ℕ) (passed first : ℕ) (behind : Option ℕ) → IsSearched answers edges own part passed behind
+    → left ++ (middle ++ right) ≡ part → 0 < length middle → first ≡ slice_index middle 0 → All P edges → P first
+of_first P answers edges own part left middle right passed first behind so_far same some is all =
+    let front : List ℕ = so_far.front ++ (own ++ left) in
+    let whole : edges ≡ front ++ (middle ++ (right ++ so_far.back)) = so_far.whole ∙ rw (sym same) (grind (arith, append_assoc)) in
+    let here : first ≡ slice_index edges (length front + 0) = is ∙ there front middle (right ++ so_far.back) edges 0 whole some in
+    subst P (sym here) (all (length front + 0) 0 (omega (arith, some, counted front middle (right ++ so_far.back) edges whole)))

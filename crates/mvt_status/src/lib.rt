@@ -4,6 +4,7 @@
 
 pub mod laws;
 mod node;
+mod search;
 mod status;
 #[cfg(test)]
 mod tests;

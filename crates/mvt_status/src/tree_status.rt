@@ -2,10 +2,7 @@ ghost use Rattle.std.specs.Prelude.{◌≡◌, ℕ, suc, ◌*◌, ◌<◌, ◌�
 ghost use Rattle.mvt_status.specs.Counts.{AddsAtMost, bits};
 ghost use Rattle.mvt_status.specs.Split.{AreBeside, IsSplit};
 
-use crate::node::{
-    Side, alone, edge_at, edge_of, insert_into, insert_two_into, remove_from, renamed, replace_in,
-    size, split_of,
-};
+use crate::node::{Side, edge_at, insert_into, provide, remove_from, replace_in, size, split_of};
 use crate::{Split, Status};
 use mvt_plane::Count;
 use std::alloc::{AllocError, Global};
@@ -14,25 +11,25 @@ use std::marker::Model;
 #[cfg(test)]
 mod tests;
 
-/// A status in a height-balanced tree. Each call takes a number of steps that grows with the binary digits of the
-/// number of edges. The node that was taken out last serves the next edge that comes.
+/// A status in a height-balanced tree, whose nodes hold up to eight edges each. Each call takes a number of steps that
+/// grows with the binary digits of the number of edges.
 #[derive(Drop)]
 pub struct TreeStatus {
     root: Side,
-    // The node that was taken out last.
+    // A node for the next edge that finds no room, if there is one.
     spare: Side,
     alloc: Global,
 }
 
 impl Model for TreeStatus {
-    ghost use Rattle.std.specs.Prelude.{ℕ, IfSome, List};
-    ghost use Rattle.mvt_status.specs.Tree.{IsAlone, edges_of};
+    ghost use Rattle.std.specs.Prelude.{ℕ, ◌≤◌, List};
+    ghost use Rattle.mvt_status.specs.Tree.{edges_of, height_of};
 
     ghost Value = { List ℕ };
 
     ghost view = { λ status. edges_of status.root };
 
-    ghost invariant = { λ status. IfSome status.spare IsAlone };
+    ghost invariant = { λ status. height_of status.spare ≤ 1 };
 }
 
 impl TreeStatus {
@@ -71,11 +68,8 @@ impl Status for TreeStatus {
         if self.len() == usize::MAX {
             return Err(AllocError);
         }
-        let node = match self.spare.take() {
-            Some(node) => renamed(node, edge),
-            None => alone(self.alloc, edge)?,
-        };
-        insert_into(&mut self.root, at, node, count);
+        provide(&mut self.spare, self.alloc, edge)?;
+        insert_into(&mut self.root, at, &[edge], &mut self.spare, count);
         Ok(())
     }
 
@@ -93,12 +87,8 @@ impl Status for TreeStatus {
         if self.len() >= usize::MAX - 1 {
             return Err(AllocError);
         }
-        let upper = alone(self.alloc, upper)?;
-        let lower = match self.spare.take() {
-            Some(node) => renamed(node, lower),
-            None => alone(self.alloc, lower)?,
-        };
-        insert_two_into(&mut self.root, at, lower, upper, count);
+        provide(&mut self.spare, self.alloc, lower)?;
+        insert_into(&mut self.root, at, &[lower, upper], &mut self.spare, count);
         Ok(())
     }
 
@@ -108,10 +98,7 @@ impl Status for TreeStatus {
         ensures list { self.new ≡ remove self.old at }
         ensures counted { AddsAtMost 0 (2 * bits (length self.old)) count.old count.new }
     {
-        let out = remove_from(&mut self.root, at, count);
-        let edge = edge_of(&out);
-        self.spare = Some(out);
-        edge
+        remove_from(&mut self.root, at, &mut self.spare, count)
     }
 
     fn replace(&mut self, at: usize, edge: usize, count: &mut Count) -> Result<(), AllocError>

@@ -1,9 +1,9 @@
 ghost use Rattle.std.specs.Prelude.{◌≡◌, ℕ, ◌<◌, ◌≤◌, All, [], if◌then◌else◌, insert, is_ok, length, remove, slice_index};
-ghost use Rattle.mvt_plane.specs.Counted.{ticked};
 ghost use Rattle.mvt_status.specs.Counts.{AddsAtMost, bits};
 ghost use Rattle.mvt_status.specs.Split.{IsSplit};
 
 use crate::Status;
+use crate::search::split_in;
 use mvt_plane::Count;
 use std::alloc::{AllocError, Global};
 use std::marker::Model;
@@ -75,25 +75,6 @@ impl Status for VecStatus {
         ensures split { IsSplit (F.post below.now) self.now result }
         ensures counted { AddsAtMost (bits (length self.now)) 0 count.old count.new }
     {
-        let mut from = 0;
-        let mut to = self.edges.len();
-        'halves: while from < to {
-            let middle = from + (to - from) / 2;
-            tick(count);
-            if below(self.edges[middle]) {
-                from = middle + 1;
-            } else {
-                to = middle;
-            }
-        }
-        from
+        split_in(&self.edges, below, count)
     }
-}
-
-/// Counts a comparison.
-fn tick(count: &mut Count)
-    ensures counted { AddsAtMost 1 0 count.old count.new }
-    ensures probed { count.new.probes ≡ ticked count.old.probes }
-{
-    count.tick_probe();
 }

@@ -1,12 +1,13 @@
 //! What a tree answers without a change: the edge at a place, and where its edges split.
-ghost use Rattle.std.specs.Prelude.{◌≡◌, ℕ, ◌+◌, ◌^◌, ◌<◌, ◌≤◌, suc, All, IfSome, length, slice_index};
+ghost use Rattle.std.specs.Prelude.{◌≡◌, ℕ, ◌+◌, ◌-◌, ◌*◌, ◌<◌, ◌≤◌, ◌==◌, suc, All, if◌then◌else◌, IfSome, length, slice_get, slice_index};
 ghost use Rattle.mvt_plane.specs.Counted.{ticked};
-ghost use Rattle.mvt_status.specs.Counts.{AddsAtMost};
+ghost use Rattle.mvt_status.specs.Counts.{AddsAtMost, bits};
 ghost use Rattle.mvt_status.specs.Split.{AreBeside, IsSplit};
 ghost use Rattle.mvt_status.specs.Tree.{edges_of, fewest, height_of};
 
-use super::{Node, Side, is_filled, probe, size, visit};
+use super::{Node, Side, is_filled, size, visit};
 use crate::Split;
+use crate::search::{probe, split_in};
 use mvt_plane::Count;
 
 /// The edge at a place. Ticks a visit for each node on the way there.
@@ -22,23 +23,26 @@ pub(crate) fn edge_at(side: &Side, at: usize, count: &mut Count) -> usize
     visit(count);
     let before = size(&node.left);
     if at < before {
-        edge_at(&node.left, at, count)
-    } else if at == before {
-        node.edge
+        return edge_at(&node.left, at, count);
+    }
+    let further = at - before;
+    if further < node.own.len() {
+        node.own[further]
     } else {
-        edge_at(&node.right, at - before - 1, count)
+        edge_at(&node.right, further - node.own.len(), count)
     }
 }
 
-/// How many edges of which `below` is true stand at the front, with the edges in front of the split and behind it.
-/// Ticks a visit and a probe for each node on the way there.
+/// How many edges of which `below` is true stand at the front, with the edges in front of the split and behind it. It
+/// goes down by the first edge of each node, and then looks into the last node whose first edge is below. Ticks a visit
+/// and a probe for each node on the way down, and a probe for each edge that it looks at there.
 #[inline]
 pub(crate) fn split_of<F: Fn(usize) -> bool>(side: &Side, below: &F, count: &mut Count) -> Split
     requires callable { All (F.pre below.now) (edges_of side.now) }
     requires splits { (point : ℕ) × IsSplit (F.post below.now) (edges_of side.now) point }
     ensures split { IsSplit (F.post below.now) (edges_of side.now) result.point }
     ensures beside { AreBeside (edges_of side.now) result }
-    ensures counted { AddsAtMost (height_of side.now) (height_of side.now) count.old count.new }
+    ensures counted { AddsAtMost (2 * bits (length (edges_of side.now))) (height_of side.now) count.old count.new }
     ensures visited { IfSome side.now (λ _. ticked count.old.visits ≤ count.new.visits) }
     ensures probed { IfSome side.now (λ _. ticked count.old.probes ≤ count.new.probes) }
     ensures filled { fewest (height_of side.now) ≤ suc (length (edges_of side.now)) }
@@ -48,24 +52,52 @@ pub(crate) fn split_of<F: Fn(usize) -> bool>(side: &Side, below: &F, count: &mut
     size(side);
     let mut part: &Side = side;
     let mut passed: usize = 0;
-    let mut front = None;
+    let mut last: Option<&[usize]> = None;
     let mut behind = None;
     'levels: while let Some(node) = part {
         let node: &Node = node;
+        is_filled(&node.left);
+        is_filled(&node.right);
         visit(count);
         probe(count);
-        if below(node.edge) {
-            passed += size(&node.left) + 1;
-            front = Some(node.edge);
+        let first = node.own[0];
+        if below(first) {
+            passed += size(&node.left) + node.own.len();
+            last = Some(node.own.as_slice());
             part = &node.right;
         } else {
-            behind = Some(node.edge);
+            behind = Some(first);
             part = &node.left;
         }
     }
+    let Some(own) = last else {
+        return Split {
+            point: 0,
+            front: None,
+            behind,
+        };
+    };
+    let point = split_behind_first(own, below, count);
     Split {
-        point: passed,
-        front,
-        behind,
+        point: passed - (own.len() - point),
+        front: Some(own[point - 1]),
+        behind: if point < own.len() {
+            Some(own[point])
+        } else {
+            behind
+        },
     }
+}
+
+/// How many edges stand at the front of a list of which `below` is true, where it is true of the first and false of all
+/// others. Ticks a probe for each edge that it looks at.
+#[inline]
+fn split_behind_first<F: Fn(usize) -> bool>(edges: &[usize], below: &F, count: &mut Count) -> usize
+    requires callable { All (F.pre below.now) edges.now }
+    requires splits { (point : ℕ) × (0 < point) × IsSplit (F.post below.now) edges.now point }
+    ensures split { IsSplit (F.post below.now) edges.now result }
+    ensures some { 0 < result }
+    ensures counted { AddsAtMost (bits (length edges.now - 1)) 0 count.old count.new }
+{
+    1 + split_in(&edges[1..], below, count)
 }

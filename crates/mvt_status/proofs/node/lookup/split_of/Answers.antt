@@ -1,57 +1,146 @@
-use Rattle.std.proofs.Common.{◌≡◌, ◌+◌, ◌∷◌, ◌++◌, ◌∙◌, inr, sym, ap, length, length-append, of_calls, arith}
-use Rattle.mvt_status.specs.Tree.{edges_of, height_of}
-use Rattle.mvt_status.proofs.Heights.{one_more_level}
-use Rattle.mvt_status.proofs.NodeSplits.{of_middle, of_left, of_right, on_the_left, on_the_right, part_of_none, part_from_the_left, part_from_the_right, split_of_all, beside_of_all}
+use Rattle.std.proofs.Common.{◌≡◌, ℕ, ◌+◌, ◌*◌, ◌<◌, ◌≤◌, ◌++◌, ◌∙◌, List, inl, inr, refl, sym, ap, length, length-append, slice_index, of_calls, arith}
+use Rattle.mvt_status.specs.Counts.{bits}
+use Rattle.mvt_status.specs.Tree.{edges_of, fewest, height_of}
+use Rattle.mvt_status.proofs.Heights.{filled_over_both, found_in_node, height_by_digits, one_more_level}
+use Rattle.mvt_status.proofs.NodeSplits.{beside_in_node, beside_node, beside_none, edges_in, none_in_front, of_first, of_last, of_own, searched_all, searched_in, searched_left, searched_right, split_among, split_of_all}
 use Rattle.mvt_status.proofs.node.lookup.split_of.Goals as goal
+
+pub levels-init : goal.levels-init
+levels-init g c = record {
+  searched = searched_all (goal.F-post g c.args.below.now) (edges_of c.args.side.now);
+  some = tt;
+  high = tt;
+  room = omega arith;
+  levels = 0;
+  counted = record { tests = refl; no_fewer_probes = omega arith; probes_added = omega arith; no_fewer_visits = omega arith; visits_added = omega arith };
+  visited = inl refl;
+  probed = inl refl;
+  left = omega arith;
+  filled = omega arith;
+  filled_there = omega (arith, c.is_filled.ensures.filled);
+}
 
 pub below-requires : goal.below-requires
 below-requires g c =
-    let same : edges_of c.node.inside.left ++ c.node.inside.edge ∷ edges_of c.node.inside.right ≡ edges_of c.levels.part.now
+    let same : edges_of c.node.inside.left ++ (c.node.inside.own.items ++ edges_of c.node.inside.right) ≡ edges_of c.levels.part.now
     = ap (λ seen. seen.0) (c.node.view_is ∙ c.deref-node.ensures) ∙ sym (ap edges_of c.in-Some.is) in
-    search (of_calls, of_middle (goal.F-pre g c.args.below.now) _ _ _ _ same c.levels.invariant.callable)
+    search (
+      of_calls,
+      of_first (goal.F-pre g c.args.below.now) (goal.F-post g c.args.below.now) _ _ _ (edges_of c.node.inside.left) c.node.inside.own.items (edges_of c.node.inside.right) _ (slice_index c.deref.result.now 0) _
+          c.levels.invariant.searched same c.node.invariant.some (ap (λ (list : List ℕ). slice_index list 0) c.deref.ensures.0) c.requires.callable,
+    )
 
 pub levels-preserved-then-below : goal.levels-preserved-then-below
 levels-preserved-then-below g c =
-    let same : edges_of c.node.inside.left ++ c.node.inside.edge ∷ edges_of c.node.inside.right ≡ edges_of c.levels.part.now
+    let same : edges_of c.node.inside.left ++ (c.node.inside.own.items ++ edges_of c.node.inside.right) ≡ edges_of c.levels.part.now
     = ap (λ seen. seen.0) (c.node.view_is ∙ c.deref-node.ensures) ∙ sym (ap edges_of c.in-Some.is) in
     let high : c.node.inside.height ≡ height_of c.levels.part.now = ap (λ seen. seen.1) (c.node.view_is ∙ c.deref-node.ensures) ∙ sym (ap height_of c.in-Some.is) in
     let so_far = c.levels.invariant in
+    let many : length (edges_of c.levels.part.now) ≡ length (edges_of c.node.inside.left) + length c.node.inside.own.items + length (edges_of c.node.inside.right)
+    = omega (arith, ap length same, length-append (edges_of c.node.inside.left) (c.node.inside.own.items ++ edges_of c.node.inside.right), length-append c.node.inside.own.items (edges_of c.node.inside.right)) in
+    let both = filled_over_both _ _ _ c.node.invariant.near c.node.invariant.measured in
+    let level : fewest c.node.inside.height ≡ fewest (height_of c.levels.part.now) = ap fewest high in
+    let its : length c.as_slice.result.now ≡ length c.node.inside.own.items = ap length c.as_slice.ensures.value in
     record {
-      callable = of_right (goal.F-pre g c.args.below.now) _ _ _ _ same so_far.callable;
-      splits = on_the_right (goal.F-post g c.args.below.now) _ _ _ _ _ same c.below.ensures c.if-below.true so_far.splits;
-      room = omega (arith, so_far.room, c.size-then-below.ensures, length-append (edges_of c.node.inside.left) (c.node.inside.edge ∷ edges_of c.node.inside.right), ap length same);
-      told = λ split part. so_far.told split
-          (part_from_the_right (goal.F-post g c.args.below.now) _ _ _ _ _ _ _ _ _ _ _ same c.size-then-below.ensures c.below.ensures c.if-below.true so_far.splits (omega arith) part);
+      searched = rw c.as_slice.ensures.value (searched_right (goal.F-post g c.args.below.now) _ _ _ (edges_of c.node.inside.left) c.node.inside.own.items (edges_of c.node.inside.right)
+          c.levels.passed (c.levels.passed + (c.size-then-below.result + c.len.result)) (slice_index c.deref.result.now 0) _ c.below.result so_far.searched same c.node.invariant.some
+          (ap (λ (list : List ℕ). slice_index list 0) c.deref.ensures.0) c.below.ensures c.if-below.true
+          (omega (arith, c.size-then-below.ensures, c.len.ensures.value)));
+      some = omega (arith, its, c.node.invariant.some);
+      high = omega (arith, so_far.left, high, c.node.invariant.measured);
+      room = c.as_slice.ensures.fits;
       levels = so_far.levels + 1;
       counted = one_more_level so_far.counted c.visit.ensures.counted c.probe.ensures.counted;
       visited = inr (omega (arith, so_far.counted.no_fewer_visits, c.visit.ensures.visited, c.probe.ensures.counted.no_fewer_visits));
       probed = inr (omega (arith, so_far.counted.no_fewer_probes, c.visit.ensures.counted.no_fewer_probes, c.probe.ensures.probed));
       left = omega (arith, so_far.left, high, c.node.invariant.measured);
+      filled = omega (arith, so_far.filled, many, both, level, c.node.invariant.some, c.is_filled-in-Some.ensures.filled);
+      filled_there = omega (arith, so_far.filled, many, level, its, c.node.invariant.filled, c.node.invariant.counted);
     }
 
 pub levels-preserved : goal.levels-preserved
 levels-preserved g c =
-    let same : edges_of c.node.inside.left ++ c.node.inside.edge ∷ edges_of c.node.inside.right ≡ edges_of c.levels.part.now
+    let same : edges_of c.node.inside.left ++ (c.node.inside.own.items ++ edges_of c.node.inside.right) ≡ edges_of c.levels.part.now
     = ap (λ seen. seen.0) (c.node.view_is ∙ c.deref-node.ensures) ∙ sym (ap edges_of c.in-Some.is) in
     let high : c.node.inside.height ≡ height_of c.levels.part.now = ap (λ seen. seen.1) (c.node.view_is ∙ c.deref-node.ensures) ∙ sym (ap height_of c.in-Some.is) in
     let so_far = c.levels.invariant in
+    let many : length (edges_of c.levels.part.now) ≡ length (edges_of c.node.inside.left) + length c.node.inside.own.items + length (edges_of c.node.inside.right)
+    = omega (arith, ap length same, length-append (edges_of c.node.inside.left) (c.node.inside.own.items ++ edges_of c.node.inside.right), length-append c.node.inside.own.items (edges_of c.node.inside.right)) in
+    let both = filled_over_both _ _ _ c.node.invariant.near c.node.invariant.measured in
+    let level : fewest c.node.inside.height ≡ fewest (height_of c.levels.part.now) = ap fewest high in
     record {
-      callable = of_left (goal.F-pre g c.args.below.now) _ _ _ _ same so_far.callable;
-      splits = on_the_left (goal.F-post g c.args.below.now) _ _ _ _ _ same c.below.ensures c.if-below.false so_far.splits;
-      room = omega (arith, so_far.room, length-append (edges_of c.node.inside.left) (c.node.inside.edge ∷ edges_of c.node.inside.right), ap length same);
-      told = λ split part. so_far.told split
-          (part_from_the_left (goal.F-post g c.args.below.now) _ _ _ _ _ _ _ _ _ same c.below.ensures c.if-below.false so_far.splits part);
+      searched = searched_left (goal.F-post g c.args.below.now) _ _ _ _ _ _ _ _ _ _ so_far.searched same c.node.invariant.some
+          (ap (λ (list : List ℕ). slice_index list 0) c.deref.ensures.0) c.below.ensures c.if-below.false;
+      some = so_far.some;
+      high = so_far.high;
+      room = so_far.room;
       levels = so_far.levels + 1;
       counted = one_more_level so_far.counted c.visit.ensures.counted c.probe.ensures.counted;
       visited = inr (omega (arith, so_far.counted.no_fewer_visits, c.visit.ensures.visited, c.probe.ensures.counted.no_fewer_visits));
       probed = inr (omega (arith, so_far.counted.no_fewer_probes, c.visit.ensures.counted.no_fewer_probes, c.probe.ensures.probed));
       left = omega (arith, so_far.left, high, c.node.invariant.measured);
+      filled = omega (arith, so_far.filled, many, both, level, c.node.invariant.some, c.is_filled-in-Some-2.ensures.filled);
+      filled_there = so_far.filled_there;
     }
 
-pub returns-clause-split : goal.returns-clause-split
-returns-clause-split g c =
-    split_of_all (goal.F-post g c.args.below.now) _ _ (c.levels.invariant.told _ (part_of_none (goal.F-post g c.args.below.now) c.levels.part.now _ _ _ c.in_default.is))
+pub returns-in_default-last-clause-split : goal.returns-in_default-last-clause-split
+returns-in_default-last-clause-split g c =
+    none_in_front (goal.F-post g c.args.below.now) _ _ _ _ _ c.levels.invariant.searched (ap edges_of c.in_default.is) (ap edges_in c.in_default-last.is) c.requires.splits
 
-pub returns-clause-beside : goal.returns-clause-beside
-returns-clause-beside g c =
-    beside_of_all (goal.F-post g c.args.below.now) _ _ (c.levels.invariant.told _ (part_of_none (goal.F-post g c.args.below.now) c.levels.part.now _ _ _ c.in_default.is))
+pub returns-in_default-last-clause-beside : goal.returns-in_default-last-clause-beside
+returns-in_default-last-clause-beside g c =
+    beside_none (goal.F-post g c.args.below.now) _ _ _ _ _ c.levels.invariant.searched (ap edges_of c.in_default.is) (ap edges_in c.in_default-last.is)
+
+pub returns-in_default-last-clause-counted : goal.returns-in_default-last-clause-counted
+returns-in_default-last-clause-counted g c =
+    let so_far = c.levels.invariant in
+    let most : height_of c.args.side.now ≤ 2 * bits (length (edges_of c.args.side.now)) = height_by_digits _ _ c.is_filled.ensures.filled in
+    record {
+      tests = so_far.counted.tests;
+      no_fewer_probes = so_far.counted.no_fewer_probes;
+      probes_added = omega (arith, so_far.counted.probes_added, so_far.left, most);
+      no_fewer_visits = so_far.counted.no_fewer_visits;
+      visits_added = omega (arith, so_far.counted.visits_added, so_far.left);
+    }
+
+pub split_behind_first-point-requires-clause-callable : goal.split_behind_first-point-requires-clause-callable
+split_behind_first-point-requires-clause-callable g c =
+    let found = searched_in (goal.F-post g c.args.below.now) _ _ c.in-Some-last.own _ _ _ c.in-Some-last.is c.levels.invariant.searched in
+    of_own (goal.F-pre g c.args.below.now) (goal.F-post g c.args.below.now) _ _ _ _ _ found c.requires.callable
+
+pub split_behind_first-point-requires-clause-splits : goal.split_behind_first-point-requires-clause-splits
+split_behind_first-point-requires-clause-splits g c =
+    let found = searched_in (goal.F-post g c.args.below.now) _ _ c.in-Some-last.own _ _ _ c.in-Some-last.is c.levels.invariant.searched in
+    split_among (goal.F-post g c.args.below.now) _ _ _ _ _ found (ap edges_of c.in_default.is) (of_last (λ own. 0 < length own.now) _ _ c.in-Some-last.is c.levels.invariant.some) c.requires.splits
+
+pub returns-then-point-own-clause-split : goal.returns-then-point-own-clause-split
+returns-then-point-own-clause-split g c =
+    let found = searched_in (goal.F-post g c.args.below.now) _ _ c.in-Some-last.own _ _ _ c.in-Some-last.is c.levels.invariant.searched in
+    split_of_all (goal.F-post g c.args.below.now) _ _ _ _ c.split_behind_first-point.result _ _ found (ap edges_of c.in_default.is) (of_last (λ own. 0 < length own.now) _ _ c.in-Some-last.is c.levels.invariant.some) c.requires.splits c.split_behind_first-point.ensures.split refl
+
+pub returns-then-point-own-clause-beside : goal.returns-then-point-own-clause-beside
+returns-then-point-own-clause-beside g c =
+    let found = searched_in (goal.F-post g c.args.below.now) _ _ c.in-Some-last.own _ _ _ c.in-Some-last.is c.levels.invariant.searched in
+    beside_in_node (goal.F-post g c.args.below.now) _ _ _ _ c.split_behind_first-point.result _ _ _ _ found (ap edges_of c.in_default.is) c.split_behind_first-point.ensures.some c.if-point-own.true refl refl refl
+
+pub returns-then-point-own-clause-counted : goal.returns-then-point-own-clause-counted
+returns-then-point-own-clause-counted g c =
+    found_in_node _ _ _ _ c.levels.invariant.counted c.split_behind_first-point.ensures.counted c.levels.invariant.left
+    (of_last (λ _. 0 < height_of c.args.side.now) _ _ c.in-Some-last.is c.levels.invariant.high) (of_last (λ own. 0 < length own.now) _ _ c.in-Some-last.is c.levels.invariant.some)
+    (omega (arith, c.levels.invariant.room, ap length (ap edges_in c.in-Some-last.is))) (omega (arith, c.levels.invariant.filled_there, ap length (ap edges_in c.in-Some-last.is)))
+
+pub returns-else-point-own-clause-split : goal.returns-else-point-own-clause-split
+returns-else-point-own-clause-split g c =
+    let found = searched_in (goal.F-post g c.args.below.now) _ _ c.in-Some-last.own _ _ _ c.in-Some-last.is c.levels.invariant.searched in
+    split_of_all (goal.F-post g c.args.below.now) _ _ _ _ c.split_behind_first-point.result _ _ found (ap edges_of c.in_default.is) (of_last (λ own. 0 < length own.now) _ _ c.in-Some-last.is c.levels.invariant.some) c.requires.splits c.split_behind_first-point.ensures.split refl
+
+pub returns-else-point-own-clause-beside : goal.returns-else-point-own-clause-beside
+returns-else-point-own-clause-beside g c =
+    let found = searched_in (goal.F-post g c.args.below.now) _ _ c.in-Some-last.own _ _ _ c.in-Some-last.is c.levels.invariant.searched in
+    beside_node (goal.F-post g c.args.below.now) _ _ _ _ c.split_behind_first-point.result _ _ _ found (ap edges_of c.in_default.is) c.split_behind_first-point.ensures.some (omega (arith, c.if-point-own.false, c.split_behind_first-point.ensures.split.within)) refl refl
+
+pub returns-else-point-own-clause-counted : goal.returns-else-point-own-clause-counted
+returns-else-point-own-clause-counted g c =
+    found_in_node _ _ _ _ c.levels.invariant.counted c.split_behind_first-point.ensures.counted c.levels.invariant.left
+    (of_last (λ _. 0 < height_of c.args.side.now) _ _ c.in-Some-last.is c.levels.invariant.high) (of_last (λ own. 0 < length own.now) _ _ c.in-Some-last.is c.levels.invariant.some)
+    (omega (arith, c.levels.invariant.room, ap length (ap edges_in c.in-Some-last.is))) (omega (arith, c.levels.invariant.filled_there, ap length (ap edges_in c.in-Some-last.is)))

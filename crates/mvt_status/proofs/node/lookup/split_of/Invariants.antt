@@ -1,28 +1,27 @@
-use Rattle.std.proofs.Common.{◌≡◌, ◌⊎◌, ℕ, ◌+◌, ◌^◌, ◌<◌, ◌≤◌, All, length, None}
+use Rattle.std.proofs.Common.{◌≡◌, ◌⊎◌, ℕ, ◌+◌, ◌<◌, ◌≤◌, IfSome, length}
 use Rattle.mvt_plane.specs.Counted.{ticked}
 use Rattle.mvt_status.specs.Counts.{AddsAtMost}
-use Rattle.mvt_status.specs.Split.{IsSplit}
-use Rattle.mvt_status.specs.Tree.{edges_of, height_of}
-use Rattle.mvt_status.specs.declared.status.Split.{Split}
-use Rattle.mvt_status.proofs.NodeSplits.{IsSplitOfPart}
+use Rattle.mvt_status.specs.Tree.{edges_of, fewest, height_of}
+use Rattle.mvt_status.proofs.NodeSplits.{IsSearched, edges_in}
 use Rattle.mvt_status.proofs.node.lookup.split_of.Given as goal
 
 -- levels that are left
 abbrev pub decreases-levels : goal.decreases-levels
 decreases-levels g l = height_of l.part
 
--- the part that is left has a split, and with it there is that of all; so many levels were gone down, one at least where
--- the part isn't all
+-- the search has come to this part; so many levels were gone down, one at least where the part isn't all, and what was
+-- passed has as many edges as are wanted for them
 abbrev pub invariant-levels : goal.invariant-levels
 invariant-levels g l = record {
-  callable : All (goal.F-pre g l.below) (edges_of l.part);
-  splits : (point : ℕ) × IsSplit (goal.F-post g l.below) (edges_of l.part) point;
-  room : l.passed + length (edges_of l.part) < 2 ^ 64;
-  told : (split : Split) → IsSplitOfPart (goal.F-post g l.below) (edges_of l.part) l.passed l.front l.behind split
-      → IsSplitOfPart (goal.F-post g l.below) (edges_of l.side) 0 None None split;
+  searched : IsSearched (goal.F-post g l.below) (edges_of l.side) (edges_in l.last) (edges_of l.part) l.passed l.behind;
+  some : IfSome l.last (λ own. 0 < length own.now);
+  high : IfSome l.last (λ _. 0 < height_of l.side);
+  room : length (edges_in l.last) ≤ 8;
   levels : ℕ;
   counted : AddsAtMost levels levels l.fn.count l.count;
   visited : (l.part ≡ l.side) ⊎ (ticked l.fn.count.visits ≤ l.count.visits);
   probed : (l.part ≡ l.side) ⊎ (ticked l.fn.count.probes ≤ l.count.probes);
   left : levels + height_of l.part ≤ height_of l.side;
+  filled : fewest (height_of l.side) + length (edges_of l.part) ≤ length (edges_of l.side) + fewest (height_of l.part);
+  filled_there : fewest (height_of l.side) + length (edges_in l.last) ≤ length (edges_of l.side) + 2;
 }

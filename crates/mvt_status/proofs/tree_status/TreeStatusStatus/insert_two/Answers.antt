@@ -5,7 +5,7 @@ use Rattle.mvt_status.proofs.tree_status.TreeStatusStatus.insert_two.Goals as go
 
 pub returns-clause-counted : goal.returns-clause-counted
 returns-clause-counted c =
-    let added = visits_by_digits _ _ _ _ _ c.self.view_is c.insert_two_into.ensures.counted c.insert_two_into.ensures.filled in
+    let added = visits_by_digits _ _ _ _ _ c.self.view_is c.insert_into.ensures.counted c.insert_into.ensures.filled in
     record {
       tests = added.tests;
       no_fewer_probes = added.no_fewer_probes;

@@ -1,0 +1,121 @@
+-- Edges that are taken out of what two sides and the edges between them have, or put in the place of others.
+use Rattle.std.proofs.Common.{◌≡◌, ℕ, zero, suc, ◌+◌, ◌-◌, ◌<◌, ◌≤◌, List, [], ◌∷◌, ◌++◌, length, length-append, insert, remove, slice_index, slice_set, refl, ap, sym, ◌∙◌, append_assoc, arith}
+use Rattle.std.proofs.lemmas.List.{get_or_append_left, get_or-append_right, set-append_left, set-append_right}
+use Rattle.std.proofs.lemmas.List.Edits.{insert-append_right, length-remove, remove-append_left, remove-append_right}
+
+-- how many edges two sides and those between them have
+pub all_counted : (left own right all : List ℕ) → left ++ (own ++ right) ≡ all → length all ≡ length left + length own + length right
+all_counted left own right all same = omega (arith, ap length same, length-append left (own ++ right), length-append own right)
+
+-- an edge taken out on the left
+pub taken_left : (left own right part all : List ℕ) (at : ℕ) → left ++ (own ++ right) ≡ all → at < length left → part ≡ remove left at → part ++ (own ++ right) ≡ remove all at
+taken_left left own right part all at same within is = rw (is, sym same) (sym (remove-append_left left (own ++ right) at within))
+
+-- an edge taken out between the sides
+pub taken_between : (left own right part all : List ℕ) (at before : ℕ) → left ++ (own ++ right) ≡ all → before ≡ length left → before ≤ at → at < before + length own
+    → part ≡ remove own (at - before) → left ++ (part ++ right) ≡ remove all at
+taken_between left own right part all at before same many behind within is =
+    rw (is, sym same) (sym (remove-append_right left (own ++ right) before at (sym many) behind ∙ ap (λ (rest : List ℕ). left ++ rest) (remove-append_left own right (at - before) (omega arith))))
+
+-- an edge taken out on the right
+pub taken_right : (left own right part all : List ℕ) (at behind : ℕ) → left ++ (own ++ right) ≡ all → behind ≡ length left + length own → behind ≤ at
+    → part ≡ remove right (at - behind) → left ++ (own ++ part) ≡ remove all at
+taken_right left own right part all at behind same many within is =
+    let front : length (left ++ own) ≡ behind = omega (arith, length-append left own) in
+    rw (is, sym same) (sym (append_assoc left own _) ∙ sym (remove-append_right (left ++ own) right behind at front within) ∙ ap (λ (list : List ℕ). remove list at) (append_assoc left own right))
+
+-- the first of a list of one edge taken out in front of others
+only_one : (own right : List ℕ) (at : ℕ) → at < length own → length own ≤ 1 → remove (own ++ right) at ≡ right
+only_one [] right at within one = absurd (omega arith)
+only_one (edge ∷ []) right at within one = rw (no_place at (omega arith)) refl
+  where
+    no_place : (at : ℕ) → at < 1 → at ≡ 0
+    no_place at within = omega arith
+only_one (edge ∷ next ∷ rest) right at within one = absurd (omega arith)
+
+-- the only edge between the sides taken out
+pub taken_alone : (left own right part all : List ℕ) (at before : ℕ) → left ++ (own ++ right) ≡ all → before ≡ length left → before ≤ at → at < before + length own → length own ≤ 1
+    → right ≡ part → left ++ part ≡ remove all at
+taken_alone left own right part all at before same many behind within one is =
+    rw (sym is, sym same) (sym (remove-append_right left (own ++ right) before at (sym many) behind ∙ ap (λ (rest : List ℕ). left ++ rest) (only_one own right (at - before) (omega arith) one)))
+
+-- an edge on the left
+pub found_left : (left own right all : List ℕ) (at out : ℕ) → left ++ (own ++ right) ≡ all → at < length left → out ≡ slice_index left at → out ≡ slice_index all at
+found_left left own right all at out same within is = is ∙ sym (get_or_append_left left (own ++ right) 0 at within) ∙ ap (λ (list : List ℕ). slice_index list at) same
+
+-- an edge between the sides
+pub found_between : (left own right all : List ℕ) (at before out : ℕ) → left ++ (own ++ right) ≡ all → before ≡ length left → before ≤ at → at < before + length own
+    → out ≡ slice_index own (at - before) → out ≡ slice_index all at
+found_between left own right all at before out same many behind within is =
+    is ∙ sym (get_or-append_right left (own ++ right) before at 0 (sym many) behind ∙ get_or_append_left own right 0 (at - before) (omega arith)) ∙ ap (λ (list : List ℕ). slice_index list at) same
+
+-- an edge on the right
+pub found_right : (left own right all : List ℕ) (at behind out : ℕ) → left ++ (own ++ right) ≡ all → behind ≡ length left + length own → behind ≤ at
+    → out ≡ slice_index right (at - behind) → out ≡ slice_index all at
+found_right left own right all at behind out same many within is =
+    let front : length (left ++ own) ≡ behind = omega (arith, length-append left own) in
+    is ∙ sym (get_or-append_right (left ++ own) right behind at 0 front within) ∙ ap (λ (list : List ℕ). slice_index list at) (append_assoc left own right ∙ same)
+
+-- an edge written over another, or put in where that was taken out
+written : (list : List ℕ) (at edge : ℕ) → at < length list → slice_set list at edge ≡ insert (remove list at) at edge
+written [] at edge within = absurd (omega arith)
+written (first ∷ rest) zero edge within = refl
+written (first ∷ rest) (suc at) edge within = ap (λ (back : List ℕ). first ∷ back) (written rest at edge (omega arith))
+
+-- an edge in the place of one between the sides
+pub put_between : (left own right part all : List ℕ) (at before edge : ℕ) → left ++ (own ++ right) ≡ all → before ≡ length left → before ≤ at → at < before + length own
+    → part ≡ slice_set own (at - before) edge → left ++ (part ++ right) ≡ insert (remove all at) at edge
+put_between left own right part all at before edge same many behind within is =
+    rw (is, sym same)
+    (ap (λ (rest : List ℕ). left ++ rest) (sym (set-append_left own right (at - before) edge (omega arith))) ∙ sym (set-append_right left (own ++ right) before at edge (sym many) behind)
+    ∙ written (left ++ (own ++ right)) at edge (omega (arith, length-append left (own ++ right), length-append own right)))
+
+-- an edge in the place of one on the right
+pub put_right : (left own right part all : List ℕ) (at behind edge : ℕ) → left ++ (own ++ right) ≡ all → behind ≡ length left + length own → behind ≤ at → at < length all
+    → part ≡ insert (remove right (at - behind)) (at - behind) edge → left ++ (own ++ part) ≡ insert (remove all at) at edge
+put_right left own right part all at behind edge same many within inside is =
+    let front : length (left ++ own) ≡ behind = omega (arith, length-append left own) in
+    rw (is, sym same)
+    (sym (append_assoc left own _) ∙ sym (insert-append_right (left ++ own) (remove right (at - behind)) behind at edge front within)
+    ∙ ap (λ (list : List ℕ). insert list at edge) (sym (remove-append_right (left ++ own) right behind at front within) ∙ ap (λ (list : List ℕ). remove list at) (append_assoc left own right)))
+
+-- what is left of a node is as it has to be without the edge at a place, which goes out
+pub record IsWithout (left own right all : List ℕ) (size at out : ℕ) : Type 0 where
+  pub some : 0 < length own
+  pub counted : size ≡ length left + length own + length right
+  pub edges : left ++ (own ++ right) ≡ remove all at
+  pub found : out ≡ slice_index all at
+
+-- a node with an edge less on the left
+pub without_left : (left own right part all : List ℕ) (size at out : ℕ) → left ++ (own ++ right) ≡ all → size ≡ length left + length own + length right → 0 < length own → at < length left
+    → part ≡ remove left at → out ≡ slice_index left at → IsWithout part own right all (size - 1) at out
+without_left left own right part all size at out same counted some within is goes = record {
+  some = some;
+  counted = omega (arith, counted, ap length is, length-remove left at within);
+  edges = taken_left left own right part all at same within is;
+  found = found_left left own right all at out same within goes;
+}
+
+-- a node with an edge less on the right
+pub without_right : (left own right part all : List ℕ) (size at behind out : ℕ) → left ++ (own ++ right) ≡ all → size ≡ length left + length own + length right → 0 < length own
+    → behind ≡ length left + length own → behind ≤ at → at < length all → part ≡ remove right (at - behind) → out ≡ slice_index right (at - behind) → IsWithout left own part all (size - 1) at out
+without_right left own right part all size at behind out same counted some many further within is goes =
+    let there : at - behind < length right = omega (arith, many, further, within, all_counted left own right all same) in
+    record {
+      some = some;
+      counted = omega (arith, counted, ap length is, length-remove right (at - behind) there);
+      edges = taken_right left own right part all at behind same many further is;
+      found = found_right left own right all at behind out same many further goes;
+    }
+
+-- a node whose only edge went out, with the first of those on the right in its place
+pub without_own : (left own right new part all : List ℕ) (size at before out : ℕ) → left ++ (own ++ right) ≡ all → size ≡ length left + length own + length right → 0 < length new
+    → before ≡ length left → before ≤ at → at < before + length own → length own ≤ 1 → right ≡ new ++ part → out ≡ slice_index own 0 → IsWithout left new part all (size - 1) at out
+without_own left own right new part all size at before out same counted some many behind within one is goes =
+    let first : 0 ≡ at - before = omega arith in
+    record {
+      some = some;
+      counted = omega (arith, counted, ap length is, length-append new part);
+      edges = taken_alone left own right (new ++ part) all at before same many behind within one is;
+      found = found_between left own right all at before out same many behind within (goes ∙ ap (slice_index own) first);
+    }

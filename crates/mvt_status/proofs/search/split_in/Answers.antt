@@ -1,0 +1,43 @@
+use Rattle.std.proofs.Common.{ℕ, ◌+◌, ◌-◌, ◌/◌, ◌<◌, length, refl, of_calls, arith}
+use Rattle.mvt_status.proofs.Halves.{whole_part, none_yet, split_behind, split_before, split_found, probes_half, added}
+use Rattle.mvt_status.proofs.search.split_in.Goals as goal
+
+pub halves-init : goal.halves-init
+halves-init g c = record {
+  part = whole_part (goal.F-post g c.args.below.now) c.args.edges.now (length c.args.edges.now) refl;
+  probes = none_yet (length c.args.edges.now - 0) (length c.args.edges.now) c.args.count.now (omega arith);
+}
+
+pub below-requires : goal.below-requires
+below-requires g c =
+    let middle : ℕ = c.halves.from + (c.halves.to - c.halves.from) / 2 in
+    search (of_calls, c.requires.callable middle 0 (omega (arith, c.halves.invariant.part.within, c.halves-test.true)))
+
+pub halves-preserved-then-below : goal.halves-preserved-then-below
+halves-preserved-then-below g c =
+    let middle : ℕ = c.halves.from + (c.halves.to - c.halves.from) / 2 in
+    let before : middle < c.halves.to = omega (arith, c.halves-test.true) in
+    record {
+      part = split_behind (goal.F-post g c.args.below.now) c.args.edges.now c.halves.from c.halves.to middle c.halves.invariant.part before
+          _ c.below.result refl c.below.ensures c.if-below.true;
+      probes = probes_half (c.halves.to - c.halves.from) (c.halves.to - (middle + 1)) (length c.args.edges.now) c.args.count.now c.halves.count c.probe.new.count
+          c.halves.invariant.probes c.probe.ensures.counted (omega (arith, c.halves-test.true)) (omega (arith, c.halves-test.true));
+    }
+
+pub halves-preserved : goal.halves-preserved
+halves-preserved g c =
+    let middle : ℕ = c.halves.from + (c.halves.to - c.halves.from) / 2 in
+    let before : middle < c.halves.to = omega (arith, c.halves-test.true) in
+    record {
+      part = split_before (goal.F-post g c.args.below.now) c.args.edges.now c.halves.from c.halves.to middle c.halves.invariant.part before
+          _ c.below.result refl c.below.ensures c.if-below.false;
+      probes = probes_half (c.halves.to - c.halves.from) (middle - c.halves.from) (length c.args.edges.now) c.args.count.now c.halves.count c.probe.new.count
+          c.halves.invariant.probes c.probe.ensures.counted (omega (arith, c.halves-test.true)) (omega (arith, c.halves-test.true));
+    }
+
+pub returns-clause-split : goal.returns-clause-split
+returns-clause-split g c =
+    split_found (goal.F-post g c.args.below.now) c.args.edges.now c.halves.from c.halves.to c.requires.splits.0 c.halves.invariant.part c.halves-test.false c.requires.splits.1
+
+pub returns-clause-counted : goal.returns-clause-counted
+returns-clause-counted g c = added (c.halves.to - c.halves.from) (length c.args.edges.now) c.args.count.now c.halves.count c.halves.invariant.probes

@@ -1,0 +1,176 @@
+//! Edges that are put into a tree.
+ghost use Rattle.std.specs.Prelude.{◌≡◌, ◌+◌, ◌^◌, ◌<◌, ◌≤◌, suc, IfSome, None, ◌++◌, drop, length, take};
+ghost use Rattle.mvt_plane.specs.Counted.{ticked};
+ghost use Rattle.mvt_status.specs.Counts.{AddsAtMost};
+ghost use Rattle.mvt_status.specs.Tree.{edges_of, fewest, height_of};
+
+use super::{
+    Node, Own, ROOM, Side, height, is_filled, join_over, level_over, refilled, size, visit,
+};
+use mvt_plane::Count;
+
+/// How many edges stay in a node that is split.
+const HALF: usize = ROOM / 2;
+
+/// Puts edges in front of the one at a place, in a spare node where the nodes there have no room. Ticks a visit for each
+/// node on the way there.
+pub(crate) fn insert_into(
+    side: &mut Side,
+    at: usize,
+    new: &[usize],
+    spare: &mut Side,
+    count: &mut Count,
+)
+    requires within { at ≤ length (edges_of side.old) }
+    requires some { 0 < length new.now }
+    requires few { length new.now ≤ 4 }
+    requires spare { height_of spare.old ≡ 1 }
+    requires room { length (edges_of side.old) + length new.now < 2 ^ 64 }
+    ensures edges { edges_of side.new ≡ take at (edges_of side.old) ++ (new.now ++ drop at (edges_of side.old)) }
+    ensures not_lower { height_of side.old ≤ height_of side.new }
+    ensures at_most_one_higher { height_of side.new ≤ height_of side.old + 1 }
+    ensures spare { height_of spare.new ≤ 1 }
+    ensures counted { AddsAtMost 0 (height_of side.old) count.old count.new }
+    ensures visited { IfSome side.old (λ _. ticked count.old.visits ≤ count.new.visits) }
+    ensures filled { fewest (height_of side.old) ≤ suc (length (edges_of side.old)) }
+{
+    let Some(node) = side else {
+        *side = filled_with(spare, new);
+        return;
+    };
+    visit(count);
+    let top: &mut Node = node;
+    let before = size(&top.left);
+    let behind = before + top.own.len();
+    let fits = top.own.len() + new.len() <= ROOM;
+    top.size += new.len();
+    if fits && before <= at && at <= behind {
+        put_in(&mut top.own, at - before, new);
+        return;
+    }
+    if at <= before {
+        let level = height(&top.left);
+        insert_into(&mut top.left, at, new, spare, count);
+        if height(&top.left) == level {
+            return;
+        }
+    } else {
+        let level = height(&top.right);
+        if at < behind {
+            let upper = halved(&mut top.own, at - before, new, spare);
+            put_first(&mut top.right, upper, count);
+        } else {
+            insert_into(&mut top.right, at - behind, new, spare, count);
+        }
+        if height(&top.right) == level {
+            return;
+        }
+    }
+    if let Some(level) = level_over(&top.left, &top.right) {
+        top.height = level;
+        return;
+    }
+    let (left, right) = (top.left.take(), top.right.take());
+    top.size = top.own.len();
+    top.height = 1;
+    join_over(left, side, right);
+}
+
+/// A spare node with other edges.
+fn filled_with(spare: &mut Side, edges: &[usize]) -> Side
+    requires spare { height_of spare.old ≡ 1 }
+    requires some { 0 < length edges.now }
+    requires room { length edges.now ≤ 8 }
+    ensures edges { edges_of result ≡ edges.now }
+    ensures low { height_of result ≡ 1 }
+    ensures used { spare.new ≡ None }
+{
+    let Some(node) = spare.take() else {
+        unreachable!()
+    };
+    Some(refilled(node, edges))
+}
+
+/// Puts edges among those of a node, in front of the one at a place.
+fn put_in(own: &mut Own, at: usize, new: &[usize])
+    requires within { at ≤ length own.old.items }
+    requires room { length own.old.items + length new.now ≤ 8 }
+    ensures { own.new.items ≡ take at own.old.items ++ (new.now ++ drop at own.old.items) }
+{
+    let Ok(()) = own.try_extend_from_slice(new) else {
+        unreachable!()
+    };
+    own[at..].rotate_right(new.len());
+}
+
+/// The same, in a node with nothing on either side.
+fn put_in_alone(mut node: Box<Node>, at: usize, new: &[usize]) -> Box<Node>
+    requires low { node.value.1 ≡ 1 }
+    requires within { at ≤ length node.value.0 }
+    requires room { length node.value.0 + length new.now ≤ 8 }
+    ensures { result.value ≡ (take at node.value.0 ++ (new.now ++ drop at node.value.0), 1) }
+{
+    let top: &mut Node = &mut node;
+    is_filled(&top.left);
+    is_filled(&top.right);
+    put_in(&mut top.own, at, new);
+    top.size += new.len();
+    node
+}
+
+/// Puts edges among those of a node that has no room for them. It keeps the lower ones, and the others go into the
+/// spare node, which is the answer.
+fn halved(own: &mut Own, at: usize, new: &[usize], spare: &mut Side) -> Box<Node>
+    requires within { at ≤ length own.old.items }
+    requires many { 4 < length own.old.items }
+    requires few { length new.now ≤ 4 }
+    requires spare { height_of spare.old ≡ 1 }
+    ensures edges { own.new.items ++ result.value.0 ≡ take at own.old.items ++ (new.now ++ drop at own.old.items) }
+    ensures some { 0 < length own.new.items }
+    ensures low { result.value.1 ≡ 1 }
+    ensures used { spare.new ≡ None }
+{
+    let Some(node) = spare.take() else {
+        unreachable!()
+    };
+    let upper = refilled(node, &own[HALF..]);
+    own.truncate(HALF);
+    if at <= HALF {
+        put_in(own, at, new);
+        upper
+    } else {
+        put_in_alone(upper, at - HALF, new)
+    }
+}
+
+/// Puts a node in front of all others. Ticks a visit for each node on the way there.
+fn put_first(side: &mut Side, new: Box<Node>, count: &mut Count)
+    requires low { new.value.1 ≡ 1 }
+    requires room { length (edges_of side.old) + length new.value.0 < 2 ^ 64 }
+    ensures edges { edges_of side.new ≡ new.value.0 ++ edges_of side.old }
+    ensures not_lower { height_of side.old ≤ height_of side.new }
+    ensures at_most_one_higher { height_of side.new ≤ height_of side.old + 1 }
+    ensures counted { AddsAtMost 0 (height_of side.old) count.old count.new }
+{
+    let Some(node) = side else {
+        *side = Some(new);
+        return;
+    };
+    visit(count);
+    let top: &mut Node = node;
+    let many = new.size;
+    let level = height(&top.left);
+    put_first(&mut top.left, new, count);
+    top.size += many;
+    if height(&top.left) == level {
+        return;
+    }
+    if let Some(level) = level_over(&top.left, &top.right) {
+        top.height = level;
+        return;
+    }
+    let (left, right) = (top.left.take(), top.right.take());
+    top.size = top.own.len();
+    top.height = 1;
+    join_over(left, side, right);
+}

@@ -1,0 +1,168 @@
+//! Edges that are taken out of a tree, or put in the place of others.
+ghost use Rattle.std.specs.Prelude.{◌≡◌, ◌+◌, ◌<◌, ◌≤◌, suc, ◌++◌, insert, length, remove, slice_index};
+ghost use Rattle.mvt_plane.specs.Counted.{ticked};
+ghost use Rattle.mvt_status.specs.Counts.{AddsAtMost};
+ghost use Rattle.mvt_status.specs.Tree.{edges_of, fewest, height_of};
+
+use super::{Node, Own, Side, height, is_filled, join_over, level_over, lift, size, visit};
+use mvt_plane::Count;
+use std::mem::swap;
+
+/// Takes the edge at a place out. A node that has no more edges is the spare one then. Ticks a visit for each node on
+/// the way to the place and to the node that takes its place.
+pub(crate) fn remove_from(side: &mut Side, at: usize, spare: &mut Side, count: &mut Count) -> usize
+    requires within { at < length (edges_of side.old) }
+    requires spare { height_of spare.old ≤ 1 }
+    ensures edges { edges_of side.new ≡ remove (edges_of side.old) at }
+    ensures out { result ≡ slice_index (edges_of side.old) at }
+    ensures not_higher { height_of side.new ≤ height_of side.old }
+    ensures at_most_one_lower { height_of side.old ≤ height_of side.new + 1 }
+    ensures spare { height_of spare.new ≤ 1 }
+    ensures counted { AddsAtMost 0 (height_of side.old) count.old count.new }
+    ensures visited { ticked count.old.visits ≤ count.new.visits }
+    ensures filled { fewest (height_of side.old) ≤ suc (length (edges_of side.old)) }
+{
+    let Some(node) = side else { unreachable!() };
+    visit(count);
+    let top: &mut Node = node;
+    is_filled(&top.left);
+    is_filled(&top.right);
+    let before = size(&top.left);
+    let many = top.own.len();
+    let behind = before + many;
+    let out;
+    if at < before {
+        let level = height(&top.left);
+        out = remove_from(&mut top.left, at, spare, count);
+        top.size -= 1;
+        if height(&top.left) == level {
+            return out;
+        }
+    } else if at < behind && 1 < many {
+        out = top.own.remove(at - before);
+        top.size -= 1;
+        return out;
+    } else {
+        let level = height(&top.right);
+        if at < behind {
+            out = top.own[0];
+            let Some(right) = &top.right else {
+                let left = top.left.take();
+                top.size = 1;
+                top.height = 1;
+                *spare = Some(lift(side, left));
+                return out;
+            };
+            // (each node has an edge of its own, so there is a first one)
+            prove!(right.size > 0);
+            own_from(&mut top.right, &mut top.own, spare, count);
+        } else {
+            out = remove_from(&mut top.right, at - behind, spare, count);
+        }
+        top.size -= 1;
+        if height(&top.right) == level {
+            return out;
+        }
+    }
+    if let Some(level) = level_over(&top.left, &top.right) {
+        top.height = level;
+        return out;
+    }
+    let (left, right) = (top.left.take(), top.right.take());
+    top.size = top.own.len();
+    top.height = 1;
+    join_over(left, side, right);
+    out
+}
+
+/// Takes the first node of a side out, and its edges in the place of others. The node is the spare one then.
+fn own_from(side: &mut Side, own: &mut Own, spare: &mut Side, count: &mut Count)
+    requires within { 0 < length (edges_of side.old) }
+    requires some { 0 < length own.old.items }
+    ensures edges { edges_of side.old ≡ own.new.items ++ edges_of side.new }
+    ensures some { 0 < length own.new.items }
+    ensures not_higher { height_of side.new ≤ height_of side.old }
+    ensures at_most_one_lower { height_of side.old ≤ height_of side.new + 1 }
+    ensures spare { height_of spare.new ≤ 1 }
+    ensures counted { AddsAtMost 0 (height_of side.old) count.old count.new }
+{
+    let first = take_first(side, count);
+    *spare = Some(exchanged(first, own));
+}
+
+/// Takes the first node out. Ticks a visit for each node on the way there.
+fn take_first(side: &mut Side, count: &mut Count) -> Box<Node>
+    requires { 0 < length (edges_of side.old) }
+    ensures edges { edges_of side.old ≡ result.value.0 ++ edges_of side.new }
+    ensures low { result.value.1 ≡ 1 }
+    ensures not_higher { height_of side.new ≤ height_of side.old }
+    ensures at_most_one_lower { height_of side.old ≤ height_of side.new + 1 }
+    ensures counted { AddsAtMost 0 (height_of side.old) count.old count.new }
+{
+    let Some(node) = side else { unreachable!() };
+    visit(count);
+    let top: &mut Node = node;
+    is_filled(&top.right);
+    let Some(left) = &top.left else {
+        let right = top.right.take();
+        top.size = top.own.len();
+        top.height = 1;
+        return lift(side, right);
+    };
+    // (each node has an edge of its own, so there is a first one)
+    prove!(left.size > 0);
+    let level = height(&top.left);
+    let first = take_first(&mut top.left, count);
+    top.size -= first.size;
+    if height(&top.left) == level {
+        return first;
+    }
+    if let Some(level) = level_over(&top.left, &top.right) {
+        top.height = level;
+        return first;
+    }
+    let (left, right) = (top.left.take(), top.right.take());
+    top.size = top.own.len();
+    top.height = 1;
+    join_over(left, side, right);
+    first
+}
+
+/// Exchanges the edges of a node with nothing on either side for others.
+fn exchanged(mut node: Box<Node>, own: &mut Own) -> Box<Node>
+    requires low { node.value.1 ≡ 1 }
+    requires some { 0 < length own.old.items }
+    ensures taken { own.new.items ≡ node.value.0 }
+    ensures some { 0 < length own.new.items }
+    ensures low { result.value.1 ≡ 1 }
+{
+    let top: &mut Node = &mut node;
+    is_filled(&top.left);
+    is_filled(&top.right);
+    swap(&mut top.own, own);
+    top.size = top.own.len();
+    node
+}
+
+/// Puts an edge in the place of the one that is there. Ticks a visit for each node on the way there.
+pub(crate) fn replace_in(side: &mut Side, at: usize, edge: usize, count: &mut Count)
+    requires { at < length (edges_of side.old) }
+    ensures edges { edges_of side.new ≡ insert (remove (edges_of side.old) at) at edge }
+    ensures height { height_of side.new ≡ height_of side.old }
+    ensures counted { AddsAtMost 0 (height_of side.old) count.old count.new }
+    ensures visited { ticked count.old.visits ≤ count.new.visits }
+    ensures filled { fewest (height_of side.old) ≤ suc (length (edges_of side.old)) }
+{
+    let Some(node) = side else { unreachable!() };
+    visit(count);
+    let top: &mut Node = node;
+    let before = size(&top.left);
+    let behind = before + top.own.len();
+    if at < before {
+        replace_in(&mut top.left, at, edge, count);
+    } else if at < behind {
+        top.own[at - before] = edge;
+    } else {
+        replace_in(&mut top.right, at - behind, edge, count);
+    }
+}

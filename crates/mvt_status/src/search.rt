@@ -1,0 +1,39 @@
+//! A search by halves for the split of a list.
+ghost use Rattle.std.specs.Prelude.{◌≡◌, ℕ, All, length};
+ghost use Rattle.mvt_plane.specs.Counted.{ticked};
+ghost use Rattle.mvt_status.specs.Counts.{AddsAtMost, bits};
+ghost use Rattle.mvt_status.specs.Split.{IsSplit};
+
+use mvt_plane::Count;
+
+/// How many edges stand at the front of the list of which `below` is true, where it is false of all others. Ticks a
+/// probe for each edge that it looks at.
+#[inline]
+pub(crate) fn split_in<F: Fn(usize) -> bool>(edges: &[usize], below: &F, count: &mut Count) -> usize
+    requires callable { All (F.pre below.now) edges.now }
+    requires splits { (point : ℕ) × IsSplit (F.post below.now) edges.now point }
+    ensures split { IsSplit (F.post below.now) edges.now result }
+    ensures counted { AddsAtMost (bits (length edges.now)) 0 count.old count.new }
+{
+    let mut from = 0;
+    let mut to = edges.len();
+    'halves: while from < to {
+        let middle = from + (to - from) / 2;
+        probe(count);
+        if below(edges[middle]) {
+            from = middle + 1;
+        } else {
+            to = middle;
+        }
+    }
+    from
+}
+
+/// Counts a comparison.
+#[inline(always)]
+pub(crate) fn probe(count: &mut Count)
+    ensures counted { AddsAtMost 1 0 count.old count.new }
+    ensures probed { count.new.probes ≡ ticked count.old.probes }
+{
+    count.tick_probe();
+}
