@@ -13,6 +13,10 @@ use mvt_plane::Count;
 use mvt_tile::{Feature, FeatureRule, Kind};
 use std::alloc::{AllocError, Global};
 
+/// Above so many numbers their memory is given back once the rings are drawn, since the search for meetings needs
+/// room. The memory of fewer is kept, since it serves the next feature.
+const MANY_NUMBERS: usize = 1 << 20;
+
 /// That the geometry of a feature of a known type draws a figure of it (Mapbox Vector Tile Specification
 /// 2.1, section 4.3), and rings those of valid polygons (section 4.3.4.4). It serves one feature after
 /// another.
@@ -34,20 +38,25 @@ impl GeometryRule {
     }
 
     /// The first fault of the geometry of a feature of the type of polygons, or None where it is valid. The
-    /// only error is that memory was refused.
+    /// memory of many numbers is given back. The only error is that memory was refused.
     fn fault_of_polygons(
         &mut self,
         alloc: Global,
-        feature: &Feature,
+        feature: &mut Feature,
         layer: usize,
         ordinal: usize,
     ) -> Result<Option<Fault>, AllocError>
-        requires { feature.now.kind ≡ Kind.Polygon }
-        ensures kept { IfOk result (λ found. IfNone found (IsValidGeometry (feature_of feature.now))) }
-        ensures least { IfOk result (λ found. IfSome found (IsLeast (IsFaultOfGeometry (feature_of feature.now) layer ordinal))) }
+        requires { feature.old.kind ≡ Kind.Polygon }
+        ensures kept { IfOk result (λ found. IfNone found (IsValidGeometry (feature_of feature.old))) }
+        ensures least { IfOk result (λ found. IfSome found (IsLeast (IsFaultOfGeometry (feature_of feature.old) layer ordinal))) }
     {
         match self.rings.draw(alloc, &feature.geometry) {
-            Ok(()) => rings_fault(alloc, self.rings.rings(), &mut self.count, layer, ordinal),
+            Ok(()) => {
+                if feature.geometry.len() > MANY_NUMBERS {
+                    feature.geometry = Vec::new(alloc);
+                }
+                rings_fault(alloc, self.rings.rings(), &mut self.count, layer, ordinal)
+            }
             Err(DrawFault::Command { code, index }) => Ok(Some(Fault::Command {
                 code,
                 layer,
@@ -67,7 +76,7 @@ impl FeatureRule for GeometryRule {
     fn fault(
         &mut self,
         alloc: Global,
-        feature: &Feature,
+        feature: &mut Feature,
         layer: usize,
         ordinal: usize,
     ) -> Result<Option<Fault>, AllocError> {

@@ -33,17 +33,18 @@ pub trait FeatureRule {
 
     /// The first fault of a feature, or None where it has none, and then it keeps the rule. `layer_index` is
     /// the ordinal of its layer in the tile, and `feature_index` its own in the layer, both counted from 0,
-    /// for the fault to tell. The only error is that memory was refused.
+    /// for the fault to tell. A rule may take from the feature what it doesn't need any more; nothing is said
+    /// of the feature afterwards. The only error is that memory was refused.
     fn fault(
         &mut self,
         alloc: Global,
-        feature: &Feature,
+        feature: &mut Feature,
         layer_index: usize,
         feature_index: usize,
     ) -> Result<Option<Fault>, AllocError>
-        ensures none { IfOk result (λ found. IfNone found ((fault : Fault) → ¬ IsBroken (feature_of feature.now) layer_index feature_index fault)) }
-        ensures kept { IfOk result (λ found. IfNone found (IsKept (feature_of feature.now))) }
-        ensures least { IfOk result (λ found. IfSome found (IsLeast (IsBroken (feature_of feature.now) layer_index feature_index))) };
+        ensures none { IfOk result (λ found. IfNone found ((fault : Fault) → ¬ IsBroken (feature_of feature.old) layer_index feature_index fault)) }
+        ensures kept { IfOk result (λ found. IfNone found (IsKept (feature_of feature.old))) }
+        ensures least { IfOk result (λ found. IfSome found (IsLeast (IsBroken (feature_of feature.old) layer_index feature_index))) };
 }
 
 /// Room for one feature after another, and for marks of the keys of its tags.
@@ -166,6 +167,6 @@ pub(crate) fn fault_of_feature<R: FeatureRule>(
             feature: feature_index,
             index,
         })),
-        None => rule.fault(room.alloc, &room.feature, layer_index, feature_index),
+        None => rule.fault(room.alloc, &mut room.feature, layer_index, feature_index),
     }
 }

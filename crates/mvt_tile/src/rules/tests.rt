@@ -24,7 +24,7 @@ impl FeatureRule for TypesAreKnown {
     fn fault(
         &mut self,
         _alloc: Global,
-        feature: &Feature,
+        feature: &mut Feature,
         layer_index: usize,
         feature_index: usize,
     ) -> Result<Option<Fault>, AllocError> {

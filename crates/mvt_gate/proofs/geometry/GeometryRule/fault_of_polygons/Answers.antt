@@ -4,8 +4,8 @@ use Rattle.mvt_tile.specs.View.{kind_number}
 use Rattle.mvt_gate.proofs.FeatureGeometries.{valid_by_rings, least_by_commands}
 use Rattle.mvt_gate.proofs.geometry.GeometryRule.fault_of_polygons.Goals as goal
 
-pub returns-in-Ok-clause-kept : goal.returns-in-Ok-clause-kept
-returns-in-Ok-clause-kept c =
+pub returns-after-len-gt-MANY_NUMBERS-clause-kept : goal.returns-after-len-gt-MANY_NUMBERS-clause-kept
+returns-after-len-gt-MANY_NUMBERS-clause-kept c =
     valid_by_rings c.rings_fault.result c.args.feature.now c.deref.result.now (rings_of c.rings.result.now) c.draw.new.self c.requires c.deref.ensures.value c.rings.ensures c.in-Ok.ensures.rings
     c.rings_fault.ensures.valid
 
