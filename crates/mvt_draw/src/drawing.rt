@@ -15,7 +15,7 @@ use crate::reading::{read_path, read_points};
 use mvt_fault::CommandCode;
 use mvt_plane::Point;
 use mvt_tile::Kind;
-use std::alloc::{AllocFailed, Global};
+use std::alloc::{AllocError, AllocFailed, Global};
 
 /// Why a geometry wasn't drawn.
 #[derive(Clone, Copy, Debug, PartialEq, Eq)]
@@ -38,6 +38,16 @@ impl From<(CommandCode, usize)> for DrawFault {
 
     fn from((code, index): (CommandCode, usize)) -> DrawFault {
         DrawFault::Command { code, index }
+    }
+}
+
+impl From<AllocError> for DrawFault {
+    ghost use Rattle.mvt_draw.specs.declared.drawing.DrawFault.{DrawFault};
+
+    ghost from_gives = { λ _ fault. fault ≡ DrawFault.Memory };
+
+    fn from(_refused: AllocError) -> DrawFault {
+        DrawFault::Memory
     }
 }
 

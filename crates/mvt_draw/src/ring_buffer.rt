@@ -91,7 +91,9 @@ impl RingBuffer {
             → StandsAt polygon numbers.now start (path_command drawn (position_of from)) → IsFaultAhead polygon numbers.now it) }
     {
         if self.count == self.parts.len() {
-            self.parts.push(Vec::new(alloc))?;
+            // a ring has three vertices or more, so one of three takes no more memory than that
+            let room = Vec::with_capacity(alloc, 3)?;
+            self.parts.push(room)?;
         }
         let ring = &mut self.parts[self.count];
         ring.clear();

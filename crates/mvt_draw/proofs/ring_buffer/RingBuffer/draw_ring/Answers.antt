@@ -3,7 +3,7 @@ use Rattle.std.proofs.lemmas.List.{length_push}
 use Rattle.mvt_plane.specs.Position.{Position}
 use Rattle.mvt_draw.proofs.RingRoom.{rings_with_room, one_more_ring}
 use Rattle.mvt_draw.proofs.ring_buffer.RingBuffer.draw_ring.Goals as goal
-use Rattle.mvt_draw.proofs.ring_buffer.RingBuffer.draw_ring.Goals.{then-self-len+in_ok-push, else-self-len}
+use Rattle.mvt_draw.proofs.ring_buffer.RingBuffer.draw_ring.Goals.{then-self-len+in_ok-room+in_ok-push, else-self-len}
 use Rattle.mvt_draw.specs.declared.ring_buffer.RingBuffer.TheInside.{Inside}
 
 pub returns-clause-drawn : goal.returns-clause-drawn
@@ -13,13 +13,13 @@ returns-clause-drawn c = λ ring rest ahead.
     let told = c.in_ok-behind.ensures.drawn tt ring rest ahead in
     let room : HasRoom inside =
     elim c.if-self-len.branch [
-      | then-self-len+in_ok-push w ↦
+      | then-self-len+in_ok-room+in_ok-push w ↦
           let parts = c.self.inside.parts.items in
           let within : c.self.inside.count ≤ length parts = c.self.invariant in
-          let more : length w.push.new.self.items ≡ length parts + 1 = ap (λ it. length it) w.in_ok-push.ensures.items ∙ length_push parts w.new.result in
+          let more : length w.push.new.self.items ≡ length parts + 1 = ap (λ it. length it) w.in_ok-push.ensures.items ∙ length_push parts w.in_ok-room.room in
           subst HasRoom (sym w.self-inside-is) (
             ap (λ it. map (λ ring. ring.items) (take c.self.inside.count it)) w.in_ok-push.ensures.items
-                ∙ (rings_with_room (λ ring. ring.items) parts (w.new.result ∷ []) c.self.inside.count within ∙ c.self.view_is),
+                ∙ (rings_with_room (λ ring. ring.items) parts (w.in_ok-room.room ∷ []) c.self.inside.count within ∙ c.self.view_is),
             omega arith,
           )
       | else-self-len w ↦ subst HasRoom (sym w.self-inside-is) (c.self.view_is, omega (arith, c.self.invariant, c.len.ensures))
