@@ -120,11 +120,19 @@ fn refilled(mut node: Box<Node>, edges: &[usize]) -> Box<Node>
     is_filled(&top.left);
     is_filled(&top.right);
     top.own.clear();
-    let Ok(()) = top.own.try_extend_from_slice(edges) else {
-        unreachable!()
-    };
+    append(&mut top.own, edges);
     top.size = edges.len();
     node
+}
+
+/// Puts edges behind those of a node.
+fn append(own: &mut Own, edges: &[usize])
+    requires { length own.old.items + length edges.now ≤ 8 }
+    ensures { own.new.items ≡ own.old.items ++ edges.now }
+{
+    let Ok(()) = own.try_extend_from_slice(edges) else {
+        unreachable!()
+    };
 }
 
 /// A node taken apart: what is on the left, the node with its own edges alone, what is on the right.

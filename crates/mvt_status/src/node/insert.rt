@@ -5,8 +5,9 @@ ghost use Rattle.mvt_status.specs.Counts.{AddsAtMost};
 ghost use Rattle.mvt_status.specs.Tree.{edges_of, fewest, height_of};
 
 use super::{
-    Node, Own, ROOM, Side, height, is_filled, join_over, level_over, refilled, size, visit,
+    Node, Own, ROOM, Side, append, height, is_filled, join_over, level_over, refilled, size, visit,
 };
+use arrayvec::ArrayVec;
 use mvt_plane::Count;
 
 /// How many edges stay in a node that is split.
@@ -97,10 +98,11 @@ fn put_in(own: &mut Own, at: usize, new: &[usize])
     requires room { length own.old.items + length new.now ≤ 8 }
     ensures { own.new.items ≡ take at own.old.items ++ (new.now ++ drop at own.old.items) }
 {
-    let Ok(()) = own.try_extend_from_slice(new) else {
-        unreachable!()
-    };
-    own[at..].rotate_right(new.len());
+    let mut joined = ArrayVec::new();
+    append(&mut joined, &own[..at]);
+    append(&mut joined, new);
+    append(&mut joined, &own[at..]);
+    *own = joined;
 }
 
 /// The same, in a node with nothing on either side.

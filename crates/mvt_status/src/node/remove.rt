@@ -4,7 +4,8 @@ ghost use Rattle.mvt_plane.specs.Counted.{ticked};
 ghost use Rattle.mvt_status.specs.Counts.{AddsAtMost};
 ghost use Rattle.mvt_status.specs.Tree.{edges_of, fewest, height_of};
 
-use super::{Node, Own, Side, height, is_filled, join_over, level_over, lift, size, visit};
+use super::{Node, Own, Side, append, height, is_filled, join_over, level_over, lift, size, visit};
+use arrayvec::ArrayVec;
 use mvt_plane::Count;
 use std::mem::swap;
 
@@ -39,7 +40,7 @@ pub(crate) fn remove_from(side: &mut Side, at: usize, spare: &mut Side, count: &
             return out;
         }
     } else if at < behind && 1 < many {
-        out = top.own.remove(at - before);
+        out = take_out(&mut top.own, at - before);
         top.size -= 1;
         return out;
     } else {
@@ -72,6 +73,20 @@ pub(crate) fn remove_from(side: &mut Side, at: usize, spare: &mut Side, count: &
     top.size = top.own.len();
     top.height = 1;
     join_over(left, side, right);
+    out
+}
+
+/// Takes one of the edges of a node out.
+fn take_out(own: &mut Own, at: usize) -> usize
+    requires { at < length own.old.items }
+    ensures items { own.new.items ≡ remove own.old.items at }
+    ensures out { result ≡ slice_index own.old.items at }
+{
+    let out = own[at];
+    let mut others = ArrayVec::new();
+    append(&mut others, &own[..at]);
+    append(&mut others, &own[at + 1..]);
+    *own = others;
     out
 }
 

@@ -70,7 +70,7 @@ pub returns-then-many-gt1-clause-edges : goal.returns-then-many-gt1-clause-edges
 returns-then-many-gt1-clause-edges t c =
     let same : edges_of c.top.inside.left ++ (c.top.inside.own.items ++ edges_of c.top.inside.right) ≡ edges_of c.args.side.now
     = ap (λ seen. seen.0) (c.top.view_is ∙ c.deref_mut-top.ensures.value) ∙ sym (ap edges_of c.in-Some.is) in
-    taken_between _ _ _ _ _ _ _ same c.size-before.ensures c.if-at-before.false (omega (arith, c.if-at-behind.true, c.len-many.ensures.value)) c.remove-out.ensures.items
+    taken_between _ _ _ _ _ _ _ same c.size-before.ensures c.if-at-before.false (omega (arith, c.if-at-behind.true, c.len-many.ensures.value)) c.take_out-out.ensures.items
 
 pub invariant_of-top-in_default-right : goal.invariant_of-top-in_default-right
 invariant_of-top-in_default-right t c =
