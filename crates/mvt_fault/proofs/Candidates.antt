@@ -5,7 +5,7 @@ use Rattle.serde_json.specs.Data.{Data, string}
 use Rattle.serde_json.specs.Find.{get}
 use Rattle.mvt_wire.specs.Code.{code_of}
 use Rattle.mvt_wire.specs.declared.cause.WireCode.{WireCode}
-use Rattle.mvt_wire.specs.declared.cause.WireCode.TheVariants.{Ends, TooLong, BadNumber, BadWireType, PastEnd, OtherType, Again, Missing, OneField, NotUtf8, OutOfRange}
+use Rattle.mvt_wire.specs.declared.cause.WireCode.TheVariants.{Ends}
 use Rattle.mvt_wire.specs.declared.scope.Scope.{Scope}
 use Rattle.mvt_wire.specs.declared.scope.Scope.TheVariants.{Tile, Layer, Value, Feature}
 use Rattle.mvt_fault.specs.Code.{tag_code, command_code, ring_code, fault_code}
@@ -13,66 +13,41 @@ use Rattle.mvt_fault.specs.Candidate.{HasCode}
 use Rattle.mvt_fault.specs.Reading.{HasDecimalForm, Writes, StandsFor, IsOutOfRange}
 use Rattle.mvt_fault.specs.Text.{whole, wire_data, feature_data, ring_data, edge_data, meeting_parts, HasWidth, IsInRange}
 use Rattle.mvt_fault.specs.declared.fault.Fault.{Fault}
-use Rattle.mvt_fault.specs.declared.fault.Fault.TheVariants.{Wire, Version, Name, Tag, Command, Ring, Meeting, Outside, HoleInHole}
+use Rattle.mvt_fault.specs.declared.fault.Fault.TheVariants.{Wire, Tag, Command, Ring, Meeting}
 use Rattle.mvt_fault.specs.declared.tag.TagCode.{TagCode}
-use Rattle.mvt_fault.specs.declared.tag.TagCode.TheVariants.{OddLength, NoKey, NoValue, Repeated}
+use Rattle.mvt_fault.specs.declared.tag.TagCode.TheVariants.{OddLength}
 use Rattle.mvt_fault.specs.declared.command.CommandCode.{CommandCode}
-use Rattle.mvt_fault.specs.declared.command.CommandCode.TheVariants.{OtherCommand, OtherCount, Unfinished, GreatestParameter, OutOfBounds, NoStep}
+use Rattle.mvt_fault.specs.declared.command.CommandCode.TheVariants.{OtherCommand}
 use Rattle.mvt_fault.specs.declared.ring.RingCode.{RingCode}
-use Rattle.mvt_fault.specs.declared.ring.RingCode.TheVariants.{EndsAtItsBeginning, NoArea, BeginsWithHole}
+use Rattle.mvt_fault.specs.declared.ring.RingCode.TheVariants.{EndsAtItsBeginning}
 use Rattle.mvt_fault.specs.declared.ring.RingEdge.{RingEdge}
 use Rattle.mvt_fault.proofs.Causes.{wire_code_at, wire_code_at-code_of}
 
 -- the numbers of the causes of wire faults
 code_of-range : (code : WireCode) → (101 ≤ code_of code) × (code_of code ≤ 111)
 code_of-range Ends = (lit≤ tt, lit≤ tt)
-code_of-range TooLong = (lit≤ tt, lit≤ tt)
-code_of-range BadNumber = (lit≤ tt, lit≤ tt)
-code_of-range BadWireType = (lit≤ tt, lit≤ tt)
-code_of-range PastEnd = (lit≤ tt, lit≤ tt)
-code_of-range OtherType = (lit≤ tt, lit≤ tt)
-code_of-range Again = (lit≤ tt, lit≤ tt)
-code_of-range Missing = (lit≤ tt, lit≤ tt)
-code_of-range OneField = (lit≤ tt, lit≤ tt)
-code_of-range NotUtf8 = (lit≤ tt, lit≤ tt)
-code_of-range OutOfRange = (lit≤ tt, lit≤ tt)
+code_of-range code = (lit≤ tt, lit≤ tt)
 
 -- of those of tags
 tag_code-range : (code : TagCode) → (301 ≤ tag_code code) × (tag_code code ≤ 304)
 tag_code-range OddLength = (lit≤ tt, lit≤ tt)
-tag_code-range NoKey = (lit≤ tt, lit≤ tt)
-tag_code-range NoValue = (lit≤ tt, lit≤ tt)
-tag_code-range Repeated = (lit≤ tt, lit≤ tt)
+tag_code-range code = (lit≤ tt, lit≤ tt)
 
 -- of those of commands
 command_code-range : (code : CommandCode) → (401 ≤ command_code code) × (command_code code ≤ 406)
 command_code-range OtherCommand = (lit≤ tt, lit≤ tt)
-command_code-range OtherCount = (lit≤ tt, lit≤ tt)
-command_code-range Unfinished = (lit≤ tt, lit≤ tt)
-command_code-range GreatestParameter = (lit≤ tt, lit≤ tt)
-command_code-range OutOfBounds = (lit≤ tt, lit≤ tt)
-command_code-range NoStep = (lit≤ tt, lit≤ tt)
+command_code-range code = (lit≤ tt, lit≤ tt)
 
 -- of those of rings
 ring_code-range : (code : RingCode) → (501 ≤ ring_code code) × (ring_code code ≤ 503)
 ring_code-range EndsAtItsBeginning = (lit≤ tt, lit≤ tt)
-ring_code-range NoArea = (lit≤ tt, lit≤ tt)
-ring_code-range BeginsWithHole = (lit≤ tt, lit≤ tt)
+ring_code-range code = (lit≤ tt, lit≤ tt)
 
 -- what stands for a fault has its code
 HasCode-StandsFor : (f : Fault) (d : Data) → StandsFor f d → HasCode d (fault_code f)
 HasCode-StandsFor (Wire code Tile at field) d stands = ap (get (codes "code")) stands
-HasCode-StandsFor (Wire code (Layer layer) at field) d stands = ap (get (codes "code")) stands
-HasCode-StandsFor (Wire code (Value layer value) at field) d stands = ap (get (codes "code")) stands
-HasCode-StandsFor (Wire code (Feature layer feature) at field) d stands = ap (get (codes "code")) stands
-HasCode-StandsFor (Version layer) d stands = ap (get (codes "code")) stands
-HasCode-StandsFor (Name first second) d stands = ap (get (codes "code")) stands
-HasCode-StandsFor (Tag code layer feature index) d stands = ap (get (codes "code")) stands
-HasCode-StandsFor (Command code layer feature index) d stands = ap (get (codes "code")) stands
-HasCode-StandsFor (Ring code layer feature ring) d stands = ap (get (codes "code")) stands
 HasCode-StandsFor (Meeting layer feature polygon first second x y w) d stands = ap (get (codes "code")) stands.object
-HasCode-StandsFor (Outside layer feature polygon ring vertex) d stands = ap (get (codes "code")) stands
-HasCode-StandsFor (HoleInHole layer feature polygon ring vertex other) d stands = ap (get (codes "code")) stands
+HasCode-StandsFor f d stands = ap (get (codes "code")) stands
 
 -- a value has one code
 HasCode-unique : (d : Data) (m n : ℕ) → HasCode d m → HasCode d n → m ≡ n
@@ -92,9 +67,7 @@ name_of (Feature layer feature) = codes "feature"
 -- stands in the object of its faults
 scope_text : (d : Data) (code : WireCode) (scope : Scope) (at field : ℕ) → d ≡ wire_data code scope at field → get (codes "scope") d ≡ Some (string (name_of scope))
 scope_text d code Tile at field is = ap (get (codes "scope")) is
-scope_text d code (Layer layer) at field is = ap (get (codes "scope")) is
-scope_text d code (Value layer value) at field is = ap (get (codes "scope")) is
-scope_text d code (Feature layer feature) at field is = ap (get (codes "scope")) is
+scope_text d code scope at field is = ap (get (codes "scope")) is
 
 -- a text tells the scope of wire faults by its first letter
 module _ (d : Data) (text : List ℕ) (told : (s : List ℕ) → get (codes "scope") d ≡ Some (string s) → text ≡ s) where
@@ -103,28 +76,22 @@ module _ (d : Data) (text : List ℕ) (told : (s : List ℕ) → get (codes "sco
 
   pub layer_scope : (layer : ℕ) → text ≡ codes "layer" → ((n : ℕ) → get (codes "layer") d ≡ Some (whole n) → layer ≡ n)
       → (code : WireCode) (scope : Scope) (at field : ℕ) → d ≡ wire_data code scope at field → Layer layer ≡ scope
-  layer_scope layer is at_layer code Tile at field same = absurd (omega (arith, ap (λ t. get_or t 0 0) is, first_letter code Tile at field same))
   layer_scope layer is at_layer code (Layer l) at field same = ap Layer (at_layer l (ap (get (codes "layer")) same))
-  layer_scope layer is at_layer code (Value l v) at field same = absurd (omega (arith, ap (λ t. get_or t 0 0) is, first_letter code (Value l v) at field same))
-  layer_scope layer is at_layer code (Feature l f) at field same = absurd (omega (arith, ap (λ t. get_or t 0 0) is, first_letter code (Feature l f) at field same))
+  layer_scope layer is at_layer code scope at field same = absurd (omega (arith, ap (λ t. get_or t 0 0) is, first_letter code scope at field same))
 
   pub value_scope : (layer value : ℕ) → text ≡ codes "value" → ((n : ℕ) → get (codes "layer") d ≡ Some (whole n) → layer ≡ n)
       → ((n : ℕ) → get (codes "value") d ≡ Some (whole n) → value ≡ n)
       → (code : WireCode) (scope : Scope) (at field : ℕ) → d ≡ wire_data code scope at field → Value layer value ≡ scope
-  value_scope layer value is at_layer at_value code Tile at field same = absurd (omega (arith, ap (λ t. get_or t 0 0) is, first_letter code Tile at field same))
-  value_scope layer value is at_layer at_value code (Layer l) at field same = absurd (omega (arith, ap (λ t. get_or t 0 0) is, first_letter code (Layer l) at field same))
   value_scope layer value is at_layer at_value code (Value l v) at field same =
       λ i. Value (at_layer l (ap (get (codes "layer")) same) i) (at_value v (ap (get (codes "value")) same) i)
-  value_scope layer value is at_layer at_value code (Feature l f) at field same = absurd (omega (arith, ap (λ t. get_or t 0 0) is, first_letter code (Feature l f) at field same))
+  value_scope layer value is at_layer at_value code scope at field same = absurd (omega (arith, ap (λ t. get_or t 0 0) is, first_letter code scope at field same))
 
   pub feature_scope : (layer feature : ℕ) → text ≡ codes "feature" → ((n : ℕ) → get (codes "layer") d ≡ Some (whole n) → layer ≡ n)
       → ((n : ℕ) → get (codes "feature") d ≡ Some (whole n) → feature ≡ n)
       → (code : WireCode) (scope : Scope) (at field : ℕ) → d ≡ wire_data code scope at field → Feature layer feature ≡ scope
-  feature_scope layer feature is at_layer at_feature code Tile at field same = absurd (omega (arith, ap (λ t. get_or t 0 0) is, first_letter code Tile at field same))
-  feature_scope layer feature is at_layer at_feature code (Layer l) at field same = absurd (omega (arith, ap (λ t. get_or t 0 0) is, first_letter code (Layer l) at field same))
-  feature_scope layer feature is at_layer at_feature code (Value l v) at field same = absurd (omega (arith, ap (λ t. get_or t 0 0) is, first_letter code (Value l v) at field same))
   feature_scope layer feature is at_layer at_feature code (Feature l f) at field same =
       λ i. Feature (at_layer l (ap (get (codes "layer")) same) i) (at_feature f (ap (get (codes "feature")) same) i)
+  feature_scope layer feature is at_layer at_feature code scope at field same = absurd (omega (arith, ap (λ t. get_or t 0 0) is, first_letter code scope at field same))
 
   pub tile_scope : text ≢ codes "layer" → text ≢ codes "value" → text ≢ codes "feature"
       → (code : WireCode) (scope : Scope) (at field : ℕ) → d ≡ wire_data code scope at field → Tile ≡ scope
@@ -136,15 +103,11 @@ module _ (d : Data) (text : List ℕ) (told : (s : List ℕ) → get (codes "sco
 -- so do the place and the field of a wire fault
 at_in : (d : Data) (code : WireCode) (scope : Scope) (at field : ℕ) → d ≡ wire_data code scope at field → get (codes "at") d ≡ Some (whole at)
 at_in d code Tile at field is = ap (get (codes "at")) is
-at_in d code (Layer layer) at field is = ap (get (codes "at")) is
-at_in d code (Value layer value) at field is = ap (get (codes "at")) is
-at_in d code (Feature layer feature) at field is = ap (get (codes "at")) is
+at_in d code scope at field is = ap (get (codes "at")) is
 
 field_in : (d : Data) (code : WireCode) (scope : Scope) (at field : ℕ) → d ≡ wire_data code scope at field → get (codes "field") d ≡ Some (whole field)
 field_in d code Tile at field is = ap (get (codes "field")) is
-field_in d code (Layer layer) at field is = ap (get (codes "field")) is
-field_in d code (Value layer value) at field is = ap (get (codes "field")) is
-field_in d code (Feature layer feature) at field is = ap (get (codes "field")) is
+field_in d code scope at field is = ap (get (codes "field")) is
 
 -- the causes of wire faults have different numbers
 code_of-injective : (a b : WireCode) → code_of a ≡ code_of b → a ≡ b
@@ -162,22 +125,8 @@ wire_only d built code scope at field has told_scope told_at told_field made (Wi
     let same_at = told_at a (at_in d c s a n stands) in
     let same_field = told_field n (field_in d c s a n stands) in
     stands ∙ sym (λ i. wire_data (same_code i) (same_scope i) (same_at i) (same_field i)) ∙ sym made
-wire_only d built code scope at field has told_scope told_at told_field made (Version layer) stands =
-    absurd (omega (arith, code_of-range code, fault_code-StandsFor d (code_of code) has (Version layer) stands))
-wire_only d built code scope at field has told_scope told_at told_field made (Name first second) stands =
-    absurd (omega (arith, code_of-range code, fault_code-StandsFor d (code_of code) has (Name first second) stands))
-wire_only d built code scope at field has told_scope told_at told_field made (Tag c layer feature index) stands =
-    absurd (omega (arith, code_of-range code, tag_code-range c, fault_code-StandsFor d (code_of code) has (Tag c layer feature index) stands))
-wire_only d built code scope at field has told_scope told_at told_field made (Command c layer feature index) stands =
-    absurd (omega (arith, code_of-range code, command_code-range c, fault_code-StandsFor d (code_of code) has (Command c layer feature index) stands))
-wire_only d built code scope at field has told_scope told_at told_field made (Ring c layer feature ring) stands =
-    absurd (omega (arith, code_of-range code, ring_code-range c, fault_code-StandsFor d (code_of code) has (Ring c layer feature ring) stands))
-wire_only d built code scope at field has told_scope told_at told_field made (Meeting layer feature polygon first second x y w) stands =
-    absurd (omega (arith, code_of-range code, fault_code-StandsFor d (code_of code) has (Meeting layer feature polygon first second x y w) stands))
-wire_only d built code scope at field has told_scope told_at told_field made (Outside layer feature polygon ring vertex) stands =
-    absurd (omega (arith, code_of-range code, fault_code-StandsFor d (code_of code) has (Outside layer feature polygon ring vertex) stands))
-wire_only d built code scope at field has told_scope told_at told_field made (HoleInHole layer feature polygon ring vertex other) stands =
-    absurd (omega (arith, code_of-range code, fault_code-StandsFor d (code_of code) has (HoleInHole layer feature polygon ring vertex other) stands))
+wire_only d built code scope at field has told_scope told_at told_field made f stands =
+    absurd (omega (arith, code_of-range, tag_code-range, command_code-range, ring_code-range, fault_code-StandsFor d (code_of code) has f stands))
 
 -- the object of a wire fault stands for it, in range or not
 pub wire_in_range : (built : Data) (code : WireCode) (scope : Scope) (at field : ℕ) (o : Option Fault) → built ≡ wire_data code scope at field
@@ -218,20 +167,8 @@ feature_only d built n layer feature index has range told_layer told_feature tol
 feature_only d built n layer feature index has range told_layer told_feature told_index made (Command c l g i) stands =
     same_feature d built n layer feature index told_layer told_feature told_index made (command_code c) l g i
     (fault_code-StandsFor d n has (Command c l g i) stands) stands
-feature_only d built n layer feature index has range told_layer told_feature told_index made (Wire c s a m) stands =
-    absurd (omega (arith, range, code_of-range c, fault_code-StandsFor d n has (Wire c s a m) stands))
-feature_only d built n layer feature index has range told_layer told_feature told_index made (Version l) stands =
-    absurd (omega (arith, range, fault_code-StandsFor d n has (Version l) stands))
-feature_only d built n layer feature index has range told_layer told_feature told_index made (Name first second) stands =
-    absurd (omega (arith, range, fault_code-StandsFor d n has (Name first second) stands))
-feature_only d built n layer feature index has range told_layer told_feature told_index made (Ring c l g r) stands =
-    absurd (omega (arith, range, ring_code-range c, fault_code-StandsFor d n has (Ring c l g r) stands))
-feature_only d built n layer feature index has range told_layer told_feature told_index made (Meeting l g p first second x y w) stands =
-    absurd (omega (arith, range, fault_code-StandsFor d n has (Meeting l g p first second x y w) stands))
-feature_only d built n layer feature index has range told_layer told_feature told_index made (Outside l g p r vertex) stands =
-    absurd (omega (arith, range, fault_code-StandsFor d n has (Outside l g p r vertex) stands))
-feature_only d built n layer feature index has range told_layer told_feature told_index made (HoleInHole l g p r vertex other) stands =
-    absurd (omega (arith, range, fault_code-StandsFor d n has (HoleInHole l g p r vertex other) stands))
+feature_only d built n layer feature index has range told_layer told_feature told_index made f stands =
+    absurd (omega (arith, range, code_of-range, tag_code-range, command_code-range, ring_code-range, fault_code-StandsFor d n has f stands))
 
 -- a value with the code of a fault of a ring has the shape of a fault only as the object of what is read in it
 pub ring_only : (d built : Data) (code : RingCode) (layer feature ring : ℕ) → HasCode d (ring_code code)
@@ -245,22 +182,8 @@ ring_only d built code layer feature ring has told_layer told_feature told_ring 
     let same_feature = told_feature g (ap (get (codes "feature")) stands) in
     let same_ring = told_ring r (ap (get (codes "ring")) stands) in
     stands ∙ (λ i. ring_data (same_code i) (sym same_layer i) (sym same_feature i) (sym same_ring i)) ∙ sym made
-ring_only d built code layer feature ring has told_layer told_feature told_ring made (Wire c s a n) stands =
-    absurd (omega (arith, ring_code-range code, code_of-range c, fault_code-StandsFor d (ring_code code) has (Wire c s a n) stands))
-ring_only d built code layer feature ring has told_layer told_feature told_ring made (Version l) stands =
-    absurd (omega (arith, ring_code-range code, fault_code-StandsFor d (ring_code code) has (Version l) stands))
-ring_only d built code layer feature ring has told_layer told_feature told_ring made (Name first second) stands =
-    absurd (omega (arith, ring_code-range code, fault_code-StandsFor d (ring_code code) has (Name first second) stands))
-ring_only d built code layer feature ring has told_layer told_feature told_ring made (Tag c l g index) stands =
-    absurd (omega (arith, ring_code-range code, tag_code-range c, fault_code-StandsFor d (ring_code code) has (Tag c l g index) stands))
-ring_only d built code layer feature ring has told_layer told_feature told_ring made (Command c l g index) stands =
-    absurd (omega (arith, ring_code-range code, command_code-range c, fault_code-StandsFor d (ring_code code) has (Command c l g index) stands))
-ring_only d built code layer feature ring has told_layer told_feature told_ring made (Meeting l g polygon first second x y w) stands =
-    absurd (omega (arith, ring_code-range code, fault_code-StandsFor d (ring_code code) has (Meeting l g polygon first second x y w) stands))
-ring_only d built code layer feature ring has told_layer told_feature told_ring made (Outside l g polygon r vertex) stands =
-    absurd (omega (arith, ring_code-range code, fault_code-StandsFor d (ring_code code) has (Outside l g polygon r vertex) stands))
-ring_only d built code layer feature ring has told_layer told_feature told_ring made (HoleInHole l g polygon r vertex other) stands =
-    absurd (omega (arith, ring_code-range code, fault_code-StandsFor d (ring_code code) has (HoleInHole l g polygon r vertex other) stands))
+ring_only d built code layer feature ring has told_layer told_feature told_ring made f stands =
+    absurd (omega (arith, code_of-range, tag_code-range, command_code-range, ring_code-range, fault_code-StandsFor d (ring_code code) has f stands))
 
 -- an edge's ordinals are those of its object
 pub edge_told : (d : Data) (key : List ℕ) (built : Data) (ring edge : ℕ) (it : RingEdge) → Some built ≡ get key d → get key d ≡ Some (edge_data it)
@@ -301,22 +224,8 @@ meeting_only d built layer feature polygon first second x y w has told made (Mee
     stands.object
     ∙ sym (λ i. meeting_parts (same_layer i) (same_feature i) (same_polygon i) (edge_data (same_first i)) (edge_data (same_second i)) (string (same_w i)) (string (same_x i)) (string (same_y i)))
     ∙ sym made
-meeting_only d built layer feature polygon first second x y w has told made (Wire c s a n) stands =
-    absurd (omega (arith, code_of-range c, fault_code-StandsFor d 504 has (Wire c s a n) stands))
-meeting_only d built layer feature polygon first second x y w has told made (Version l) stands =
-    absurd (omega (arith, fault_code-StandsFor d 504 has (Version l) stands))
-meeting_only d built layer feature polygon first second x y w has told made (Name f s) stands =
-    absurd (omega (arith, fault_code-StandsFor d 504 has (Name f s) stands))
-meeting_only d built layer feature polygon first second x y w has told made (Tag c l g index) stands =
-    absurd (omega (arith, tag_code-range c, fault_code-StandsFor d 504 has (Tag c l g index) stands))
-meeting_only d built layer feature polygon first second x y w has told made (Command c l g index) stands =
-    absurd (omega (arith, command_code-range c, fault_code-StandsFor d 504 has (Command c l g index) stands))
-meeting_only d built layer feature polygon first second x y w has told made (Ring c l g r) stands =
-    absurd (omega (arith, ring_code-range c, fault_code-StandsFor d 504 has (Ring c l g r) stands))
-meeting_only d built layer feature polygon first second x y w has told made (Outside l g p r vertex) stands =
-    absurd (omega (arith, fault_code-StandsFor d 504 has (Outside l g p r vertex) stands))
-meeting_only d built layer feature polygon first second x y w has told made (HoleInHole l g p r vertex other) stands =
-    absurd (omega (arith, fault_code-StandsFor d 504 has (HoleInHole l g p r vertex other) stands))
+meeting_only d built layer feature polygon first second x y w has told made f stands =
+    absurd (omega (arith, code_of-range, tag_code-range, command_code-range, ring_code-range, fault_code-StandsFor d 504 has f stands))
 
 -- a number of a point doesn't have 128 bits
 abbrev pub HasNoWidth : List ℕ → Type 0

@@ -28,16 +28,7 @@ wire_code_at n =
 -- each number is that of one cause
 pub wire_code_at-code_of : (code : WireCode) → wire_code_at (code_of code) ≡ code
 wire_code_at-code_of Ends = refl
-wire_code_at-code_of TooLong = refl
-wire_code_at-code_of BadNumber = refl
-wire_code_at-code_of BadWireType = refl
-wire_code_at-code_of PastEnd = refl
-wire_code_at-code_of OtherType = refl
-wire_code_at-code_of Again = refl
-wire_code_at-code_of Missing = refl
-wire_code_at-code_of OneField = refl
-wire_code_at-code_of NotUtf8 = refl
-wire_code_at-code_of OutOfRange = refl
+wire_code_at-code_of code = refl
 
 -- the cause of a fault of tags with a number
 abbrev pub tag_code_at : ℕ → TagCode
@@ -49,9 +40,7 @@ tag_code_at n =
 -- each number is that of one cause
 pub tag_code_at-tag_code : (code : TagCode) → tag_code_at (tag_code code) ≡ code
 tag_code_at-tag_code OddLength = refl
-tag_code_at-tag_code NoKey = refl
-tag_code_at-tag_code NoValue = refl
-tag_code_at-tag_code Repeated = refl
+tag_code_at-tag_code code = refl
 
 -- the cause of a fault of commands with a number
 abbrev pub command_code_at : ℕ → CommandCode
@@ -65,11 +54,7 @@ command_code_at n =
 -- each number is that of one cause
 pub command_code_at-command_code : (code : CommandCode) → command_code_at (command_code code) ≡ code
 command_code_at-command_code OtherCommand = refl
-command_code_at-command_code OtherCount = refl
-command_code_at-command_code Unfinished = refl
-command_code_at-command_code GreatestParameter = refl
-command_code_at-command_code OutOfBounds = refl
-command_code_at-command_code NoStep = refl
+command_code_at-command_code code = refl
 
 -- the cause of a fault of rings with a number
 abbrev pub ring_code_at : ℕ → RingCode
@@ -80,5 +65,4 @@ ring_code_at n =
 -- each number is that of one cause
 pub ring_code_at-ring_code : (code : RingCode) → ring_code_at (ring_code code) ≡ code
 ring_code_at-ring_code EndsAtItsBeginning = refl
-ring_code_at-ring_code NoArea = refl
-ring_code_at-ring_code BeginsWithHole = refl
+ring_code_at-ring_code code = refl

@@ -13,8 +13,8 @@ use Rattle.mvt_wire.specs.declared.scope.Scope.{Scope}
 use Rattle.mvt_wire.specs.declared.scope.Scope.TheVariants.{Tile, Layer, Value, Feature}
 use Rattle.mvt_fault.specs.declared.fault.Fault.{Fault}
 use Rattle.mvt_fault.specs.declared.fault.Fault.TheVariants.{Wire, Version, Name, Tag, Command, Ring, Meeting, Outside, HoleInHole}
-use Rattle.mvt_fault.specs.declared.tag.TagCode.TheVariants.{OddLength, NoKey, NoValue, Repeated}
-use Rattle.mvt_fault.specs.declared.command.CommandCode.TheVariants.{OtherCommand, OtherCount, Unfinished, GreatestParameter, OutOfBounds, NoStep}
+use Rattle.mvt_fault.specs.declared.tag.TagCode.TheVariants.{OddLength}
+use Rattle.mvt_fault.specs.declared.command.CommandCode.TheVariants.{OtherCommand}
 use Rattle.mvt_fault.specs.declared.ring.RingEdge.{RingEdge}
 use Rattle.mvt_fault.proofs.Causes.{wire_code_at, wire_code_at-code_of, tag_code_at, command_code_at, ring_code_at, ring_code_at-ring_code}
 use Rattle.mvt_fault.proofs.SignedDecimals.{Writes-signed_decimal, signed_decimal-Writes}
@@ -91,26 +91,13 @@ fault_in d =
 -- the fault can be told from its object
 fault_in-StandsFor : (f : Fault) (d : Data) → StandsFor f d → fault_in d ≡ f
 fault_in-StandsFor (Wire code Tile at field) d stands = ap fault_in stands ∙ ap (λ c. Wire c Tile at field) (wire_code_at-code_of code)
-fault_in-StandsFor (Wire code (Layer layer) at field) d stands = ap fault_in stands ∙ ap (λ c. Wire c (Layer layer) at field) (wire_code_at-code_of code)
-fault_in-StandsFor (Wire code (Value layer value) at field) d stands = ap fault_in stands ∙ ap (λ c. Wire c (Value layer value) at field) (wire_code_at-code_of code)
-fault_in-StandsFor (Wire code (Feature layer feature) at field) d stands = ap fault_in stands ∙ ap (λ c. Wire c (Feature layer feature) at field) (wire_code_at-code_of code)
-fault_in-StandsFor (Version layer) d stands = ap fault_in stands
-fault_in-StandsFor (Name first second) d stands = ap fault_in stands
+fault_in-StandsFor (Wire code scope at field) d stands = ap fault_in stands ∙ ap (λ c. Wire c scope at field) (wire_code_at-code_of code)
 fault_in-StandsFor (Tag OddLength layer feature index) d stands = ap fault_in stands
-fault_in-StandsFor (Tag NoKey layer feature index) d stands = ap fault_in stands
-fault_in-StandsFor (Tag NoValue layer feature index) d stands = ap fault_in stands
-fault_in-StandsFor (Tag Repeated layer feature index) d stands = ap fault_in stands
 fault_in-StandsFor (Command OtherCommand layer feature index) d stands = ap fault_in stands
-fault_in-StandsFor (Command OtherCount layer feature index) d stands = ap fault_in stands
-fault_in-StandsFor (Command Unfinished layer feature index) d stands = ap fault_in stands
-fault_in-StandsFor (Command GreatestParameter layer feature index) d stands = ap fault_in stands
-fault_in-StandsFor (Command OutOfBounds layer feature index) d stands = ap fault_in stands
-fault_in-StandsFor (Command NoStep layer feature index) d stands = ap fault_in stands
 fault_in-StandsFor (Ring code layer feature ring) d stands = ap fault_in stands ∙ ap (λ c. Ring c layer feature ring) (ring_code_at-ring_code code)
 fault_in-StandsFor (Meeting layer feature polygon first second x y w) d stands =
     ap fault_in stands.object ∙ (λ i. Meeting layer feature polygon first second (stands.writes_x.1 i) (stands.writes_y.1 i) (stands.writes_w.1 i))
-fault_in-StandsFor (Outside layer feature polygon ring vertex) d stands = ap fault_in stands
-fault_in-StandsFor (HoleInHole layer feature polygon ring vertex other) d stands = ap fault_in stands
+fault_in-StandsFor f d stands = ap fault_in stands
 
 -- a value stands for one fault at most
 pub StandsFor-unique : (d : Data) (f g : Fault) → StandsFor f d → StandsFor g d → f ≡ g
@@ -118,12 +105,6 @@ StandsFor-unique d f g here there = sym (fault_in-StandsFor f d here) ∙ fault_
 
 -- the object of a fault stands for it
 pub StandsFor-data_of : (f : Fault) → IsInRange f → StandsFor f (data_of f)
-StandsFor-data_of (Wire code scope at field) in_range = refl
-StandsFor-data_of (Version layer) in_range = refl
-StandsFor-data_of (Name first second) in_range = refl
-StandsFor-data_of (Tag code layer feature index) in_range = refl
-StandsFor-data_of (Command code layer feature index) in_range = refl
-StandsFor-data_of (Ring code layer feature ring) in_range = refl
 StandsFor-data_of (Meeting layer feature polygon first second x y w) in_range = record {
   x_text = signed_decimal x;
   y_text = signed_decimal y;
@@ -133,24 +114,16 @@ StandsFor-data_of (Meeting layer feature polygon first second x y w) in_range = 
   writes_w = Writes-signed_decimal w in_range.2;
   object = refl;
 }
-StandsFor-data_of (Outside layer feature polygon ring vertex) in_range = refl
-StandsFor-data_of (HoleInHole layer feature polygon ring vertex other) in_range = refl
+StandsFor-data_of f in_range = refl
 
 -- what stands for a fault in range is its object
 pub data_of-StandsFor : (f : Fault) (d : Data) → StandsFor f d → IsInRange f → d ≡ data_of f
-data_of-StandsFor (Wire code scope at field) d stands in_range = stands
-data_of-StandsFor (Version layer) d stands in_range = stands
-data_of-StandsFor (Name first second) d stands in_range = stands
-data_of-StandsFor (Tag code layer feature index) d stands in_range = stands
-data_of-StandsFor (Command code layer feature index) d stands in_range = stands
-data_of-StandsFor (Ring code layer feature ring) d stands in_range = stands
 data_of-StandsFor (Meeting layer feature polygon first second x y w) d stands in_range =
     let same_x = signed_decimal-Writes stands.x_text x stands.writes_x in_range.0 in
     let same_y = signed_decimal-Writes stands.y_text y stands.writes_y in_range.1 in
     let same_w = signed_decimal-Writes stands.w_text w stands.writes_w in_range.2 in
     stands.object ∙ sym (λ i. meeting_parts layer feature polygon (edge_data first) (edge_data second) (string (same_w i)) (string (same_x i)) (string (same_y i)))
-data_of-StandsFor (Outside layer feature polygon ring vertex) d stands in_range = stands
-data_of-StandsFor (HoleInHole layer feature polygon ring vertex other) d stands in_range = stands
+data_of-StandsFor f d stands in_range = stands
 
 -- the value is shallow enough to be read, and has no float, whose text isn't known
 abbrev pub IsPlain : Data → Type 0
@@ -159,17 +132,8 @@ IsPlain d = (depth d ≤ max_depth) × (has_float d ≡ false)
 -- the object of a fault is plain
 pub IsPlain-StandsFor : (f : Fault) (d : Data) → StandsFor f d → IsPlain d
 IsPlain-StandsFor (Wire code Tile at field) d stands = subst IsPlain (sym stands) (lit≤ tt, refl)
-IsPlain-StandsFor (Wire code (Layer layer) at field) d stands = subst IsPlain (sym stands) (lit≤ tt, refl)
-IsPlain-StandsFor (Wire code (Value layer value) at field) d stands = subst IsPlain (sym stands) (lit≤ tt, refl)
-IsPlain-StandsFor (Wire code (Feature layer feature) at field) d stands = subst IsPlain (sym stands) (lit≤ tt, refl)
-IsPlain-StandsFor (Version layer) d stands = subst IsPlain (sym stands) (lit≤ tt, refl)
-IsPlain-StandsFor (Name first second) d stands = subst IsPlain (sym stands) (lit≤ tt, refl)
-IsPlain-StandsFor (Tag code layer feature index) d stands = subst IsPlain (sym stands) (lit≤ tt, refl)
-IsPlain-StandsFor (Command code layer feature index) d stands = subst IsPlain (sym stands) (lit≤ tt, refl)
-IsPlain-StandsFor (Ring code layer feature ring) d stands = subst IsPlain (sym stands) (lit≤ tt, refl)
 IsPlain-StandsFor (Meeting layer feature polygon first second x y w) d stands = subst IsPlain (sym stands.object) (lit≤ tt, refl)
-IsPlain-StandsFor (Outside layer feature polygon ring vertex) d stands = subst IsPlain (sym stands) (lit≤ tt, refl)
-IsPlain-StandsFor (HoleInHole layer feature polygon ring vertex other) d stands = subst IsPlain (sym stands) (lit≤ tt, refl)
+IsPlain-StandsFor f d stands = subst IsPlain (sym stands) (lit≤ tt, refl)
 
 -- what reads as a fault's object stands for that fault
 pub Reads-string_bytes : (f : Fault) (d : Data) (s : String Global) → d ≡ data_of f → IsInRange f

@@ -147,17 +147,12 @@ IsTold fault = (fault_at (place_of fault) ≡ fault)
 -- every fault is told so by its place
 told : (fault : Fault) → IsTold fault
 told (Wire code Tile at field) = inl (ap (λ c. Wire c Tile at field) (wire_code_at-code_of code))
-told (Wire code (Layer layer) at field) = inl (ap (λ c. Wire c (Layer layer) at field) (wire_code_at-code_of code))
-told (Wire code (Value layer value) at field) = inl (ap (λ c. Wire c (Value layer value) at field) (wire_code_at-code_of code))
-told (Wire code (Feature layer feature) at field) = inl (ap (λ c. Wire c (Feature layer feature) at field) (wire_code_at-code_of code))
-told (Version layer) = inl refl
-told (Name first second) = inl refl
+told (Wire code scope at field) = inl (ap (λ c. Wire c scope at field) (wire_code_at-code_of code))
 told (Tag code layer feature index) = inl (ap (λ c. Tag c layer feature index) (tag_code_at-tag_code code))
 told (Command code layer feature index) = inl (ap (λ c. Command c layer feature index) (command_code_at-command_code code))
 told (Ring code layer feature ring) = inl (ap (λ c. Ring c layer feature ring) (ring_code_at-ring_code code))
 told (Meeting layer feature polygon first second x y w) = inr (layer, feature, polygon, record { first = first; second = second; x = x; y = y; w = w; is = refl }, refl)
-told (Outside layer feature polygon ring vertex) = inl refl
-told (HoleInHole layer feature polygon ring vertex other) = inl refl
+told fault = inl refl
 
 -- what is equal to such a meeting is a meeting in that polygon
 is_some_meeting : (layer feature polygon : ℕ) (fault : Fault) → fault ≡ some_meeting layer feature polygon → IsMeetingIn layer feature polygon fault
