@@ -28,17 +28,16 @@ code_of-range : (code : WireCode) → (101 ≤ code_of code) × (code_of code �
 code_of-range Ends = (lit≤ tt, lit≤ tt)
 code_of-range code = (lit≤ tt, lit≤ tt)
 
--- of those of tags
-tag_code-range : (code : TagCode) → (301 ≤ tag_code code) × (tag_code code ≤ 304)
+-- those of tags and of commands are between those of names and of rings
+pub tag_code-range : (code : TagCode) → (301 ≤ tag_code code) × (tag_code code ≤ 406)
 tag_code-range OddLength = (lit≤ tt, lit≤ tt)
 tag_code-range code = (lit≤ tt, lit≤ tt)
 
--- of those of commands
-command_code-range : (code : CommandCode) → (401 ≤ command_code code) × (command_code code ≤ 406)
+pub command_code-range : (code : CommandCode) → (301 ≤ command_code code) × (command_code code ≤ 406)
 command_code-range OtherCommand = (lit≤ tt, lit≤ tt)
 command_code-range code = (lit≤ tt, lit≤ tt)
 
--- of those of rings
+-- the numbers of the causes of faults of rings
 ring_code-range : (code : RingCode) → (501 ≤ ring_code code) × (ring_code code ≤ 503)
 ring_code-range EndsAtItsBeginning = (lit≤ tt, lit≤ tt)
 ring_code-range code = (lit≤ tt, lit≤ tt)
@@ -69,25 +68,27 @@ scope_text : (d : Data) (code : WireCode) (scope : Scope) (at field : ℕ) → d
 scope_text d code Tile at field is = ap (get (codes "scope")) is
 scope_text d code scope at field is = ap (get (codes "scope")) is
 
+-- the number is the whole number that the value has at the key, if any
+abbrev pub IsNumberAt : Data → List ℕ → ℕ → Type 0
+IsNumberAt d key n = (m : ℕ) → get key d ≡ Some (whole m) → n ≡ m
+
 -- a text tells the scope of wire faults by its first letter
 module _ (d : Data) (text : List ℕ) (told : (s : List ℕ) → get (codes "scope") d ≡ Some (string s) → text ≡ s) where
   first_letter : (code : WireCode) (scope : Scope) (at field : ℕ) → d ≡ wire_data code scope at field → get_or text 0 0 ≡ get_or (name_of scope) 0 0
   first_letter code scope at field is = ap (λ t. get_or t 0 0) (told (name_of scope) (scope_text d code scope at field is))
 
-  pub layer_scope : (layer : ℕ) → text ≡ codes "layer" → ((n : ℕ) → get (codes "layer") d ≡ Some (whole n) → layer ≡ n)
+  pub layer_scope : (layer : ℕ) → text ≡ codes "layer" → IsNumberAt d (codes "layer") layer
       → (code : WireCode) (scope : Scope) (at field : ℕ) → d ≡ wire_data code scope at field → Layer layer ≡ scope
   layer_scope layer is at_layer code (Layer l) at field same = ap Layer (at_layer l (ap (get (codes "layer")) same))
   layer_scope layer is at_layer code scope at field same = absurd (omega (arith, ap (λ t. get_or t 0 0) is, first_letter code scope at field same))
 
-  pub value_scope : (layer value : ℕ) → text ≡ codes "value" → ((n : ℕ) → get (codes "layer") d ≡ Some (whole n) → layer ≡ n)
-      → ((n : ℕ) → get (codes "value") d ≡ Some (whole n) → value ≡ n)
+  pub value_scope : (layer value : ℕ) → text ≡ codes "value" → IsNumberAt d (codes "layer") layer → IsNumberAt d (codes "value") value
       → (code : WireCode) (scope : Scope) (at field : ℕ) → d ≡ wire_data code scope at field → Value layer value ≡ scope
   value_scope layer value is at_layer at_value code (Value l v) at field same =
       λ i. Value (at_layer l (ap (get (codes "layer")) same) i) (at_value v (ap (get (codes "value")) same) i)
   value_scope layer value is at_layer at_value code scope at field same = absurd (omega (arith, ap (λ t. get_or t 0 0) is, first_letter code scope at field same))
 
-  pub feature_scope : (layer feature : ℕ) → text ≡ codes "feature" → ((n : ℕ) → get (codes "layer") d ≡ Some (whole n) → layer ≡ n)
-      → ((n : ℕ) → get (codes "feature") d ≡ Some (whole n) → feature ≡ n)
+  pub feature_scope : (layer feature : ℕ) → text ≡ codes "feature" → IsNumberAt d (codes "layer") layer → IsNumberAt d (codes "feature") feature
       → (code : WireCode) (scope : Scope) (at field : ℕ) → d ≡ wire_data code scope at field → Feature layer feature ≡ scope
   feature_scope layer feature is at_layer at_feature code (Feature l f) at field same =
       λ i. Feature (at_layer l (ap (get (codes "layer")) same) i) (at_feature f (ap (get (codes "feature")) same) i)
@@ -101,13 +102,10 @@ module _ (d : Data) (text : List ℕ) (told : (s : List ℕ) → get (codes "sco
   tile_scope no_layer no_value no_feature code (Feature l f) at field same = absurd (no_feature (told (codes "feature") (scope_text d code (Feature l f) at field same)))
 
 -- so do the place and the field of a wire fault
-at_in : (d : Data) (code : WireCode) (scope : Scope) (at field : ℕ) → d ≡ wire_data code scope at field → get (codes "at") d ≡ Some (whole at)
-at_in d code Tile at field is = ap (get (codes "at")) is
-at_in d code scope at field is = ap (get (codes "at")) is
-
-field_in : (d : Data) (code : WireCode) (scope : Scope) (at field : ℕ) → d ≡ wire_data code scope at field → get (codes "field") d ≡ Some (whole field)
-field_in d code Tile at field is = ap (get (codes "field")) is
-field_in d code scope at field is = ap (get (codes "field")) is
+place_in : (d : Data) (code : WireCode) (scope : Scope) (at field : ℕ) → d ≡ wire_data code scope at field
+    → (get (codes "at") d ≡ Some (whole at)) × (get (codes "field") d ≡ Some (whole field))
+place_in d code Tile at field is = (ap (get (codes "at")) is, ap (get (codes "field")) is)
+place_in d code scope at field is = (ap (get (codes "at")) is, ap (get (codes "field")) is)
 
 -- the causes of wire faults have different numbers
 code_of-injective : (a b : WireCode) → code_of a ≡ code_of b → a ≡ b
@@ -116,14 +114,13 @@ code_of-injective a b same = sym (wire_code_at-code_of a) ∙ ap wire_code_at sa
 -- a value with the code of a wire fault has the shape of a fault only as the object of what is read in it
 pub wire_only : (d built : Data) (code : WireCode) (scope : Scope) (at field : ℕ) → HasCode d (code_of code)
     → ((c : WireCode) (s : Scope) (a n : ℕ) → d ≡ wire_data c s a n → scope ≡ s)
-    → ((n : ℕ) → get (codes "at") d ≡ Some (whole n) → at ≡ n)
-    → ((n : ℕ) → get (codes "field") d ≡ Some (whole n) → field ≡ n)
+    → IsNumberAt d (codes "at") at → IsNumberAt d (codes "field") field
     → built ≡ wire_data code scope at field → (f : Fault) → StandsFor f d → d ≡ built
 wire_only d built code scope at field has told_scope told_at told_field made (Wire c s a n) stands =
     let same_code = code_of-injective code c (sym (fault_code-StandsFor d (code_of code) has (Wire c s a n) stands)) in
     let same_scope = told_scope c s a n stands in
-    let same_at = told_at a (at_in d c s a n stands) in
-    let same_field = told_field n (field_in d c s a n stands) in
+    let same_at = told_at a (place_in d c s a n stands).0 in
+    let same_field = told_field n (place_in d c s a n stands).1 in
     stands ∙ sym (λ i. wire_data (same_code i) (same_scope i) (same_at i) (same_field i)) ∙ sym made
 wire_only d built code scope at field has told_scope told_at told_field made f stands =
     absurd (omega (arith, code_of-range, tag_code-range, command_code-range, ring_code-range, fault_code-StandsFor d (code_of code) has f stands))
@@ -136,60 +133,38 @@ wire_in_range built code scope at field None made large = (Wire code scope at fi
 wire_in_range built code scope at field (Some f) made told =
     (subst (λ g. StandsFor g built) (sym told.0) made, subst IsInRange (sym told.0) told.1)
 
--- both are between those of names and of rings
-pub tag_code-bounds : (code : TagCode) → (301 ≤ tag_code code) × (tag_code code ≤ 406)
-tag_code-bounds code = let range = tag_code-range code in (range.0, omega (arith, range.1))
-
-pub command_code-bounds : (code : CommandCode) → (301 ≤ command_code code) × (command_code code ≤ 406)
-command_code-bounds code = let range = command_code-range code in (omega (arith, range.0), range.1)
-
--- what a value with a number as its code has, read as a fault in a feature
-same_feature : (d built : Data) (n layer feature index : ℕ)
-    → ((m : ℕ) → get (codes "layer") d ≡ Some (whole m) → layer ≡ m)
-    → ((m : ℕ) → get (codes "feature") d ≡ Some (whole m) → feature ≡ m)
-    → ((m : ℕ) → get (codes "index") d ≡ Some (whole m) → index ≡ m)
-    → built ≡ feature_data n layer feature index → (m l g i : ℕ) → m ≡ n → d ≡ feature_data m l g i → d ≡ built
-same_feature d built n layer feature index told_layer told_feature told_index made m l g i same_code stands =
-    let same_layer = told_layer l (ap (get (codes "layer")) stands) in
-    let same_feature = told_feature g (ap (get (codes "feature")) stands) in
-    let same_index = told_index i (ap (get (codes "index")) stands) in
-    stands ∙ (λ j. feature_data (same_code j) (sym same_layer j) (sym same_feature j) (sym same_index j)) ∙ sym made
-
 -- a value with the code of a fault of tags or commands has the shape of a fault only as the object of what is read in it
-pub feature_only : (d built : Data) (n layer feature index : ℕ) → HasCode d n → (301 ≤ n) × (n ≤ 406)
-    → ((m : ℕ) → get (codes "layer") d ≡ Some (whole m) → layer ≡ m)
-    → ((m : ℕ) → get (codes "feature") d ≡ Some (whole m) → feature ≡ m)
-    → ((m : ℕ) → get (codes "index") d ≡ Some (whole m) → index ≡ m)
-    → built ≡ feature_data n layer feature index → (f : Fault) → StandsFor f d → d ≡ built
-feature_only d built n layer feature index has range told_layer told_feature told_index made (Tag c l g i) stands =
-    same_feature d built n layer feature index told_layer told_feature told_index made (tag_code c) l g i
-    (fault_code-StandsFor d n has (Tag c l g i) stands) stands
-feature_only d built n layer feature index has range told_layer told_feature told_index made (Command c l g i) stands =
-    same_feature d built n layer feature index told_layer told_feature told_index made (command_code c) l g i
-    (fault_code-StandsFor d n has (Command c l g i) stands) stands
-feature_only d built n layer feature index has range told_layer told_feature told_index made f stands =
-    absurd (omega (arith, range, code_of-range, tag_code-range, command_code-range, ring_code-range, fault_code-StandsFor d n has f stands))
+module _ (d built : Data) (n layer feature index : ℕ) (has : HasCode d n) (at_layer : IsNumberAt d (codes "layer") layer)
+    (at_feature : IsNumberAt d (codes "feature") feature) (at_index : IsNumberAt d (codes "index") index)
+    (made : built ≡ feature_data n layer feature index) where
+  same_feature : (m l g i : ℕ) → m ≡ n → d ≡ feature_data m l g i → d ≡ built
+  same_feature m l g i same_code stands =
+      let same_layer = at_layer l (ap (get (codes "layer")) stands) in
+      let same_feature = at_feature g (ap (get (codes "feature")) stands) in
+      let same_index = at_index i (ap (get (codes "index")) stands) in
+      cc
+
+  pub feature_only : (301 ≤ n) × (n ≤ 406) → (f : Fault) → StandsFor f d → d ≡ built
+  feature_only range (Tag c l g i) stands = same_feature (tag_code c) l g i (fault_code-StandsFor d n has (Tag c l g i) stands) stands
+  feature_only range (Command c l g i) stands = same_feature (command_code c) l g i (fault_code-StandsFor d n has (Command c l g i) stands) stands
+  feature_only range f stands = absurd (omega (arith, range, code_of-range, tag_code-range, command_code-range, ring_code-range, fault_code-StandsFor d n has f stands))
 
 -- a value with the code of a fault of a ring has the shape of a fault only as the object of what is read in it
 pub ring_only : (d built : Data) (code : RingCode) (layer feature ring : ℕ) → HasCode d (ring_code code)
-    → ((n : ℕ) → get (codes "layer") d ≡ Some (whole n) → layer ≡ n)
-    → ((n : ℕ) → get (codes "feature") d ≡ Some (whole n) → feature ≡ n)
-    → ((n : ℕ) → get (codes "ring") d ≡ Some (whole n) → ring ≡ n)
+    → IsNumberAt d (codes "layer") layer → IsNumberAt d (codes "feature") feature → IsNumberAt d (codes "ring") ring
     → built ≡ ring_data (ring_code code) layer feature ring → (f : Fault) → StandsFor f d → d ≡ built
 ring_only d built code layer feature ring has told_layer told_feature told_ring made (Ring c l g r) stands =
     let same_code : ring_code c ≡ ring_code code = fault_code-StandsFor d (ring_code code) has (Ring c l g r) stands in
     let same_layer = told_layer l (ap (get (codes "layer")) stands) in
     let same_feature = told_feature g (ap (get (codes "feature")) stands) in
     let same_ring = told_ring r (ap (get (codes "ring")) stands) in
-    stands ∙ (λ i. ring_data (same_code i) (sym same_layer i) (sym same_feature i) (sym same_ring i)) ∙ sym made
+    cc
 ring_only d built code layer feature ring has told_layer told_feature told_ring made f stands =
     absurd (omega (arith, code_of-range, tag_code-range, command_code-range, ring_code-range, fault_code-StandsFor d (ring_code code) has f stands))
 
 -- an edge's ordinals are those of its object
 pub edge_told : (d : Data) (key : List ℕ) (built : Data) (ring edge : ℕ) (it : RingEdge) → Some built ≡ get key d → get key d ≡ Some (edge_data it)
-    → ((n : ℕ) → get (codes "ring") built ≡ Some (whole n) → ring ≡ n)
-    → ((n : ℕ) → get (codes "edge") built ≡ Some (whole n) → edge ≡ n)
-    → ◌≡◌ {A = RingEdge} (record { ring = ring; edge = edge }) it
+    → IsNumberAt built (codes "ring") ring → IsNumberAt built (codes "edge") edge → ◌≡◌ {A = RingEdge} (record { ring = ring; edge = edge }) it
 edge_told d key built ring edge it found is told_ring told_edge =
     let same : built ≡ edge_data it = cc in
     let same_ring = told_ring it.ring (ap (get (codes "ring")) same) in
@@ -198,9 +173,9 @@ edge_told d key built ring edge it found is told_ring told_edge =
 
 -- what is told of the parts of a meeting's object
 pub record IsMeetingTold (d : Data) (layer feature polygon : ℕ) (first second : RingEdge) (x y w : List ℕ) : Type 0 where
-  pub layer_told : (n : ℕ) → get (codes "layer") d ≡ Some (whole n) → layer ≡ n
-  pub feature_told : (n : ℕ) → get (codes "feature") d ≡ Some (whole n) → feature ≡ n
-  pub polygon_told : (n : ℕ) → get (codes "polygon") d ≡ Some (whole n) → polygon ≡ n
+  pub layer_told : IsNumberAt d (codes "layer") layer
+  pub feature_told : IsNumberAt d (codes "feature") feature
+  pub polygon_told : IsNumberAt d (codes "polygon") polygon
   pub first_told : (it : RingEdge) → get (codes "first") d ≡ Some (edge_data it) → first ≡ it
   pub second_told : (it : RingEdge) → get (codes "second") d ≡ Some (edge_data it) → second ≡ it
   pub x_told : (s : List ℕ) → HasDecimalForm s → get (codes "x") d ≡ Some (string s) → x ≡ s

@@ -1,5 +1,5 @@
 -- A cause is told by its number.
-use Rattle.std.proofs.Common.{◌≡◌, ℕ, ◌==◌, if◌then◌else◌, refl}
+use Rattle.std.proofs.Common.{◌≡◌, ℕ, ◌-◌, [], ◌∷◌, get_or, refl}
 use Rattle.mvt_wire.specs.Code.{code_of}
 use Rattle.mvt_wire.specs.declared.cause.WireCode.{WireCode}
 use Rattle.mvt_wire.specs.declared.cause.WireCode.TheVariants.{Ends, TooLong, BadNumber, BadWireType, PastEnd, OtherType, Again, Missing, OneField, NotUtf8, OutOfRange}
@@ -14,16 +14,7 @@ use Rattle.mvt_fault.specs.declared.ring.RingCode.TheVariants.{EndsAtItsBeginnin
 -- the cause of a wire fault with a number
 abbrev pub wire_code_at : ℕ → WireCode
 wire_code_at n =
-    if n == 101 then Ends else
-    (if n == 102 then TooLong else
-    (if n == 103 then BadNumber else
-    (if n == 104 then BadWireType else
-    (if n == 105 then PastEnd else
-    (if n == 106 then OtherType else
-    (if n == 107 then Again else
-    (if n == 108 then Missing else
-    (if n == 109 then OneField else
-    (if n == 110 then NotUtf8 else OutOfRange)))))))))
+    get_or (Ends ∷ TooLong ∷ BadNumber ∷ BadWireType ∷ PastEnd ∷ OtherType ∷ Again ∷ Missing ∷ OneField ∷ NotUtf8 ∷ []) (n - 101) OutOfRange
 
 -- each number is that of one cause
 pub wire_code_at-code_of : (code : WireCode) → wire_code_at (code_of code) ≡ code
@@ -32,10 +23,7 @@ wire_code_at-code_of code = refl
 
 -- the cause of a fault of tags with a number
 abbrev pub tag_code_at : ℕ → TagCode
-tag_code_at n =
-    if n == 301 then OddLength else
-    (if n == 302 then NoKey else
-    (if n == 303 then NoValue else Repeated))
+tag_code_at n = get_or (OddLength ∷ NoKey ∷ NoValue ∷ []) (n - 301) Repeated
 
 -- each number is that of one cause
 pub tag_code_at-tag_code : (code : TagCode) → tag_code_at (tag_code code) ≡ code
@@ -44,12 +32,7 @@ tag_code_at-tag_code code = refl
 
 -- the cause of a fault of commands with a number
 abbrev pub command_code_at : ℕ → CommandCode
-command_code_at n =
-    if n == 401 then OtherCommand else
-    (if n == 402 then OtherCount else
-    (if n == 403 then Unfinished else
-    (if n == 404 then GreatestParameter else
-    (if n == 405 then OutOfBounds else NoStep))))
+command_code_at n = get_or (OtherCommand ∷ OtherCount ∷ Unfinished ∷ GreatestParameter ∷ OutOfBounds ∷ []) (n - 401) NoStep
 
 -- each number is that of one cause
 pub command_code_at-command_code : (code : CommandCode) → command_code_at (command_code code) ≡ code
@@ -58,9 +41,7 @@ command_code_at-command_code code = refl
 
 -- the cause of a fault of rings with a number
 abbrev pub ring_code_at : ℕ → RingCode
-ring_code_at n =
-    if n == 501 then EndsAtItsBeginning else
-    (if n == 502 then NoArea else BeginsWithHole)
+ring_code_at n = get_or (EndsAtItsBeginning ∷ NoArea ∷ []) (n - 501) BeginsWithHole
 
 -- each number is that of one cause
 pub ring_code_at-ring_code : (code : RingCode) → ring_code_at (ring_code code) ≡ code

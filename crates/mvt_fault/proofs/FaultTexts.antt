@@ -1,7 +1,8 @@
 -- The answer to a value is the answer to its text.
-use Rattle.std.proofs.Common.{◌≡◌, ◌≢◌, ◌↔◌, ◌≤◌, List, ℕ, Bool, true, false, not, String, Global, string_bytes, Option, Some, None, MatchOption, Result, Ok, Err, IfOk, IfErr, refl, sym, ap, subst, ◌∙◌}
+use Rattle.std.proofs.Common.{◌≡◌, ◌≢◌, ◌↔◌, ◌≤◌, List, ℕ, false, not, String, Global, string_bytes, Option, Some, None, MatchOption, Result, Ok, Err, IfOk, IfErr, refl, sym, ap, subst, ◌∙◌}
 use Rattle.std.specs.Option.{ok_or}
 use Rattle.std.specs.String.{string_eq}
+use Rattle.std.proofs.lemmas.Bool.{not-false}
 use Rattle.std.proofs.lemmas.Slice.Eq.{bytes_eq-Decides}
 use Rattle.serde_json.specs.Data.{Data, depth}
 use Rattle.serde_json.specs.Read.{read, max_depth}
@@ -27,11 +28,7 @@ IsAnswerTo-told (Some f) d told = told
 
 -- strings of which `!=` is false have the same bytes
 same_bytes : (s t : String Global) → false ≡ not (string_eq s t) → string_bytes s ≡ string_bytes t
-same_bytes s t equal = (bytes_eq-Decides (string_bytes s) (string_bytes t)).0 (is_true (string_eq s t) equal)
-  where
-    is_true : (b : Bool) → false ≡ not b → b ≡ true
-    is_true true is = refl
-    is_true false is = absurd cc
+same_bytes s t equal = (bytes_eq-Decides (string_bytes s) (string_bytes t)).0 (not-false (string_eq s t) (sym equal))
 
 -- and to a value with the same text
 pub IsAnswerTo-same : (d : Data) (c : Candidate) (o : Option Candidate) (r : Result Fault FaultTextError) (s t : String Global)
