@@ -48,13 +48,9 @@ HasCode-StandsFor (Wire code Tile at field) d stands = ap (get (codes "code")) s
 HasCode-StandsFor (Meeting layer feature polygon first second x y w) d stands = ap (get (codes "code")) stands.object
 HasCode-StandsFor f d stands = ap (get (codes "code")) stands
 
--- a value has one code
-HasCode-unique : (d : Data) (m n : ℕ) → HasCode d m → HasCode d n → m ≡ n
-HasCode-unique d m n here there = cc
-
--- so a value with a code stands for faults of that code alone
+-- a value has one code, so it stands for faults of that code alone
 fault_code-StandsFor : (d : Data) (n : ℕ) → HasCode d n → (f : Fault) → StandsFor f d → fault_code f ≡ n
-fault_code-StandsFor d n has f stands = HasCode-unique d (fault_code f) n (HasCode-StandsFor f d stands) has
+fault_code-StandsFor d n has f stands = let code = HasCode-StandsFor f d stands in cc
 
 -- the name of a scope
 abbrev name_of : Scope → List ℕ

@@ -64,29 +64,28 @@ ComesFirst-total xs ys = one (slice_cmp nat_cmp xs ys) (tells xs ys)
     one Greater h = inr h.0
 
 -- what each answer of a comparison says
+answers_tell : (o : Ordering) (xs ys : List ℕ) → Tells o xs ys
+    → ((o ≡ Less) ↔ (ComesFirst xs ys × (xs ≢ ys))) × ((o ≡ Equal) ↔ (xs ≡ ys)) × ((o ≡ Greater) ↔ (ComesFirst ys xs × (xs ≢ ys)))
+answers_tell Less xs ys h = (
+  (λ e. h, λ p. refl),
+  (λ e. cc e, λ p. absurd (h.1 p)),
+  (λ e. cc e, λ p. absurd (h.1 (ComesFirst-antisymmetric xs ys h.0 p.0))),
+)
+answers_tell Equal xs ys h = ((λ e. cc e, λ p. absurd (p.1 h)), (λ e. h, λ p. refl), (λ e. cc e, λ p. absurd (p.1 h)))
+answers_tell Greater xs ys h = (
+  (λ e. cc e, λ p. absurd (h.1 (ComesFirst-antisymmetric xs ys p.0 h.0))),
+  (λ e. cc e, λ p. absurd (h.1 p)),
+  (λ e. h, λ p. refl),
+)
+
 pub less_tells : (o : Ordering) (xs ys : List ℕ) → o ≡ slice_cmp nat_cmp xs ys → (o ≡ Less) ↔ (ComesFirst xs ys × (xs ≢ ys))
-less_tells o xs ys is = less o xs ys (subst (λ (o : Ordering). Tells o xs ys) (sym is) (tells xs ys))
-  where
-    less : (o : Ordering) (xs ys : List ℕ) → Tells o xs ys → (o ≡ Less) ↔ (ComesFirst xs ys × (xs ≢ ys))
-    less Less xs ys h = (λ e. h, λ p. refl)
-    less Equal xs ys h = (λ e. cc e, λ p. absurd (p.1 h))
-    less Greater xs ys h = (λ e. cc e, λ p. absurd (h.1 (ComesFirst-antisymmetric xs ys p.0 h.0)))
+less_tells o xs ys is = (answers_tell o xs ys (rw is (tells xs ys))).0
 
 pub equal_tells : (o : Ordering) (xs ys : List ℕ) → o ≡ slice_cmp nat_cmp xs ys → (o ≡ Equal) ↔ (xs ≡ ys)
-equal_tells o xs ys is = equal o xs ys (subst (λ (o : Ordering). Tells o xs ys) (sym is) (tells xs ys))
-  where
-    equal : (o : Ordering) (xs ys : List ℕ) → Tells o xs ys → (o ≡ Equal) ↔ (xs ≡ ys)
-    equal Less xs ys h = (λ e. cc e, λ p. absurd (h.1 p))
-    equal Equal xs ys h = (λ e. h, λ p. refl)
-    equal Greater xs ys h = (λ e. cc e, λ p. absurd (h.1 p))
+equal_tells o xs ys is = (answers_tell o xs ys (rw is (tells xs ys))).1
 
 pub greater_tells : (o : Ordering) (xs ys : List ℕ) → o ≡ slice_cmp nat_cmp xs ys → (o ≡ Greater) ↔ (ComesFirst ys xs × (xs ≢ ys))
-greater_tells o xs ys is = greater o xs ys (subst (λ (o : Ordering). Tells o xs ys) (sym is) (tells xs ys))
-  where
-    greater : (o : Ordering) (xs ys : List ℕ) → Tells o xs ys → (o ≡ Greater) ↔ (ComesFirst ys xs × (xs ≢ ys))
-    greater Less xs ys h = (λ e. cc e, λ p. absurd (h.1 (ComesFirst-antisymmetric xs ys h.0 p.0)))
-    greater Equal xs ys h = (λ e. cc e, λ p. absurd (p.1 h))
-    greater Greater xs ys h = (λ e. h, λ p. refl)
+greater_tells o xs ys is = (answers_tell o xs ys (rw is (tells xs ys))).2
 
 pub up_to_tells : (xs ys : List ℕ) → IsTrue (is_some_and is_le (slice_partial_cmp (λ x y. Some (nat_cmp x y)) xs ys)) ↔ ComesFirst xs ys
 up_to_tells xs ys = rw (lists_agrees {C = λ x y. Some (nat_cmp x y)} (λ x y. refl) xs ys) (up_to (slice_cmp nat_cmp xs ys) xs ys (tells xs ys))
@@ -171,10 +170,9 @@ same_place_or_meetings fault other same = by (told fault) (told other)
     by (inr a) (inl b) = inr record { layer = a.0; feature = a.1; polygon = a.2; one = a.3; another = is_some_meeting a.0 a.1 a.2 other (sym b ∙ sym alike ∙ a.4) }
     by (inr a) (inr b) =
         let meetings : some_meeting a.0 a.1 a.2 ≡ some_meeting b.0 b.1 b.2 = sym a.4 ∙ alike ∙ b.4 in
-        let layers : a.0 ≡ b.0 = cc in
-        let features : a.1 ≡ b.1 = cc in
-        let polygons : a.2 ≡ b.2 = cc in
-        inr record { layer = b.0; feature = b.1; polygon = b.2; one = subst (λ (n : ℕ). IsMeetingIn n b.1 b.2 fault) layers (subst (λ (n : ℕ). IsMeetingIn a.0 n b.2 fault) features (subst (λ (n : ℕ). IsMeetingIn a.0 a.1 n fault) polygons a.3)); another = b.3 }
+        let is : fault ≡ Meeting b.0 b.1 b.2 a.3.first a.3.second a.3.x a.3.y a.3.w = cc (meetings, a.3.is) in
+        let one : IsMeetingIn b.0 b.1 b.2 fault = record { first = a.3.first; second = a.3.second; x = a.3.x; y = a.3.y; w = a.3.w; is = is } in
+        inr record { layer = b.0; feature = b.1; polygon = b.2; one = one; another = b.3 }
 
 -- meetings in one polygon have one place
 pub meetings_share_a_place : (fault other : Fault) → AreMeetingsInOne fault other → place_of fault ≡ place_of other

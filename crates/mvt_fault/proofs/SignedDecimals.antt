@@ -1,5 +1,5 @@
 -- The decimal digits of a number of 128 bits are read back to it, and those that are read are written again.
-use Rattle.std.proofs.Common.{◌≡◌, ℕ, zero, suc, ◌+◌, ◌*◌, ◌/◌, ◌%◌, ◌^◌, ◌<◌, ◌≤◌, ◌==◌, ℤ, pos, negsuc, neg_ℤ, List, [], ◌∷◌, ◌++◌, length, get_or, slice_index, EachIndex, false, Option, Result, Ok, Err, MatchOption, inl, inr, refl, sym, ap, subst, ◌∙◌, append-nil, append_assoc, length-append, arith}
+use Rattle.std.proofs.Common.{◌≡◌, ℕ, zero, suc, ◌+◌, ◌*◌, ◌/◌, ◌%◌, ◌^◌, ◌<◌, ◌≤◌, ◌==◌, ℤ, pos, negsuc, neg_ℤ, List, [], ◌∷◌, ◌++◌, length, get_or, false, Option, Result, Ok, Err, MatchOption, inl, inr, refl, sym, ap, subst, ◌∙◌, append-nil, append_assoc, length-append, arith}
 use lib.ListN.{get_or-append}
 use mir.Syntax.{w128}
 use mir.Val.{to_z, of_z}
@@ -11,7 +11,7 @@ use Rattle.std.specs.Result.{result_ok}
 use Rattle.std.specs.Str.Parse.{AllDigits, IsNumeral, digits_value, digits_value_after, signed_digits_value, without_leading_sign, ParsesSigned}
 use Rattle.std.proofs.lemmas.Fmt.{decimal_is_IsNumeral_wide, decimal_by_steps_wide, decimal_digit, decimal_step_wide}
 use Rattle.std.proofs.lemmas.Str.{digit_value_digit}
-use Rattle.std.proofs.lemmas.Str.Parse.{digit_from_value, numerals_by_value, tells_by_index}
+use Rattle.std.proofs.lemmas.Str.Parse.{digit_from_value}
 use Rattle.std.proofs.lemmas.Int.{ints, to_z-of_z}
 use Rattle.mvt_fault.specs.Reading.{IsPositiveNumeral, HasDecimalForm, Writes}
 use Rattle.mvt_fault.specs.Text.{HasWidth}
@@ -136,8 +136,7 @@ signed_decimal-Writes s z writes width =
 
 -- what a signed number of 128 bits is
 HasWidth-FitsSigned : (z : ℤ) → FitsSigned w128 z → HasWidth z
-HasWidth-FitsSigned (pos n) fits = (omega (arith, ints, fits.sfits), omega (arith, ints, fits.sfits))
-HasWidth-FitsSigned (negsuc n) fits = (omega (arith, ints, fits.sfits), omega (arith, ints, fits.sfits))
+HasWidth-FitsSigned z fits = (omega (arith, ints, fits.sfits), omega (arith, ints, fits.sfits))
 
 FitsSigned-HasWidth : (z : ℤ) → HasWidth z → FitsSigned w128 z
 FitsSigned-HasWidth (pos n) width = record { sfits = omega (arith, ints, width) }
@@ -155,13 +154,6 @@ pub parsed_decimal_ok : {E : Type 0} (s : List ℕ) (r : Result ℤ E) (o : Opti
     → MatchOption o ((z : ℤ) → Writes s z → ¬ HasWidth z) (λ z. Writes s z × HasWidth z)
 parsed_decimal_ok s r o is form parses =
     subst (λ p. MatchOption p ((z : ℤ) → Writes s z → ¬ HasWidth z) (λ z. Writes s z × HasWidth z)) (sym is) (parsed_decimal s r form parses)
-
--- digits by their places are digits from first to last
-pub AllDigits-EachIndex : (ds : List ℕ) → EachIndex ds (λ k. IsInRange 48 57 (slice_index ds k)) → AllDigits 10 ds
-AllDigits-EachIndex = (numerals_by_value _ tells_by_index).to
-
-pub EachIndex-AllDigits : (ds : List ℕ) → AllDigits 10 ds → EachIndex ds (λ k. IsInRange 48 57 (slice_index ds k))
-EachIndex-AllDigits = (numerals_by_value _ tells_by_index).from
 
 -- a number that is written is so too by its bits, as it stands in a fault
 pub Writes-bits : (s : List ℕ) (z : ℤ) → Writes s z × HasWidth z → Writes s (to_z w128 (of_z w128 z)) × HasWidth (to_z w128 (of_z w128 z))
