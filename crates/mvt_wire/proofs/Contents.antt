@@ -51,26 +51,21 @@ contents_have_type message field_number rule wire_type entries known only fits =
 numbers_count : (contents : List Content) → All (λ (c : Content). wire_type_of c ≡ 0) contents → length (filter_map number_in contents) ≡ length contents
 numbers_count [] types = refl
 numbers_count (varint value at ∷ contents) types = ap suc (numbers_count contents (All-tail (λ (c : Content). wire_type_of c ≡ 0) (varint value at) contents types))
-numbers_count (eight_bytes part ∷ contents) types = let type = All-head (λ (c : Content). wire_type_of c ≡ 0) (eight_bytes part) contents types in absurd (omega arith)
-numbers_count (delimited from part ∷ contents) types = let type = All-head (λ (c : Content). wire_type_of c ≡ 0) (delimited from part) contents types in absurd (omega arith)
-numbers_count (four_bytes part ∷ contents) types = let type = All-head (λ (c : Content). wire_type_of c ≡ 0) (four_bytes part) contents types in absurd (omega arith)
+numbers_count (content ∷ contents) types = let type = All-head (λ (c : Content). wire_type_of c ≡ 0) content contents types in absurd (omega arith)
 
 -- and as many texts as payloads behind a length
 texts_count : (contents : List Content) → All (λ (c : Content). wire_type_of c ≡ 2) contents → length (filter_map bytes_in contents) ≡ length contents
 texts_count [] types = refl
 texts_count (delimited from part ∷ contents) types = ap suc (texts_count contents (All-tail (λ (c : Content). wire_type_of c ≡ 2) (delimited from part) contents types))
-texts_count (varint value at ∷ contents) types = let type = All-head (λ (c : Content). wire_type_of c ≡ 2) (varint value at) contents types in absurd (omega arith)
-texts_count (eight_bytes part ∷ contents) types = let type = All-head (λ (c : Content). wire_type_of c ≡ 2) (eight_bytes part) contents types in absurd (omega arith)
-texts_count (four_bytes part ∷ contents) types = let type = All-head (λ (c : Content). wire_type_of c ≡ 2) (four_bytes part) contents types in absurd (omega arith)
+texts_count (content ∷ contents) types = let type = All-head (λ (c : Content). wire_type_of c ≡ 2) content contents types in absurd (omega arith)
 
 contents_count : (field_number : ℕ) (entries : List Entry) → length (contents_of field_number entries) ≡ count_of field_number entries
 contents_count field_number entries = length-map (fields_of field_number entries) (λ (e : Entry). e.content)
 
 -- a list of length one
 pub alone_in : {X : Type 0} (xs : List X) → length xs ≡ 1 → (x : X) × (xs ≡ x ∷ [])
-alone_in [] size = absurd (omega arith)
 alone_in (x ∷ []) size = (x, refl)
-alone_in (x ∷ y ∷ ys) size = absurd (omega arith)
+alone_in p size = absurd (omega arith)
 
 -- a number that stands just once
 stands_once : (message : Message) (field_number : ℕ) (rule : FieldRule) (entries : List Entry) → KeepsSchema message entries → rule_of message field_number ≡ Some rule → is_singular rule.occurrence ≡ true → is_required rule.occurrence ≡ true → count_of field_number entries ≡ 1
@@ -98,9 +93,8 @@ one_text message field_number rule entries keeps known only singular required =
 -- a field of numbers states some
 stated : (rule : FieldRule) (content : Content) → rule.shape ≡ Numbers → Fits rule content → (numbers : List ℕ) × States content numbers
 stated rule (varint value at) shape fits = (value ∷ [], refl)
-stated rule (eight_bytes part) shape fits = let own : is_own Numbers 1 ≡ true = ap (λ s. is_own s 1) (sym shape) ∙ fits.own in absurd (cc)
 stated rule (delimited from part) shape fits = let list = fits.packed from part shape refl in (list.0, list.1)
-stated rule (four_bytes part) shape fits = let own : is_own Numbers 5 ≡ true = ap (λ s. is_own s 5) (sym shape) ∙ fits.own in absurd (cc)
+stated rule content shape fits = let own : is_own Numbers (wire_type_of content) ≡ true = ap (λ s. is_own s (wire_type_of content)) (sym shape) ∙ fits.own in absurd (cc)
 
 stated_together : (rule : FieldRule) (contents : List Content) → rule.shape ≡ Numbers → All (Fits rule) contents → (numbers : List ℕ) × StateTogether contents numbers
 stated_together rule [] shape fits = ([], refl)
@@ -117,9 +111,8 @@ numbers_stated message field_number rule entries keeps known shape =
 -- a field states one list of numbers
 pub one_stated : (content : Content) (ms ns : List ℕ) → States content ms → States content ns → ms ≡ ns
 one_stated (varint value at) ms ns h k = h ∙ sym k
-one_stated (eight_bytes part) ms ns h k = absurd h
 one_stated (delimited from part) ms ns h k = one_varint_list part 0 (length part) ms ns h k
-one_stated (four_bytes part) ms ns h k = absurd h
+one_stated content ms ns h k = absurd h
 
 -- and so do several together
 pub one_joined : (contents : List Content) (ms ns : List ℕ) → StateTogether contents ms → StateTogether contents ns → ms ≡ ns

@@ -12,18 +12,13 @@ use Rattle.mvt_wire.proofs.Entries.{one_key, IsKey-from, entry_at}
 -- a wire type of a field isn't a refused one
 type_or_refused : (content : Content) → IsRefusedType (wire_type_of content) → ⊥
 type_or_refused (varint value at) refused = grind arith
-type_or_refused (eight_bytes part) refused = grind arith
-type_or_refused (delimited from part) refused = grind arith
-type_or_refused (four_bytes part) refused = grind arith
+type_or_refused content refused = grind arith
 
 -- where a payload stands, its leading varint has no defect
 payload_or_varint_defect : (bytes : List ℕ) (from to : ℕ) (content : Content) (code : WireCode) → IsPayload bytes from to content → HasLeadingVarint (wire_type_of content) → VarintDefect code (drop from bytes) → ⊥
 payload_or_varint_defect bytes from to (varint value at) code p leading defect = varint_or_defect bytes from to value code p.1 defect
-payload_or_varint_defect bytes from to (eight_bytes part) code p (inl e) defect = absurd (omega arith)
-payload_or_varint_defect bytes from to (eight_bytes part) code p (inr e) defect = absurd (omega arith)
 payload_or_varint_defect bytes from to (delimited start part) code p leading defect = varint_or_defect bytes from start p.0 code p.1 defect
-payload_or_varint_defect bytes from to (four_bytes part) code p (inl e) defect = absurd (omega arith)
-payload_or_varint_defect bytes from to (four_bytes part) code p (inr e) defect = absurd (omega arith)
+payload_or_varint_defect bytes from to content code p leading defect = grind arith
 
 -- a place behind a key has one end of its payload
 one_payload_end : (bytes : List ℕ) (from wire_type end other : ℕ) → PayloadEnd bytes from wire_type end → PayloadEnd bytes from wire_type other → end ≡ other
@@ -42,15 +37,13 @@ one_payload_end bytes from wire_type end other (inr (inr p)) (inr (inr q)) =
 
 -- where a payload stands, it ends within its message
 payload_within : (bytes : List ℕ) (from to end : ℕ) (content : Content) → IsPayload bytes from to content → PayloadEnd bytes from (wire_type_of content) end → end ≤ length bytes
-payload_within bytes from to end (varint value at) p (inl q) = absurd (omega arith)
-payload_within bytes from to end (varint value at) p (inr (inl q)) = absurd (omega arith)
-payload_within bytes from to end (varint value at) p (inr (inr q)) = absurd (omega arith)
 payload_within bytes from to end (eight_bytes part) p q =
     let same = one_payload_end bytes from 1 end to q (inl (refl, p.0)) in omega arith
 payload_within bytes from to end (delimited start part) p q =
     let same = one_payload_end bytes from 2 end to q (inr (inr (refl, (start, p.0, p.1, p.2)))) in omega arith
 payload_within bytes from to end (four_bytes part) p q =
     let same = one_payload_end bytes from 5 end to q (inr (inl (refl, p.0))) in omega arith
+payload_within bytes from to end (varint value at) p q = grind arith
 
 -- a place has a field or a defect
 pub field_or_defect : (bytes : List ℕ) (to : ℕ) (e : Entry) (cause : WireCause) → IsField bytes to e → FieldDefect bytes e.at cause → ⊥
@@ -86,9 +79,7 @@ refused_or_leading : (t : ℕ) → IsRefusedType t → HasLeadingVarint t → �
 refused_or_leading t a b = grind arith
 
 refused_or_end : (bytes : List ℕ) (from t end : ℕ) → IsRefusedType t → PayloadEnd bytes from t end → ⊥
-refused_or_end bytes from t end a (inl p) = let type = p.0 in grind arith
-refused_or_end bytes from t end a (inr (inl p)) = let type = p.0 in grind arith
-refused_or_end bytes from t end a (inr (inr p)) = let type = p.0 in grind arith
+refused_or_end bytes from t end a p = grind arith
 
 -- a payload that would end somewhere has a good leading varint
 defect_or_end : (bytes : List ℕ) (from t end : ℕ) (code : WireCode) → HasLeadingVarint t → VarintDefect code (drop from bytes) → PayloadEnd bytes from t end → ⊥

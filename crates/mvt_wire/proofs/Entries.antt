@@ -47,18 +47,7 @@ one_payload bytes from to end (delimited s a) (delimited t b) same p q =
     let place : to ≡ end = p.2 ∙ ap (λ (k : ℕ). s + k) size ∙ ap (λ (k : ℕ). k + q.0) starts ∙ sym q.2 in
     let part : a ≡ b = p.4 ∙ ap (λ (k : ℕ). slice_range bytes k to) starts ∙ ap (λ (k : ℕ). slice_range bytes t k) place ∙ sym q.4 in
     (place, cc)
-one_payload bytes from to end (varint m a) (eight_bytes b) same p q = absurd (omega arith)
-one_payload bytes from to end (varint m a) (delimited t b) same p q = absurd (omega arith)
-one_payload bytes from to end (varint m a) (four_bytes b) same p q = absurd (omega arith)
-one_payload bytes from to end (eight_bytes a) (varint n b) same p q = absurd (omega arith)
-one_payload bytes from to end (eight_bytes a) (delimited t b) same p q = absurd (omega arith)
-one_payload bytes from to end (eight_bytes a) (four_bytes b) same p q = absurd (omega arith)
-one_payload bytes from to end (delimited s a) (varint n b) same p q = absurd (omega arith)
-one_payload bytes from to end (delimited s a) (eight_bytes b) same p q = absurd (omega arith)
-one_payload bytes from to end (delimited s a) (four_bytes b) same p q = absurd (omega arith)
-one_payload bytes from to end (four_bytes a) (varint n b) same p q = absurd (omega arith)
-one_payload bytes from to end (four_bytes a) (eight_bytes b) same p q = absurd (omega arith)
-one_payload bytes from to end (four_bytes a) (delimited t b) same p q = absurd (omega arith)
+one_payload bytes from to end c d same p q = absurd (omega arith)
 
 abbrev pub entry_at : ℕ → ℕ → Content → Entry
 entry_at n at content = record { number = n; at = at; content = content }
@@ -86,9 +75,8 @@ no_field_at_end bytes from next e end here field =
 -- a field takes bytes, all within its message
 pub payload_extent : (bytes : List ℕ) (from to : ℕ) (content : Content) → from ≤ length bytes → IsPayload bytes from to content → (from ≤ to) × (to ≤ length bytes)
 payload_extent bytes from to (varint value at) within p = let forward = p.1.forward in let inside = p.1.within in (omega arith, omega arith)
-payload_extent bytes from to (eight_bytes part) within p = (omega arith, p.1)
 payload_extent bytes from to (delimited start part) within p = let forward = p.1.forward in (omega arith, p.3)
-payload_extent bytes from to (four_bytes part) within p = (omega arith, p.1)
+payload_extent bytes from to content within p = (omega arith, p.1)
 
 pub field_extent : (bytes : List ℕ) (to : ℕ) (e : Entry) → IsField bytes to e → (e.at < to) × (to ≤ length bytes)
 field_extent bytes to e field =
@@ -121,13 +109,10 @@ within-append bytes more to within = let longer = length-append bytes more in om
 
 pub IsPayload-append : (bytes more : List ℕ) (from to : ℕ) (content : Content) → IsPayload bytes from to content → IsPayload (bytes ++ more) from to content
 IsPayload-append bytes more from to (varint value at) p = (p.0, SpellsVarint-append bytes more from to value p.1)
-IsPayload-append bytes more from to (eight_bytes part) p =
-    let ordered : from ≤ to = omega arith in
-    (p.0, within-append bytes more to p.1, p.2 ∙ sym (slice_range-append bytes more from to ordered p.1))
 IsPayload-append bytes more from to (delimited start part) p =
     let ordered : start ≤ to = omega arith in
     (p.0, SpellsVarint-append bytes more from start p.0 p.1, p.2, within-append bytes more to p.3, p.4 ∙ sym (slice_range-append bytes more start to ordered p.3))
-IsPayload-append bytes more from to (four_bytes part) p =
+IsPayload-append bytes more from to content p =
     let ordered : from ≤ to = omega arith in
     (p.0, within-append bytes more to p.1, p.2 ∙ sym (slice_range-append bytes more from to ordered p.1))
 

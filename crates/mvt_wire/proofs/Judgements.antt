@@ -26,23 +26,7 @@ use Rattle.mvt_wire.proofs.Schemas.{count_of-append, FitsRule, KeepsSchema-fault
 abbrev pub FitsOrFault : FieldRule → Bool → Entry → Type 0
 FitsOrFault rule stood entry = Fits rule entry.content ⊎ ((cause : WireCause) × EntryFault rule stood entry cause)
 
--- a payload of eight or four bytes
-eight_bytes_fit : (rule : FieldRule) (part : List ℕ) → is_own rule.shape 1 ≡ true → Fits rule (eight_bytes part)
-eight_bytes_fit rule part own = record {
-  own = own;
-  text = λ from other shape content. absurd (cc);
-  in_range = λ value at content. absurd (cc);
-  packed = λ from other shape content. absurd (cc);
-}
-
-four_bytes_fit : (rule : FieldRule) (part : List ℕ) → is_own rule.shape 5 ≡ true → Fits rule (four_bytes part)
-four_bytes_fit rule part own = record {
-  own = own;
-  text = λ from other shape content. absurd (cc);
-  in_range = λ value at content. absurd (cc);
-  packed = λ from other shape content. absurd (cc);
-}
-
+-- a payload that is a varint
 varint_fits : (rule : FieldRule) (value at : ℕ) → is_own rule.shape 0 ≡ true → is_out_of_range rule.shape value ≡ false → Fits rule (varint value at)
 varint_fits rule value at own within = record {
   own = own;
@@ -61,12 +45,6 @@ delimited_fits rule from part own text list = record {
 
 -- a payload behind a length, by the shape that the rule has
 delimited_judged : (shape : Shape) (rule : FieldRule) (stood : Bool) (number at from : ℕ) (part : List ℕ) → rule.shape ≡ shape → is_own rule.shape 2 ≡ true → FitsOrFault rule stood (entry_at number at (delimited from part))
-delimited_judged Embedded rule stood number at from part is own = inl (delimited_fits rule from part own (λ shape. absurd (cc)) (λ shape. absurd (cc)))
-delimited_judged FourBytes rule stood number at from part is own = inl (delimited_fits rule from part own (λ shape. absurd (cc)) (λ shape. absurd (cc)))
-delimited_judged EightBytes rule stood number at from part is own = inl (delimited_fits rule from part own (λ shape. absurd (cc)) (λ shape. absurd (cc)))
-delimited_judged Uint64 rule stood number at from part is own = inl (delimited_fits rule from part own (λ shape. absurd (cc)) (λ shape. absurd (cc)))
-delimited_judged Uint32 rule stood number at from part is own = inl (delimited_fits rule from part own (λ shape. absurd (cc)) (λ shape. absurd (cc)))
-delimited_judged GeometryType rule stood number at from part is own = inl (delimited_fits rule from part own (λ shape. absurd (cc)) (λ shape. absurd (cc)))
 delimited_judged Text rule stood number at from part is own = elim (cases_Bool (is_utf8 part)) [
   | inl text ↦ inl (delimited_fits rule from part own (λ shape. IsUtf8-from_is_utf8 part text) (λ shape. absurd (cc)))
   | inr other ↦
@@ -77,6 +55,7 @@ delimited_judged Numbers rule stood number at from part is own = elim (numbers_o
   | inl list ↦ inl (delimited_fits rule from part own (λ shape. absurd (cc)) (λ shape. list))
   | inr fault ↦ inr (fault.0, packed from part is refl fault.1)
 ]
+delimited_judged shape rule stood number at from part is own = inl (delimited_fits rule from part own (λ shape. absurd (cc)) (λ shape. absurd (cc)))
 
 -- a field of the rule's own wire type
 own_judged : (rule : FieldRule) (stood : Bool) (number at : ℕ) (content : Content) → is_own rule.shape (wire_type_of content) ≡ true → FitsOrFault rule stood (entry_at number at content)
@@ -84,9 +63,13 @@ own_judged rule stood number at (varint value place) own = elim (cases_Bool (is_
   | inl over ↦ inr (cause_at OutOfRange place number, out_of_range value place refl over refl)
   | inr within ↦ inl (varint_fits rule value place own within)
 ]
-own_judged rule stood number at (eight_bytes part) own = inl (eight_bytes_fit rule part own)
 own_judged rule stood number at (delimited from part) own = delimited_judged rule.shape rule stood number at from part refl own
-own_judged rule stood number at (four_bytes part) own = inl (four_bytes_fit rule part own)
+own_judged rule stood number at content own = inl (record {
+  own = own;
+  text = λ from other shape content. absurd (cc);
+  in_range = λ value at content. absurd (cc);
+  packed = λ from other shape content. absurd (cc);
+})
 
 field_judged : (rule : FieldRule) (stood : Bool) (entry : Entry) → FitsOrFault rule stood entry
 field_judged rule stood entry = elim (cases_Bool (is_own rule.shape (wire_type_of entry.content))) [
@@ -236,13 +219,11 @@ present_below message entries (suc bound) = elim (present_below message entries 
 
 -- a value has one known field or not
 one_known : (message : Message) (entries : List Entry) → (message ≡ Value → count_known message entries ≡ 1) ⊎ ((message ≡ Value) × (count_known message entries ≢ 1))
-one_known Tile entries = inl (λ value. absurd (cc))
-one_known Layer entries = inl (λ value. absurd (cc))
-one_known Feature entries = inl (λ value. absurd (cc))
 one_known Value entries = elim (cases_eq (count_known Value entries) 1) [
   | inl one ↦ inl (λ value. one)
   | inr other ↦ inr (refl, other)
 ]
+one_known message entries = inl (λ value. absurd (cc))
 
 -- a field list keeps the schema of its message, or has a fault
 abbrev pub ListJudged : Message → List Entry → ℕ → Type 0

@@ -79,10 +79,9 @@ FaultOf at k (delimited from part) numbers cause = (stop : ℕ) × VarintList pa
 FaultOf at k (four_bytes part) numbers cause = (numbers ≡ []) × (cause ≡ cause_at OtherType at k)
 
 other_fault : (at k : ℕ) (content : Content) (numbers : List ℕ) (cause : WireCause) → is_own Numbers (wire_type_of content) ≡ false → numbers ≡ [] → cause ≡ cause_at OtherType at k → FaultOf at k content numbers cause
-other_fault at k (varint value place) numbers cause other none is = absurd (cc)
 other_fault at k (eight_bytes part) numbers cause other none is = (none, is)
-other_fault at k (delimited from part) numbers cause other none is = absurd (cc)
 other_fault at k (four_bytes part) numbers cause other none is = (none, is)
+other_fault at k content numbers cause other none is = absurd (cc)
 
 pub fault_of : (e : Entry) (numbers : List ℕ) (cause : WireCause) → NumberFault e numbers cause → FaultOf e.at e.number e.content numbers cause
 fault_of e numbers cause (other_type other none is) = other_fault e.at e.number e.content numbers cause other none is
@@ -93,8 +92,6 @@ fault_of e numbers cause (in_packed_list from part at content list fault here) =
 -- behind small numbers a field has at most one fault
 pub one_fault_of : (at k : ℕ) (content : Content) (ms ns : List ℕ) (c d : WireCause) → FaultOf at k content ms c → FaultOf at k content ns d → AreSmall ms → AreSmall ns → (ms ≡ ns) × (c ≡ d)
 one_fault_of at k (varint value place) ms ns c d first second small below = (first.1 ∙ sym second.1, first.2 ∙ sym second.2)
-one_fault_of at k (eight_bytes part) ms ns c d first second small below = (first.0 ∙ sym second.0, first.1 ∙ sym second.1)
-one_fault_of at k (four_bytes part) ms ns c d first second small below = (first.0 ∙ sym second.0, first.1 ∙ sym second.1)
 one_fault_of at k (delimited from part) ms ns c d first second small below =
     let low = first_fault from part k 0 first.0 second.0 ms ns d first.1 second.1 small second.2 in
     let high = first_fault from part k 0 second.0 first.0 ns ms c second.1 first.1 below first.2 in
@@ -102,6 +99,7 @@ one_fault_of at k (delimited from part) ms ns c d first second small below =
       same_front part 0 first.0 second.0 ms ns first.1 second.1 same,
       one_fault_here from part k second.0 c d (subst (λ (place : ℕ). FaultHere from part k place c) same first.2) second.2,
     )
+one_fault_of at k content ms ns c d first second small below = (first.0 ∙ sym second.0, first.1 ∙ sym second.1)
 
 pub place_here : (from : ℕ) (part : List ℕ) (k at : ℕ) (cause : WireCause) → FaultHere from part k at cause → cause.at ≡ from + at
 place_here from part k at cause (inl bad) = ap (λ (c : WireCause). c.at) bad.3
@@ -114,8 +112,6 @@ StandsFirst cause other = (cause.at < other.at) ⊎ (cause ≡ other)
 -- and every other one stands behind it
 pub least_fault_of : (at k : ℕ) (content : Content) (ms ns : List ℕ) (c d : WireCause) → FaultOf at k content ms c → AreSmall ms → FaultOf at k content ns d → StandsFirst c d
 least_fault_of at k (varint value place) ms ns c d first small second = inr (first.2 ∙ sym second.2)
-least_fault_of at k (eight_bytes part) ms ns c d first small second = inr (first.1 ∙ sym second.1)
-least_fault_of at k (four_bytes part) ms ns c d first small second = inr (first.1 ∙ sym second.1)
 least_fault_of at k (delimited from part) ms ns c d first small second =
     let low = first_fault from part k 0 first.0 second.0 ms ns d first.1 second.1 small second.2 in
     elim (cases_lt first.0 second.0) [
@@ -127,6 +123,7 @@ least_fault_of at k (delimited from part) ms ns c d first small second =
           let same : first.0 ≡ second.0 = omega arith in
           inr (one_fault_here from part k second.0 c d (subst (λ (place : ℕ). FaultHere from part k place c) same first.2) second.2)
     ]
+least_fault_of at k content ms ns c d first small second = inr (first.1 ∙ sym second.1)
 
 -- a field that states small numbers has no fault
 packed_or_fault_here : (from : ℕ) (part : List ℕ) (k stop : ℕ) (ms ns : List ℕ) (cause : WireCause) → VarintList part 0 ms (length part) → AreSmall ms → VarintList part 0 ns stop → FaultHere from part k stop cause → ⊥
@@ -140,9 +137,8 @@ states_or_fault at k (varint value place) ms ns cause states small fault =
     let below : value < 2 ^ 32 = All-head (λ (n : ℕ). n < 2 ^ 32) value [] (subst AreSmall states small) in
     let large = fault.0 in
     omega arith
-states_or_fault at k (eight_bytes part) ms ns cause states small fault = states
-states_or_fault at k (four_bytes part) ms ns cause states small fault = states
 states_or_fault at k (delimited from part) ms ns cause states small fault = packed_or_fault_here from part k fault.0 ms ns cause states small fault.1 fault.2
+states_or_fault at k content ms ns cause states small fault = states
 
 -- a field states small numbers, or has a fault behind some
 abbrev pub StatesOrFault : Entry → Type 0
@@ -171,9 +167,8 @@ delimited_judged e from part is = elim (numbers_or_stop (length part) part 0 (om
 
 judged_by_content : (e : Entry) (content : Content) → e.content ≡ content → StatesOrFault e
 judged_by_content e (varint value place) is = varint_judged e value place is
-judged_by_content e (eight_bytes part) is = other_judged e (ap (λ (c : Content). is_own Numbers (wire_type_of c)) is)
 judged_by_content e (delimited from part) is = delimited_judged e from part is
-judged_by_content e (four_bytes part) is = other_judged e (ap (λ (c : Content). is_own Numbers (wire_type_of c)) is)
+judged_by_content e content is = other_judged e (ap (λ (c : Content). is_own Numbers (wire_type_of c)) is)
 
 pub states_or_faulty : (e : Entry) → StatesOrFault e
 states_or_faulty e = judged_by_content e e.content refl
@@ -185,18 +180,14 @@ fault_extent bytes at key_end to k (varint value place) numbers cause behind wit
     let from = payload.0 in
     let forward = payload.1.forward in
     (omega arith, omega arith)
-fault_extent bytes at key_end to k (eight_bytes part) numbers cause behind within payload fault =
-    let here : cause.at ≡ at = ap (λ (c : WireCause). c.at) fault.1 in
-    let end = payload.0 in
-    (omega arith, omega arith)
-fault_extent bytes at key_end to k (four_bytes part) numbers cause behind within payload fault =
-    let here : cause.at ≡ at = ap (λ (c : WireCause). c.at) fault.1 in
-    let end = payload.0 in
-    (omega arith, omega arith)
 fault_extent bytes at key_end to k (delimited from part) numbers cause behind within payload fault =
     let here = place_here from part k fault.0 cause fault.2 in
     let inside = fault_within from part k fault.0 cause fault.2 in
     let forward = payload.1.forward in
     let end = payload.2 in
     let size : length part ≡ to - from = ap length payload.4 ∙ length-between bytes from to payload.3 in
+    (omega arith, omega arith)
+fault_extent bytes at key_end to k content numbers cause behind within payload fault =
+    let here : cause.at ≡ at = ap (λ (c : WireCause). c.at) fault.1 in
+    let end = payload.0 in
     (omega arith, omega arith)

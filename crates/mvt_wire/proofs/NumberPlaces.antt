@@ -101,8 +101,6 @@ states_extent bytes key_end to place n (varint value at) within payload states =
     let from = payload.0 in
     let here = states.0 in
     (omega arith, omega arith)
-states_extent bytes key_end to place n (eight_bytes part) within payload states = absurd states
-states_extent bytes key_end to place n (four_bytes part) within payload states = absurd states
 states_extent bytes key_end to place n (delimited from part) within payload states =
     let forward = payload.1.forward in
     let end = payload.2 in
@@ -111,6 +109,7 @@ states_extent bytes key_end to place n (delimited from part) within payload stat
     let ends = states.4.within in
     let here = states.5 in
     (omega arith, omega arith)
+states_extent bytes key_end to place n content within payload states = absurd states
 
 -- the numbers of a field's payload, at their places
 payload_between : (bytes : List ℕ) (at key_end to : ℕ) (content : Content) (numbers : List ℕ) → at ≤ key_end → key_end ≤ length bytes → IsPayload bytes key_end to content → States content numbers → StandBetween (StatesAt content) at numbers to
@@ -120,29 +119,26 @@ payload_between bytes at key_end to (varint value place) numbers behind within p
     let one : StandBetween (StatesAt (varint value place)) at (value ∷ []) to =
     (place, omega arith, omega arith, (refl, refl), λ p m above below here. let same = here.0 in omega arith, λ p m above below here. let same = here.0 in omega arith) in
     subst (λ (ns : List ℕ). StandBetween (StatesAt (varint value place)) at ns to) (sym states) one
-payload_between bytes at key_end to (eight_bytes part) numbers behind within payload states = absurd states
-payload_between bytes at key_end to (four_bytes part) numbers behind within payload states = absurd states
 payload_between bytes at key_end to (delimited from part) numbers behind within payload states =
     let forward = payload.1.forward in
     let size : length part ≡ to - from = ap length payload.4 ∙ length-between bytes from to payload.3 in
     let end : from + length part ≡ to = omega (arith, payload.2) in
     let list : StandBetween (StatesAt (delimited from part)) (from + 0) numbers to = subst (λ (p : ℕ). StandBetween (StatesAt (delimited from part)) (from + 0) numbers p) end (between-list from part [] 0 numbers (length part) refl states) in
     between-earlier (StatesAt (delimited from part)) at (from + 0) numbers to (omega arith) (λ p m above below here. let place = here.5 in omega arith) list
+payload_between bytes at key_end to content numbers behind within payload states = absurd states
 
 -- those before its fault
 fault_between : (bytes : List ℕ) (at key_end to k : ℕ) (content : Content) (numbers : List ℕ) (cause : WireCause) → at ≤ key_end → IsPayload bytes key_end to content → FaultOf at k content numbers cause → StandBetween (StatesAt content) at numbers cause.at
 fault_between bytes at key_end to k (varint value place) numbers cause behind payload fault =
     let here : cause.at ≡ place = ap (λ (c : WireCause). c.at) fault.2 in
     subst (λ (ns : List ℕ). StandBetween (StatesAt (varint value place)) at ns cause.at) (sym fault.1) (λ p m above below stands. let same = stands.0 in omega arith)
-fault_between bytes at key_end to k (eight_bytes part) numbers cause behind payload fault =
-    subst (λ (ns : List ℕ). StandBetween (StatesAt (eight_bytes part)) at ns cause.at) (sym fault.0) (λ p m above below stands. stands)
-fault_between bytes at key_end to k (four_bytes part) numbers cause behind payload fault =
-    subst (λ (ns : List ℕ). StandBetween (StatesAt (four_bytes part)) at ns cause.at) (sym fault.0) (λ p m above below stands. stands)
 fault_between bytes at key_end to k (delimited from part) numbers cause behind payload fault =
     let forward = payload.1.forward in
     let here : from + fault.0 ≡ cause.at = sym (place_here from part k fault.0 cause fault.2) in
     let list : StandBetween (StatesAt (delimited from part)) (from + 0) numbers cause.at = subst (λ (p : ℕ). StandBetween (StatesAt (delimited from part)) (from + 0) numbers p) here (between-list from part [] 0 numbers fault.0 refl fault.1) in
     between-earlier (StatesAt (delimited from part)) at (from + 0) numbers cause.at (omega arith) (λ p m above below stands. let place = stands.5 in omega arith) list
+fault_between bytes at key_end to k content numbers cause behind payload fault =
+    subst (λ (ns : List ℕ). StandBetween (StatesAt content) at ns cause.at) (sym fault.0) (λ p m above below stands. stands)
 
 -- a number of a field stands within it
 in_field_extent : (bytes : List ℕ) (to place n : ℕ) (e : Entry) → IsField bytes to e → StatesAt e.content place n → (e.at ≤ place) × (place < to)

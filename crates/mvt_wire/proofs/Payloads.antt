@@ -21,11 +21,9 @@ slice_get-last (x ∷ xs) y = slice_get-last xs y
 -- a payload of wire type 2 lies within its message
 pub payload_within : (message : List ℕ) (from to : ℕ) (content : Content) (span : Span) → IsPayload message from to content → span_of content ≡ Some span
     → (span.from ≤ span.to) × (span.to ≤ length message)
-payload_within message from to (varint value at) span payload there = absurd (cc)
-payload_within message from to (eight_bytes part) span payload there = absurd (cc)
 payload_within message from to (delimited start part) span payload there =
     let size : length part ≡ to - start = ap length payload.4 ∙ length-between message start to payload.3 in
     let starts : start ≡ span.from = cc in
     let ends : start + length part ≡ span.to = cc in
     (omega arith, omega arith)
-payload_within message from to (four_bytes part) span payload there = absurd (cc)
+payload_within message from to content span payload there = absurd (cc)

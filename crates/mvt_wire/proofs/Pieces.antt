@@ -24,9 +24,7 @@ SpellsVarint-prepend front bytes from to n spelled =
 
 wire_type-moved : (by : ℕ) (content : Content) → wire_type_of (content_moved by content) ≡ wire_type_of content
 wire_type-moved by (varint value at) = refl
-wire_type-moved by (eight_bytes part) = refl
-wire_type-moved by (delimited from part) = refl
-wire_type-moved by (four_bytes part) = refl
+wire_type-moved by content = refl
 
 IsKey-prepend : (front bytes : List ℕ) (from to n t : ℕ) → IsKey bytes from to n t → IsKey (front ++ bytes) (length front + from) (length front + to) n t
 IsKey-prepend front bytes from to n t k =
@@ -37,10 +35,9 @@ within-prepend front bytes to within = let longer = length-append front bytes in
 
 IsPayload-prepend : (front bytes : List ℕ) (from to : ℕ) (content : Content) → IsPayload bytes from to content → IsPayload (front ++ bytes) (length front + from) (length front + to) (content_moved (length front) content)
 IsPayload-prepend front bytes from to (varint value at) p = (ap (λ (k : ℕ). length front + k) p.0, SpellsVarint-prepend front bytes from to value p.1)
-IsPayload-prepend front bytes from to (eight_bytes part) p = (omega arith, within-prepend front bytes to p.1, p.2 ∙ sym (slice_range-prepend front bytes from to))
 IsPayload-prepend front bytes from to (delimited start part) p =
     (p.0, SpellsVarint-prepend front bytes from start p.0 p.1, omega arith, within-prepend front bytes to p.3, p.4 ∙ sym (slice_range-prepend front bytes start to))
-IsPayload-prepend front bytes from to (four_bytes part) p = (omega arith, within-prepend front bytes to p.1, p.2 ∙ sym (slice_range-prepend front bytes from to))
+IsPayload-prepend front bytes from to content p = (omega arith, within-prepend front bytes to p.1, p.2 ∙ sym (slice_range-prepend front bytes from to))
 
 -- a field of a list is a field of the list behind others, with its places moved
 IsField-prepend : (front bytes : List ℕ) (to : ℕ) (e : Entry) → IsField bytes to e → IsField (front ++ bytes) (length front + to) (moved (length front) e)
@@ -54,8 +51,6 @@ IsField-prepend front bytes to e field = record {
 -- spellings one behind another are the fields of what they make together
 joined_from : (front : List ℕ) (pieces : List (List ℕ)) (entries : List Entry) → AreSpellings (length front) pieces entries → FieldList (front ++ concat pieces) (length front) entries (length (front ++ concat pieces))
 joined_from front [] [] p = ap length (sym (append-nil front))
-joined_from front [] (entry ∷ entries) p = absurd p
-joined_from front (piece ∷ pieces) [] p = absurd p
 joined_from front (piece ∷ pieces) (entry ∷ entries) p =
     let here : entry.at ≡ length front = ap (λ (e : Entry). e.at) p.2 ∙ ap (λ (k : ℕ). length front + k) p.1.0 ∙ (omega arith) in
     let behind : IsField (front ++ (piece ++ concat pieces)) (length front + length piece) (moved (length front) p.0) =
@@ -67,6 +62,7 @@ joined_from front (piece ∷ pieces) (entry ∷ entries) p =
     let rest = subst (λ (bytes : List ℕ). FieldList bytes (length (front ++ piece)) entries (length bytes)) whole rest in
     let rest = subst (λ (at : ℕ). FieldList (front ++ (piece ++ concat pieces)) at entries (length (front ++ (piece ++ concat pieces)))) place rest in
     (here, (length front + length piece, field, rest))
+joined_from front pieces entries p = absurd p
 
 pub joined : (pieces : List (List ℕ)) (entries : List Entry) → AreSpellings 0 pieces entries → IsMessage (concat pieces) 0 entries
 joined pieces entries p = joined_from [] pieces entries p
@@ -88,14 +84,6 @@ SpellsVarint-behind front bytes from to n spelled =
 IsPayload-behind : (front bytes : List ℕ) (from to : ℕ) (content : Content) → IsPayload (front ++ bytes) (length front + from) to content → (c : Content) × (content ≡ content_moved (length front) c) × IsPayload bytes from (to - length front) c
 IsPayload-behind front bytes from to (varint value at) p =
     (varint value from, ap (λ (k : ℕ). varint value k) p.0, (refl, SpellsVarint-behind front bytes from to value p.1))
-IsPayload-behind front bytes from to (eight_bytes part) p =
-    let longer = length-append front bytes in
-    let place : to ≡ length front + (to - length front) = told_from (length front) to (omega arith) in
-    (eight_bytes part, refl, (omega arith, omega arith, p.2 ∙ ap (λ (k : ℕ). slice_range (front ++ bytes) (length front + from) k) place ∙ slice_range-prepend front bytes from (to - length front)))
-IsPayload-behind front bytes from to (four_bytes part) p =
-    let longer = length-append front bytes in
-    let place : to ≡ length front + (to - length front) = told_from (length front) to (omega arith) in
-    (four_bytes part, refl, (omega arith, omega arith, p.2 ∙ ap (λ (k : ℕ). slice_range (front ++ bytes) (length front + from) k) place ∙ slice_range-prepend front bytes from (to - length front)))
 IsPayload-behind front bytes from to (delimited start part) p =
     let longer = length-append front bytes in
     let forward = p.1.forward in
@@ -108,6 +96,10 @@ IsPayload-behind front bytes from to (delimited start part) p =
       ap (λ (k : ℕ). delimited k part) begin,
       (p.0, SpellsVarint-behind front bytes from start p.0 p.1, omega arith, omega arith, p.4 ∙ same),
     )
+IsPayload-behind front bytes from to content p =
+    let longer = length-append front bytes in
+    let place : to ≡ length front + (to - length front) = told_from (length front) to (omega arith) in
+    (content, refl, (omega arith, omega arith, p.2 ∙ ap (λ (k : ℕ). slice_range (front ++ bytes) (length front + from) k) place ∙ slice_range-prepend front bytes from (to - length front)))
 
 -- a field behind a front of the list is a field of the rest, with its places told from there
 IsField-behind : (front bytes : List ℕ) (to : ℕ) (e : Entry) → length front ≤ e.at → IsField (front ++ bytes) to e → (u : Entry) × (e ≡ moved (length front) u) × IsField bytes (to - length front) u
@@ -144,13 +136,11 @@ SpellsVarint-within bytes more from to n within spelled =
 
 IsPayload-within : (bytes more : List ℕ) (from to : ℕ) (content : Content) → to ≤ length bytes → IsPayload (bytes ++ more) from to content → IsPayload bytes from to content
 IsPayload-within bytes more from to (varint value at) within p = (p.0, SpellsVarint-within bytes more from to value within p.1)
-IsPayload-within bytes more from to (eight_bytes part) within p =
-    let ordered : from ≤ to = omega arith in (p.0, within, p.2 ∙ slice_range-append bytes more from to ordered within)
-IsPayload-within bytes more from to (four_bytes part) within p =
-    let ordered : from ≤ to = omega arith in (p.0, within, p.2 ∙ slice_range-append bytes more from to ordered within)
 IsPayload-within bytes more from to (delimited start part) within p =
     let ordered : start ≤ to = omega arith in
     (p.0, SpellsVarint-within bytes more from start p.0 (omega arith) p.1, p.2, within, p.4 ∙ slice_range-append bytes more start to ordered within)
+IsPayload-within bytes more from to content within p =
+    let ordered : from ≤ to = omega arith in (p.0, within, p.2 ∙ slice_range-append bytes more from to ordered within)
 
 -- a field that ends within a front of the list is a field of the front
 IsField-within : (bytes more : List ℕ) (to : ℕ) (e : Entry) → to ≤ length bytes → IsField (bytes ++ more) to e → IsField bytes to e

@@ -63,9 +63,8 @@ zigzag_reaches n = elim (cases_eq (n % 2) 0) [
 
 zigzag_apart : (y z : ℤ) → zigzag y ≡ zigzag z → y ≡ z
 zigzag_apart (pos m) (pos n) same = let size : m ≡ n = omega arith in ap pos size
-zigzag_apart (pos m) (negsuc n) same = absurd (omega arith)
-zigzag_apart (negsuc m) (pos n) same = absurd (omega arith)
 zigzag_apart (negsuc m) (negsuc n) same = let size : m ≡ n = omega arith in ap negsuc size
+zigzag_apart y z same = absurd (omega arith)
 
 -- what a payload of a wire type says, by its number
 abbrev pub SaysSome : ℕ → Content → Type 0
@@ -73,21 +72,15 @@ SaysSome field_number content = (value : ValueRecord) × Says field_number conte
 
 text_said : (n : ℕ) (content : Content) → n ≡ 1 → wire_type_of content ≡ 2 → SaysSome n content
 text_said n (delimited from part) here type = (text part, says_text from part here refl refl)
-text_said n (varint value at) here type = absurd (omega arith)
-text_said n (eight_bytes part) here type = absurd (omega arith)
-text_said n (four_bytes part) here type = absurd (omega arith)
+text_said n content here type = absurd (omega arith)
 
 float_said : (n : ℕ) (content : Content) → n ≡ 2 → wire_type_of content ≡ 5 → SaysSome n content
 float_said n (four_bytes part) here type = (float part, says_float part here refl refl)
-float_said n (varint value at) here type = absurd (omega arith)
-float_said n (eight_bytes part) here type = absurd (omega arith)
-float_said n (delimited from part) here type = absurd (omega arith)
+float_said n content here type = absurd (omega arith)
 
 double_said : (n : ℕ) (content : Content) → n ≡ 3 → wire_type_of content ≡ 1 → SaysSome n content
 double_said n (eight_bytes part) here type = (double part, says_double part here refl refl)
-double_said n (varint value at) here type = absurd (omega arith)
-double_said n (four_bytes part) here type = absurd (omega arith)
-double_said n (delimited from part) here type = absurd (omega arith)
+double_said n content here type = absurd (omega arith)
 
 number_said : (n k at : ℕ) → (n ≡ 4) ⊎ (n ≡ 5) ⊎ (n ≡ 6) ⊎ (n ≡ 7) → SaysSome n (varint k at)
 number_said n k at (inl here) = (int (cast_signed w64 k), says_int k at here refl refl)
@@ -98,9 +91,7 @@ number_said n k at (inr (inr (inr here))) = (truth (not (k == 0)), says_truth k 
 
 varint_said : (n : ℕ) (content : Content) → (n ≡ 4) ⊎ (n ≡ 5) ⊎ (n ≡ 6) ⊎ (n ≡ 7) → wire_type_of content ≡ 0 → SaysSome n content
 varint_said n (varint k at) here type = number_said n k at here
-varint_said n (eight_bytes part) here type = absurd (omega arith)
-varint_said n (delimited from part) here type = absurd (omega arith)
-varint_said n (four_bytes part) here type = absurd (omega arith)
+varint_said n content here type = absurd (omega arith)
 
 -- the number is one of the rules' numbers
 abbrev pub IsOneOf : List FieldRule → ℕ → Type 0
@@ -118,27 +109,13 @@ is_one_of (first ∷ rules) field_number rule found = elim (cases_eq field_numbe
 
 -- a known field of a value says something
 known_says : (entry : Entry) → FitsRule Value entry → IsOneOf (rules_of Value) entry.number → SaysSome entry.number entry.content
-known_says entry fits (inl here) =
-    let fit = fits (record { number = 1; shape = Text; occurrence = AtMostOnce }) (ap (rule_of Value) here) in
-    text_said entry.number entry.content here (eqb-true (wire_type_of entry.content) 2 fit.own)
-known_says entry fits (inr (inl here)) =
-    let fit = fits (record { number = 2; shape = FourBytes; occurrence = AtMostOnce }) (ap (rule_of Value) here) in
-    float_said entry.number entry.content here (eqb-true (wire_type_of entry.content) 5 fit.own)
-known_says entry fits (inr (inr (inl here))) =
-    let fit = fits (record { number = 3; shape = EightBytes; occurrence = AtMostOnce }) (ap (rule_of Value) here) in
-    double_said entry.number entry.content here (eqb-true (wire_type_of entry.content) 1 fit.own)
-known_says entry fits (inr (inr (inr (inl here)))) =
-    let fit = fits (record { number = 4; shape = Uint64; occurrence = AtMostOnce }) (ap (rule_of Value) here) in
-    varint_said entry.number entry.content (inl here) (eqb-true (wire_type_of entry.content) 0 fit.own)
-known_says entry fits (inr (inr (inr (inr (inl here))))) =
-    let fit = fits (record { number = 5; shape = Uint64; occurrence = AtMostOnce }) (ap (rule_of Value) here) in
-    varint_said entry.number entry.content (inr (inl here)) (eqb-true (wire_type_of entry.content) 0 fit.own)
-known_says entry fits (inr (inr (inr (inr (inr (inl here)))))) =
-    let fit = fits (record { number = 6; shape = Uint64; occurrence = AtMostOnce }) (ap (rule_of Value) here) in
-    varint_said entry.number entry.content (inr (inr (inl here))) (eqb-true (wire_type_of entry.content) 0 fit.own)
-known_says entry fits (inr (inr (inr (inr (inr (inr (inl here))))))) =
-    let fit = fits (record { number = 7; shape = Uint64; occurrence = AtMostOnce }) (ap (rule_of Value) here) in
-    varint_said entry.number entry.content (inr (inr (inr here))) (eqb-true (wire_type_of entry.content) 0 fit.own)
+known_says entry fits (inl here) = text_said entry.number entry.content here (eqb-true (wire_type_of entry.content) 2 (fits _ (ap (rule_of Value) here)).own)
+known_says entry fits (inr (inl here)) = float_said entry.number entry.content here (eqb-true (wire_type_of entry.content) 5 (fits _ (ap (rule_of Value) here)).own)
+known_says entry fits (inr (inr (inl here))) = double_said entry.number entry.content here (eqb-true (wire_type_of entry.content) 1 (fits _ (ap (rule_of Value) here)).own)
+known_says entry fits (inr (inr (inr (inl here)))) = varint_said entry.number entry.content (inl here) (eqb-true (wire_type_of entry.content) 0 (fits _ (ap (rule_of Value) here)).own)
+known_says entry fits (inr (inr (inr (inr (inl here))))) = varint_said entry.number entry.content (inr (inl here)) (eqb-true (wire_type_of entry.content) 0 (fits _ (ap (rule_of Value) here)).own)
+known_says entry fits (inr (inr (inr (inr (inr (inl here)))))) = varint_said entry.number entry.content (inr (inr (inl here))) (eqb-true (wire_type_of entry.content) 0 (fits _ (ap (rule_of Value) here)).own)
+known_says entry fits (inr (inr (inr (inr (inr (inr (inl here))))))) = varint_said entry.number entry.content (inr (inr (inr here))) (eqb-true (wire_type_of entry.content) 0 (fits _ (ap (rule_of Value) here)).own)
 known_says entry fits (inr (inr (inr (inr (inr (inr (inr none))))))) = absurd none
 
 -- the known fields of a value

@@ -24,11 +24,10 @@ states_small : (rule : FieldRule) (content : Content) (numbers : List ℕ) → r
 states_small rule (varint value at) numbers shape fits states =
     let range : is_out_of_range Numbers value ≡ false = subst (λ (s : Shape). is_out_of_range s value ≡ false) shape (fits.in_range value at refl) in
     subst AreSmall (sym states) (All-cons (λ (n : ℕ). n < 2 ^ 32) value [] (leb-false (2 ^ 32) value range) (All-nil (λ (n : ℕ). n < 2 ^ 32)))
-states_small rule (eight_bytes part) numbers shape fits states = absurd states
 states_small rule (delimited from part) numbers shape fits states =
     let given = fits.packed from part shape refl in
     subst AreSmall (one_stated (delimited from part) given.0 numbers given.1 states) given.2
-states_small rule (four_bytes part) numbers shape fits states = absurd states
+states_small rule content numbers shape fits states = absurd states
 
 -- so do several together
 together_small : (rule : FieldRule) (contents : List Content) (numbers : List ℕ) → rule.shape ≡ Numbers → All (Fits rule) contents → StateTogether contents numbers → AreSmall numbers

@@ -17,14 +17,12 @@ pub record Within (bytes : List ℕ) (span : Span) : Type 0 where
 
 -- the payload behind a length is a stretch of the bytes
 payload_within : (bytes : List ℕ) (from to : ℕ) (content : Content) (contents : List Content) → IsPayload bytes from to content → All (Within bytes) (filter_map span_of contents) → All (Within bytes) (filter_map span_of (content ∷ contents))
-payload_within bytes from to (varint value at) contents p rest = rest
-payload_within bytes from to (eight_bytes part) contents p rest = rest
-payload_within bytes from to (four_bytes part) contents p rest = rest
 payload_within bytes from to (delimited start part) contents p rest =
     let size : length part ≡ to - start = ap length p.4 ∙ length-between bytes start to p.3 in
     let end : to ≡ start + p.0 = p.2 in
     let inside : to ≤ length bytes = p.3 in
     All-cons (Within bytes) (record { from = start; to = start + length part }) (filter_map span_of contents) (record { forward = omega arith; inside = omega arith }) rest
+payload_within bytes from to content contents p rest = rest
 
 spans_in : (bytes : List ℕ) (from to field_number : ℕ) (entries : List Entry) → FieldList bytes from entries to → All (Within bytes) (spans_of field_number entries)
 spans_in bytes from to field_number [] list = All-nil (Within bytes)
@@ -57,14 +55,13 @@ begins_within bytes span within =
 -- where one thing belongs to a member, one list belongs to a list
 pub one_each : {A B : Type 0} (related : A → B → Type 0) → ((x : A) (y z : B) → related x y → related x z → y ≡ z) → (xs : List A) (ys zs : List B) → Each related xs ys → Each related xs zs → ys ≡ zs
 one_each related one [] [] [] h k = refl
-one_each related one [] [] (z ∷ zs) h k = absurd k
 one_each related one [] (y ∷ ys) zs h k = absurd h
 one_each related one (x ∷ xs) [] zs h k = absurd h
-one_each related one (x ∷ xs) (y ∷ ys) [] h k = absurd k
 one_each related one (x ∷ xs) (y ∷ ys) (z ∷ zs) h k =
     let first : y ≡ z = one x y z h.0 k.0 in
     let rest : ys ≡ zs = one_each related one xs ys zs h.1 k.1 in
     cc
+one_each related one xs ys zs h k = absurd k
 
 -- something belongs to each stretch, or one of them is bad
 abbrev pub EachOrBad : {A : Type 0} → (Span → A → Type 0) → (Span → Type 0) → List Span → Type 0
