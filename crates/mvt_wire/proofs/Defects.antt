@@ -50,8 +50,6 @@ pub field_or_defect : (bytes : List ℕ) (to : ℕ) (e : Entry) (cause : WireCau
 field_or_defect bytes to e cause field (key code defect is) = varint_or_defect bytes e.at field.key_end _ code field.key.spelled defect
 field_or_defect bytes to e cause field (key_out_of_range end n spelled range is) =
     let value : e.number * 8 + wire_type_of e.content ≡ n = one_value bytes e.at field.key_end end _ n field.key.spelled spelled in
-    let below = field.key.below_limit in
-    let numbered = field.key.numbered in
     elim range [ inl high ↦ omega arith | inr low ↦ omega arith ]
 field_or_defect bytes to e cause field (refused_type end n t k refused is) =
     let keys = one_key bytes e.at field.key_end end e.number n (wire_type_of e.content) t field.key k in
@@ -70,8 +68,6 @@ field_or_defect bytes to e cause field (past_end end n t stop k ends past is) =
 range_or_key : (bytes : List ℕ) (at to end n m t : ℕ) → SpellsVarint bytes at to n → (2 ^ 32 ≤ n) ⊎ (n < 8) → IsKey bytes at end m t → ⊥
 range_or_key bytes at to end n m t spelled range k =
     let value : n ≡ m * 8 + t = one_value bytes at to end n (m * 8 + t) spelled k.spelled in
-    let below = k.below_limit in
-    let numbered = k.numbered in
     elim range [ inl high ↦ omega arith | inr low ↦ omega arith ]
 
 -- a refused wire type has no payload

@@ -14,8 +14,6 @@ pub record SameKey (to end m n s t : ℕ) : Type 0 where
 pub one_key : (bytes : List ℕ) (at to end m n s t : ℕ) → IsKey bytes at to m s → IsKey bytes at end n t → SameKey to end m n s t
 one_key bytes at to end m n s t first second =
     let value : m * 8 + s ≡ n * 8 + t = one_value bytes at to end _ _ first.spelled second.spelled in
-    let few = first.low_bits in
-    let few' = second.low_bits in
     record { places = one_end bytes at to end _ _ first.spelled second.spelled; numbers = omega arith; types = omega arith }
 
 -- the number and the wire type of a key
@@ -68,8 +66,6 @@ one_field bytes to end e f here first second =
 -- no field stands at the end
 pub no_field_at_end : (bytes : List ℕ) (from next : ℕ) (e : Entry) → from ≡ length bytes → e.at ≡ from → IsField bytes next e → ⊥
 no_field_at_end bytes from next e end here field =
-    let forward = field.key.spelled.forward in
-    let within = field.key.spelled.within in
     omega arith
 
 -- a field takes bytes, all within its message
@@ -81,7 +77,6 @@ payload_extent bytes from to content within p = (omega arith, p.1)
 pub field_extent : (bytes : List ℕ) (to : ℕ) (e : Entry) → IsField bytes to e → (e.at < to) × (to ≤ length bytes)
 field_extent bytes to e field =
     let extent = payload_extent bytes field.key_end to e.content field.key.spelled.within field.payload in
-    let forward = field.key.spelled.forward in
     (omega arith, extent.1)
 
 -- a part of a list is the same part of a longer one
@@ -127,6 +122,5 @@ IsField-append bytes more to e field = record {
 pub no_longer_field : (spelling more : List ℕ) (e f : Entry) → IsFieldSpelling spelling e → IsFieldSpelling (spelling ++ more) f → more ≡ []
 no_longer_field spelling more e f first second =
     let same = one_field (spelling ++ more) (length spelling) (length (spelling ++ more)) e f (first.0 ∙ sym second.0) (IsField-append spelling more (length spelling) e first.1) second.1 in
-    let size : length spelling ≡ length (spelling ++ more) = same.0 in
     let longer = length-append spelling more in
     nil_from_length more (omega arith)

@@ -44,7 +44,6 @@ small_or_fault : (from : ℕ) (part : List ℕ) (k at next n : ℕ) (cause : Wir
 small_or_fault from part k at next n cause spelled small (inl bad) = varint_or_defect part at next n bad.0 spelled bad.2
 small_or_fault from part k at next n cause spelled small (inr large) =
     let same : n ≡ large.1 = one_value part at next large.0 n large.1 spelled large.2 in
-    let bound = large.3 in
     omega arith
 
 fault_within : (from : ℕ) (part : List ℕ) (k at : ℕ) (cause : WireCause) → FaultHere from part k at cause → at < length part
@@ -135,7 +134,6 @@ packed_or_fault_here from part k stop ms ns cause whole small list fault =
 pub states_or_fault : (at k : ℕ) (content : Content) (ms ns : List ℕ) (cause : WireCause) → States content ms → AreSmall ms → FaultOf at k content ns cause → ⊥
 states_or_fault at k (varint value place) ms ns cause states small fault =
     let below : value < 2 ^ 32 = All-head (λ (n : ℕ). n < 2 ^ 32) value [] (subst AreSmall states small) in
-    let large = fault.0 in
     omega arith
 states_or_fault at k (delimited from part) ms ns cause states small fault = packed_or_fault_here from part k fault.0 ms ns cause states small fault.1 fault.2
 states_or_fault at k content ms ns cause states small fault = states
@@ -177,17 +175,12 @@ states_or_faulty e = judged_by_content e e.content refl
 pub fault_extent : (bytes : List ℕ) (at key_end to k : ℕ) (content : Content) (numbers : List ℕ) (cause : WireCause) → at < key_end → key_end ≤ length bytes → IsPayload bytes key_end to content → FaultOf at k content numbers cause → (at ≤ cause.at) × (cause.at < to)
 fault_extent bytes at key_end to k (varint value place) numbers cause behind within payload fault =
     let here : cause.at ≡ place = ap (λ (c : WireCause). c.at) fault.2 in
-    let from = payload.0 in
-    let forward = payload.1.forward in
     (omega arith, omega arith)
 fault_extent bytes at key_end to k (delimited from part) numbers cause behind within payload fault =
     let here = place_here from part k fault.0 cause fault.2 in
     let inside = fault_within from part k fault.0 cause fault.2 in
-    let forward = payload.1.forward in
-    let end = payload.2 in
     let size : length part ≡ to - from = ap length payload.4 ∙ length-between bytes from to payload.3 in
     (omega arith, omega arith)
 fault_extent bytes at key_end to k content numbers cause behind within payload fault =
     let here : cause.at ≡ at = ap (λ (c : WireCause). c.at) fault.1 in
-    let end = payload.0 in
     (omega arith, omega arith)

@@ -26,7 +26,6 @@ left_at_field bytes at k numbers ending within (goes_on first rest list small en
     subst (λ (ns : List ℕ). NumbersEnd bytes at k ns ending) (sym (joined ∙ ap (λ (ns : List ℕ). ns ++ rest) none)) end
 left_at_field bytes at k numbers ending within (stops cause fault is) =
     let forward = varints_forward (take at bytes) at fault.at numbers fault.before in
-    let left = fault.left in
     let size = length-take-le at bytes within in
     absurd (omega arith)
 
@@ -39,7 +38,6 @@ left_behind_other bytes at to k e numbers ending here field is_not left =
 single_fault : (bytes : List ℕ) (at place to k value : ℕ) (e : Entry) (numbers : List ℕ) (cause : WireCause) → e.number ≡ k → e.content ≡ varint value place → SpellsVarint (take to bytes) place to value → to ≤ length bytes
     → StopsVarints (take to bytes) place k numbers cause → NumberFault e numbers cause
 single_fault bytes at place to k value e numbers cause is content spelled within fault =
-    let left = fault.left in
     let size = length-take-le to bytes within in
     let front = front_of_one (take to bytes) place to value numbers fault.at spelled fault.before (omega arith) in
     elim fault.fault [
@@ -47,7 +45,6 @@ single_fault bytes at place to k value e numbers cause is content spelled within
       | inr large ↦
           let moved : SpellsVarint (take to bytes) place large.0 large.1 = subst (λ (p : ℕ). SpellsVarint (take to bytes) p large.0 large.1) front.1 large.2 in
           let same : large.1 ≡ value = one_value (take to bytes) place large.0 to large.1 value moved spelled in
-          let bound = large.3 in
           large_number value place content (omega arith) front.0 (large.4 ∙ ap (λ (p : ℕ). cause_at OutOfRange p k) front.1 ∙ ap (λ (n : ℕ). cause_at OutOfRange place n) (sym is))
     ]
 
@@ -73,7 +70,6 @@ left_in_single bytes at to k value place e numbers ending here field is content 
 packed_fault : (bytes : List ℕ) (from k : ℕ) (numbers : List ℕ) (cause : WireCause) (fault : StopsVarints bytes from k numbers cause) → PackedFault from (drop from bytes) k cause
 packed_fault bytes from k numbers cause fault =
     let forward : from ≤ fault.at = varints_forward bytes from fault.at numbers fault.before in
-    let left = fault.left in
     let size = length-drop from bytes in
     let zero : from - from ≡ 0 = omega arith in
     let place : from + (fault.at - from) ≡ fault.at = omega arith in

@@ -81,7 +81,6 @@ none_within part front ms at next n stop list spelled other behind within = elim
 between-list : (from : ℕ) (part front : List ℕ) (at : ℕ) (numbers : List ℕ) (to : ℕ) → VarintList part 0 front at → VarintList part at numbers to → StandBetween (StatesAt (delimited from part)) (from + at) numbers (from + to)
 between-list from part front at [] to before list = λ place n above below here. omega arith
 between-list from part front at (n ∷ numbers) to before list =
-    let forward = list.1.forward in
     let rest = varints_forward part list.0 to numbers list.2 in
     let behind = between-list from part (front ++ n ∷ []) list.0 numbers to (list-push part 0 front at list.0 n before list.1) list.2 in
     let none : NoneBetween (StatesAt (delimited from part)) (from + at + 1) (from + list.0) =
@@ -97,30 +96,19 @@ between-list from part front at (n ∷ numbers) to before list =
 -- a number of a payload stands within its field
 states_extent : (bytes : List ℕ) (key_end to place n : ℕ) (content : Content) → key_end ≤ length bytes → IsPayload bytes key_end to content → StatesAt content place n → (key_end ≤ place) × (place < to)
 states_extent bytes key_end to place n (varint value at) within payload states =
-    let forward = payload.1.forward in
-    let from = payload.0 in
-    let here = states.0 in
     (omega arith, omega arith)
 states_extent bytes key_end to place n (delimited from part) within payload states =
-    let forward = payload.1.forward in
-    let end = payload.2 in
     let size : length part ≡ to - from = ap length payload.4 ∙ length-between bytes from to payload.3 in
-    let begins = states.4.forward in
-    let ends = states.4.within in
-    let here = states.5 in
     (omega arith, omega arith)
 states_extent bytes key_end to place n content within payload states = absurd states
 
 -- the numbers of a field's payload, at their places
 payload_between : (bytes : List ℕ) (at key_end to : ℕ) (content : Content) (numbers : List ℕ) → at ≤ key_end → key_end ≤ length bytes → IsPayload bytes key_end to content → States content numbers → StandBetween (StatesAt content) at numbers to
 payload_between bytes at key_end to (varint value place) numbers behind within payload states =
-    let forward = payload.1.forward in
-    let from = payload.0 in
     let one : StandBetween (StatesAt (varint value place)) at (value ∷ []) to =
     (place, omega arith, omega arith, (refl, refl), λ p m above below here. let same = here.0 in omega arith, λ p m above below here. let same = here.0 in omega arith) in
     subst (λ (ns : List ℕ). StandBetween (StatesAt (varint value place)) at ns to) (sym states) one
 payload_between bytes at key_end to (delimited from part) numbers behind within payload states =
-    let forward = payload.1.forward in
     let size : length part ≡ to - from = ap length payload.4 ∙ length-between bytes from to payload.3 in
     let end : from + length part ≡ to = omega (arith, payload.2) in
     let list : StandBetween (StatesAt (delimited from part)) (from + 0) numbers to = subst (λ (p : ℕ). StandBetween (StatesAt (delimited from part)) (from + 0) numbers p) end (between-list from part [] 0 numbers (length part) refl states) in
@@ -133,7 +121,6 @@ fault_between bytes at key_end to k (varint value place) numbers cause behind pa
     let here : cause.at ≡ place = ap (λ (c : WireCause). c.at) fault.2 in
     subst (λ (ns : List ℕ). StandBetween (StatesAt (varint value place)) at ns cause.at) (sym fault.1) (λ p m above below stands. let same = stands.0 in omega arith)
 fault_between bytes at key_end to k (delimited from part) numbers cause behind payload fault =
-    let forward = payload.1.forward in
     let here : from + fault.0 ≡ cause.at = sym (place_here from part k fault.0 cause fault.2) in
     let list : StandBetween (StatesAt (delimited from part)) (from + 0) numbers cause.at = subst (λ (p : ℕ). StandBetween (StatesAt (delimited from part)) (from + 0) numbers p) here (between-list from part [] 0 numbers fault.0 refl fault.1) in
     between-earlier (StatesAt (delimited from part)) at (from + 0) numbers cause.at (omega arith) (λ p m above below stands. let place = stands.5 in omega arith) list
@@ -143,9 +130,7 @@ fault_between bytes at key_end to k content numbers cause behind payload fault =
 -- a number of a field stands within it
 in_field_extent : (bytes : List ℕ) (to place n : ℕ) (e : Entry) → IsField bytes to e → StatesAt e.content place n → (e.at ≤ place) × (place < to)
 in_field_extent bytes to place n e field states =
-    let forward = field.key.spelled.forward in
     let extent = states_extent bytes field.key_end to place n e.content field.key.spelled.within field.payload states in
-    let behind = extent.0 in
     (omega arith, extent.1)
 
 -- a number of a message stands behind its start
@@ -153,7 +138,6 @@ number_behind : (bytes : List ℕ) (from k place n : ℕ) → IsNumberAt bytes f
 number_behind bytes from k place n number =
     let forward = fields_forward bytes from number.at number.entries number.before in
     let behind = (in_field_extent bytes number.to place n number.entry number.field number.states).0 in
-    let here = number.here in
     omega arith
 
 -- a number behind the first field
@@ -227,7 +211,6 @@ behind_field : (bytes : List ℕ) (from next k limit : ℕ) (e : Entry) (es : Li
     → ((rest : List ℕ) → StateTogether (contents_of k es) rest → StandBetween (IsNumberAt bytes next k) next (rest ++ last) limit)
     → StatedBehind k e es first → StandBetween (IsNumberAt bytes from k) from (first ++ last) limit
 behind_field bytes from next k limit e es first last here field within rest (inl own) =
-    let at_key = field.key.spelled.forward in
     let ordered : from ≤ next = omega (arith, (field_extent bytes next e field).0) in
     let mine : StandBetween (StatesAt e.content) from own.1.0 next = payload_between bytes from field.key_end next e.content own.1.0 (omega arith) field.key.spelled.within field.payload own.1.2 in
     let joined : own.1.0 ++ (own.1.1 ++ last) ≡ first ++ last = sym (append_assoc own.1.0 own.1.1 last) ∙ ap (λ (xs : List ℕ). xs ++ last) (sym own.1.4) in
@@ -263,7 +246,6 @@ stop_between bytes at k numbers cause (at_defect left defect none) =
     (λ place n above below number. number_or_defect bytes number.at at number.to k place n cause number.entry number.entries defect number.before number.here number.field)
 stop_between bytes at k numbers cause (in_field to e here field is fault) =
     let faulty = fault_of e numbers cause fault in
-    let forward = field.key.spelled.forward in
     let within = stop_within bytes at to k e numbers cause here field (in_field to e here field is fault) in
     let stand : StandBetween (StatesAt e.content) e.at numbers cause.at = fault_between bytes e.at field.key_end to e.number e.content numbers cause (omega arith) field.payload faulty in
     field_between bytes at to k cause.at e numbers here field is (omega arith) (subst (λ (p : ℕ). StandBetween (StatesAt e.content) p numbers cause.at) here stand)

@@ -18,8 +18,6 @@ fields_forward bytes from to [] list = omega arith
 fields_forward bytes from to (e ∷ entries) list =
     let extent = field_extent bytes list.1.0 e list.1.1 in
     let rest = fields_forward bytes list.1.0 to entries list.1.2 in
-    let here : e.at ≡ from = list.0 in
-    let further = extent.0 in
     omega arith
 
 -- a defect stands at its field or behind
@@ -29,7 +27,6 @@ defect_behind bytes at cause (key_out_of_range to n spelled range is) = let here
 defect_behind bytes at cause (refused_type to n t k refused is) = let here : cause.at ≡ at = ap (λ (c : WireCause). c.at) is in omega arith
 defect_behind bytes at cause (leading_varint to n t code k leading defect is) =
     let here : cause.at ≡ to = ap (λ (c : WireCause). c.at) is in
-    let forward = k.spelled.forward in
     omega arith
 defect_behind bytes at cause (past_end to n t end k ends past is) = let here : cause.at ≡ at = ap (λ (c : WireCause). c.at) is in omega arith
 
@@ -52,7 +49,6 @@ stop_within bytes at to k e numbers cause here field (at_defect left defect none
 stop_within bytes at to k e numbers cause here field (in_field end f there other is fault) =
     let same = one_field bytes to end e f (here ∙ sym there) field other in
     let extent = (fault_in_field bytes end f numbers cause other (fault_of f numbers cause fault)).1 in
-    let ends : to ≡ end = same.0 in
     omega arith
 
 -- of all that may stand in the way at a place, that behind small numbers comes first

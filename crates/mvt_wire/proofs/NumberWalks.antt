@@ -22,12 +22,8 @@ left-cons bytes k at end next n numbers ending spelled fits (stops cause fault i
 pub GivesNumber-at : (old : NumberWalk) (bytes : List ℕ) (k varint_place field_place at end next n : ℕ) → walk_at bytes k varint_place field_place ≡ old → LeavesVarints (walk_at bytes k varint_place field_place) at end
     → SpellsVarint (take end bytes) at next n → n < 2 ^ 32 → GivesNumber old (walk_at bytes k next end) n
 GivesNumber-at old bytes k varint_place field_place at end next n is leaves spelled fits =
-    let forward = spelled.forward in
-    let further = leaves.further in
-    let left = leaves.left in
     let within = leaves.within in
     let size = length-take-le end bytes within in
-    let inside = spelled.within in
     let first : (numbers : List ℕ) (ending : Option WireCause) → NumbersLeft (walk_at bytes k next end) numbers ending → NumbersLeft (walk_at bytes k varint_place field_place) (n ∷ numbers) ending =
     λ numbers ending after. leaves.same (n ∷ numbers) ending (left-cons bytes k at end next n numbers ending spelled fits after) in
     let given : GivesNumber (walk_at bytes k varint_place field_place) (walk_at bytes k next end) n = record {

@@ -33,7 +33,6 @@ one_stop part from k ms ns c d first second =
 whole_or_stop : (part : List ℕ) (from to k : ℕ) (ms ns : List ℕ) (cause : WireCause) → length part ≤ to → VarintList part from ms to → AreSmall ms → StopsVarints part from k ns cause → ⊥
 whole_or_stop part from to k ms ns cause end whole small stop =
     let before = first_fault 0 part k from to stop.at ms ns cause whole stop.before small (stop_here part from k ns cause stop) in
-    let left = stop.left in
     omega arith
 
 -- bytes that are cut at a place end there at the latest
@@ -58,8 +57,6 @@ one_left walk ms ns c d (stops cause stop is) (stops other also too) =
 stop_at : (part : List ℕ) (from k : ℕ) (numbers : List ℕ) (at : ℕ) → VarintList part from numbers at → AreSmall numbers → NoSmallNumber part at → (cause : WireCause) × StopsVarints part from k numbers cause
 stop_at part from k numbers at list small (inl bad) = (cause_at bad.0 at k, record { at = at; before = list; small = small; left = bad.1; fault = inl (bad.0, bad.2, refl) })
 stop_at part from k numbers at list small (inr large) =
-    let forward = large.2.forward in
-    let within = large.2.within in
     let left : at < length part = omega arith in
     (cause_at OutOfRange at k, record { at = at; before = list; small = small; left = left; fault = inr (large.0, large.1, large.2, large.3, refl) })
 

@@ -17,7 +17,6 @@ use Rattle.mvt_wire.proofs.Varints.{one_end, one_value, varint_or_defect}
 pub varints_forward : (bytes : List ℕ) (from to : ℕ) (numbers : List ℕ) → VarintList bytes from numbers to → from ≤ to
 varints_forward bytes from to [] list = omega arith
 varints_forward bytes from to (n ∷ numbers) list =
-    let forward = list.1.forward in
     let rest = varints_forward bytes list.0 to numbers list.2 in
     omega arith
 
@@ -121,7 +120,6 @@ numbers_or_stop (suc fuel) part at within left = elim (cases_lt at (length part)
     | inl found ↦ elim (cases_lt found.1 (2 ^ 32)) [
       | inr large ↦ inr ([], at, refl, inr (found.0, found.1, found.2, large), All-nil _)
       | inl small ↦
-          let forward = found.2.forward in
           elim (numbers_or_stop fuel part found.0 found.2.within (omega arith)) [
             | inl rest ↦ inl (found.1 ∷ rest.0, (found.0, found.2, rest.1), All-cons (λ (n : ℕ). n < 2 ^ 32) found.1 rest.0 small rest.2)
             | inr rest ↦ inr (found.1 ∷ rest.0, rest.1, (found.0, found.2, rest.2), rest.3, All-cons (λ (n : ℕ). n < 2 ^ 32) found.1 rest.0 small rest.4)

@@ -86,7 +86,6 @@ IsPayload-behind front bytes from to (varint value at) p =
     (varint value from, ap (λ (k : ℕ). varint value k) p.0, (refl, SpellsVarint-behind front bytes from to value p.1))
 IsPayload-behind front bytes from to (delimited start part) p =
     let longer = length-append front bytes in
-    let forward = p.1.forward in
     let begin : start ≡ length front + (start - length front) = told_from (length front) start (omega arith) in
     let place : to ≡ length front + (to - length front) = told_from (length front) to (omega arith) in
     let same : slice_range (front ++ bytes) start to ≡ slice_range bytes (start - length front) (to - length front) =
@@ -105,7 +104,6 @@ IsPayload-behind front bytes from to content p =
 IsField-behind : (front bytes : List ℕ) (to : ℕ) (e : Entry) → length front ≤ e.at → IsField (front ++ bytes) to e → (u : Entry) × (e ≡ moved (length front) u) × IsField bytes (to - length front) u
 IsField-behind front bytes to e behind field =
     let k = field.key in
-    let forward = k.spelled.forward in
     let at : e.at ≡ length front + (e.at - length front) = told_from (length front) e.at behind in
     let end : field.key_end ≡ length front + (field.key_end - length front) = told_from (length front) field.key_end (omega arith) in
     let payload : IsPayload (front ++ bytes) (length front + (field.key_end - length front)) to e.content = subst (λ (k : ℕ). IsPayload (front ++ bytes) k to e.content) end field.payload in
@@ -164,7 +162,6 @@ parted_from bytes from [] h = ([], drop_all from bytes (omega arith), tt)
 parted_from bytes from (e ∷ es) h =
     let next = h.1.0 in
     let extent = field_extent bytes next e h.1.1 in
-    let here : e.at ≡ from = h.0 in
     let piece : List ℕ = take (next - from) (drop from bytes) in
     let size = length-drop from bytes in
     let long : length piece ≡ next - from = length-take-le (next - from) (drop from bytes) (omega arith) in

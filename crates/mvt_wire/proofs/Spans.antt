@@ -19,7 +19,6 @@ pub record Within (bytes : List ℕ) (span : Span) : Type 0 where
 payload_within : (bytes : List ℕ) (from to : ℕ) (content : Content) (contents : List Content) → IsPayload bytes from to content → All (Within bytes) (filter_map span_of contents) → All (Within bytes) (filter_map span_of (content ∷ contents))
 payload_within bytes from to (delimited start part) contents p rest =
     let size : length part ≡ to - start = ap length p.4 ∙ length-between bytes start to p.3 in
-    let end : to ≡ start + p.0 = p.2 in
     let inside : to ≤ length bytes = p.3 in
     All-cons (Within bytes) (record { from = start; to = start + length part }) (filter_map span_of contents) (record { forward = omega arith; inside = omega arith }) rest
 payload_within bytes from to content contents p rest = rest
@@ -48,7 +47,6 @@ spans_within bytes outer field_number entries whole =
 -- a stretch begins in the bytes up to its end
 pub begins_within : (bytes : List ℕ) (span : Span) → Within bytes span → span.from ≤ length (take span.to bytes)
 begins_within bytes span within =
-    let forward = within.forward in
     let size : length (take span.to bytes) ≡ span.to = length-take-le span.to bytes within.inside in
     omega arith
 

@@ -41,7 +41,6 @@ SpellsVarint-drop bytes start from to n behind spelled =
 pub VarintList-drop : (bytes : List ℕ) (start from : ℕ) (numbers : List ℕ) (to : ℕ) → start ≤ from → VarintList bytes from numbers to → VarintList (drop start bytes) (from - start) numbers (to - start)
 VarintList-drop bytes start from [] to behind list = ap (λ (k : ℕ). k - start) list
 VarintList-drop bytes start from (n ∷ numbers) to behind list =
-    let forward = list.1.forward in
     (list.0 - start, SpellsVarint-drop bytes start from list.0 n behind list.1, VarintList-drop bytes start list.0 numbers to (omega arith) list.2)
 
 -- before a varint's end stands no other number of a list

@@ -47,7 +47,6 @@ IsVarint-take rest i n within few earlier last value fits =
 -- the last byte of a varint, and those before it, as bytes of the list that it stands in
 pub last_byte : (bytes : List ℕ) (from to n : ℕ) → SpellsVarint bytes from to n → get_or bytes (to - 1) 0 < 128
 last_byte bytes from to n spelled =
-    let forward : from < to = spelled.forward in
     let size : length (slice_range bytes from to) ≡ to - from = length-between bytes from to spelled.within in
     let place : from + (length (slice_range bytes from to) - 1) ≡ to - 1 = omega arith in
     let before : from + (length (slice_range bytes from to) - 1) < to = omega arith in
@@ -66,7 +65,6 @@ earlier_byte bytes from to n spelled k low high =
 -- a place has at most one varint
 no_shorter : (bytes : List ℕ) (from to end m n : ℕ) → SpellsVarint bytes from to m → SpellsVarint bytes from end n → to < end → ⊥
 no_shorter bytes from to end m n first second less =
-    let forward : from < to = first.forward in
     let low : from ≤ to - 1 = omega arith in
     let high : to - 1 + 1 < end = omega arith in
     let last = last_byte bytes from to m first in
@@ -89,8 +87,6 @@ one_value bytes from to end m n first second =
 -- a varint and a defect exclude each other
 pub varint_or_early : (bytes : List ℕ) (from to n : ℕ) → SpellsVarint bytes from to n → EndsEarly (drop from bytes) → ⊥
 varint_or_early bytes from to n spelled early =
-    let forward : from < to = spelled.forward in
-    let within : to ≤ length bytes = spelled.within in
     let size = length-drop from bytes in
     let place : to - 1 - from < length (drop from bytes) = omega arith in
     let same : from + (to - 1 - from) ≡ to - 1 = omega arith in
@@ -109,7 +105,6 @@ ten_groups rest many high low =
 
 pub varint_or_long : (bytes : List ℕ) (from to n : ℕ) → SpellsVarint bytes from to n → IsTooLong (drop from bytes) → ⊥
 varint_or_long bytes from to n spelled long =
-    let forward : from < to = spelled.forward in
     let size : length (slice_range bytes from to) ≡ to - from = length-between bytes from to spelled.within in
     let few : to - from ≤ 10 = omega (arith, spelled.spelling.at_most_ten) in
     let same : from + (to - 1 - from) ≡ to - 1 = omega arith in
@@ -124,7 +119,6 @@ varint_or_long bytes from to n spelled long =
           let low : get_or (drop from bytes) 9 0 < 128 = rw (get_or-drop from bytes 9 0, place) last in
           let sum = ten_groups (drop from bytes) long.many long.tenth low in
           let value : n ≡ sum_of_groups (take 10 (drop from bytes)) = spelled.spelling.value ∙ ap (λ k. sum_of_groups (take k (drop from bytes))) ten in
-          let fits = spelled.spelling.fits in
           omega arith
     ]
 
@@ -147,12 +141,10 @@ one_defect_of_varint rest code other (inr a) (inr b) = a.0 ∙ sym b.0
 pub no_longer_varint : (spelling more : List ℕ) (m n : ℕ) → IsVarint spelling m → IsVarint (spelling ++ more) n → more ≡ []
 no_longer_varint spelling [] m n first second = refl
 no_longer_varint spelling (byte ∷ more) m n first second =
-    let present = first.present in
     let place : length spelling - 1 < length spelling = omega arith in
     let longer : length (spelling ++ byte ∷ more) ≡ length spelling + suc (length more) = length-append spelling (byte ∷ more) in
     let before : length spelling - 1 + 1 < length (spelling ++ byte ∷ more) = omega arith in
     let high = rw (get_or_append_left spelling (byte ∷ more) 0 (length spelling - 1) place) at (second.continued (length spelling - 1) before) in
-    let low = first.ended in
     absurd (omega arith)
 
 -- a front of the rest spells a varint
@@ -201,10 +193,8 @@ place_begins bytes at within = elim (begins (drop at bytes)) [
   | inl found ↦
       let size = length-drop at bytes in
       let span : at + found.0 - at ≡ found.0 = omega arith in
-      let present : 0 < length (take found.0 (drop at bytes)) = found.3.present in
       let whole : length (take found.0 (drop at bytes)) ≡ found.0 = length-take-le found.0 (drop at bytes) found.2 in
       let spelling : IsVarint (slice_range bytes at (at + found.0)) found.1 = rw span found.3 in
-      let fits : found.0 ≤ length (drop at bytes) = found.2 in
       inl (at + found.0, found.1, record { forward = omega arith; within = omega arith; spelling = spelling })
   | inr bad ↦ inr bad
 ]
