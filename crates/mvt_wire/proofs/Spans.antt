@@ -39,7 +39,6 @@ spans_in bytes from to field_number (entry ∷ entries) list =
 pub spans_within : (bytes : List ℕ) (outer : Span) (field_number : ℕ) (entries : List Entry) → IsMessageAt bytes outer entries → All (Within bytes) (spans_of field_number entries)
 spans_within bytes outer field_number entries whole =
     let front = length-take outer.to bytes in
-    let size : length (take outer.to bytes) ≤ length bytes = omega arith in
     All-weaker (Within (take outer.to bytes)) (Within bytes)
     (λ span within. let forward = within.forward in let inside = within.inside in record { forward = forward; inside = omega arith }) (spans_of field_number entries)
     (spans_in (take outer.to bytes) outer.from (length (take outer.to bytes)) field_number entries whole)

@@ -166,7 +166,6 @@ tenth_group rest within earlier = elim (cases_lt (get_or rest 9 0) 2) [
 -- what a place begins with, where the i bytes from there on are 128 or more
 begins_from : (fuel i : ℕ) (rest : List ℕ) → i + fuel ≡ 9 → i ≤ length rest → ((k : ℕ) → k < i → 128 ≤ get_or rest k 0) → BeginsWithVarint rest ⊎ EndsEarly rest ⊎ IsTooLong rest
 begins_from zero i rest places within earlier =
-    let nine : i ≡ 9 = omega arith in
     let earlier : (k : ℕ) → k < 9 → 128 ≤ get_or rest k 0 = λ k h. earlier k (omega arith) in
     elim (cases_lt 9 (length rest)) [
       | inl more ↦ tenth_group rest more earlier
