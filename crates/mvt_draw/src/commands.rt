@@ -11,6 +11,7 @@ ghost use Rattle.mvt_plane.specs.Drawing.{Leg, State, MayEnd, IsMove, unzigzag, 
 ghost use Rattle.mvt_plane.specs.Figure.{GeometryType, command_integer};
 
 use mvt_fault::CommandCode;
+use mvt_plane::GREATEST_COORDINATE;
 use mvt_wire::unzigzag32;
 
 /// Where the next step begins.
@@ -33,9 +34,6 @@ pub(crate) const CLOSE_PATH: u32 = 7;
 
 /// The greatest count of a command, which has 29 bits (section 4.3.1).
 pub(crate) const GREATEST_COUNT: u32 = (1 << 29) - 1;
-
-/// The greatest coordinate; the least is its negative.
-const GREATEST_COORDINATE: i64 = 1 << 30;
 
 /// The count of the command at a place, which is to have this id and a count from `fewest` to `most`.
 pub(crate) fn command(
@@ -84,7 +82,8 @@ fn coordinate(numbers: &[u32], at: usize, from: i32) -> Result<i32, (CommandCode
         return Err((CommandCode::GreatestParameter, at));
     }
     let to = i64::from(from) + i64::from(unzigzag32(number));
-    if to < -GREATEST_COORDINATE || to > GREATEST_COORDINATE {
+    let greatest = i64::from(GREATEST_COORDINATE);
+    if to < -greatest || to > greatest {
         return Err((CommandCode::OutOfBounds, at));
     }
     Ok(to as i32)

@@ -21,4 +21,4 @@ pub use edge::{Edge, on_edge};
 pub use hpoint::Hpoint;
 pub use measure::{orient, sweep_key, twice_area};
 pub use parity::inside;
-pub use point::Point;
+pub use point::{GREATEST_COORDINATE, Point};

@@ -8,8 +8,8 @@ pub struct Point {
     y: i32,
 }
 
-/// The greatest coordinate; the least is its negative.
-const GREATEST_COORDINATE: i32 = 1 << 30;
+/// The greatest coordinate, in units of the tile's grid; the least is its negative.
+pub const GREATEST_COORDINATE: i32 = 1 << 30;
 
 impl Model for Point {
     ghost use Rattle.mvt_plane.specs.Position.{Position, IsPosition};

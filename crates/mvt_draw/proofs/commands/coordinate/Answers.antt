@@ -4,7 +4,7 @@ use Rattle.mvt_plane.specs.Drawing.{start, unzigzag}
 use Rattle.mvt_plane.proofs.Readers.{unfinished_coordinate, greatest_there, outside_there, is_parameter}
 use Rattle.mvt_draw.proofs.Parameters.{unzigzag_wire}
 use Rattle.mvt_draw.proofs.commands.coordinate.Goals as goal
-use Rattle.mvt_draw.proofs.commands.coordinate.Goals.{then-to-via-then-to, then-to-via-else-to+then-to-gt-GREATEST_COORDINATE}
+use Rattle.mvt_draw.proofs.commands.coordinate.Goals.{then-to-greatest-via-then-to-greatest, then-to-greatest-via-else-to-greatest+then-to-greatest-2}
 
 pub returns-then-at-numbers-clause-fault : goal.returns-then-at-numbers-clause-fault
 returns-then-at-numbers-clause-fault c = λ geometry_type state asks leads.
@@ -14,15 +14,15 @@ pub returns-then-number-clause-fault : goal.returns-then-number-clause-fault
 returns-then-number-clause-fault c = λ geometry_type state asks leads.
     greatest_there geometry_type (start geometry_type) state c.args.numbers.now c.args.at c.args.from asks leads c.if-at-numbers.false c.if-number.true
 
-pub returns-then-to-clause-fault : goal.returns-then-to-clause-fault
-returns-then-to-clause-fault c = λ geometry_type state asks leads.
+pub returns-then-to-greatest-clause-fault : goal.returns-then-to-greatest-clause-fault
+returns-then-to-greatest-clause-fault c = λ geometry_type state asks leads.
     outside_there geometry_type (start geometry_type) state c.args.numbers.now c.args.at c.args.from asks leads c.if-at-numbers.false c.if-number.false
     (λ inside.
     let n = get_or c.args.numbers.now c.args.at 0 in
     let step : c.unzigzag32.result ≡ unzigzag n = unzigzag_wire c.unzigzag32.result n c.unzigzag32.ensures in
-    elim c.then-to.branch [
-      | then-to-via-then-to w ↦ omega (arith, ints)
-      | then-to-via-else-to+then-to-gt-GREATEST_COORDINATE w ↦ omega (arith, ints)
+    elim c.then-to-greatest.branch [
+      | then-to-greatest-via-then-to-greatest w ↦ omega (arith, ints)
+      | then-to-greatest-via-else-to-greatest+then-to-greatest-2 w ↦ omega (arith, ints)
     ])
 
 pub returns-clause-allowed : goal.returns-clause-allowed
