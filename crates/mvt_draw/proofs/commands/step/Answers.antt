@@ -28,11 +28,9 @@ same_position : (x y x' y' : ℤ) → x ≡ x' → y ≡ y' → position x y ≡
 same_position x y x' y' same_x same_y = cc
 
 -- what is said of a coordinate as it was passed
-moves : (from : ℤ) (n : ℕ) → passed from ≡ from → IsMove (passed from) n → IsMove from n
-moves from n same move = subst (λ (z : ℤ). IsMove z n) same move
-
-leads_to : (from to : ℤ) (n : ℕ) → passed from ≡ from → to ≡ passed from +ℤ unzigzag n → to ≡ from +ℤ unzigzag n
-leads_to from to n same is = subst (λ (z : ℤ). to ≡ z +ℤ unzigzag n) same is
+passed_move : (from to : ℤ) (n : ℕ) → SFits w32 from → IsMove (passed from) n → to ≡ passed from +ℤ unzigzag n → IsMove from n × (to ≡ from +ℤ unzigzag n)
+passed_move from to n fits =
+    subst (λ (z : ℤ). IsMove z n → to ≡ z +ℤ unzigzag n → IsMove from n × (to ≡ from +ℤ unzigzag n)) (sym (to_z-of_z w32 from fits)) (λ move is. (move, is))
 
 -- coordinates of the same bits
 same_bits : (x from : ℤ) → SFits w32 x → SFits w32 from → of_z w32 x ≡ of_z w32 from → x ≡ from
@@ -50,63 +48,46 @@ returns-in_err-x-clause-fault c =
 pub returns-in_err-y-clause-fault : goal.returns-in_err-y-clause-fault
 returns-in_err-y-clause-fault c =
     let p = err_from_is_err_and c.from_residual-in_err-y.result c.from_residual-in_err-y.ensures.1 in
-    let fits_x : SFits w32 c.args.cursor.now.x = search rules in
     let fits_y : SFits w32 c.args.cursor.now.y = search rules in
     let from = position_of c.args.cursor.now in
     let at_x = get_or c.args.numbers.now c.args.at 0 in
-    let move_x = moves c.args.cursor.now.x at_x (to_z-of_z w32 c.args.cursor.now.x fits_x) c.in_ok-x.ensures.allowed in
+    let x = passed_move c.args.cursor.now.x c.in_ok-x.x at_x (search rules) c.in_ok-x.ensures.allowed c.in_ok-x.ensures.value in
     rw (p.1, p.2) (λ geometry_type leg line leads.
     c.in_err-y.ensures.fault geometry_type (step_y leg from at_x)
     (subst (λ (z : ℤ). AsksCoordinate (step_y leg from at_x) z) (sym (to_z-of_z w32 c.args.cursor.now.y fits_y)) (of_y leg from at_x))
-    (leads_on geometry_type (start geometry_type) c.args.numbers.now c.args.at (step_x leg from) leads c.in_ok-x.ensures.within move_x))
+    (leads_on geometry_type (start geometry_type) c.args.numbers.now c.args.at (step_x leg from) leads c.in_ok-x.ensures.within x.0))
 
 pub returns-then-y-cursor-clause-fault : goal.returns-then-y-cursor-clause-fault
 returns-then-y-cursor-clause-fault c = λ geometry_type leg line leads.
-    let fits_x : SFits w32 c.args.cursor.now.x = search rules in
-    let fits_y : SFits w32 c.args.cursor.now.y = search rules in
-    let same_x = to_z-of_z w32 c.args.cursor.now.x fits_x in
-    let same_y = to_z-of_z w32 c.args.cursor.now.y fits_y in
+    let from = c.args.cursor.now in
     let at_x = get_or c.args.numbers.now c.args.at 0 in
     let at_y = get_or c.args.numbers.now (c.args.at + 1) 0 in
-    no_step_there geometry_type (start geometry_type) c.args.numbers.now c.args.at leg (position_of c.args.cursor.now) (line ∙ c.if-line.true) leads c.in_ok-y.ensures.within
-    (moves c.args.cursor.now.x at_x same_x c.in_ok-x.ensures.allowed) (moves c.args.cursor.now.y at_y same_y c.in_ok-y.ensures.allowed)
-    (zero_parameter c.args.cursor.now.x at_x (sym (leads_to c.args.cursor.now.x c.in_ok-x.x at_x same_x c.in_ok-x.ensures.value) ∙ same_bits c.in_ok-x.x c.args.cursor.now.x (search rules) fits_x c.if-x-cursor.true))
-    (zero_parameter c.args.cursor.now.y at_y (sym (leads_to c.args.cursor.now.y c.in_ok-y.y at_y same_y c.in_ok-y.ensures.value) ∙ same_bits c.in_ok-y.y c.args.cursor.now.y (search rules) fits_y c.if-y-cursor.true))
+    let x = passed_move from.x c.in_ok-x.x at_x (search rules) c.in_ok-x.ensures.allowed c.in_ok-x.ensures.value in
+    let y = passed_move from.y c.in_ok-y.y at_y (search rules) c.in_ok-y.ensures.allowed c.in_ok-y.ensures.value in
+    no_step_there geometry_type (start geometry_type) c.args.numbers.now c.args.at leg (position_of from) (line ∙ c.if-line.true) leads c.in_ok-y.ensures.within x.0 y.0
+    (zero_parameter from.x at_x (sym x.1 ∙ same_bits c.in_ok-x.x from.x (search rules) (search rules) c.if-x-cursor.true))
+    (zero_parameter from.y at_y (sym y.1 ∙ same_bits c.in_ok-y.y from.y (search rules) (search rules) c.if-y-cursor.true))
 
 pub returns-clause-goes : goal.returns-clause-goes
 returns-clause-goes c = λ geometry_type leg line leads.
-    let fits_x : SFits w32 c.args.cursor.now.x = search rules in
-    let fits_y : SFits w32 c.args.cursor.now.y = search rules in
-    let same_x = to_z-of_z w32 c.args.cursor.now.x fits_x in
-    let same_y = to_z-of_z w32 c.args.cursor.now.y fits_y in
+    let from = c.args.cursor.now in
     let at_x = get_or c.args.numbers.now c.args.at 0 in
     let at_y = get_or c.args.numbers.now (c.args.at + 1) 0 in
-    let move_x = moves c.args.cursor.now.x at_x same_x c.in_ok-x.ensures.allowed in
-    let move_y = moves c.args.cursor.now.y at_y same_y c.in_ok-y.ensures.allowed in
-    let there_x = leads_to c.args.cursor.now.x c.in_ok-x.x at_x same_x c.in_ok-x.ensures.value in
-    let there_y = leads_to c.args.cursor.now.y c.in_ok-y.y at_y same_y c.in_ok-y.ensures.value in
-    let inside_x = move_x.there in
-    let inside_y = move_y.there in
-    step_leads geometry_type (start geometry_type) c.args.numbers.now c.args.at leg (position_of c.args.cursor.now) _ leads c.in_ok-y.ensures.within move_x move_y
+    let x = passed_move from.x c.in_ok-x.x at_x (search rules) c.in_ok-x.ensures.allowed c.in_ok-x.ensures.value in
+    let y = passed_move from.y c.in_ok-y.y at_y (search rules) c.in_ok-y.ensures.allowed c.in_ok-y.ensures.value in
+    step_leads geometry_type (start geometry_type) c.args.numbers.now c.args.at leg (position_of from) _ leads c.in_ok-y.ensures.within x.0 y.0
     (λ is none_x none_y. elim c.else-line.branch [
-      | else-line-via-then-line+then-x-cursor+else-y-cursor w ↦ w.if-y-cursor.false (ap (of_z w32) (there_y ∙ stays c.args.cursor.now.y at_y none_y))
-      | else-line-via-then-line+else-x-cursor w ↦ w.if-x-cursor.false (ap (of_z w32) (there_x ∙ stays c.args.cursor.now.x at_x none_x))
+      | else-line-via-then-line+then-x-cursor+else-y-cursor w ↦ w.if-y-cursor.false (ap (of_z w32) (y.1 ∙ stays from.y at_y none_y))
+      | else-line-via-then-line+else-x-cursor w ↦ w.if-x-cursor.false (ap (of_z w32) (x.1 ∙ stays from.x at_x none_x))
       | else-line-via-else-line w ↦ true≢false (sym is ∙ line ∙ w.if-line.false)
     ])
-    (same_position _ _ _ _ (omega (arith, ints)) (omega (arith, ints)))
+    (same_position _ _ _ _ (omega (arith, ints, x.0.there, x.1)) (omega (arith, ints, y.0.there, y.1)))
 
 pub returns-clause-drawn : goal.returns-clause-drawn
 returns-clause-drawn c = λ to rest ahead.
-    let fits_x : SFits w32 c.args.cursor.now.x = search rules in
-    let fits_y : SFits w32 c.args.cursor.now.y = search rules in
-    let same_x = to_z-of_z w32 c.args.cursor.now.x fits_x in
-    let same_y = to_z-of_z w32 c.args.cursor.now.y fits_y in
+    let from = c.args.cursor.now in
     let at_x = get_or c.args.numbers.now c.args.at 0 in
     let at_y = get_or c.args.numbers.now (c.args.at + 1) 0 in
-    let move_x = moves c.args.cursor.now.x at_x same_x c.in_ok-x.ensures.allowed in
-    let move_y = moves c.args.cursor.now.y at_y same_y c.in_ok-y.ensures.allowed in
-    let there_x = leads_to c.args.cursor.now.x c.in_ok-x.x at_x same_x c.in_ok-x.ensures.value in
-    let there_y = leads_to c.args.cursor.now.y c.in_ok-y.y at_y same_y c.in_ok-y.ensures.value in
-    let inside_x = move_x.there in
-    let inside_y = move_y.there in
-    step_drawn c.args.numbers.now c.args.at (position_of c.args.cursor.now) _ to rest ahead (omega (arith, ints)) (omega (arith, ints))
+    let x = passed_move from.x c.in_ok-x.x at_x (search rules) c.in_ok-x.ensures.allowed c.in_ok-x.ensures.value in
+    let y = passed_move from.y c.in_ok-y.y at_y (search rules) c.in_ok-y.ensures.allowed c.in_ok-y.ensures.value in
+    step_drawn c.args.numbers.now c.args.at (position_of from) _ to rest ahead (omega (arith, ints, x.0.there, x.1)) (omega (arith, ints, y.0.there, y.1))
