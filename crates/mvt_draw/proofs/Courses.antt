@@ -6,14 +6,6 @@ use Rattle.mvt_plane.specs.Course.{Course, IsStepAhead}
 
 -- A step
 
--- the two numbers at a place, and those behind them
-two_at : (at : ℕ) (numbers : List ℕ) (x y : ℕ) (rest : List ℕ) → drop at numbers ≡ x ∷ y ∷ rest
-    → (get_or numbers at 0 ≡ x) × (get_or numbers (suc at) 0 ≡ y) × (drop (suc (suc at)) numbers ≡ rest)
-two_at zero numbers x y rest stands =
-    (ap (λ (it : List ℕ). get_or it 0 0) stands, ap (λ (it : List ℕ). get_or it 1 0) stands, ap (λ (it : List ℕ). drop 2 it) stands)
-two_at (suc at) [] x y rest stands = cc
-two_at (suc at) (n ∷ numbers) x y rest stands = two_at at numbers x y rest stands
-
 -- the number at a place, and those behind it
 one_at : (at : ℕ) (numbers : List ℕ) (n : ℕ) (rest : List ℕ) → drop at numbers ≡ n ∷ rest → (get_or numbers at 0 ≡ n) × (drop (suc at) numbers ≡ rest)
 one_at zero numbers n rest stands = (ap (λ (it : List ℕ). get_or it 0 0) stands, ap (λ (it : List ℕ). drop 1 it) stands)
@@ -30,10 +22,9 @@ one_ahead at numbers n rest stands =
 pub two_ahead : (at : ℕ) (numbers : List ℕ) (x y : ℕ) (rest : List ℕ) → drop at numbers ≡ x ∷ y ∷ rest
     → (get_or numbers at 0 ≡ x) × (get_or numbers (at + 1) 0 ≡ y) × (drop (at + 2) numbers ≡ rest)
 two_ahead at numbers x y rest stands =
-    let there = two_at at numbers x y rest stands in
-    let one : at + 1 ≡ suc at = omega arith in
-    let two : at + 2 ≡ suc (suc at) = omega arith in
-    (there.0, ap (λ (place : ℕ). get_or numbers place 0) one ∙ there.1, ap (λ (place : ℕ). drop place numbers) two ∙ there.2)
+    let first = one_ahead at numbers x (y ∷ rest) stands in
+    let second = one_ahead (at + 1) numbers y rest first.1 in
+    let two : at + 2 ≡ at + 1 + 1 = omega arith in (first.0, second.0, ap (λ (place : ℕ). drop place numbers) two ∙ second.1)
 
 -- the course with this cursor and these numbers
 pub same_course : (course : Course) (here : Position) (left : List ℕ) → course.here ≡ here → course.left ≡ left → course ≡ record { here = here; left = left }

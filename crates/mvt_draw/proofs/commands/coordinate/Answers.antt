@@ -1,6 +1,6 @@
-use Rattle.std.proofs.Common.{◌≡◌, get_or, arith}
+use Rattle.std.proofs.Common.{get_or, arith}
 use Rattle.std.proofs.lemmas.Int.{ints}
-use Rattle.mvt_plane.specs.Drawing.{start, unzigzag}
+use Rattle.mvt_plane.specs.Drawing.{start}
 use Rattle.mvt_plane.proofs.Readers.{unfinished_coordinate, greatest_there, outside_there, is_parameter}
 use Rattle.mvt_draw.proofs.Parameters.{unzigzag_wire}
 use Rattle.mvt_draw.proofs.commands.coordinate.Goals as goal
@@ -18,8 +18,7 @@ pub returns-then-to-greatest-clause-fault : goal.returns-then-to-greatest-clause
 returns-then-to-greatest-clause-fault c = λ geometry_type state asks leads.
     outside_there geometry_type (start geometry_type) state c.args.numbers.now c.args.at c.args.from asks leads c.if-at-numbers.false c.if-number.false
     (λ inside.
-    let n = get_or c.args.numbers.now c.args.at 0 in
-    let step : c.unzigzag32.result ≡ unzigzag n = unzigzag_wire c.unzigzag32.result n c.unzigzag32.ensures in
+    let step = unzigzag_wire c.unzigzag32.result (get_or c.args.numbers.now c.args.at 0) c.unzigzag32.ensures in
     elim c.then-to-greatest.branch [
       | then-to-greatest-via-then-to-greatest w ↦ omega (arith, ints)
       | then-to-greatest-via-else-to-greatest+then-to-greatest-2 w ↦ omega (arith, ints)
@@ -27,15 +26,13 @@ returns-then-to-greatest-clause-fault c = λ geometry_type state asks leads.
 
 pub returns-clause-allowed : goal.returns-clause-allowed
 returns-clause-allowed c =
-    let n = get_or c.args.numbers.now c.args.at 0 in
-    let step : c.unzigzag32.result ≡ unzigzag n = unzigzag_wire c.unzigzag32.result n c.unzigzag32.ensures in
+    let step = unzigzag_wire c.unzigzag32.result (get_or c.args.numbers.now c.args.at 0) c.unzigzag32.ensures in
     record {
-      parameter = is_parameter n (omega (arith, c.type_inv.numbers c.args.at)) c.if-number.false;
+      parameter = is_parameter (get_or c.args.numbers.now c.args.at 0) (omega (arith, c.type_inv.numbers c.args.at)) c.if-number.false;
       there = (omega (arith, ints), omega (arith, ints));
     }
 
 pub returns-clause-value : goal.returns-clause-value
 returns-clause-value c =
-    let n = get_or c.args.numbers.now c.args.at 0 in
-    let step : c.unzigzag32.result ≡ unzigzag n = unzigzag_wire c.unzigzag32.result n c.unzigzag32.ensures in
+    let step = unzigzag_wire c.unzigzag32.result (get_or c.args.numbers.now c.args.at 0) c.unzigzag32.ensures in
     omega (arith, ints)
