@@ -27,12 +27,14 @@ pub path_started : (numbers : List ℕ) (start count : ℕ) (from first : Positi
     → get_or numbers (start + 3) 0 ≡ command_integer line_to count
     → (further : List Position) × (first ∷ further ≡ part) × AreStepsAhead (course_at numbers (start + 4) first) count further rest
 path_started numbers start count from first part rest ahead step number =
+    let place : start + 3 ≡ start + 1 + 2 = omega arith in
+    let next_place : start + 4 ≡ start + 3 + 1 = omega arith in
     let runs = two_runs (course_at numbers start from) part rest ahead in
     let behind = one_ahead start numbers (command_integer runs.one.id 1) (steps from (runs.first ∷ []) ++ runs.between.left) runs.one.stands in
     let told = step runs.first runs.between.left (record { able = runs.one.able.0; stands = behind.1 }) in
     let here : first ≡ runs.first = ap (λ (it : Course). it.here) told in
     let from_first : runs.between.here ≡ first = ap (λ (it : Course). it.here) runs.behind ∙ sym here in
-    let left : drop (start + 3) numbers ≡ runs.between.left = ap (λ (place : ℕ). drop place numbers) (places start) ∙ ap (λ (it : Course). it.left) told in
+    let left : drop (start + 3) numbers ≡ runs.between.left = ap (λ (at : ℕ). drop at numbers) place ∙ ap (λ (it : Course). it.left) told in
     let line = one_ahead (start + 3) numbers (command_integer runs.further.id (length runs.more)) (steps runs.between.here runs.more ++ rest) (left ∙ runs.further.stands) in
     let counted : command_integer runs.further.id (length runs.more) ≡ command_integer line_to count = sym line.0 ∙ number in
     let small : runs.further.id < 8 = runs.further.is_id in
@@ -41,13 +43,7 @@ path_started numbers start count from first part rest ahead step number =
       ap (λ (it : Position). it ∷ runs.more) here ∙ runs.whole,
       record {
         able = subst (λ (it : Position). AreSteps it runs.more) from_first runs.further.able;
-        stands = ap (λ (place : ℕ). drop place numbers) (next_place start) ∙ (line.1 ∙ ap (λ (it : Position). steps it runs.more ++ rest) from_first);
+        stands = ap (λ (at : ℕ). drop at numbers) next_place ∙ (line.1 ∙ ap (λ (it : Position). steps it runs.more ++ rest) from_first);
         so_many = so_many;
       },
     )
-  where
-    places : (start : ℕ) → start + 3 ≡ start + 1 + 2
-    places start = omega arith
-
-    next_place : (start : ℕ) → start + 4 ≡ start + 3 + 1
-    next_place start = omega arith

@@ -8,18 +8,9 @@ use Rattle.mvt_plane.proofs.Readers.{one_behind, line_left}
 use Rattle.mvt_draw.proofs.StepsAhead.{path_started}
 use Rattle.mvt_draw.proofs.commands.path_start.Goals as goal
 
--- the places of a path's commands
-three : (start : ℕ) → start + 1 + 2 ≡ start + 3
-three start = omega arith
-
-four : (start : ℕ) → start + 3 + 1 ≡ start + 4
-four start = omega arith
-
 pub returns-in_err-command-clause-fault : goal.returns-in_err-command-clause-fault
 returns-in_err-command-clause-fault c =
     let kind = path_type c.args.closed in
-    let numbers = c.args.numbers.now in
-    let start = c.args.start in
     let from = position_of c.args.from in
     let p = err_from_is_err_and c.from_residual.result c.from_residual.ensures.1 in
     rw (p.1, p.2) (λ drawn exists leads.
@@ -28,8 +19,6 @@ returns-in_err-command-clause-fault c =
 pub returns-in_err-step-clause-fault : goal.returns-in_err-step-clause-fault
 returns-in_err-step-clause-fault c =
     let kind = path_type c.args.closed in
-    let numbers = c.args.numbers.now in
-    let start = c.args.start in
     let from = position_of c.args.from in
     let p = err_from_is_err_and c.from_residual-in_err-step.result c.from_residual-in_err-step.ensures.1 in
     rw (p.1, p.2) (λ drawn exists leads.
@@ -47,7 +36,8 @@ returns-in_err-count-clause-fault c =
     let moving = c.in_ok-command.ensures.goes kind (path_command drawn from) (of_path drawn from) leads in
     let first = position_of c.step.new.cursor in
     let asks = subst (λ (fewest : ℕ). AsksCommand kind (line_command first) line_to fewest greatest_count) (sym c.fewest_further-fewest.ensures) (of_line first) in
-    let drawing = subst (λ (i : ℕ). StandsAt kind numbers i (line_command first)) (three start) (c.in_ok-step.ensures.goes kind to_first refl moving) in
+    let three : start + 1 + 2 ≡ start + 3 = omega arith in
+    let drawing = subst (λ (i : ℕ). StandsAt kind numbers i (line_command first)) three (c.in_ok-step.ensures.goes kind to_first refl moving) in
     c.in_err-count.ensures.fault kind (line_command first) asks (λ end may. may) drawing)
 
 pub returns-clause-goes : goal.returns-clause-goes
@@ -60,10 +50,12 @@ returns-clause-goes c =
     let moving = c.in_ok-command.ensures.goes kind (path_command drawn from) (of_path drawn from) leads in
     let first = position_of c.step.new.cursor in
     let asks = subst (λ (fewest : ℕ). AsksCommand kind (line_command first) line_to fewest greatest_count) (sym c.fewest_further-fewest.ensures) (of_line first) in
-    let drawing = subst (λ (i : ℕ). StandsAt kind numbers i (line_command first)) (three start) (c.in_ok-step.ensures.goes kind to_first refl moving) in
+    let three : start + 1 + 2 ≡ start + 3 = omega arith in
+    let drawing = subst (λ (i : ℕ). StandsAt kind numbers i (line_command first)) three (c.in_ok-step.ensures.goes kind to_first refl moving) in
+    let four : start + 3 + 1 ≡ start + 4 = omega arith in
     let some : 1 ≤ c.in_ok-count.count = omega (arith, c.in_ok-count.ensures.count, one_behind kind) in
     subst (λ (state : State). StandsAt kind numbers (start + 4) state) (line_left kind first c.in_ok-count.count some)
-    (subst (λ (i : ℕ). StandsAt kind numbers i (next kind (line_command first) (command_integer line_to c.in_ok-count.count))) (four start) (c.in_ok-count.ensures.goes kind (line_command first) asks drawing))
+    (subst (λ (i : ℕ). StandsAt kind numbers i (next kind (line_command first) (command_integer line_to c.in_ok-count.count))) four (c.in_ok-count.ensures.goes kind (line_command first) asks drawing))
 
 pub returns-clause-drawn : goal.returns-clause-drawn
 returns-clause-drawn c = λ part rest ahead.
