@@ -1,4 +1,4 @@
-use Rattle.std.proofs.Common.{◌+◌, ◌*◌, ◌∷◌, [], ◌++◌, List, Bool, ap, ◌∙◌, subst, append_assoc}
+use Rattle.std.proofs.Common.{◌≡◌, ◌+◌, ◌*◌, ◌∷◌, [], ◌++◌, List, Bool, ap, ◌∙◌, subst, append_assoc}
 use Rattle.std.proofs.lemmas.Result.{err_from_is_err_and}
 use Rattle.mvt_plane.specs.Drawing.{State, close_command}
 use Rattle.mvt_plane.specs.Reading.{StandsAt, of_close, path_type}
@@ -9,6 +9,10 @@ use Rattle.mvt_draw.specs.Cursor.{position_of}
 use Rattle.mvt_plane.proofs.Readers.{behind_line, behind_ring}
 use Rattle.mvt_draw.proofs.Courses.{one_ahead}
 use Rattle.mvt_draw.proofs.reading.read_path.Goals as goal
+
+-- behind what was kept before, the first position and then the further ones are the whole
+all_kept : (before kept after further whole : List Position) (first : Position) → after ≡ kept ++ further → kept ≡ before ++ first ∷ [] → first ∷ further ≡ whole → after ≡ before ++ whole
+all_kept before kept after further whole first is_after is_kept is_whole = cc (append_assoc before (first ∷ []) further)
 
 pub returns-in_err-command-clause-fault : goal.returns-in_err-command-clause-fault
 returns-in_err-command-clause-fault g c =
@@ -46,9 +50,7 @@ returns-then-closed-clause-drawn g c = λ keeps part rest ahead.
     let told = c.in_ok-last.ensures.drawn keeps started.0 (15 ∷ rest) started.2 in
     let here = ap (λ (it : Course). it.here) told.1 ∙ ap (λ (it : List Position). cursor from it) started.1 in
     let left = (one_ahead end numbers 15 rest (ap (λ (it : Course). it.left) told.1)).1 in (
-      told.0
-          ∙ (ap (λ (it : List Position). it ++ started.0) (c.in_ok-take.ensures.kept keeps)
-          ∙ (append_assoc before (position_of c.in_ok-first.first ∷ []) started.0 ∙ ap (λ (it : List Position). before ++ it) started.1)),
+      all_kept before _ _ started.0 part (position_of c.in_ok-first.first) told.0 (c.in_ok-take.ensures.kept keeps) started.1,
       λ i. record { here = here i; left = left i },
     )
 
@@ -59,12 +61,10 @@ returns-clause-drawn g c = λ keeps part rest ahead.
     let before = g.S.PositionSink.kept c.args.sink.now in
     let from = position_of c.args.from in
     let path = subst (λ (it : Bool). IsPathAhead (course_at numbers c.args.start from) part (ending_of it ++ rest)) c.if-closed.false ahead in
-    let started = c.in_ok-first.ensures.drawn part (rest) path in
-    let told = c.in_ok-last.ensures.drawn keeps started.0 (rest) started.2 in
+    let started = c.in_ok-first.ensures.drawn part rest path in
+    let told = c.in_ok-last.ensures.drawn keeps started.0 rest started.2 in
     let here = ap (λ (it : Course). it.here) told.1 ∙ ap (λ (it : List Position). cursor from it) started.1 in
     let left = ap (λ (it : Course). it.left) told.1 in (
-      told.0
-          ∙ (ap (λ (it : List Position). it ++ started.0) (c.in_ok-take.ensures.kept keeps)
-          ∙ (append_assoc before (position_of c.in_ok-first.first ∷ []) started.0 ∙ ap (λ (it : List Position). before ++ it) started.1)),
+      all_kept before _ _ started.0 part (position_of c.in_ok-first.first) told.0 (c.in_ok-take.ensures.kept keeps) started.1,
       λ i. record { here = here i; left = left i },
     )
