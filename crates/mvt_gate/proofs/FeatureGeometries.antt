@@ -1,5 +1,7 @@
 -- The geometry of a feature's record, by the numbers that its readers were given.
-use Rattle.std.proofs.Common.{◌≡◌, ℕ, List, Option, Some, None, Result, Ok, Err, IfOk, IfNone, sym, ap, subst}
+use Rattle.std.proofs.Common.{◌≡◌, ℕ, List, Option, Result, IfOk, IfNone, sym, ap, subst}
+use Rattle.std.proofs.lemmas.Result.{IfOk-weaker}
+use Rattle.mvt_confirm.proofs.Searching.{IfNone-weaker}
 use Rattle.mvt_confirm.specs.Geometry.{IsFaultOfGeometry}
 use Rattle.mvt_confirm.specs.Valid.{AreValidRings, IsValidGeometry}
 use Rattle.mvt_draw.specs.Geometry.{IsCommandFault}
@@ -21,9 +23,7 @@ WhereNone found Holds = IfOk found (λ it. IfNone it Holds)
 
 -- and what follows from it
 where_none : {E : Type 0} (First Second : Type 0) (found : Result (Option Fault) E) → (First → Second) → WhereNone found First → WhereNone found Second
-where_none First Second (Ok None) so known = so known
-where_none First Second (Ok (Some fault)) so known = tt
-where_none First Second (Err refused) so known = tt
+where_none First Second found so = IfOk-weaker found (λ it. IfNone it First) (λ it. IfNone it Second) (λ it. IfNone-weaker it First Second so)
 
 -- the rings of a feature of the type of polygons
 rings_of_feature : (feature : Feature) (numbers : List ℕ) (parts drawn : List (List Position)) → feature.kind ≡ Polygon → numbers ≡ feature.geometry.items → parts ≡ drawn → HasRings 3 numbers drawn

@@ -1,4 +1,4 @@
-use Rattle.std.proofs.Common.{List, ℕ, ap, string_bytes}
+use Rattle.std.proofs.Common.{List, ℕ, ap}
 use Rattle.serde_json.specs.Written.{compact_text}
 use Rattle.mvt_fault.specs.Text.{whole}
 use Rattle.mvt_tile.specs.View.{feature_of}
@@ -14,8 +14,7 @@ pub returns : goal.returns
 unfolding numbers_text
 returns c =
     feature_pushed c.write.result (feature_of c.args.self.now) (numbers_text c.deref.result.now) (numbers_text c.deref-2.result.now) c.number_of-kind.result
-    (string_bytes c.args.text.now) (string_bytes c.push_str.new.self) (string_bytes c.push_list.new.text) (string_bytes c.push_str-2.new.self) (string_bytes c.push_id.new.text)
-    (string_bytes c.push_str-3.new.self) (string_bytes c.push_list-2.new.text) (string_bytes c.write.new.self)
+    _ _ _ _ _ _ _ _
     (ap numbers_text c.deref.ensures.value) (ap numbers_text c.deref-2.ensures.value) c.number_of-kind.ensures
     c.in_ok-push_str.ensures.bytes c.in_ok-push_list.ensures c.in_ok-push_str-2.ensures.bytes c.in_ok-push_id.ensures c.in_ok-push_str-3.ensures.bytes c.in_ok-push_list-2.ensures
     c.write.ensures.bytes

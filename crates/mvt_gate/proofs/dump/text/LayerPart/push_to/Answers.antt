@@ -1,8 +1,6 @@
-use Rattle.std.proofs.Common.{string_bytes}
 use Rattle.serde_json.specs.Data.{string}
-use Rattle.serde_json.specs.Written.{compact_text}
 use Rattle.mvt_tile.specs.View.{feature_of, layer_of, value_of}
-use Rattle.mvt_gate.specs.Dump.{feature_data, list_data, value_data}
+use Rattle.mvt_gate.specs.Dump.{feature_data, value_data}
 use Rattle.mvt_gate.proofs.DumpTexts.{layer_pushed, told_list}
 use Rattle.mvt_gate.proofs.dump.text.LayerPart.push_to.Goals as goal
 
@@ -10,10 +8,7 @@ pub returns : goal.returns
 returns c =
     let layer = c.args.self.now in
     layer_pushed c.write.result (layer_of layer)
-    (compact_text (list_data (λ feature. feature_data (feature_of feature)) c.deref.result.now)) (compact_text (list_data (λ key. string key.now) c.deref-2.result.now))
-    (compact_text (list_data (λ value. value_data (value_of value)) c.deref-3.result.now))
-    (string_bytes c.args.text.now) (string_bytes c.push_extent.new.text) (string_bytes c.push_list.new.text) (string_bytes c.push_str.new.self) (string_bytes c.push_list-2.new.text)
-    (string_bytes c.push_str-2.new.self) (string_bytes c.push_string.new.text) (string_bytes c.push_str-3.new.self) (string_bytes c.push_list-3.new.text) (string_bytes c.write.new.self)
+    _ _ _ _ _ _ _ _ _ _ _ _ _
     (told_list feature_data feature_of c.deref.result.now layer.features.items c.deref.ensures.value)
     (told_list string (λ key. key.now) c.deref-2.result.now layer.keys.items c.deref-2.ensures.value)
     (told_list value_data value_of c.deref-3.result.now layer.values.items c.deref-3.ensures.value)
