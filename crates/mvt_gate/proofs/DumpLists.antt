@@ -1,6 +1,6 @@
 -- The text of an array while its members are written one behind another.
 use Rattle.std.proofs.Common.{◌≡◌, ℕ, List, [], ◌∷◌, ◌++◌, Bool, true, false, if◌then◌else◌, codes, Result, Ok, Err, OnOk, map, take, length, get_or, ◌+◌, ◌<◌, ◌≤◌, refl, ap, subst, sym, ◌∙◌, append_assoc}
-use Rattle.std.proofs.lemmas.List.{append-nil, map_push, take_all, take_more}
+use Rattle.std.proofs.lemmas.List.{append-nil, map_more, take_all}
 use Rattle.std.specs.Result.{is_ok}
 use Rattle.serde_json.specs.Data.{Data, array}
 use Rattle.serde_json.specs.View.{items_of}
@@ -79,8 +79,7 @@ one_more : {A : Type 0} (data_of : A → Data) (list : List A) (place : ℕ) (pa
     → part ≡ get_or list place part
     → map data_of (take place list) ++ data_of part ∷ [] ≡ map data_of (take (place + 1) list)
 one_more data_of list place part within here =
-    sym (map_push data_of (take place list) part)
-    ∙ ap (map data_of) (ap (λ next. take place list ++ next ∷ []) here ∙ sym (take_more list place part within))
+    ap (λ next. map data_of (take place list) ++ data_of next ∷ []) here ∙ sym (map_more data_of list place part within)
 
 -- one more part of a list was written
 pub ListsMembers-more : {A : Type 0} (data_of : A → Data) (list : List A) (place : ℕ) (part : A) (old new newer : List ℕ) (is_first : Bool)

@@ -1,6 +1,7 @@
 -- Of the faults of one feature's geometry, the first: a fault of its commands, or of its rings.
 use Rattle.std.proofs.Common.{◌≡◌, ℕ, ◌<◌, ◌≤◌, ◌⊎◌, inl, inr, List, [], ◌∷◌, refl, sym, ◌∙◌, subst, arith}
 use Rattle.std.proofs.lemmas.Bool.{cases_lt}
+use Rattle.mvt_confirm.proofs.TileFeatures.{one_list_of_rings}
 use Rattle.mvt_confirm.specs.Feature.{OfRings}
 use Rattle.mvt_confirm.specs.Geometry.{IsFaultOfGeometry, command, ring, meeting, outside, hole_in_hole}
 use Rattle.mvt_fault.proofs.Places.{ComesFirst-reflexive}
@@ -10,7 +11,6 @@ use Rattle.mvt_fault.specs.declared.command.CommandCode.{CommandCode}
 use Rattle.mvt_fault.specs.declared.fault.Fault.{Fault}
 use Rattle.mvt_fault.specs.declared.fault.Fault.TheVariants.{Command, Ring}
 use Rattle.mvt_plane.proofs.CommandFaults.{one_command_fault}
-use Rattle.mvt_plane.proofs.Spellings.{one_figure}
 use Rattle.mvt_plane.specs.CommandFault.{HasCommandFault}
 use Rattle.mvt_plane.specs.Figure.{GeometryType, polygon, rings}
 use Rattle.mvt_plane.specs.Geometry.{BreaksCommands, HasRings}
@@ -23,15 +23,9 @@ use Rattle.mvt_plane.proofs.Geometries.{one_type}
 
 -- A feature and its rings
 
--- a feature has one list of rings
-pub one_rings : (it : FeatureRecord) (parts other : List (List Position)) → HasRings it.kind it.geometry parts → HasRings it.kind it.geometry other → parts ≡ other
-one_rings it parts other has its =
-    let same : rings parts ≡ rings other = one_figure polygon it.geometry (rings parts) (rings other) has.spelled its.spelled in
-    cc
-
 -- what is true of its rings is true of these
 pub of_these : (it : FeatureRecord) (parts : List (List Position)) (Holds : List (List Position) → Type 0) → HasRings it.kind it.geometry parts → OfRings it Holds → Holds parts
-of_these it parts Holds has of = subst Holds (one_rings it of.0 parts of.1 has) of.2
+of_these it parts Holds has of = subst Holds (one_list_of_rings it of.0 parts of.1 has) of.2
 
 -- a feature that has rings has no fault of commands
 pub no_command_fault : (it : FeatureRecord) (parts : List (List Position)) (code index : ℕ) → HasRings it.kind it.geometry parts → ¬ BreaksCommands it.kind it.geometry code index
@@ -83,20 +77,8 @@ before_rings : (it : FeatureRecord) (layer feature : ℕ) (parts : List (List Po
     → ComesFirst (place_of (Ring found.code layer feature found.ring)) (place_of other)
 before_rings it layer feature parts found other has least (command its_code place its) = absurd (no_command_fault it parts (command_code its_code) place has its)
 before_rings it layer feature parts found other has least (ring its_code number of) =
-    inr (
-      refl,
-      inr (
-        refl,
-        inr (
-          refl,
-          inr (
-            refl,
-            by_ring found.ring (ring_code found.code) number (ring_code its_code)
-                (least.first (ring_code its_code) number (of_these it parts (λ those. BreaksRings those (ring_code its_code) number) has of)),
-          ),
-        ),
-      ),
-    )
+    let first = least.first (ring_code its_code) number (of_these it parts (λ those. BreaksRings those (ring_code its_code) number) has of) in
+    inr (refl, inr (refl, inr (refl, inr (refl, by_ring found.ring (ring_code found.code) number (ring_code its_code) first))))
 before_rings it layer feature parts found other has least (meeting number first second x y w of) = inr (refl, inr (refl, inr (refl, inl (omega arith))))
 before_rings it layer feature parts found other has least (outside number hole vertex of) = inr (refl, inr (refl, inr (refl, inl (omega arith))))
 before_rings it layer feature parts found other has least (hole_in_hole number hole vertex another of) = inr (refl, inr (refl, inr (refl, inl (omega arith))))

@@ -1,9 +1,9 @@
 -- Of the faults of one feature's polygons, the first.
 use Rattle.std.proofs.Common.{◌≡◌, ℕ, ◌<◌, ◌≤◌, inl, inr, List, [], ◌∷◌, ℤ, refl, sym, subst, arith}
 use Rattle.std.proofs.lemmas.Bool.{cases_lt}
+use Rattle.mvt_confirm.proofs.InvalidRings.{not_sound}
 use Rattle.mvt_confirm.specs.Geometry.{IsFaultOfGeometry, command, ring, meeting, outside, hole_in_hole}
 use Rattle.mvt_confirm.specs.PolygonFault.{number_of, IsPolygonOf, IsMeeting, IsVertexOutside, IsVertexInHole}
-use Rattle.mvt_confirm.specs.Valid.{IsValidPolygon}
 use Rattle.mvt_fault.proofs.Places.{ComesFirst-reflexive}
 use Rattle.mvt_fault.specs.Code.{command_code, ring_code}
 use Rattle.mvt_fault.specs.Place.{place_of, ComesFirst}
@@ -16,18 +16,12 @@ use Rattle.mvt_plane.specs.Nesting.{IsOutside, IsInHole}
 use Rattle.mvt_plane.specs.Polygon.{PolygonRings, IsPolygon, IsRingOf}
 use Rattle.mvt_plane.specs.Position.{Position}
 use Rattle.mvt_plane.specs.RationalPoint.{RationalPoint}
-use Rattle.mvt_plane.specs.Ring.{BreaksRings, ends_at_its_beginning, no_area, begins_with_hole, ArePolygonRings}
+use Rattle.mvt_plane.specs.Ring.{BreaksRings, ArePolygonRings}
 use Rattle.mvt_wire.specs.Tile.{FeatureRecord}
 use Rattle.mvt_gate.proofs.FirstFaults.{of_these, no_command_fault}
 use Rattle.mvt_gate.specs.Polygons.{AreApart, IsFirstOfRings, AreValidBefore}
 
 -- Faults that there are none of
-
--- rings of polygons have no fault of their own
-pub no_ring_fault : (parts : List (List Position)) (code number : ℕ) → ArePolygonRings parts → ¬ BreaksRings parts code number
-no_ring_fault parts code number sound (ends_at_its_beginning is ends) = sound.open_ends number ends
-no_ring_fault parts code number sound (no_area is none) = sound.areas number none
-no_ring_fault parts code number sound (begins_with_hole is begins) = sound.exterior_first number begins
 
 -- where no edges of a polygon meet wrongly, it has no meeting
 no_meeting : (parts : List (List Position)) (polygon : ℕ) (its : PolygonRings) (first second : RingEdge) (point : RationalPoint) → IsPolygon parts polygon its → AreApart parts its → ¬ IsMeeting parts polygon first second point
@@ -50,31 +44,21 @@ vertex_in_hole parts polygon hole vertex other its there of =
     let same : of.it ≡ its = same_polygon parts polygon of.it its of.of.there there in
     subst (λ (it : PolygonRings). IsInHole parts it hole vertex other) same of.inside
 
--- a valid polygon has none of these faults
-pub no_meeting_of_valid : (parts : List (List Position)) (polygon : ℕ) (its : PolygonRings) (first second : RingEdge) (point : RationalPoint) → IsPolygon parts polygon its → IsValidPolygon parts its → ¬ IsMeeting parts polygon first second point
-no_meeting_of_valid parts polygon its first second point there valid = no_meeting parts polygon its first second point there valid.apart
-
-pub no_outside_of_valid : (parts : List (List Position)) (polygon hole vertex : ℕ) (its : PolygonRings) → IsPolygon parts polygon its → IsValidPolygon parts its → ¬ IsVertexOutside parts polygon hole vertex
-no_outside_of_valid parts polygon hole vertex its there valid of = valid.enclosed hole vertex (vertex_outside parts polygon hole vertex its there of)
-
-pub no_hole_of_valid : (parts : List (List Position)) (polygon hole vertex other : ℕ) (its : PolygonRings) → IsPolygon parts polygon its → IsValidPolygon parts its → ¬ IsVertexInHole parts polygon hole vertex other
-no_hole_of_valid parts polygon hole vertex other its there valid of = valid.side_by_side hole vertex other (vertex_in_hole parts polygon hole vertex other its there of)
-
 -- where the polygons before this one are valid, each fault is of this one or a later one
 at_least : (number polygon : ℕ) → (number < polygon → ⊥) → polygon ≤ number
 at_least number polygon none = elim (cases_lt number polygon) [ inl less ↦ absurd (none less) | inr most ↦ most ]
 
 meeting_at_least : (parts : List (List Position)) (polygon number : ℕ) (first second : RingEdge) (point : RationalPoint) → AreValidBefore parts polygon → IsMeeting parts number first second point → polygon ≤ number
 meeting_at_least parts polygon number first second point valid meets =
-    at_least number polygon (λ less. no_meeting_of_valid parts number meets.it first second point meets.of.there (valid number meets.it less meets.of.there) meets)
+    at_least number polygon (λ less. (valid number meets.it less meets.of.there).apart (number_of first) (number_of second) point meets.first_in meets.second_in meets.meets)
 
 outside_at_least : (parts : List (List Position)) (polygon number hole vertex : ℕ) → AreValidBefore parts polygon → IsVertexOutside parts number hole vertex → polygon ≤ number
 outside_at_least parts polygon number hole vertex valid of =
-    at_least number polygon (λ less. no_outside_of_valid parts number hole vertex of.it of.of.there (valid number of.it less of.of.there) of)
+    at_least number polygon (λ less. (valid number of.it less of.of.there).enclosed hole vertex of.outside)
 
 hole_at_least : (parts : List (List Position)) (polygon number hole vertex other : ℕ) → AreValidBefore parts polygon → IsVertexInHole parts number hole vertex other → polygon ≤ number
 hole_at_least parts polygon number hole vertex other valid of =
-    at_least number polygon (λ less. no_hole_of_valid parts number hole vertex other of.it of.of.there (valid number of.it less of.of.there) of)
+    at_least number polygon (λ less. (valid number of.it less of.of.there).side_by_side hole vertex other of.inside)
 
 -- Places
 
@@ -97,7 +81,7 @@ before_meeting : (it : FeatureRecord) (layer feature : ℕ) (parts : List (List 
     → IsFaultOfGeometry it layer feature other → ComesFirst (2 ∷ layer ∷ feature ∷ 3 ∷ polygon ∷ no_more) (place_of other)
 before_meeting it layer feature parts polygon other has sound valid (command code index bad) = absurd (no_command_fault it parts (command_code code) index has bad)
 before_meeting it layer feature parts polygon other has sound valid (ring code number of) =
-    absurd (no_ring_fault parts (ring_code code) number sound (of_these it parts (λ those. BreaksRings those (ring_code code) number) has of))
+    absurd (not_sound parts (ring_code code) number (of_these it parts (λ those. BreaksRings those (ring_code code) number) has of) sound)
 before_meeting it layer feature parts polygon other has sound valid (meeting number first second x y w of) =
     by_polygon layer feature polygon number no_more no_more
     (meeting_at_least parts polygon number first second _ valid (of_these it parts (λ those. IsMeeting those number first second (record { x = x; y = y; w = w })) has of))
@@ -131,7 +115,7 @@ before_hole : (it : FeatureRecord) (layer feature : ℕ) (parts : List (List Pos
     → AreValidBefore parts polygon → AreApart parts its → IsFirstHole parts its place → IsFaultOfGeometry it layer feature other → ComesFirst (2 ∷ layer ∷ feature ∷ 3 ∷ polygon ∷ 1 ∷ place) (place_of other)
 before_hole it layer feature parts polygon its place other has of_it valid apart least (command code index bad) = absurd (no_command_fault it parts (command_code code) index has bad)
 before_hole it layer feature parts polygon its place other has of_it valid apart least (ring code number of) =
-    absurd (no_ring_fault parts (ring_code code) number of_it.sound (of_these it parts (λ those. BreaksRings those (ring_code code) number) has of))
+    absurd (not_sound parts (ring_code code) number (of_these it parts (λ those. BreaksRings those (ring_code code) number) has of) of_it.sound)
 before_hole it layer feature parts polygon its place other has of_it valid apart least (meeting number first second x y w of) =
     let point : RationalPoint = record { x = x; y = y; w = w } in
     let meets : IsMeeting parts number first second point = of_these it parts (λ those. IsMeeting those number first second point) has of in

@@ -5,7 +5,7 @@ use Rattle.std.proofs.lemmas.Option.{slice_get_within}
 use Rattle.mvt_confirm.specs.PolygonFault.{IsPolygonOf}
 use Rattle.mvt_confirm.specs.Valid.{IsValidPolygon, AreValidRings}
 use Rattle.mvt_plane.proofs.PolygonNumbers.{polygon_of_ring}
-use Rattle.mvt_plane.proofs.SamePolygons.{same_polygon, one_polygon}
+use Rattle.mvt_plane.proofs.SamePolygons.{exterior_of_polygon, same_polygon, one_polygon}
 use Rattle.mvt_plane.specs.Polygon.{IsExterior, NoExterior, IsExteriorOf, first, next, PolygonRings, IsPolygon}
 use Rattle.mvt_plane.specs.Position.{Position}
 use Rattle.mvt_plane.specs.Ring.{ArePolygonRings}
@@ -20,18 +20,13 @@ pub record HasPassed (rings : List (List Position)) (polygon exterior : ℕ) : T
   pub here : exterior < length rings → IsExteriorOf rings polygon exterior
   pub all : (earlier : ℕ) (it : PolygonRings) → IsPolygon rings earlier it → it.exterior < exterior → earlier < polygon
 
--- the ring of number 0 begins the polygon of number 0
-first_number : (parts : List (List Position)) (polygon exterior : ℕ) → exterior ≤ 0 → IsExteriorOf parts polygon exterior → IsExteriorOf parts 0 0
-first_number parts _ _ most (first exterior is_exterior none) =
-    let zeroth : exterior ≡ 0 = omega arith in
-    subst (IsExteriorOf parts 0) zeroth (first exterior is_exterior none)
-first_number parts _ _ most (next polygon before exterior begins less is_exterior none) = absurd (omega arith)
-
--- where there is one
+-- the ring of number 0, where there is one, begins the polygon of number 0
 first_exterior : (parts : List (List Position)) → ArePolygonRings parts → 0 < length parts → IsExteriorOf parts 0 0
 first_exterior parts sound some =
     let its = polygon_of_ring parts 0 sound some in
-    first_number parts its.0 its.1.exterior its.3.from its.2.begins
+    let from : its.1.exterior ≤ 0 = its.3.from in
+    let zeroth : its.1.exterior ≡ 0 = omega arith in
+    first 0 (subst (IsExterior parts) zeroth (exterior_of_polygon parts its.0 its.1.exterior its.2.begins)) (λ number behind before exterior. omega arith)
 
 -- no polygon was passed at the first ring
 pub none_passed : (parts : List (List Position)) → ArePolygonRings parts → HasPassed parts 0 0
@@ -94,11 +89,6 @@ one_passed parts polygon exterior after passed of_it within valid =
       here = next_exterior parts polygon exterior after of_it.there;
       all = passed_or_here parts polygon exterior after passed of_it.there;
     }
-
--- the exterior of a polygon is one
-exterior_of_polygon : (parts : List (List Position)) (polygon exterior : ℕ) → IsExteriorOf parts polygon exterior → IsExterior parts exterior
-exterior_of_polygon parts _ _ (first exterior is_exterior none) = is_exterior
-exterior_of_polygon parts _ _ (next polygon before exterior begins less is_exterior none) = is_exterior
 
 -- behind the last ring all polygons were passed
 pub all_passed : (parts : List (List Position)) (polygon exterior : ℕ) → ArePolygonRings parts → HasPassed parts polygon exterior → length parts ≤ exterior → AreValidRings parts

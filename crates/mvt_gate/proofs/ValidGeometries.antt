@@ -1,5 +1,7 @@
 -- Features with a valid geometry: none has a fault of it.
 use Rattle.std.proofs.Common.{◌≡◌, ℕ, List, [], ◌∷◌, refl, sym, ◌∙◌, subst, arith}
+use Rattle.mvt_confirm.proofs.InvalidRings.{ring_is_invalid, meeting_is_invalid, outside_is_invalid, in_hole_is_invalid}
+use Rattle.mvt_confirm.proofs.TileFeatures.{one_list_of_rings}
 use Rattle.mvt_confirm.specs.Geometry.{IsFaultOfGeometry, command, ring, meeting, outside, hole_in_hole}
 use Rattle.mvt_confirm.specs.Valid.{AreValidRings, IsValidGeometry}
 use Rattle.mvt_fault.specs.Code.{command_code, ring_code}
@@ -11,8 +13,6 @@ use Rattle.mvt_plane.specs.Geometry.{HasRings}
 use Rattle.mvt_plane.specs.Position.{Position}
 use Rattle.mvt_tile.specs.RuleFaults.{IsBehindTags}
 use Rattle.mvt_wire.specs.Tile.{FeatureRecord}
-use Rattle.mvt_gate.proofs.FirstFaults.{one_rings}
-use Rattle.mvt_gate.proofs.PolygonFaults.{no_ring_fault, no_meeting_of_valid, no_outside_of_valid, no_hole_of_valid}
 
 -- the rings of valid polygons
 pub valid_of_rings : (it : FeatureRecord) (parts : List (List Position)) → HasRings it.kind it.geometry parts → AreValidRings parts → IsValidGeometry it
@@ -20,23 +20,16 @@ valid_of_rings it parts has valid = record {
   figure = λ geometry_type is.
       let same : polygon ≡ geometry_type = one_type polygon geometry_type (sym has.typed ∙ is) in
       (rings parts, subst (λ (its : GeometryType). Spells its (rings parts) it.geometry) same has.spelled);
-  polygons = λ other its. subst AreValidRings (one_rings it parts other has its) valid;
+  polygons = λ other its. subst AreValidRings (one_list_of_rings it parts other has its) valid;
 }
 
 -- a valid geometry has no fault
 pub no_fault_of_valid : (it : FeatureRecord) (layer feature : ℕ) (fault : Fault) → IsValidGeometry it → ¬ IsFaultOfGeometry it layer feature fault
 no_fault_of_valid it layer feature fault valid (command code index bad) = figure_faultless it.kind it.geometry valid.figure (command_code code) index bad
-no_fault_of_valid it layer feature fault valid (ring code number of) =
-    no_ring_fault of.0 (ring_code code) number (valid.polygons of.0 of.1).sound of.2
-no_fault_of_valid it layer feature fault valid (meeting number first second x y w of) =
-    let meets = of.2 in
-    no_meeting_of_valid of.0 number meets.it first second (record { x = x; y = y; w = w }) meets.of.there ((valid.polygons of.0 of.1).polygons number meets.it meets.of.there) meets
-no_fault_of_valid it layer feature fault valid (outside number hole vertex of) =
-    let wrong = of.2 in
-    no_outside_of_valid of.0 number hole vertex wrong.it wrong.of.there ((valid.polygons of.0 of.1).polygons number wrong.it wrong.of.there) wrong
-no_fault_of_valid it layer feature fault valid (hole_in_hole number hole vertex other of) =
-    let wrong = of.2 in
-    no_hole_of_valid of.0 number hole vertex other wrong.it wrong.of.there ((valid.polygons of.0 of.1).polygons number wrong.it wrong.of.there) wrong
+no_fault_of_valid it layer feature fault valid (ring code number of) = ring_is_invalid of.0 (ring_code code) number of.2 (valid.polygons of.0 of.1)
+no_fault_of_valid it layer feature fault valid (meeting number first second x y w of) = meeting_is_invalid of.0 number first second (record { x = x; y = y; w = w }) of.2 (valid.polygons of.0 of.1)
+no_fault_of_valid it layer feature fault valid (outside number hole vertex of) = outside_is_invalid of.0 number hole vertex of.2 (valid.polygons of.0 of.1)
+no_fault_of_valid it layer feature fault valid (hole_in_hole number hole vertex other of) = in_hole_is_invalid of.0 number hole vertex other of.2 (valid.polygons of.0 of.1)
 
 -- faults of a feature's geometry stand behind those of its tags
 pub behind_tags : (it : FeatureRecord) (layer feature : ℕ) (fault : Fault) → IsFaultOfGeometry it layer feature fault → IsBehindTags layer feature (place_of fault)
