@@ -34,6 +34,7 @@ pub told_list : {A B : Type 0} (data_of : B → Data) (tell : A → B) (list all
 told_list data_of tell list all same =
     ap (λ (ds : List Data). compact_text (array (items_of ds))) (ap (map (λ member. data_of (tell member))) same ∙ sym (map-map data_of tell all))
 
+-- the text of a whole number with its sign
 pub signed_text : (z : ℤ) → compact_text (signed z) ≡ signed_decimal z
 signed_text (pos n) = refl
 signed_text (negsuc n) = refl
