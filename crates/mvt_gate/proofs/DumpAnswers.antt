@@ -1,7 +1,6 @@
 -- No input has two answers of `dump`, or two lines.
 use Rattle.std.proofs.Common.{◌≡◌, ℕ, List, ◌++◌, codes, inl, inr, refl, sym, ◌∙◌, ap}
-use Rattle.mvt_fault.proofs.Places.{ComesFirst-antisymmetric, same_place_or_meetings}
-use Rattle.mvt_fault.specs.Place.{IsLeast, IsMeetingIn, place_of}
+use Rattle.mvt_fault.specs.Place.{IsLeast, IsMeetingIn}
 use Rattle.mvt_fault.specs.Truth.{IsWireFault, wire}
 use Rattle.mvt_fault.specs.declared.fault.Fault.{Fault}
 use Rattle.mvt_wire.proofs.Tiles.{one_tile}
@@ -10,7 +9,7 @@ use Rattle.mvt_gate.specs.Dump.{IsDumpAnswer, dump_text}
 use Rattle.mvt_gate.specs.FaultLine.{fault_line}
 use Rattle.mvt_gate.specs.declared.engine.Outcome.{Outcome}
 use Rattle.mvt_gate.specs.declared.engine.Outcome.TheVariants.{Yes, No}
-use Rattle.mvt_gate.proofs.Verdicts.{no_fault_of_tile}
+use Rattle.mvt_gate.proofs.Verdicts.{no_fault_of_tile, least_of_wire, one_least}
 
 -- a wire fault is no meeting of edges
 no_meeting : (bytes : List ℕ) (fault : Fault) (layer feature polygon : ℕ) → IsWireFault bytes fault → ¬ IsMeetingIn layer feature polygon fault
@@ -19,8 +18,7 @@ no_meeting bytes fault layer feature polygon (wire code scope at field holds) me
 -- bytes have one wire fault of least place
 one_least_wire : (bytes : List ℕ) (fault other : Fault) → IsLeast (IsWireFault bytes) fault → IsLeast (IsWireFault bytes) other → fault ≡ other
 one_least_wire bytes fault other first second =
-    elim (same_place_or_meetings fault other
-    (ComesFirst-antisymmetric (place_of fault) (place_of other) (first.least other second.holds) (second.least fault first.holds))) [
+    elim (one_least bytes fault other (least_of_wire bytes fault first) (least_of_wire bytes other second)) [
       | inl same ↦ same
       | inr meetings ↦ absurd (no_meeting bytes fault meetings.layer meetings.feature meetings.polygon first.holds meetings.one)
     ]

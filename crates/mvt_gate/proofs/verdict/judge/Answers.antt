@@ -8,7 +8,7 @@ pub returns-in-Some-clause-verdict : goal.returns-in-Some-clause-verdict
 returns-in-Some-clause-verdict c = least_of_wire c.args.bytes.now c.in-Some.fault c.in-Some.ensures.least
 
 pub returns-in-Some-clause-invalid : goal.returns-in-Some-clause-invalid
-returns-in-Some-clause-invalid c = fault_of_invalid c.args.bytes.now (No c.in-Some.fault) (least_of_wire c.args.bytes.now c.in-Some.fault c.in-Some.ensures.least)
+returns-in-Some-clause-invalid c = fault_of_invalid c.args.bytes.now (No c.in-Some.fault) (returns-in-Some-clause-verdict c)
 
 pub rule_fault-requires-clause-tile : goal.rule_fault-requires-clause-tile
 rule_fault-requires-clause-tile c = tile_without_fault c.args.bytes.now c.in_default.ensures.none
@@ -21,15 +21,11 @@ returns-in-None-clause-verdict c =
     valid_without_fault c.args.bytes.now c.in_default.ensures.none (MatchOption-at_none _ _ c.in-None.is c.in_ok-rule_fault.ensures.none)
 
 pub returns-in-None-clause-invalid : goal.returns-in-None-clause-invalid
-returns-in-None-clause-invalid c =
-    fault_of_invalid c.args.bytes.now Yes
-    (valid_without_fault c.args.bytes.now c.in_default.ensures.none (MatchOption-at_none _ _ c.in-None.is c.in_ok-rule_fault.ensures.none))
+returns-in-None-clause-invalid c = fault_of_invalid c.args.bytes.now Yes (returns-in-None-clause-verdict c)
 
 pub returns-clause-verdict : goal.returns-clause-verdict
 returns-clause-verdict c =
     least_of_tile c.args.bytes.now c.in-Some-2.fault c.in_default.ensures.none (MatchOption-at_some _ _ _ c.in-Some-2.is c.in_ok-rule_fault.ensures.least)
 
 pub returns-clause-invalid : goal.returns-clause-invalid
-returns-clause-invalid c =
-    fault_of_invalid c.args.bytes.now (No c.in-Some-2.fault)
-    (least_of_tile c.args.bytes.now c.in-Some-2.fault c.in_default.ensures.none (MatchOption-at_some _ _ _ c.in-Some-2.is c.in_ok-rule_fault.ensures.least))
+returns-clause-invalid c = fault_of_invalid c.args.bytes.now (No c.in-Some-2.fault) (returns-clause-verdict c)
