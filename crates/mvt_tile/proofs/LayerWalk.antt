@@ -10,7 +10,7 @@ use Rattle.mvt_wire.specs.declared.schema.Message.TheVariants as messages
 use Rattle.mvt_wire.specs.declared.scope.Scope.TheVariants as scopes
 use Rattle.mvt_fault.specs.Place.{IsLeast}
 use Rattle.mvt_fault.specs.declared.fault.Fault.{Fault}
-use Rattle.mvt_tile.specs.Embedded.{HasNone, HasFirst, ScansEmbedded}
+use Rattle.mvt_tile.specs.Embedded.{HasNone, HasFirst}
 use Rattle.mvt_tile.specs.First.{FindsFirst}
 use Rattle.mvt_tile.specs.LayerFault.{IsLayerFault, stretch}
 use Rattle.mvt_tile.specs.Least.{FindsLeastCause}
@@ -23,42 +23,46 @@ use Rattle.mvt_tile.proofs.Layers.{fault_in, IsLeast-own, IsLeast-value, IsLeast
 use Rattle.mvt_tile.proofs.Walking.{IsScanning, IsPlaced-within, IsScanning-more, IsScanning-fault, IsScanning-whole, defect_alone}
 use Rattle.mvt_wire.proofs.Walking.{IsWalking-defect, IsWalking-whole}
 
+-- the scan has passed these fields
+abbrev pub ScansEmbedded : List ℕ → EmbeddedScan Message (ℕ × WireCause) → List Entry → Type 0
+ScansEmbedded bytes scan entries = FindsFirst (HasNone scan.look bytes) (HasFirst scan.look bytes) (spans_of scan.number entries) scan.count scan.first
+
 -- the fields that were passed, and what the three scans keep of them
-pub record LayerWalk (bytes : List ℕ) (from to : ℕ) (walk : Walk) (own : FieldScan) (value_scan feature_scan : EmbeddedScan) : Type 0 where
+pub record LayerWalk (bytes : List ℕ) (from to : ℕ) (walk : Walk) (own : FieldScan) (value_scan feature_scan : EmbeddedScan Message (ℕ × WireCause)) : Type 0 where
   pub entries : List Entry
   pub scanning : IsScanning messages.Layer (take to bytes) from walk own entries
   pub values : ScansEmbedded bytes value_scan entries
   pub features : ScansEmbedded bytes feature_scan entries
-  pub value_message : value_scan.message ≡ messages.Value
+  pub value_message : value_scan.look ≡ messages.Value
   pub value_number : value_scan.number ≡ 4
-  pub feature_message : feature_scan.message ≡ messages.Feature
+  pub feature_message : feature_scan.look ≡ messages.Feature
   pub feature_number : feature_scan.number ≡ 2
   pub few_values : value_scan.count ≤ walk.at
   pub few_features : feature_scan.count ≤ walk.at
 
 -- what a scan of embedded messages has found, by its message and number
-scan_finds : (bytes : List ℕ) (scan : EmbeddedScan) (entries : List Entry) (message : Message) (field_number : ℕ) (found : Option (ℕ × WireCause)) → scan.message ≡ message → scan.number ≡ field_number → scan.first ≡ found
+scan_finds : (bytes : List ℕ) (scan : EmbeddedScan Message (ℕ × WireCause)) (entries : List Entry) (message : Message) (field_number : ℕ) (found : Option (ℕ × WireCause)) → scan.look ≡ message → scan.number ≡ field_number → scan.first ≡ found
     → ScansEmbedded bytes scan entries → FindsFirst (HasNone message bytes) (HasFirst message bytes) (spans_of field_number entries) scan.count found
 scan_finds bytes scan entries message field_number found kind number first scans =
     subst (λ (m : Message). FindsFirst (HasNone m bytes) (HasFirst m bytes) (spans_of field_number entries) scan.count found) kind
-    (subst (λ (n : ℕ). FindsFirst (HasNone scan.message bytes) (HasFirst scan.message bytes) (spans_of n entries) scan.count found) number
-    (subst (λ (f : Option (ℕ × WireCause)). FindsFirst (HasNone scan.message bytes) (HasFirst scan.message bytes) (spans_of scan.number entries) scan.count f) first scans))
+    (subst (λ (n : ℕ). FindsFirst (HasNone scan.look bytes) (HasFirst scan.look bytes) (spans_of n entries) scan.count found) number
+    (subst (λ (f : Option (ℕ × WireCause)). FindsFirst (HasNone scan.look bytes) (HasFirst scan.look bytes) (spans_of scan.number entries) scan.count f) first scans))
 
 -- what a scan of embedded messages tells of the field that it passes
-pub record Notes (bytes : List ℕ) (before after : EmbeddedScan) (entry : Entry) : Type 0 where
-  pub message : after.message ≡ before.message
+pub record Notes (bytes : List ℕ) (before after : EmbeddedScan Message (ℕ × WireCause)) (entry : Entry) : Type 0 where
+  pub message : after.look ≡ before.look
   pub number : after.number ≡ before.number
   pub count : after.count ≤ before.count + 1
   pub noted : (entries : List Entry) → ScansEmbedded bytes before entries → ScansEmbedded bytes after (entries ++ entry ∷ [])
 
-module _ (bytes : List ℕ) (from to : ℕ) (old new : Walk) (own : FieldScan) (value_scan feature_scan : EmbeddedScan) (within : to ≤ length bytes) (so_far : LayerWalk bytes from to old own value_scan feature_scan) where
+module _ (bytes : List ℕ) (from to : ℕ) (old new : Walk) (own : FieldScan) (value_scan feature_scan : EmbeddedScan Message (ℕ × WireCause)) (within : to ≤ length bytes) (so_far : LayerWalk bytes from to old own value_scan feature_scan) where
   module _ (entry : Entry) (given : GivesField old new entry) where
     -- the next field lies in the layer
     pub LayerWalk-placed : (next : ℕ) × IsPlaced entry next × (next ≤ to)
     LayerWalk-placed = IsPlaced-within bytes from to old new so_far.entries entry within so_far.scanning.walked given
 
     -- and is passed
-    pub LayerWalk-more : (next_own : FieldScan) (next_values next_features : EmbeddedScan)
+    pub LayerWalk-more : (next_own : FieldScan) (next_values next_features : EmbeddedScan Message (ℕ × WireCause))
         → (next_own.message ≡ own.message) × ((passed : List Entry) → Passes own passed → Passes next_own (passed ++ entry ∷ []))
         → Notes bytes value_scan next_values entry → Notes bytes feature_scan next_features entry
         → LayerWalk bytes from to new next_own next_values next_features

@@ -1,5 +1,5 @@
 -- What is known while the fields of a tile are walked, and what it says of the tile's faults.
-use Rattle.std.proofs.Common.{◌≡◌, ℕ, ◌+◌, ◌≤◌, List, [], ◌∷◌, ◌++◌, length, take, Option, Some, None, IfSome, IfNone, arith}
+use Rattle.std.proofs.Common.{◌≡◌, ℕ, ◌+◌, ◌≤◌, List, [], ◌∷◌, ◌++◌, length, take, Option, Some, None, IfSome, IfNone, ◌∙◌, subst, arith}
 use Rattle.mvt_wire.specs.Field.{Entry}
 use Rattle.mvt_wire.specs.Walk.{Walk, IsOver, GivesField, FindsDefect}
 use Rattle.mvt_wire.specs.WireFault.{WireFault, EndFault, MessageFault}
@@ -12,43 +12,50 @@ use Rattle.mvt_fault.specs.Place.{IsLeast}
 use Rattle.mvt_fault.specs.Truth.{IsWireFault}
 use Rattle.mvt_fault.specs.declared.fault.Fault.{Fault}
 use Rattle.mvt_tile.specs.First.{FindsFirst}
-use Rattle.mvt_tile.specs.LayerScan.{IsFaultless, IsFirstOf, ScansLayers}
+use Rattle.mvt_tile.specs.LayerScan.{IsFaultless, IsFirstOf}
 use Rattle.mvt_tile.specs.Least.{FindsLeastCause}
 use Rattle.mvt_tile.specs.Placed.{IsPlaced}
 use Rattle.mvt_tile.specs.Rest.{IsDefectOr}
 use Rattle.mvt_tile.specs.Scan.{Passes, IsFirstFault}
-use Rattle.mvt_tile.specs.declared.wire.LayerScan.{LayerScan}
+use Rattle.mvt_tile.specs.declared.wire.Layers.{Layers}
+use Rattle.mvt_tile.specs.declared.wire.embedded.EmbeddedScan.{EmbeddedScan}
 use Rattle.mvt_tile.specs.declared.wire.scan.FieldScan.{FieldScan}
 use Rattle.mvt_tile.proofs.Layers.{fault_in}
 use Rattle.mvt_tile.proofs.Tiles.{IsLeast-tile, IsLeast-layer, WireFault-none}
 use Rattle.mvt_tile.proofs.Walking.{IsScanning, IsPlaced-within, IsScanning-more, IsScanning-fault, IsScanning-whole, defect_alone}
 use Rattle.mvt_wire.proofs.Walking.{IsWalking-defect, IsWalking-whole}
 
+-- the scan has passed these fields
+abbrev pub ScansLayers : List ℕ → EmbeddedScan Layers Fault → List Entry → Type 0
+ScansLayers bytes scan entries = FindsFirst (IsFaultless bytes) (IsFirstOf bytes) (spans_of scan.number entries) scan.count scan.first
+
 -- the fields that were passed, and what the two scans keep of them
-pub record TileWalk (bytes : List ℕ) (walk : Walk) (own : FieldScan) (layer_scan : LayerScan) : Type 0 where
+pub record TileWalk (bytes : List ℕ) (walk : Walk) (own : FieldScan) (layer_scan : EmbeddedScan Layers Fault) : Type 0 where
   pub entries : List Entry
   pub scanning : IsScanning Tile (take (length bytes) bytes) 0 walk own entries
   pub layers : ScansLayers bytes layer_scan entries
+  pub number : layer_scan.number ≡ 3
   pub few : layer_scan.count ≤ walk.at
 
-module _ (bytes : List ℕ) (old new : Walk) (own : FieldScan) (layer_scan : LayerScan) (so_far : TileWalk bytes old own layer_scan) where
+module _ (bytes : List ℕ) (old new : Walk) (own : FieldScan) (layer_scan : EmbeddedScan Layers Fault) (so_far : TileWalk bytes old own layer_scan) where
   module _ (entry : Entry) (given : GivesField old new entry) where
     -- the next field lies in the tile
     pub TileWalk-placed : (next : ℕ) × IsPlaced entry next × (next ≤ length bytes)
     TileWalk-placed = IsPlaced-within bytes 0 (length bytes) old new so_far.entries entry (omega arith) so_far.scanning.walked given
 
     -- and is passed
-    pub TileWalk-more : (next_own : FieldScan) (next_layers : LayerScan)
+    pub TileWalk-more : (next_own : FieldScan) (next_layers : EmbeddedScan Layers Fault)
         → (next_own.message ≡ own.message) × ((passed : List Entry) → Passes own passed → Passes next_own (passed ++ entry ∷ []))
-        → next_layers.count ≤ layer_scan.count + 1 → ((entries : List Entry) → ScansLayers bytes layer_scan entries → ScansLayers bytes next_layers (entries ++ entry ∷ []))
+        → next_layers.number ≡ layer_scan.number → next_layers.count ≤ layer_scan.count + 1 → ((entries : List Entry) → ScansLayers bytes layer_scan entries → ScansLayers bytes next_layers (entries ++ entry ∷ []))
         → TileWalk bytes new next_own next_layers
-    TileWalk-more next_own next_layers own_noted count noted =
+    TileWalk-more next_own next_layers own_noted number count noted =
         let further = given.further in
         let few = so_far.few in
         record {
           entries = so_far.entries ++ entry ∷ [];
           scanning = IsScanning-more Tile (take (length bytes) bytes) 0 old new own next_own so_far.entries entry so_far.scanning given own_noted.0 own_noted.1;
           layers = noted so_far.entries so_far.layers;
+          number = number ∙ so_far.number;
           few = omega arith;
         }
 
@@ -85,4 +92,6 @@ module _ (bytes : List ℕ) (old new : Walk) (own : FieldScan) (layer_scan : Lay
           (tt, IsLeast-layer bytes so_far.entries (IsWalking-whole (take (length bytes) bytes) 0 old new so_far.entries so_far.scanning.walked over) (own_finds None none) fault finds)
 
       pub TileWalk-layers : IfNone layer_scan.first ((scope : Scope) (cause : WireCause) → ¬ WireFault bytes scope cause) × IfSome layer_scan.first (IsLeast (IsWireFault bytes))
-      TileWalk-layers = first_of_layers layer_scan.first so_far.layers
+      TileWalk-layers =
+          first_of_layers layer_scan.first
+          (subst (λ (n : ℕ). FindsFirst (IsFaultless bytes) (IsFirstOf bytes) (spans_of n so_far.entries) layer_scan.count layer_scan.first) so_far.number so_far.layers)

@@ -1,13 +1,10 @@
 -- What a walk over the fields of a message keeps of the messages that fields of one number hold.
 use Rattle.std.specs.Prelude.{◌≡◌, ℕ, List, take}
-use Rattle.mvt_wire.specs.Field.{Entry}
-use Rattle.mvt_wire.specs.Scope.{Span, spans_of}
+use Rattle.mvt_wire.specs.Scope.{Span}
 use Rattle.mvt_wire.specs.WireFault.{MessageFault}
 use Rattle.mvt_wire.specs.declared.cause.WireCause.{WireCause}
 use Rattle.mvt_wire.specs.declared.schema.Message.{Message}
-use Rattle.mvt_tile.specs.First.{FindsFirst}
 use Rattle.mvt_tile.specs.Least.{IsLeastCause}
-use Rattle.mvt_tile.specs.declared.wire.embedded.EmbeddedScan.{EmbeddedScan}
 
 -- the message in a stretch of the bytes has a fault
 abbrev pub HasFault : Message → List ℕ → Span → WireCause → Type 0
@@ -20,8 +17,3 @@ HasNone message bytes ordinal span = (cause : WireCause) → ¬ HasFault message
 -- with this ordinal, it has this one as its first
 abbrev pub HasFirst : Message → List ℕ → ℕ × WireCause → ℕ → Span → Type 0
 HasFirst message bytes found ordinal span = (ordinal ≡ found.0) × IsLeastCause (HasFault message bytes span) found.1
-
--- the scan has passed these fields
-abbrev pub ScansEmbedded : List ℕ → EmbeddedScan → List Entry → Type 0
-ScansEmbedded bytes scan entries =
-    FindsFirst (HasNone scan.message bytes) (HasFirst scan.message bytes) (spans_of scan.number entries) scan.count scan.first

@@ -1,12 +1,9 @@
 -- What a walk over the fields of a tile keeps of its layers.
 use Rattle.std.specs.Prelude.{ℕ, List}
-use Rattle.mvt_wire.specs.Field.{Entry}
-use Rattle.mvt_wire.specs.Scope.{Span, spans_of}
+use Rattle.mvt_wire.specs.Scope.{Span}
 use Rattle.mvt_fault.specs.Place.{IsLeast}
 use Rattle.mvt_fault.specs.declared.fault.Fault.{Fault}
-use Rattle.mvt_tile.specs.First.{FindsFirst}
 use Rattle.mvt_tile.specs.LayerFault.{IsLayerFault}
-use Rattle.mvt_tile.specs.declared.wire.LayerScan.{LayerScan}
 
 -- the layer has no fault
 abbrev pub IsFaultless : List ℕ → ℕ → Span → Type 0
@@ -15,7 +12,3 @@ IsFaultless bytes ordinal span = (fault : Fault) → ¬ IsLayerFault bytes span 
 -- the layer has this fault as its first
 abbrev pub IsFirstOf : List ℕ → Fault → ℕ → Span → Type 0
 IsFirstOf bytes fault ordinal span = IsLeast (IsLayerFault bytes span ordinal) fault
-
--- the scan has passed these fields
-abbrev pub ScansLayers : List ℕ → LayerScan → List Entry → Type 0
-ScansLayers bytes scan entries = FindsFirst (IsFaultless bytes) (IsFirstOf bytes) (spans_of 3 entries) scan.count scan.first

@@ -18,6 +18,7 @@ mod scan;
 mod tests;
 
 use crate::field_number::LAYERS;
+use crate::wire::embedded::{EmbeddedScan, Look};
 use crate::wire::layer::{in_scope, layer_fault};
 use crate::wire::message::defect_or;
 use crate::wire::scan::FieldScan;
@@ -38,7 +39,7 @@ pub fn wire_fault(bytes: &[u8]) -> Option<Fault>
 {
     let mut fields = Fields::new(bytes, 0, bytes.len());
     let mut own = FieldScan::new(Message::Tile);
-    let mut layers = LayerScan::new();
+    let mut layers = EmbeddedScan::new(Layers, LAYERS);
     'walk: while let Some(item) = fields.next_field() {
         match item {
             Ok(field) => {
@@ -56,49 +57,20 @@ pub fn wire_fault(bytes: &[u8]) -> Option<Fault>
     layers.first
 }
 
-/// The layers of a tile, in the order of a walk over the tile's fields.
+/// The first fault of a layer.
 #[derive(Drop)]
-struct LayerScan {
-    /// How many there were without a fault.
-    count: usize,
-    /// The first fault of the first that has one.
-    first: Option<Fault>,
-}
+struct Layers;
 
-impl LayerScan {
-    ghost use Rattle.mvt_tile.specs.LayerScan.{ScansLayers};
+impl Look for Layers {
+    ghost use Rattle.mvt_tile.specs.LayerScan.{IsFaultless, IsFirstOf};
 
-    /// A scan that has passed no field yet.
-    fn new() -> Self
-        ensures count { result.count ≡ 0 }
-        ensures nothing { (bytes : List ℕ) → ScansLayers bytes result [] }
-    {
-        LayerScan {
-            count: 0,
-            first: None,
-        }
-    }
+    type Found = Fault;
 
-    /// Passes the next field, whose payload lies in the bytes.
-    fn note(&mut self, bytes: &[u8], field: &Field<'_>)
-        requires placed { (next : ℕ) × IsPlaced (entry_of field.now) next × (next ≤ length bytes.now) }
-        requires room { self.old.count < length bytes.now }
-        ensures count { self.new.count ≤ self.old.count + 1 }
-        ensures noted { (entries : List Entry) → ScansLayers bytes.now self.old entries
-            → ScansLayers bytes.now self.new (entries ++ entry_of field.now ∷ []) }
-    {
-        if self.first.is_some() {
-            return;
-        }
-        if field.number != LAYERS {
-            return;
-        }
-        let Body::Bytes { from, slice } = field.body else {
-            return;
-        };
-        match layer_fault(bytes, self.count, from, from + slice.len()) {
-            Some(fault) => self.first = Some(fault),
-            None => self.count += 1,
-        }
+    ghost IsClean = { λ _. IsFaultless };
+
+    ghost IsFound = { λ _. IsFirstOf };
+
+    fn look(&self, bytes: &[u8], ordinal: usize, from: usize, to: usize) -> Option<Fault> {
+        layer_fault(bytes, ordinal, from, to)
     }
 }

@@ -37,10 +37,10 @@ pub(crate) fn layer_fault(bytes: &[u8], layer: usize, from: usize, to: usize) ->
     if let Some(cause) = own.end_fault(to) {
         return Some(in_scope(Scope::Layer(layer), cause));
     }
-    if let Some((value, cause)) = values.first() {
+    if let Some((value, cause)) = values.first {
         return Some(in_scope(Scope::Value(layer, value), cause));
     }
-    if let Some((feature, cause)) = features.first() {
+    if let Some((feature, cause)) = features.first {
         return Some(in_scope(Scope::Feature(layer, feature), cause));
     }
     None

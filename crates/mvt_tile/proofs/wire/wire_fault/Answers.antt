@@ -13,6 +13,7 @@ walk-init c = record {
   entries = [];
   scanning = IsScanning-nothing Tile (take (length c.args.bytes.now) c.args.bytes.now) 0 c.new-fields.result c.new-own.result c.new-fields.ensures c.new-own.ensures.message c.new-own.ensures.nothing;
   layers = c.new-layers.ensures.nothing c.args.bytes.now;
+  number = c.new-layers.ensures.number;
   few = omega arith;
 }
 
@@ -31,7 +32,7 @@ pub walk-preserved : goal.walk-preserved
 walk-preserved c =
     TileWalk-more c.args.bytes.now c.walk.fields c.next_field.new.self c.walk.own c.walk.layers c.walk.invariant
     (entry_of c.in-Ok.field) (IfOk-at_ok _ c.in-Ok.is c.in-Some.ensures.field) c.pass.new.self c.note.new.self
-    (c.in_default-pass.ensures.message, c.in_default-pass.ensures.passed) c.note.ensures.count c.note.ensures.noted
+    (c.in_default-pass.ensures.message, c.in_default-pass.ensures.passed) c.note.ensures.number c.note.ensures.count c.note.ensures.noted
 
 pub returns-in-Some-pass-clause-least : goal.returns-in-Some-pass-clause-least
 returns-in-Some-pass-clause-least c =

@@ -14,9 +14,9 @@ walk-init c = record {
   scanning = IsScanning-nothing Layer (take c.args.to c.args.bytes.now) c.args.from c.new-fields.result c.new-own.result c.new-fields.ensures c.new-own.ensures.message c.new-own.ensures.nothing;
   values = c.new-values.ensures.nothing c.args.bytes.now;
   features = c.new-features.ensures.nothing c.args.bytes.now;
-  value_message = c.new-values.ensures.message;
+  value_message = c.new-values.ensures.look;
   value_number = c.new-values.ensures.number;
-  feature_message = c.new-features.ensures.message;
+  feature_message = c.new-features.ensures.look;
   feature_number = c.new-features.ensures.number;
   few_values = omega arith;
   few_features = omega arith;
@@ -45,8 +45,8 @@ walk-preserved c =
     LayerWalk-more c.args.bytes.now c.args.from c.args.to c.walk.fields c.next_field.new.self c.walk.own c.walk.values c.walk.features c.requires.within c.walk.invariant
     (entry_of c.in-Ok.field) (IfOk-at_ok _ c.in-Ok.is c.in-Some.ensures.field) c.pass.new.self c.note.new.self c.note-in-Ok.new.self
     (c.in_default-pass.ensures.message, c.in_default-pass.ensures.passed)
-    (record { message = c.note.ensures.message; number = c.note.ensures.number; count = c.note.ensures.count; noted = c.note.ensures.noted })
-    (record { message = c.note-in-Ok.ensures.message; number = c.note-in-Ok.ensures.number; count = c.note-in-Ok.ensures.count; noted = c.note-in-Ok.ensures.noted })
+    (record { message = c.note.ensures.look; number = c.note.ensures.number; count = c.note.ensures.count; noted = c.note.ensures.noted })
+    (record { message = c.note-in-Ok.ensures.look; number = c.note-in-Ok.ensures.number; count = c.note-in-Ok.ensures.count; noted = c.note-in-Ok.ensures.noted })
 
 pub returns-in-Some-pass : goal.returns-in-Some-pass
 returns-in-Some-pass c =
@@ -70,15 +70,15 @@ pub returns-in-Some-first : goal.returns-in-Some-first
 returns-in-Some-first c =
     subst (IsLeast (IsLayerFault c.args.bytes.now (stretch c.args.from c.args.to) c.args.layer)) (sym c.in_scope-in-Some-first.ensures)
     (LayerWalk-value c.args.bytes.now c.args.from c.args.to c.walk.fields c.next_field.new.self c.walk.own c.walk.values c.walk.features c.requires.within c.walk.invariant
-    c.in_default.ensures.over c.in_default-end_fault.ensures c.args.layer c.in-Some-first.value c.in-Some-first.cause (sym c.in-Some-first.ensures))
+    c.in_default.ensures.over c.in_default-end_fault.ensures c.args.layer c.in-Some-first.value c.in-Some-first.cause c.in-Some-first.is)
 
 pub returns-in-Some-first-2 : goal.returns-in-Some-first-2
 returns-in-Some-first-2 c =
     subst (IsLeast (IsLayerFault c.args.bytes.now (stretch c.args.from c.args.to) c.args.layer)) (sym c.in_scope-in-Some-first-2.ensures)
     (LayerWalk-feature c.args.bytes.now c.args.from c.args.to c.walk.fields c.next_field.new.self c.walk.own c.walk.values c.walk.features c.requires.within c.walk.invariant
-    c.in_default.ensures.over c.in_default-end_fault.ensures c.args.layer c.in-Some-first-2.feature c.in-Some-first-2.cause (sym c.in_default-first.ensures) (sym c.in-Some-first-2.ensures))
+    c.in_default.ensures.over c.in_default-end_fault.ensures c.args.layer c.in-Some-first-2.feature c.in-Some-first-2.cause c.in_default-first.is c.in-Some-first-2.is)
 
 pub returns : goal.returns
 returns c =
     LayerWalk-none c.args.bytes.now c.args.from c.args.to c.walk.fields c.next_field.new.self c.walk.own c.walk.values c.walk.features c.requires.within c.walk.invariant
-    c.in_default.ensures.over c.in_default-end_fault.ensures c.args.layer (sym c.in_default-first.ensures) (sym c.in_default-first-2.ensures)
+    c.in_default.ensures.over c.in_default-end_fault.ensures c.args.layer c.in_default-first.is c.in_default-first-2.is
