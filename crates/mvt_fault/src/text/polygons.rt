@@ -3,7 +3,7 @@
 ghost use Rattle.std.specs.Prelude.{◌≡◌, IfOk};
 ghost use Rattle.serde_json.specs.Data.{string};
 ghost use Rattle.serde_json.specs.View.{view};
-ghost use Rattle.mvt_fault.specs.Text.{ring_data, edge_data, digits, meeting_data, meeting_parts, outside_data, hole_in_hole_data};
+ghost use Rattle.mvt_fault.specs.Text.{ring_data, edge_data, meeting_data, meeting_parts, outside_data, hole_in_hole_data};
 
 use crate::fault::{HOLE_IN_HOLE_CODE, MEETING_CODE, OUTSIDE_CODE};
 use crate::ring::RingEdge;
@@ -56,11 +56,15 @@ pub(crate) fn meeting_object(
 ) -> Result<Value, AllocError>
     ensures { IfOk result (λ v. view v ≡ meeting_data id.layer id.feature id.polygon first second point.x point.y point.w) }
 {
-    let (first, second) = (edge_object(alloc, first)?, edge_object(alloc, second)?);
-    let w = digits_value(alloc, point.w)?;
-    let x = digits_value(alloc, point.x)?;
-    let y = digits_value(alloc, point.y)?;
-    meeting_of_values(alloc, id, first, second, w, x, y)
+    let w = point.w.to_string(alloc)?;
+    let x = point.x.to_string(alloc)?;
+    let y = point.y.to_string(alloc)?;
+    let written = WrittenPoint {
+        x: &x,
+        y: &y,
+        w: &w,
+    };
+    written_meeting_object(alloc, id, first, second, &written)
 }
 
 /// The same of numbers that are written already, in decimal digits.
@@ -74,28 +78,10 @@ pub(crate) fn written_meeting_object(
     ensures { IfOk result (λ v. view v ≡ meeting_parts id.layer id.feature id.polygon (edge_data first) (edge_data second)
         (string point.now.w.now) (string point.now.x.now) (string point.now.y.now)) }
 {
-    let (first, second) = (edge_object(alloc, first)?, edge_object(alloc, second)?);
-    let w = string_value(alloc, point.w)?;
-    let x = string_value(alloc, point.x)?;
-    let y = string_value(alloc, point.y)?;
-    meeting_of_values(alloc, id, first, second, w, x, y)
-}
-
-// A function of its own: more calls in one are too much for the search of proofs.
-fn meeting_of_values(
-    alloc: Global,
-    id: PolygonId,
-    first: Value,
-    second: Value,
-    w: Value,
-    x: Value,
-    y: Value,
-) -> Result<Value, AllocError>
-    ensures { IfOk result (λ v. view v ≡ meeting_parts id.layer id.feature id.polygon (view first) (view second) (view w) (view x) (view y)) }
-{
     json!(in alloc; {
-        "code": MEETING_CODE, "feature": id.feature, "first": first, "layer": id.layer,
-        "polygon": id.polygon, "second": second, "w": w, "x": x, "y": y
+        "code": MEETING_CODE, "feature": id.feature, "first": edge_object(alloc, first)?,
+        "layer": id.layer, "polygon": id.polygon, "second": edge_object(alloc, second)?,
+        "w": point.w, "x": point.x, "y": point.y
     })
 }
 
@@ -103,18 +89,6 @@ fn edge_object(alloc: Global, edge: RingEdge) -> Result<Value, AllocError>
     ensures { IfOk result (λ v. view v ≡ edge_data edge) }
 {
     json!(in alloc; {"edge": edge.edge, "ring": edge.ring})
-}
-
-fn digits_value(alloc: Global, number: i128) -> Result<Value, AllocError>
-    ensures { IfOk result (λ v. view v ≡ digits number) }
-{
-    Ok(Value::String(number.to_string(alloc)?))
-}
-
-fn string_value(alloc: Global, text: &str) -> Result<Value, AllocError>
-    ensures { IfOk result (λ v. view v ≡ string text.now) }
-{
-    Ok(Value::String(String::from_str(alloc, text)?))
 }
 
 pub(crate) fn outside_object(
