@@ -80,7 +80,7 @@ pub(crate) fn are_drawn(rings: &[Vec<Point>]) -> bool
 }
 
 /// How many vertices rings have.
-fn vertices_of(rings: &[Vec<Point>]) -> usize {
+pub(crate) fn vertices_of(rings: &[Vec<Point>]) -> usize {
     let mut vertices: usize = 0;
     for ring in rings {
         vertices = vertices.saturating_add(ring.len());

@@ -1,7 +1,7 @@
 ghost use Rattle.mvt_polygon.specs.Rings.{rings_of, AreProperRings};
 
 use super::{PolygonFault, check_polygon};
-use crate::meeting::tests::are_drawn;
+use crate::meeting::tests::{are_drawn, vertices_of};
 use crate::meeting::{Meeting, find_meeting};
 use crate::nesting::{NestFault, check_nesting};
 use crate::rings::tests::{HOLE_BESIDE, SQUARE, TWO_POLYGONS, rings_at};
@@ -25,14 +25,17 @@ fn told_by_both(alloc: Global, rings: &[Vec<Point>]) -> Result<Option<PolygonFau
     })
 }
 
-/// What is told of the polygon of these rings, which is what the two others tell.
+/// What is told of the polygon of these rings, which is what the two others tell, with at most three tests for each vertex.
 fn fault_in(
     rt: &impl Abort,
     alloc: Global,
     rings: &[Vec<Point>],
 ) -> Result<Option<PolygonFault>, AllocError> {
     assert!(rt; are_drawn(rings), "{rings:?}");
-    let fault = check_polygon(alloc, rings, &mut Count::new())?;
+    let mut count = Count::new();
+    let fault = check_polygon(alloc, rings, &mut count)?;
+    let most = vertices_of(rings).saturating_mul(3) as u64;
+    assert!(rt; count.tests() <= most, "{count:?} at {rings:?}");
     let told = told_by_both(alloc, rings)?;
     // (of several meetings each may find another one)
     let same = match (fault, told) {
@@ -226,4 +229,71 @@ fn three_squares(rt: HostRuntime) {
         let rings = three(&rt, rt.alloc(), number).expect(&rt, "memory");
         fault_in(&rt, rt.alloc(), &rings).expect(&rt, "memory");
     }
+}
+
+/// A triangle, one of many in rows.
+fn triangle(
+    rt: &impl Abort,
+    alloc: Global,
+    row: u16,
+    column: u16,
+) -> Result<Vec<Point>, AllocError> {
+    let left = i32::from(column) * 4;
+    let low = i32::from(row) * 4;
+    let mut ring = Vec::new(alloc);
+    for (x, y) in [(1, 1), (1, 3), (3, 1)] {
+        ring.push(Point::new(left + x, low + y).expect(rt, "a position"))?;
+    }
+    Ok(ring)
+}
+
+/// Adds a row of 400 triangles.
+fn add_row(
+    rt: &impl Abort,
+    alloc: Global,
+    rings: &mut Vec<Vec<Point>>,
+    row: u16,
+) -> Result<(), AllocError> {
+    for column in 0..400 {
+        rings.push(triangle(rt, alloc, row, column)?)?;
+    }
+    Ok(())
+}
+
+/// An exterior with 100,000 triangles in it.
+fn many_holes(rt: &impl Abort, alloc: Global) -> Result<Vec<Vec<Point>>, AllocError> {
+    let exterior: Coordinates = &[(0, 0), (1600, 0), (1600, 1000), (0, 1000)];
+    let mut rings = rings_at(rt, alloc, &[exterior])?;
+    for row in 0..250 {
+        add_row(rt, alloc, &mut rings, row)?;
+    }
+    Ok(rings)
+}
+
+// Of 300,004 vertices, a number of 19 binary digits, at most 3 tests, 41 comparisons and 380 visits each.
+#[test]
+fn work_of_many_holes(rt: HostRuntime) {
+    let rings = many_holes(&rt, rt.alloc()).expect(&rt, "memory");
+    assert!(&rt; are_drawn(&rings));
+    let mut count = Count::new();
+    let fault = check_polygon(rt.alloc(), &rings, &mut count).expect(&rt, "memory");
+    assert_eq!(&rt; fault, None);
+    assert!(&rt; (1..=900_012).contains(&count.tests()), "{count:?}");
+    assert!(&rt; (1..=12_300_164).contains(&count.probes()), "{count:?}");
+    assert!(&rt; (1..=114_001_520).contains(&count.visits()), "{count:?}");
+}
+
+// The last of as many holes is outside.
+#[test]
+fn last_of_many_holes(rt: HostRuntime) {
+    let mut rings = many_holes(&rt, rt.alloc()).expect(&rt, "memory");
+    let outside = triangle(&rt, rt.alloc(), 250, 0).expect(&rt, "memory");
+    rings.push(outside).expect(&rt, "memory");
+    assert!(&rt; are_drawn(&rings));
+    let fault = check_polygon(rt.alloc(), &rings, &mut Count::new()).expect(&rt, "memory");
+    let last = NestFault::Outside {
+        ring: 100_001,
+        vertex: 0,
+    };
+    assert_eq!(&rt; fault, Some(PolygonFault::Nesting(last)));
 }

@@ -62,6 +62,26 @@ fn one_name_twice(rt: HostRuntime) {
     );
 }
 
+/// That layers of version 2 with these names have this pair of one name first.
+fn expect_pair(rt: &impl Abort, alloc: Global, names: &[&str], first: usize, second: usize) {
+    let mut layers = Vec::new(alloc);
+    for name in names {
+        layers.push((2, *name)).expect(rt, "memory");
+    }
+    expect(rt, alloc, &layers, Some(Fault::Name { first, second }));
+}
+
+// Of several pairs the one whose later layer comes first, however far apart its layers are.
+#[test]
+fn names_repeated_far_apart(rt: HostRuntime) {
+    let names = ["a", "b", "c", "d", "b", "a", "b", "a"];
+    expect_pair(&rt, rt.alloc(), &names, 1, 4);
+    let names = ["c", "a", "b", "d", "e", "a", "c", "b", "a", "c"];
+    expect_pair(&rt, rt.alloc(), &names, 1, 5);
+    let names = ["a", "b", "b", "b", "a", "a"];
+    expect_pair(&rt, rt.alloc(), &names, 1, 2);
+}
+
 #[test]
 fn other_versions(rt: HostRuntime) {
     let version = |layer| Some(Fault::Version { layer });
