@@ -20,8 +20,8 @@ use mvt_fault::Fault;
 
 /// Whether the fault is true of the bytes of a tile. On a fault that isn't, however it was made up, the answer
 /// is false: where an ordinal doesn't exist, where the edges of a meeting are out of order, or where its point
-/// is out of the range of `Hpoint`. A wire fault wants each message round its scope to be whole; all other
-/// faults want bytes that have no wire fault at all.
+/// is out of the range of `Hpoint`. A wire fault is true only where each message around its scope is whole; any
+/// other fault only where the bytes have no wire fault.
 ///
 /// It takes no memory, keeps no list, and walks the bytes a constant number of times.
 pub fn confirm(bytes: &[u8], fault: &Fault) -> bool

@@ -74,15 +74,15 @@ pub(crate) fn draws_rings(mut numbers: Numbers) -> bool
     state.may_end()
 }
 
-/// Whether a fault has the code that is asked for, and none of the numbers before the index that is asked
-/// for are to go.
+/// Whether the fault that was found has this code, and was found at the index that was asked about (`before`
+/// is 0).
 fn is_this(before: Option<usize>, fault: CommandCode, code: CommandCode) -> bool
     ensures { IsTrue result ↔ ((before ≡ Some 0) × (command_code fault ≡ command_code code)) }
 {
     before == Some(0) && fault.code() == code.code()
 }
 
-/// One number less to go, of so many; None behind them.
+/// One less, or None where none are left.
 fn one_less(before: Option<usize>) -> Option<usize>
     ensures { (passed index : ℕ) → IsAhead before passed index → IsAhead result (passed + 1) index }
 {

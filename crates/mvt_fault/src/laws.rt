@@ -1,5 +1,5 @@
 //! The laws of the order of faults, as contracts of functions that do nothing, or do nothing but
-//! compare. Whoever looks for the first fault of a tile can stand on them.
+//! compare. Whoever looks for the first fault of a tile can use them.
 
 ghost use Rattle.std.specs.Prelude.{◌≡◌, ◌≢◌, ◌↔◌, ◌⊎◌, ℕ, List, length, IsTrue};
 ghost use Rattle.mvt_fault.specs.Place.{place_of, ComesFirst, AreMeetingsInOne};

@@ -16,8 +16,10 @@ use std::io::{Read, Write};
 
 /// Reads a whole tile and then a whole fault text, each of at most 67,108,864 bytes, and writes whether
 /// the fault is true of the tile's bytes (`mvt_confirm::confirm` says it whole), as the line
-/// `{"confirmed":true}` or `{"confirmed":false}` with one LF. An error other than `Memory` comes only where
-/// a device is to blame, as its counts show, or where the text is none of a fault.
+/// `{"confirmed":true}` or `{"confirmed":false}` with one LF. `Read` and `Write` come only where a device
+/// failed or the devices were interrupted too often, and `TooLarge` only where an input is too large, as the
+/// counts show; `NotJson`, `NotAFault` and `FaultRange` come only where the text is none of a fault. The only
+/// other error is `Memory`.
 pub fn confirm_streams<R: Read, Q: Read, W: Write>(
     alloc: Global,
     tile: &mut Tally<R>,
@@ -54,7 +56,7 @@ pub fn confirm_streams<R: Read, Q: Read, W: Write>(
     run_on_claim(alloc, &ConfirmFault, tile, claim, writer)
 }
 
-/// To tell whether a fault is true of a tile.
+/// To say whether a fault is true of a tile.
 struct ConfirmFault;
 
 impl ClaimTask for ConfirmFault {

@@ -19,8 +19,9 @@ pub use text::dump_text;
 
 /// Reads a whole tile, of at most 67,108,864 bytes, and writes the line of what it holds, with one LF:
 /// the text of `dump_text` for a tile by the Mapbox Vector Tile Specification 2.1, section 4, whatever
-/// rules between its parts it breaks; or else the JSON text of its first wire fault. An error other
-/// than `Memory` comes only where a device is to blame, as its counts show.
+/// rules between its parts it breaks; or else the JSON text of its first wire fault. `Read` and `Write`
+/// come only where a device failed or the devices were interrupted too often, and `TooLarge` only where
+/// the input is too large, as the counts show. The only other error is `Memory`.
 pub fn dump_stream<R: Read, W: Write>(
     alloc: Global,
     reader: &mut Tally<R>,

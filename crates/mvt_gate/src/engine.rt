@@ -20,7 +20,7 @@ use thiserror::Error;
 /// How many bytes an input may have.
 pub const INPUT_LIMIT: usize = 67_108_864;
 
-/// How many interruptions an engine bears, those of all its devices together.
+/// How many interruptions an engine allows, those of all its devices together.
 pub const INTERRUPTION_LIMIT: u64 = 1_000;
 
 /// How many bytes one read asks for.
@@ -29,13 +29,14 @@ const CHUNK_LENGTH: usize = 65_536;
 /// What the line of an engine says.
 #[derive(Clone, Copy, Debug, PartialEq, Eq)]
 pub enum Outcome {
-    /// What was asked for: the fields, or that the tile is right.
+    /// `fields`: the outermost fields. `dump`: what the tile holds. `check`: that the tile is valid. `confirm`:
+    /// that the fault is true of the tile.
     Yes,
-    /// A fault.
+    /// `fields`, `dump` and `check`: a fault of the tile. `confirm`: that the fault isn't true of the tile.
     No,
 }
 
-/// Why an engine gave no answer. The text is the line that the program tells it by.
+/// Why an engine gave no answer. The text is the line that the program writes.
 #[derive(Clone, Copy, Debug, PartialEq, Eq, Error)]
 pub enum EngineFault {
     /// A read failed, or the devices were interrupted more than 1,000 times together.
@@ -47,13 +48,13 @@ pub enum EngineFault {
     /// A write or a flush failed, or the devices were interrupted more than 1,000 times together.
     #[error("mvtgate: cannot write the output")]
     Write,
-    /// What should tell a fault is no JSON text.
+    /// The second input is no JSON text.
     #[error("mvtgate: the fault file is not JSON")]
     NotJson,
-    /// What should tell a fault is a JSON text of something else.
+    /// The second input is JSON, and has another shape than a fault.
     #[error("mvtgate: the fault file holds no fault")]
     NotAFault,
-    /// A number of the told fault is out of the range of such numbers.
+    /// The second input has the shape of a fault, with a number out of range.
     #[error("mvtgate: a number of the fault is out of range")]
     FaultRange,
     /// Memory was refused.
@@ -71,8 +72,9 @@ pub trait Task {
         ensures { IfOk result (λ r. IsAnswer self.now input.now r.0 (string_bytes r.1)) };
 }
 
-/// Reads the whole input and writes the line that answers it. An error other than `Memory` comes only
-/// where a device is to blame, as its counts show.
+/// Reads the whole input and writes the line that answers it. `Read` and `Write` come only where a device
+/// failed or the devices were interrupted too often, and `TooLarge` only where the input is too large, as the
+/// counts show. The only other error is `Memory`.
 pub fn run<T: Task, R: Read, W: Write>(
     alloc: Global,
     task: &T,
@@ -104,7 +106,7 @@ pub fn run<T: Task, R: Read, W: Write>(
     Ok(outcome)
 }
 
-/// The line that tells a fault, with its LF.
+/// The line of a fault, with its LF.
 pub fn fault_line(alloc: Global, fault: &Fault) -> Result<String, AllocError>
     ensures { IfOk result (λ line. string_bytes line ≡ fault_line fault.now) }
 {
@@ -214,7 +216,7 @@ fn flush_all<W: Write>(writer: &mut Tally<W>, others: u64) -> Result<(), EngineF
 }
 
 /// Whether a call that ended in this error is made again: an interrupted call is, unless the run was
-/// interrupted more often than it bears. `interruptions` counts those of the device, this one among
+/// interrupted more often than allowed. `interruptions` counts those of the device, this one among
 /// them, and `others` those of the engine's other devices.
 fn may_try_again(error: &io::Error, interruptions: u64, others: u64) -> bool
     requires { others ≤ interruption_limit }

@@ -19,7 +19,8 @@ use std::io::{Read, Write};
 
 /// Reads a whole tile, of at most 67,108,864 bytes, and writes the line of its outermost fields
 /// (Protocol Buffers encoding, "Message Structure"), or of the fault of their spelling, with one LF.
-/// An error other than `Memory` comes only where a device is to blame, as its counts show.
+/// `Read` and `Write` come only where a device failed or the devices were interrupted too often, and
+/// `TooLarge` only where the input is too large, as the counts show. The only other error is `Memory`.
 pub fn fields_stream<R: Read, W: Write>(
     alloc: Global,
     reader: &mut Tally<R>,

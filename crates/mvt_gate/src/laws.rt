@@ -1,5 +1,5 @@
-//! Laws of the answers: an input has one answer, with one line, but that of the meetings of edges in one
-//! polygon any may be named.
+//! Laws of the answers: an input has one answer of `fields`, with one line, and at most one of `check`, `dump`
+//! and `confirm`; but of the meetings of edges in one polygon `check` may name any.
 ghost use Rattle.std.specs.Prelude.{◌≡◌, ◌⊎◌, ℕ, List};
 ghost use Rattle.mvt_confirm.specs.Shows.{Shows};
 ghost use Rattle.mvt_fault.specs.Place.{AreMeetingsInOne, IsLeast};

@@ -15,8 +15,8 @@ use std::alloc::{AllocError, Global};
 pub enum Verdict {
     /// The bytes are a valid tile: one that keeps every rule that `judge` names.
     Yes,
-    /// They are not. Of all faults that are true of them this one comes first. Of the meetings of edges in
-    /// one polygon, which have one place in that order, it is any.
+    /// They are not. Of all faults that are true of them this one comes first. All meetings of edges in one
+    /// polygon have one place in that order; any of them may be reported.
     No(Fault),
 }
 

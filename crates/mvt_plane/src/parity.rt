@@ -4,10 +4,10 @@ ghost use Rattle.mvt_plane.specs.Inside.{PassesOver, IsInside};
 use crate::point::Point;
 use crate::step::{x_step, y_step};
 
-/// Whether the position is inside the ring: whether an odd number of the ring's edges pass over it, each
-/// with just one end at the position's x or on the side of lesser ones, and with a greater y at that x
-/// (Mapbox Vector Tile Specification 2.1, section 4.3.4.4). On the ring itself some positions count as
-/// inside and some don't, by the same rule.
+/// Whether the position is inside the ring: whether an odd number of the ring's edges pass over it (Mapbox
+/// Vector Tile Specification 2.1, section 4.3.4.4). An edge passes over the position where exactly one of its
+/// ends has an x that is at most the position's, and the edge has a greater y at the position's x. On the ring
+/// itself some positions count as inside and some don't, by the same rule.
 pub fn inside(point: Point, ring: &[Point]) -> bool
     ensures { IsTrue result ↔ IsInside point ring.now }
 {
@@ -25,7 +25,7 @@ pub fn inside(point: Point, ring: &[Point]) -> bool
 }
 
 /// Whether the edge from `a` to `b` passes over the position. Most edges have both of their ends on one
-/// side, so that is asked first.
+/// side, so it is tested first.
 fn passes_over(point: Point, a: Point, b: Point) -> bool
     ensures { IsTrue result ↔ PassesOver point (record { a = a; b = b }) }
 {

@@ -40,7 +40,8 @@ pub struct Meeting {
 /// Each ring is to have three vertices or more, none at the position of the next one. `count` counts the
 /// work: of n vertices at most 3 * n tests of two edges, n * (2 * bits(n) + 2) comparisons of an edge with a vertex and
 /// n * 20 * bits(n) nodes of the status that are visited, where bits(n) is the number of n's binary digits; none of its
-/// numbers falls. Of few edges all pairs are looked at; others are swept over. The only error is that memory was refused.
+/// numbers falls. Of at most 16 edges all pairs are looked at, unless more than three for each edge need a test;
+/// otherwise the edges are swept over. The only error is that memory was refused.
 pub fn find_meeting(
     alloc: Global,
     rings: &[Vec<Point>],
@@ -59,8 +60,8 @@ pub fn find_meeting(
     meeting_by_sweep(alloc, rings, &corners, &mut TreeStatus::new(alloc), count)
 }
 
-/// The same by a sweep, also of few edges, over a status of the caller's, which is empty at the call. A status that was refused memory counts as a
-/// refusal of memory.
+/// The same, always by a sweep, over a status of the caller's that is empty at the call. Where the status is refused
+/// memory, the call returns the error.
 pub fn find_meeting_with<S: Status>(
     alloc: Global,
     rings: &[Vec<Point>],
@@ -77,7 +78,7 @@ pub fn find_meeting_with<S: Status>(
     meeting_by_sweep(alloc, rings, &corners, status, count)
 }
 
-/// The same, where the corners of the rings are at hand.
+/// The same, where the corners of the rings are given.
 fn meeting_by_sweep<S: Status>(
     alloc: Global,
     rings: &[Vec<Point>],
@@ -101,7 +102,7 @@ fn meeting_by_sweep<S: Status>(
     Ok(told(rings, found))
 }
 
-/// The meeting that was found, if any, with its edges told by ring and ordinal.
+/// The meeting that was found, if any, with its edges named by ring and ordinal.
 pub(crate) fn told(rings: &[Vec<Point>], found: Option<Pair>) -> Option<Meeting>
     requires first { IfSome found (λ pair. pair.first < vertex_count (rings_of rings.now)) }
     requires second { IfSome found (λ pair. pair.second < vertex_count (rings_of rings.now)) }

@@ -36,10 +36,10 @@ pub enum NestFault {
 }
 
 /// The first vertex, by ring and then by vertex, of a polygon's holes that isn't inside the exterior or is
-/// inside another hole. Where both hold, the exterior is told; of several holes around it, the first. None
-/// where there is no such vertex (Mapbox Vector Tile Specification 2.1, section 4.3.4.4). The first ring is
-/// the exterior, the others are the holes. All vertices of holes are held against all rings, so the work
-/// grows with the number of their vertices times that of all vertices. It takes no memory.
+/// inside another hole. Where both hold, `Outside` is returned; where several other holes are around it,
+/// `InHole` names the first. None where there is no such vertex (Mapbox Vector Tile Specification 2.1, section
+/// 4.3.4.4). The first ring is the exterior, the others are the holes. All vertices of holes are tested against
+/// all rings, so the work grows with the number of their vertices times that of all vertices. It takes no memory.
 pub fn check_nesting(rings: &[Vec<Point>]) -> Option<NestFault>
     ensures none { IfNone result ((fault : NestFault) → ¬ IsNestFault (rings_of rings.now) fault) }
     ensures least { IfSome result (IsFirstNestFault (rings_of rings.now)) }
@@ -68,8 +68,8 @@ fn fault_of_hole(rings: &[Vec<Point>], ring: usize) -> Option<NestFault>
     None
 }
 
-/// Why a vertex of a hole isn't where it should be: it isn't inside the exterior, or it is inside another hole,
-/// of which the first is told.
+/// Why a vertex of a hole isn't where it should be: it isn't inside the exterior, or else it is inside another
+/// hole, of which the first is returned.
 fn fault_of_vertex(
     rings: &[Vec<Point>],
     ring: usize,

@@ -234,7 +234,7 @@ fn lean_left(left: Side, middle: Box<Node>, right: Side) -> Box<Node>
     )
 }
 
-/// Nothing to run: each side has enough edges for its levels.
+/// Has no effect; its contract says that a side has enough edges for its levels.
 #[inline(always)]
 fn is_filled(side: &Side)
     ensures filled { fewest (height_of side.now) ≤ suc (length (edges_of side.now)) }

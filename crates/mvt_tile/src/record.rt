@@ -23,14 +23,14 @@ pub struct Layer<'a> {
     pub keys: Vec<&'a str>,
     /// What the odd places of a feature's tags index, from 0.
     pub values: Vec<Value<'a>>,
-    /// The width and height of the tile in units of its coordinates; 4096 where the layer tells none.
+    /// The width and height of the tile in units of its coordinates; 4096 where the layer has none.
     pub extent: u32,
 }
 
 /// A feature (section 4.2).
 #[derive(Debug, PartialEq, Eq, Drop)]
 pub struct Feature {
-    /// The id, any number of 64 bits, where the feature tells one.
+    /// The id, any number of 64 bits, where the feature has one.
     pub id: Option<u64>,
     /// Indices of keys and values in turn (section 4.4), of all the feature's fields of tags, joined.
     pub tags: Vec<u32>,
@@ -41,7 +41,7 @@ pub struct Feature {
 }
 
 impl Feature {
-    /// Nothing was told of the feature. Its lists take memory as they grow.
+    /// A feature of which no field was read. Its lists take memory as they grow.
     pub(crate) fn empty(alloc: Global) -> Feature
         ensures { feature_of result ≡ record { id = None; tags = []; kind = 0; geometry = [] } }
     {
@@ -67,7 +67,7 @@ pub enum Kind {
     Polygon,
 }
 
-/// The value of a tag (section 4.4), by which of its seven fields stands.
+/// The value of a tag (section 4.4), by which of its seven fields is set.
 #[derive(Clone, Copy, Debug, PartialEq, Eq)]
 pub enum Value<'a> {
     /// `string_value`, a text in UTF-8.

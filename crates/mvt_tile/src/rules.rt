@@ -37,10 +37,11 @@ pub use tags::check_tags;
 /// different names (Mapbox Vector Tile Specification 2.1, section 4.1), the tags of each feature are pairs
 /// of a key and a value of its layer, no key twice (section 4.4), and each feature keeps the further rule.
 /// The layers' faults come first; then the first feature that has a fault decides, and its tags come before
-/// the further rule. The bytes are to have no wire fault (`wire_fault`), and the rule's faults are to
-/// stand behind the tags of their feature in the order of faults. The bytes are read again, each layer once, and no
-/// record of the tile is built. Its memory is for the names of the layers, for one feature at a time, and for marks of keys.
-/// The only error is that memory was refused.
+/// the further rule. The bytes must have no wire fault (`wire_fault`), and the rule's faults must come
+/// behind those of the tags of their feature in the order of faults. The bytes are read again: each layer at
+/// most once, or twice where a tag names a key or a value that the layer doesn't have. No record of the tile is
+/// built. Its memory is for the names of the layers, for one feature at a time, and for marks of keys. The only
+/// error is that memory was refused.
 pub fn rule_fault<R: FeatureRule>(
     alloc: Global,
     bytes: &[u8],
@@ -61,9 +62,9 @@ pub fn rule_fault<R: FeatureRule>(
     }
 }
 
-/// Walks over the layers of a tile, up to the first that has another version than 2, and answers the first fault of their
-/// features, or None. It tells only of tiles all layers of which have version 2. The features of layers behind the first
-/// that has a fault are not looked at. The only error is that memory was refused.
+/// Walks over the layers of a tile, up to the first that has another version than 2, and answers the first fault of
+/// their features, or None. The answer is right only where all layers have version 2; elsewhere it isn't used. The
+/// features of layers behind the first that has a fault are not looked at. The only error is that memory was refused.
 fn walk_layers<'a, R: FeatureRule>(
     alloc: Global,
     bytes: &'a [u8],

@@ -1,5 +1,5 @@
 //! The laws of the wire encoding and of the messages of a tile, as contracts of functions that do
-//! nothing. They speak of the definitions alone, so a reader of messages can stand on them.
+//! nothing. They speak of the definitions alone, so a reader of messages can use them.
 
 ghost use Rattle.std.specs.Prelude.{◌≡◌, ℕ, ◌+◌, ◌-◌, ◌^◌, ◌<◌, ◌≤◌, ◌⊎◌, List, [], ◌∷◌, ◌++◌, length, take, drop, slice_index, Option, Some, None};
 ghost use Rattle.std.specs.List.{concat};
@@ -36,8 +36,8 @@ pub fn varint_or_defect()
 {}
 
 /// Of a varint's bytes the last alone is below 128: the first such byte ends it, if the number has
-/// 64 bits. The groups of seven bits of so many bytes stand for less than 128 to that power
-/// (Protocol Buffers encoding, "Base 128 Varints").
+/// 64 bits. n groups of seven bits have a value below 128^n (Protocol Buffers encoding, "Base 128
+/// Varints").
 pub fn varint_ends_below_128()
     ensures last { (bytes : List ℕ) (from to n : ℕ) → SpellsVarint bytes from to n → slice_index bytes (to - 1) < 128 }
     ensures earlier { (bytes : List ℕ) (from to n : ℕ) → SpellsVarint bytes from to n →

@@ -14,7 +14,7 @@ use std::io::{Read, Write};
 use std::rt::{Env, Files};
 use std::{env, fs, io};
 
-/// The exit status of a command line that asks for nothing that there is.
+/// The exit status where the words of the command line are no call of the program.
 const BAD_WORDS: u8 = 2;
 
 /// The exit status of a run whose devices fail.
@@ -240,7 +240,7 @@ fn run_confirm<R: Files + Input + Print + Eprint + AllocGlobal>(
     end(rt, answer)
 }
 
-/// The status of an engine's answer. A fault of the run is told in one line on standard error, and
+/// The status of an engine's answer. A fault of the run becomes one line on standard error, and
 /// whether that line could be written changes no status.
 fn end(rt: &impl Eprint, answer: Result<Outcome, EngineFault>) -> u8
     ensures { result ≡ status_of answer }

@@ -30,9 +30,10 @@ pub trait ClaimTask {
         ensures refused { IfErr result (λ fault. fault ≢ FaultTextError.Memory → IsRefused self.now claim.now fault) };
 }
 
-/// Reads the whole tile and then the whole claim, and writes the line that answers them. An error other
-/// than `Memory` comes only where a device is to blame, as its counts show, or where the claim is wrong in
-/// itself.
+/// Reads the whole tile and then the whole claim, and writes the line that answers them. `Read` and `Write`
+/// come only where a device failed or the devices were interrupted too often, and `TooLarge` only where an
+/// input is too large, as the counts show; `NotJson`, `NotAFault` and `FaultRange` come only where the claim
+/// is wrong in itself. The only other error is `Memory`.
 pub fn run_on_claim<T: ClaimTask, R: Read, Q: Read, W: Write>(
     alloc: Global,
     task: &T,

@@ -29,8 +29,9 @@ impl Around {
     }
 }
 
-/// The rings around one whose first vertex, as a sweep goes, is directly above an edge of another ring: those around the
-/// other one, and the other one, too where the number of all is odd or even only so. It is told whether that is the exterior.
+/// What to note of a ring whose vertex of least key (`sweep_key`) is directly above an edge of another ring. `around`
+/// is the note of the other ring, `exterior` whether it is the exterior, and `odd` whether an odd number of edges are
+/// below the vertex. Where `odd` differs from `around.is_odd()`, the other ring is around the new one too.
 pub(crate) fn around_above(around: Around, exterior: bool, odd: bool) -> Around
     ensures { (below : ℕ) → exterior ≡ (below == 0) → result ≡ around_above around below odd }
 {

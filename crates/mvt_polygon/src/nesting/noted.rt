@@ -15,9 +15,10 @@ use crate::nesting::around::Around;
 use crate::nesting::once::fault_of_first_vertex;
 use mvt_plane::{Count, Point};
 
-/// What `check_nesting` answers of the rings of a polygon, where no two of their edges meet wrongly and it is noted of each
-/// vertex which other rings are around its ring. Only of the hole that it answers the first vertex is held against the edges of all
-/// rings, with a probe for each. It takes no memory.
+/// What `check_nesting` answers of the rings of a polygon, where no two of their edges meet wrongly and it is noted of
+/// each vertex which other rings are around its ring. Of the hole that it answers, and of no other, the first vertex is
+/// tested against the edges of the exterior and, where it is inside, of the other holes up to the first that is around
+/// it. Each of these edges counts as a probe. It takes no memory.
 pub(crate) fn fault_of_holes(
     rings: &[Vec<Point>],
     notes: &[Option<Around>],

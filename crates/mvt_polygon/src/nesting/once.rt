@@ -1,4 +1,4 @@
-//! Holes that aren't where they should be, told by one vertex of each.
+//! Holes that aren't where they should be, by one vertex of each.
 ghost use Rattle.std.specs.Prelude.{ℕ, ◌↔◌, ◌*◌, ◌-◌, ◌<◌, IsTrue, IfNone, IfSome, length, take};
 ghost use Rattle.mvt_plane.specs.Inside.{IsInside};
 ghost use Rattle.mvt_plane.specs.Meeting.{EdgeNumber, MeetsWrongly};
@@ -16,10 +16,10 @@ mod tests;
 use super::NestFault;
 use mvt_plane::{Count, Point, inside};
 
-/// What `check_nesting` answers of the rings of a polygon, where no two of their edges meet wrongly. Each ring is to have
-/// three vertices or more, none at the position of the next one. All vertices of a hole are then inside another ring, or
-/// none is, so the first vertex of each hole alone is held against the edges of the other rings. `count` counts a
-/// probe for each of these edges: for r rings of n vertices at most r * n. It takes no memory.
+/// What `check_nesting` answers of the rings of a polygon, where no two of their edges meet wrongly. Each ring is to
+/// have three vertices or more, none at the position of the next one. All vertices of a hole are then inside another
+/// ring, or none is, so the first vertex of each hole alone is tested against the edges of the other rings. `count`
+/// counts a probe for each of these edges: for r rings of n vertices at most r * n. It takes no memory.
 pub fn check_nesting_once(rings: &[Vec<Point>], count: &mut Count) -> Option<NestFault>
     requires proper { AreProperRings (rings_of rings.now) }
     requires none_meet { (first second : EdgeNumber) (point : RationalPoint) → ¬ MeetsWrongly (rings_of rings.now) first second point }
@@ -36,8 +36,8 @@ pub fn check_nesting_once(rings: &[Vec<Point>], count: &mut Count) -> Option<Nes
     None
 }
 
-/// Why the first vertex of a hole isn't where it should be: it isn't inside the exterior, or it is inside another hole, of
-/// which the first is told.
+/// Why the first vertex of a hole isn't where it should be: it isn't inside the exterior, or else it is inside another
+/// hole, of which the first is returned.
 pub(super) fn fault_of_first_vertex(
     rings: &[Vec<Point>],
     ring: usize,

@@ -28,8 +28,8 @@ pub(crate) fn nothing_noted(
     Ok(notes)
 }
 
-/// Notes what is around the ring of a corner in which both edges begin, where nothing is noted of it. So many edges of the
-/// status are below the corner; of the last of them it is noted what is around its ring.
+/// Notes what is around the ring of corner `number`, unless that is noted already. Both edges of the corner begin in
+/// it; `place` edges of the status are below it, and of the last of them it is noted what is around its ring.
 pub(crate) fn note_ring<S: Status>(
     rings: &[Vec<Point>],
     corners: &[Corner],

@@ -15,9 +15,9 @@ use mvt_plane::{Count, Point};
 use mvt_status::Status;
 use std::alloc::AllocError;
 
-/// Goes over all corners in their order, as `sweep` does, and notes of each ring which other rings are around it, where the
-/// line comes to the ring. The note stands with each corner of the ring, so that it is read by the number of an edge.
-/// The only error is that memory was refused.
+/// Goes over all corners in their order, as `sweep` does, and notes of each ring which other rings are around it, where
+/// the line comes to the ring. The note is kept for each corner of the ring, so that it is read by the number of an
+/// edge. The only error is that memory was refused.
 pub(crate) fn sweep_rings<S: Status>(
     rings: &[Vec<Point>],
     corners: &[Corner],

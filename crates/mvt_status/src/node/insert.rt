@@ -13,8 +13,8 @@ use mvt_plane::Count;
 /// How many edges stay in a node that is split.
 const HALF: usize = ROOM / 2;
 
-/// Puts edges in front of the one at a place, in a spare node where the nodes there have no room. Ticks a visit for each
-/// node on the way there.
+/// Inserts up to four edges in front of the one at a place. Where the nodes there have no room, the spare node is used;
+/// it is None then. Ticks a visit for each node on the way there.
 pub(crate) fn insert_into(
     side: &mut Side,
     at: usize,

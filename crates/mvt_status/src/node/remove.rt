@@ -9,8 +9,9 @@ use arrayvec::ArrayVec;
 use mvt_plane::Count;
 use std::mem::swap;
 
-/// Takes the edge at a place out. A node that has no more edges is the spare one then. Ticks a visit for each node on
-/// the way to the place and to the node that takes its place.
+/// Takes the edge at a place out. A node that has no more edges takes those of the first node on its right, and that
+/// node is the spare one then; with nothing on its right it is the spare one itself. Ticks a visit for each node on
+/// the way to the place and to the node whose edges are taken.
 pub(crate) fn remove_from(side: &mut Side, at: usize, spare: &mut Side, count: &mut Count) -> usize
     requires within { at < length (edges_of side.old) }
     requires spare { height_of spare.old ≤ 1 }

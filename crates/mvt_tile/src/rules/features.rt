@@ -21,10 +21,9 @@ use mvt_fault::Fault;
 use mvt_wire::Fields;
 use std::alloc::{AllocError, Global};
 
-/// What is asked of each feature of a tile beyond its tags. A rule may keep room and counts that serve one
-/// feature after another, so that it changes while it works; what it asks of a feature stays the same. Its
-/// faults are to stand behind those of the feature's tags in the order of faults, and before those of later
-/// features.
+/// What is required of each feature of a tile beyond its tags. A rule may change its state, to reuse memory and
+/// to count; what it requires doesn't change. Its faults must have later places than those of the feature's
+/// tags, and earlier ones than those of later features.
 pub trait FeatureRule {
     // the fault is one of this feature's, whose layer and place in it are these ordinals
     ghost IsBroken: { FeatureRecord → ℕ → ℕ → Fault → Type 0 };
@@ -33,7 +32,7 @@ pub trait FeatureRule {
 
     /// The first fault of a feature, or None where it has none, and then it keeps the rule. `layer_index` is
     /// the ordinal of its layer in the tile, and `feature_index` its own in the layer, both counted from 0,
-    /// for the fault to tell. A rule may take from the feature what it doesn't need any more; nothing is said
+    /// for the fault to name. A rule may take from the feature what it doesn't need any more; nothing is said
     /// of the feature afterwards. The only error is that memory was refused.
     fn fault(
         &mut self,

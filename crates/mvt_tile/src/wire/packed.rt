@@ -13,7 +13,7 @@ pub(crate) fn packed_fault(part: &[u8], from: usize, number: u32) -> Option<Wire
     requires { from + length part.now < 2 ^ 64 }
     ensures { FindsLeastCause (PackedFault from part.now number) result }
 {
-    // (so it is with most lists, and is told without a walk over single bytes)
+    // (so it is with most lists, and is seen without a walk over single bytes)
     if are_short(part) {
         return None;
     }
@@ -48,7 +48,8 @@ fn first_bad(part: &[u8]) -> Option<(usize, WireCode)>
     Some((start, WireCode::Ends))
 }
 
-/// What is wrong with a number that goes on behind an offset, asked once, at its fourth byte.
+/// What is wrong with the number that begins at `start` and continues behind `i`. It is read in full at its fourth
+/// byte; None at every other byte.
 #[inline(always)]
 fn long_fault(part: &[u8], start: usize, i: usize) -> Option<WireCode>
     requires forward { start ≤ i }
