@@ -3,7 +3,7 @@ use Rattle.std.proofs.Common.{◌≡◌, ℕ, suc, ◌==◌, true, false, inl, i
 use Rattle.std.proofs.lemmas.Bool.{cases_Bool, eqb-true, cond-true, cond-false}
 use Rattle.std.proofs.lemmas.List.{length-map}
 use Rattle.std.proofs.lemmas.List.Elements.{All-nil, All-cons, All-head, All-tail, All-weaker}
-use Rattle.mvt_wire.specs.Field.{Content, varint, eight_bytes, delimited, four_bytes, Entry, wire_type_of}
+use Rattle.mvt_wire.specs.Field.{Content, varint, delimited, Entry, wire_type_of}
 use Rattle.mvt_wire.specs.Number.{States, StateTogether}
 use Rattle.mvt_wire.specs.Schema.{rule_of, is_own, is_singular, is_required}
 use Rattle.mvt_wire.specs.Scope.{fields_of, contents_of}

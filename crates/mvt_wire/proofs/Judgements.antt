@@ -4,7 +4,7 @@ use Rattle.std.specs.Str.{is_utf8}
 use Rattle.std.proofs.lemmas.Bool.{cases_Bool, cases_lt, cases_eq, both_ways, ltb-true, ltb-false, eq-eqb, ne_eqb, cond-true, cond-false}
 use Rattle.std.proofs.lemmas.List.Elements.{All-nil, All-push}
 use Rattle.std.proofs.lemmas.Str.{IsUtf8-from_is_utf8, is_utf8-from_IsUtf8}
-use Rattle.mvt_wire.specs.Field.{Content, varint, eight_bytes, delimited, four_bytes, Entry, wire_type_of, cause_at}
+use Rattle.mvt_wire.specs.Field.{Content, varint, delimited, Entry, wire_type_of, cause_at}
 use Rattle.mvt_wire.specs.Message.{IsMessage}
 use Rattle.mvt_wire.specs.Number.{States, AreSmall}
 use Rattle.mvt_wire.specs.Schema.{find_rule, rules_of, rule_of, is_own, is_out_of_range, is_singular, is_required}
@@ -14,9 +14,9 @@ use Rattle.mvt_wire.specs.declared.cause.WireCause.{WireCause}
 use Rattle.mvt_wire.specs.declared.cause.WireCode.TheVariants.{OtherType, Again, Missing, OneField, NotUtf8, OutOfRange}
 use Rattle.mvt_wire.specs.declared.schema.FieldRule.{FieldRule}
 use Rattle.mvt_wire.specs.declared.schema.Message.{Message}
-use Rattle.mvt_wire.specs.declared.schema.Message.TheVariants.{Tile, Layer, Value, Feature}
+use Rattle.mvt_wire.specs.declared.schema.Message.TheVariants.{Value}
 use Rattle.mvt_wire.specs.declared.schema.Shape.{Shape}
-use Rattle.mvt_wire.specs.declared.schema.Shape.TheVariants.{Embedded, Text, FourBytes, EightBytes, Uint64, Uint32, GeometryType, Numbers}
+use Rattle.mvt_wire.specs.declared.schema.Shape.TheVariants.{Text, Numbers}
 use Rattle.mvt_wire.proofs.Entries.{entry_at}
 use Rattle.mvt_wire.proofs.Messages.{one_list, message_or_defect, whole_or_defect}
 use Rattle.mvt_wire.proofs.PackedLists.{numbers_or_fault}

@@ -3,7 +3,7 @@ use Rattle.std.proofs.Common.{◌≡◌, ℕ, ◌+◌, ◌-◌, ◌<◌, ◌≤�
 use Rattle.std.proofs.lemmas.Bool.{cases_lt}
 use Rattle.std.proofs.lemmas.List.Edits.{length-between}
 use Rattle.mvt_wire.specs.Varint.{SpellsVarint}
-use Rattle.mvt_wire.specs.Field.{Content, varint, eight_bytes, delimited, four_bytes, Entry, IsPayload, IsField, FieldDefect}
+use Rattle.mvt_wire.specs.Field.{Content, varint, delimited, Entry, IsPayload, IsField, FieldDefect}
 use Rattle.mvt_wire.specs.Message.{FieldList}
 use Rattle.mvt_wire.specs.Number.{VarintList, States, StateTogether}
 use Rattle.mvt_wire.specs.Scope.{contents_of}

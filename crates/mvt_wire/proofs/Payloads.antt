@@ -3,7 +3,7 @@ use Rattle.std.proofs.Common.{◌≡◌, ℕ, ◌+◌, ◌-◌, ◌≤◌, ◌==
 use Rattle.std.proofs.lemmas.List.{map-append}
 use Rattle.std.proofs.lemmas.List.Edits.{length-between}
 use Rattle.std.proofs.lemmas.List.Elements.{filter-append, filter_map-append}
-use Rattle.mvt_wire.specs.Field.{Content, varint, eight_bytes, delimited, four_bytes, Entry, IsPayload}
+use Rattle.mvt_wire.specs.Field.{Content, delimited, Entry, IsPayload}
 use Rattle.mvt_wire.specs.Scope.{fields_of, contents_of, Span, span_of, spans_of}
 
 -- the payloads in two parts of a field list

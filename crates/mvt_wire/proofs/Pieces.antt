@@ -3,7 +3,7 @@ use Rattle.std.proofs.Common.{◌≡◌, ℕ, ◌+◌, ◌-◌, ◌*◌, ◌≤�
 use Rattle.std.specs.List.{concat}
 use Rattle.std.proofs.lemmas.List.{drop-drop, drop_at, drop_all, append-nil, length-take-le, take-append-drop}
 use Rattle.mvt_wire.specs.Varint.{IsVarint, SpellsVarint}
-use Rattle.mvt_wire.specs.Field.{Content, varint, eight_bytes, delimited, four_bytes, Entry, wire_type_of, IsKey, IsPayload, IsField}
+use Rattle.mvt_wire.specs.Field.{Content, varint, delimited, Entry, wire_type_of, IsKey, IsPayload, IsField}
 use Rattle.mvt_wire.specs.Message.{FieldList, IsMessage, content_moved, moved, AreSpellings}
 use Rattle.mvt_wire.proofs.Entries.{entry_at, slice_range-append, IsField-append, payload_extent, field_extent}
 

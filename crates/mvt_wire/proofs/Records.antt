@@ -12,8 +12,8 @@ use Rattle.mvt_wire.specs.WireFault.{MessageFault}
 use Rattle.mvt_wire.specs.declared.cause.WireCause.{WireCause}
 use Rattle.mvt_wire.specs.declared.schema.FieldRule.{FieldRule}
 use Rattle.mvt_wire.specs.declared.schema.Message.TheVariants.{Value, Feature}
-use Rattle.mvt_wire.specs.declared.schema.Occurrence.TheVariants.{AnyNumber, AtLeastOnce, AtMostOnce, Once}
-use Rattle.mvt_wire.specs.declared.schema.Shape.TheVariants.{Text, FourBytes, EightBytes, Uint64, GeometryType, Numbers}
+use Rattle.mvt_wire.specs.declared.schema.Occurrence.TheVariants.{AnyNumber, AtLeastOnce, Once}
+use Rattle.mvt_wire.specs.declared.schema.Shape.TheVariants.{GeometryType, Numbers}
 use Rattle.mvt_wire.proofs.Contents.{alone_in, one_number, numbers_stated, one_joined}
 use Rattle.mvt_wire.proofs.Judgements.{rule_or_none, message_judged}
 use Rattle.mvt_wire.proofs.Messages.{one_list}

@@ -2,7 +2,7 @@
 use Rattle.std.proofs.Common.{◌≡◌, ℕ, ◌^◌, ◌<◌, false, List, [], ◌∷◌, Some, None, All, take, refl, sym, subst}
 use Rattle.std.proofs.lemmas.Bool.{leb-false}
 use Rattle.std.proofs.lemmas.List.Elements.{All-nil, All-cons, All-head, All-tail, All-append}
-use Rattle.mvt_wire.specs.Field.{Content, varint, eight_bytes, delimited, four_bytes, Entry}
+use Rattle.mvt_wire.specs.Field.{Content, varint, delimited, Entry}
 use Rattle.mvt_wire.specs.Message.{IsMessage}
 use Rattle.mvt_wire.specs.Number.{States, StateTogether, AreSmall}
 use Rattle.mvt_wire.specs.Numbers.{NumbersEnd}

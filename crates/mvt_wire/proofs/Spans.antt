@@ -4,7 +4,7 @@ use Rattle.std.proofs.lemmas.Bool.{cases_Bool}
 use Rattle.std.proofs.lemmas.List.{length-take}
 use Rattle.std.proofs.lemmas.List.Edits.{length-between}
 use Rattle.std.proofs.lemmas.List.Elements.{All-nil, All-cons, All-head, All-tail, All-weaker}
-use Rattle.mvt_wire.specs.Field.{Content, varint, eight_bytes, delimited, four_bytes, Entry, IsPayload}
+use Rattle.mvt_wire.specs.Field.{Content, delimited, Entry, IsPayload}
 use Rattle.mvt_wire.specs.Message.{FieldList}
 use Rattle.mvt_wire.specs.Scope.{contents_of, Span, span_of, spans_of, IsMessageAt}
 use Rattle.mvt_wire.specs.Tile.{Each}
