@@ -13,7 +13,11 @@ import subprocess
 import sys
 import time
 
-RUNS = 5
+# A row has at least so many runs of each program, and more while they take little time: a host that gives more time at
+# one moment than at another changes the median of a few short runs.
+LEAST_RUNS = 5
+MOST_RUNS = 25
+SECONDS_FOR_MORE = 3
 # A row that takes longer than this is run once.
 LONG = 10
 PAGE_KIB = 1024
@@ -40,7 +44,10 @@ def measure(programs, tile, limit, left_out):
     """The medians of each program, by name."""
     found = {name: [] for name in programs}
     shape = os.path.basename(tile).rpartition("_")[0]
-    for _ in range(RUNS):
+    begin = time.perf_counter()
+    for number in range(MOST_RUNS):
+        if number >= LEAST_RUNS and time.perf_counter() - begin > SECONDS_FOR_MORE:
+            break
         for name, words in programs.items():
             if (name, shape) in left_out or (found[name] and found[name][0][1] > LONG):
                 continue
