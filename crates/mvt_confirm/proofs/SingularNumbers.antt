@@ -19,19 +19,19 @@ abbrev pub TakesSmall : FieldRule → Type 0
 TakesSmall rule = (value : ℕ) → is_out_of_range rule.shape value ≡ false → value < 2 ^ 32
 
 -- a varint alone states its number
-one_stated : (rule : FieldRule) (contents : List Content) (n : ℕ) → TakesSmall rule → length contents ≤ 1 → All (Fits rule) contents
+varint_states : (rule : FieldRule) (contents : List Content) (n : ℕ) → TakesSmall rule → length contents ≤ 1 → All (Fits rule) contents
     → filter_map number_in contents ≡ n ∷ [] → StateTogether contents (n ∷ []) × AreSmall (n ∷ [])
-one_stated rule [] n small few fit one = absurd (cc)
-one_stated rule (varint value at ∷ []) n small few fit one =
+varint_states rule [] n small few fit one = absurd (cc)
+varint_states rule (varint value at ∷ []) n small few fit one =
     let same : n ≡ value = cc in
     let Holds = λ (m : ℕ). StateTogether (varint value at ∷ []) (m ∷ []) × AreSmall (m ∷ []) in
     let fits : Fits rule (varint value at) = All-head (Fits rule) (varint value at) [] fit in
     let below : value < 2 ^ 32 = small value (fits.in_range value at refl) in
     subst Holds (sym same) ((value ∷ [], [], refl, refl, refl), All-cons (λ (m : ℕ). m < 2 ^ 32) value [] below (All-nil (λ (m : ℕ). m < 2 ^ 32)))
-one_stated rule (eight_bytes part ∷ []) n small few fit one = absurd (cc)
-one_stated rule (delimited from part ∷ []) n small few fit one = absurd (cc)
-one_stated rule (four_bytes part ∷ []) n small few fit one = absurd (cc)
-one_stated rule (first ∷ second ∷ contents) n small few fit one = absurd (omega arith)
+varint_states rule (eight_bytes part ∷ []) n small few fit one = absurd (cc)
+varint_states rule (delimited from part ∷ []) n small few fit one = absurd (cc)
+varint_states rule (four_bytes part ∷ []) n small few fit one = absurd (cc)
+varint_states rule (first ∷ second ∷ contents) n small few fit one = absurd (omega arith)
 
 -- so the numbers of the fields of its number are this one
 pub singular_number_ends : (message : Message) (field_number : ℕ) (rule : FieldRule) (bytes : List ℕ) (from : ℕ) (entries : List Entry) (n : ℕ)
@@ -41,7 +41,7 @@ pub singular_number_ends : (message : Message) (field_number : ℕ) (rule : Fiel
 singular_number_ends message field_number rule bytes from entries n known singular small whole keeps one =
     let count = keeps.at_most field_number rule known singular in
     let size = length-map (fields_of field_number entries) (λ (entry : Entry). entry.content) in
-    let stated = one_stated rule (contents_of field_number entries) n small (omega arith) (contents_fit message field_number rule entries known keeps.fits) one in
+    let stated = varint_states rule (contents_of field_number entries) n small (omega arith) (contents_fit message field_number rule entries known keeps.fits) one in
     (entries, whole, stated.0, stated.1)
 
 -- a walk gives the one number that is left

@@ -10,7 +10,7 @@ ghost use Rattle.mvt_wire.specs.Numbers.{NumbersLeft, most_left};
 #[cfg(test)]
 mod tests;
 
-use crate::moves::{moved_by, origin};
+use crate::moves::moved_by;
 use mvt_plane::Point;
 use mvt_wire::Numbers;
 use std::marker::Model;
@@ -49,7 +49,7 @@ impl<'a> Corners<'a> {
     {
         Corners {
             numbers,
-            here: origin(),
+            here: Point::origin(),
             left: 0,
         }
     }

@@ -5,7 +5,7 @@ ghost use Rattle.mvt_confirm.specs.Commands.{IsNoMove};
 ghost use Rattle.mvt_plane.specs.CommandFault.{greatest_parameter};
 ghost use Rattle.mvt_plane.specs.Drawing.{IsMove, unzigzag};
 ghost use Rattle.mvt_plane.specs.Figure.{IsStep, zigzag};
-ghost use Rattle.mvt_plane.specs.Position.{Position, origin};
+ghost use Rattle.mvt_plane.specs.Position.{Position};
 
 use mvt_fault::CommandCode;
 use mvt_plane::Point;
@@ -13,16 +13,6 @@ use mvt_wire::unzigzag32;
 
 /// The parameter that stands for -2^31, which isn't allowed.
 const GREATEST_PARAMETER: u32 = 4294967295;
-
-/// Where the cursor of a geometry begins.
-pub(crate) fn origin() -> Point
-    ensures { result ≡ origin }
-{
-    match Point::new(0, 0) {
-        Some(point) => point,
-        None => unreachable!(),
-    }
-}
 
 /// The position to which a parameter leads along the x axis.
 ///

@@ -11,7 +11,7 @@ ghost use Rattle.mvt_plane.specs.Drawing.{Leg, State, MayEnd, IsMove, unzigzag, 
 ghost use Rattle.mvt_plane.specs.Figure.{GeometryType, command_integer};
 
 use mvt_fault::CommandCode;
-use mvt_plane::GREATEST_COORDINATE;
+use mvt_plane::{GREATEST_COORDINATE, GREATEST_COUNT, LINE_TO, MOVE_TO};
 use mvt_wire::unzigzag32;
 
 /// Where the next step begins.
@@ -22,18 +22,6 @@ pub(crate) struct Cursor {
     /// The coordinate along the y axis.
     pub(crate) y: i32,
 }
-
-/// The id of a command that moves the cursor (section 4.3.3.1).
-pub(crate) const MOVE_TO: u32 = 1;
-
-/// The id of a command that draws lines (section 4.3.3.2).
-pub(crate) const LINE_TO: u32 = 2;
-
-/// The id of a command that closes a ring (section 4.3.3.3).
-pub(crate) const CLOSE_PATH: u32 = 7;
-
-/// The greatest count of a command, which has 29 bits (section 4.3.1).
-pub(crate) const GREATEST_COUNT: u32 = (1 << 29) - 1;
 
 /// The count of the command at a place, which is to have this id and a count from `fewest` to `most`.
 pub(crate) fn command(

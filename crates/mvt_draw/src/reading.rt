@@ -9,10 +9,11 @@ ghost use Rattle.mvt_plane.specs.Figure.{GeometryType, cursor, point};
 ghost use Rattle.mvt_plane.specs.Position.{Position, origin};
 ghost use Rattle.mvt_plane.specs.Reading.{IsWhole, StandsAt, path_type, with_left};
 
-use crate::commands::{CLOSE_PATH, Cursor, GREATEST_COUNT, MOVE_TO, command, path_start, step};
+use crate::commands::{Cursor, command, path_start, step};
 use crate::drawing::DrawFault;
 use crate::sink::PositionSink;
 use mvt_fault::CommandCode;
+use mvt_plane::{CLOSE_PATH, GREATEST_COUNT, MOVE_TO};
 
 /// Reads the numbers as points, to which one MoveTo leads (section 4.3.4.2).
 pub(crate) fn read_points<S: PositionSink>(sink: &mut S, numbers: &[u32]) -> Result<(), DrawFault>

@@ -1,15 +1,13 @@
 ghost use Rattle.std.specs.Prelude.{◌≡◌, ◌<◌, ◌↔◌, ◌++◌, ◌∷◌, [], IfErr, IfNone, IfOk, IfSome, IsTrue, OnOk, map, ◌-ℤ◌};
 ghost use Rattle.mvt_plane.specs.Figure.{AreApart, AreSteps, HasSpelling, IsCount, IsParameter, IsPath, IsStep, command_integer, cursor, path, spelling, steps, zigzag};
 ghost use Rattle.mvt_plane.specs.Figure as plane;
-ghost use Rattle.mvt_plane.specs.Position.{origin};
 ghost use Rattle.mvt_draw.specs.Geometry.{IsSpelled, IsSpellFault};
 
 #[cfg(test)]
 mod tests;
 
-use crate::commands::{CLOSE_PATH, GREATEST_COUNT, LINE_TO, MOVE_TO};
 use crate::figure::Figure;
-use mvt_plane::Point;
+use mvt_plane::{CLOSE_PATH, GREATEST_COUNT, LINE_TO, MOVE_TO, Point};
 use std::alloc::{AllocFailed, Global};
 
 /// Why a figure wasn't spelled.
@@ -64,7 +62,7 @@ fn spell_points(numbers: &mut Vec<u32>, positions: &[Point]) -> Result<(), Spell
         return Err(SpellFault::Unspellable);
     }
     spell_command(numbers, MOVE_TO, positions.len())?;
-    spell_steps(numbers, beginning(), positions)?;
+    spell_steps(numbers, Point::origin(), positions)?;
     Ok(())
 }
 
@@ -76,7 +74,7 @@ fn spell_lines(numbers: &mut Vec<u32>, lines: &[Vec<Point>]) -> Result<(), Spell
     if lines.is_empty() {
         return Err(SpellFault::Unspellable);
     }
-    let mut cursor = beginning();
+    let mut cursor = Point::origin();
     'walk: for line in lines {
         cursor = spell_path(numbers, 1, cursor, line)?;
     }
@@ -91,7 +89,7 @@ fn spell_rings(numbers: &mut Vec<u32>, rings: &[Vec<Point>]) -> Result<(), Spell
     if rings.is_empty() {
         return Err(SpellFault::Unspellable);
     }
-    let mut cursor = beginning();
+    let mut cursor = Point::origin();
     'walk: for ring in rings {
         cursor = spell_path(numbers, 2, cursor, ring)?;
         spell_command(numbers, CLOSE_PATH, 1)?;
@@ -204,15 +202,5 @@ fn zigzagged(step: i64) -> u32
         (-2 * step - 1) as u32
     } else {
         (2 * step) as u32
-    }
-}
-
-/// Where the cursor of a feature begins (section 4.3).
-fn beginning() -> Point
-    ensures { result ≡ origin }
-{
-    match Point::new(0, 0) {
-        Some(point) => point,
-        None => unreachable!(),
     }
 }

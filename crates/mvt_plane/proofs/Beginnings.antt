@@ -8,7 +8,7 @@ use Rattle.mvt_plane.proofs.Words.{numbers_of, words_spell}
 use Rattle.mvt_plane.specs.Drawing.{State, points_command, path_command, line_command, close_command, step_x, step_y, all_drawn, start, due, id_of, IsAllowed, MayEnd, next, Passes, state_behind, Draws}
 use Rattle.mvt_plane.proofs.Figures.{draws_figure}
 use Rattle.mvt_plane.proofs.DrawnFigures.{drawn_figure}
-use Rattle.mvt_plane.proofs.GoingOn.{continuation, complete, sound_state, sound_start}
+use Rattle.mvt_plane.proofs.SoundStates.{continuation, complete, sound_state, sound_start}
 
 -- a figure of the geometry type is drawn from its start
 pub draws_words : (geometry_type : GeometryType) (figure : Figure) → type_of figure ≡ geometry_type → HasSpelling figure → Draws geometry_type (start geometry_type) (words figure)

@@ -9,7 +9,7 @@ use Rattle.mvt_plane.specs.CommandFault.{Part, Word, words, IsDue, Applies, IsCa
 use Rattle.mvt_plane.proofs.Words.{numbers_of, words_spell}
 use Rattle.mvt_plane.specs.Drawing.{State, path_command, all_drawn, start, MayEnd, next, Passes, state_behind, Draws, IsBlamed, not_due, not_allowed, FaultFrom}
 use Rattle.mvt_plane.proofs.Beginnings.{draws_words, begins_passes, passes_begins, due_there, is_due, passes_spells}
-use Rattle.mvt_plane.proofs.Blames.{allowed, blamed, verdict}
+use Rattle.mvt_plane.proofs.AllowedNumbers.{allowed, blamed, verdict}
 
 -- the index is within the numbers
 fault_within : (geometry_type : GeometryType) (state : State) (numbers : List ℕ) (code index : ℕ) → FaultFrom geometry_type state numbers code index → index ≤ length numbers

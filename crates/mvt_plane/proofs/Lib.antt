@@ -1,7 +1,7 @@
+pub mod AllowedNumbers
 pub mod Areas
 pub mod Beginnings
 pub mod BelowSlanted
-pub mod Blames
 pub mod Bounds
 pub mod ClearEdges
 pub mod CommandFaults
@@ -28,7 +28,6 @@ pub mod FirstCodes
 pub mod GapPoints
 pub mod Gaps
 pub mod Geometries
-pub mod GoingOn
 pub mod InsideEdges
 pub mod InsideParity
 pub mod Lines
@@ -52,6 +51,7 @@ pub mod RingEdges
 pub mod SamePolygons
 pub mod Sides
 pub mod SlantedPlane
+pub mod SoundStates
 pub mod SpelledRings
 pub mod Spellings
 pub mod Touching

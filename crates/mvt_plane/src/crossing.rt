@@ -10,8 +10,8 @@ ghost use Rattle.mvt_plane.specs.RationalPoint.{RationalPoint, LiesOn, IsAt, IsB
 use crate::count::Count;
 use crate::edge::{Edge, x_offset, y_offset};
 use crate::hpoint::Hpoint;
+use crate::measure::side;
 use crate::point::Point;
-use crate::side::side;
 use crate::step::{x_step, y_step};
 use std::cmp::Ordering;
 

@@ -2,6 +2,7 @@
 //! edges, areas, what is inside a ring, and where two edges meet. No call takes memory.
 #![tactic(auto)]
 
+mod command;
 mod count;
 mod crossing;
 mod edge;
@@ -10,15 +11,15 @@ pub mod laws;
 mod measure;
 mod parity;
 mod point;
-mod side;
 mod step;
 #[cfg(test)]
 mod tests;
 
+pub use command::{CLOSE_PATH, GREATEST_COUNT, LINE_TO, MOVE_TO};
 pub use count::Count;
 pub use crossing::common;
 pub use edge::{Edge, on_edge};
 pub use hpoint::Hpoint;
-pub use measure::{orient, sweep_key, twice_area};
+pub use measure::{orient, side, sweep_key, twice_area};
 pub use parity::inside;
 pub use point::{GREATEST_COORDINATE, Point};

@@ -1,4 +1,5 @@
-ghost use Rattle.std.specs.Prelude.{◌≡◌, ◌^◌, ◌*ℤ◌};
+ghost use Rattle.std.specs.Prelude.{◌≡◌, ◌^◌, ◌*ℤ◌, pos};
+ghost use Rattle.std.specs.Ordering.{int_cmp};
 ghost use Rattle.mvt_plane.specs.Bound.{IsWithin};
 ghost use Rattle.mvt_plane.specs.Measure.{orientation, key_of};
 ghost use Rattle.mvt_plane.specs.Position.{IsPosition};
@@ -6,6 +7,7 @@ ghost use Rattle.mvt_plane.specs.Ring.{doubled_area, edge_area};
 
 use crate::point::Point;
 use crate::step::{x_step, y_step};
+use std::cmp::Ordering;
 
 /// Twice the area of the triangle from `a` through `b` to `c`, in square units of the tile's coordinates:
 /// positive where they go round as the vertices of an exterior do, negative where they go the other way, 0
@@ -16,6 +18,18 @@ pub fn orient(a: Point, b: Point, c: Point) -> i128
     let diagonal = x_step(a, b) * y_step(a, c);
     let antidiagonal = y_step(a, b) * x_step(a, c);
     i128::from(diagonal) - i128::from(antidiagonal)
+}
+
+/// How `orient` of these positions compares with 0: Equal where the third one is on the line through the
+/// others, and else Less or Greater by the side on which it is (section 4.3.4.4). No number of 128 bits is needed
+/// for that.
+#[inline]
+pub fn side(from: Point, to: Point, position: Point) -> Ordering
+    ensures { result ≡ int_cmp (orientation from to position) (pos 0) }
+{
+    let right = x_step(from, to) * y_step(from, position);
+    let left = y_step(from, to) * x_step(from, position);
+    right.cmp(&left)
 }
 
 /// Twice the area that a ring goes round, by the surveyor's formula, in square units of the tile's

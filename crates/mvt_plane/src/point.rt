@@ -25,7 +25,14 @@ impl Model for Point {
 
 impl Point {
     ghost use Rattle.std.specs.Prelude.{◌≡◌, IfSome, IfNone};
-    ghost use Rattle.mvt_plane.specs.Position.{Position, IsPosition};
+    ghost use Rattle.mvt_plane.specs.Position.{Position, IsPosition, origin};
+
+    /// The point (0, 0), where the cursor of a feature begins (section 4.3).
+    pub fn origin() -> Point
+        ensures { result ≡ origin }
+    {
+        Point { x: 0, y: 0 }
+    }
 
     /// The point at these coordinates, or None where one of them isn't from -2^30 to 2^30.
     pub fn new(x: i32, y: i32) -> Option<Point>

@@ -19,10 +19,9 @@ pub fn read_varint(bytes: &[u8], at: usize) -> Result<(u64, usize), WireCode>
     if let Some(read) = short_varint(bytes, at) {
         return Ok(read);
     }
-    // Each part of the answer fits registers, so that a walk keeps nothing in memory for it.
     let rest = &bytes[at..];
-    match varint_size(rest) {
-        Some(size) => Ok((varint_value(&rest[..size]), at + size)),
+    match long_varint(rest) {
+        Some((value, size)) => Ok((value, at + size)),
         None => Err(varint_defect(rest)),
     }
 }
@@ -46,36 +45,27 @@ fn short_varint(bytes: &[u8], at: usize) -> Option<(u64, usize)>
     None
 }
 
-/// How many bytes the varint has that the bytes begin with, or None where they begin with none.
+/// The varint that the bytes begin with, and how many bytes it has, or None where they begin with none.
 #[inline(never)]
-fn varint_size(rest: &[u8]) -> Option<usize>
-    ensures within { IfSome result (λ size. size ≤ length rest.now) }
-    ensures found { IfSome result (λ size. IsVarint (take size rest.now) (sum_of_groups (take size rest.now))) }
+fn long_varint(rest: &[u8]) -> Option<(u64, usize)>
+    ensures within { IfSome result (λ read. read.1 ≤ length rest.now) }
+    ensures found { IfSome result (λ read. IsVarint (take read.1 rest.now) read.0) }
     ensures refused { IfNone result (EndsEarly rest.now ⊎ IsTooLong rest.now) }
 {
+    let mut value = 0;
+    let mut weight = 1;
     for (i, &byte) in rest.iter().enumerate() {
-        if i == 9 {
+        if i == 9 && byte > 1 {
             // One bit is left below 2^64.
-            return if byte > 1 { None } else { Some(10) };
+            return None;
         }
+        value += u64::from(byte % 128) * weight;
         if byte < 128 {
-            return Some(i + 1);
+            return Some((value, i + 1));
         }
+        weight *= 128;
     }
     None
-}
-
-/// The number that a varint spells.
-#[inline(never)]
-fn varint_value(spelling: &[u8]) -> u64
-    requires { sum_of_groups spelling.now < 2 ^ 64 }
-    ensures { result ≡ sum_of_groups spelling.now }
-{
-    let mut value = 0;
-    for i in (0..spelling.len()).rev() {
-        value = value * 128 + u64::from(spelling[i] % 128);
-    }
-    value
 }
 
 /// What keeps bytes from beginning with a varint.

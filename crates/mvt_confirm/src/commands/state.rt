@@ -8,21 +8,9 @@ ghost use Rattle.mvt_plane.specs.Figure.{command_integer};
 ghost use Rattle.mvt_plane.specs.Figure as figures;
 ghost use Rattle.mvt_plane.specs.Geometry.{type_number};
 
-use crate::moves::{moved_x, moved_y, origin};
+use crate::moves::{moved_x, moved_y};
 use mvt_fault::CommandCode;
-use mvt_plane::Point;
-
-/// The id of a command that moves the cursor (Mapbox Vector Tile Specification 2.1, section 4.3.3.1).
-const MOVE_TO: u32 = 1;
-
-/// The id of a command that draws lines (section 4.3.3.2).
-const LINE_TO: u32 = 2;
-
-/// The id of a command that closes a ring (section 4.3.3.3).
-const CLOSE_PATH: u32 = 7;
-
-/// The greatest count of a command, which has 29 bits (section 4.3.1).
-const GREATEST_COUNT: u32 = (1 << 29) - 1;
+use mvt_plane::{CLOSE_PATH, GREATEST_COUNT, LINE_TO, MOVE_TO, Point};
 
 /// The geometry types that have figures (section 4.3.4).
 #[derive(Clone, Copy)]
@@ -86,7 +74,7 @@ impl State {
             GeometryType::Point => State::PointsCommand,
             GeometryType::LineString | GeometryType::Polygon => State::PathCommand {
                 drawn: false,
-                from: origin(),
+                from: Point::origin(),
             },
         }
     }
@@ -128,7 +116,7 @@ fn behind_points_command(number: u32) -> Result<State, CommandCode>
     let count = command(number, MOVE_TO, 1, GREATEST_COUNT)?;
     Ok(State::StepX {
         leg: Leg::ToPoint { left: count - 1 },
-        from: origin(),
+        from: Point::origin(),
     })
 }
 

@@ -1,4 +1,5 @@
-use crate::{Point, orient, sweep_key, twice_area};
+use crate::{Point, orient, side, sweep_key, twice_area};
+use std::cmp::Ordering;
 use std::process::Abort;
 
 const GREATEST: i32 = 1_073_741_824;
@@ -15,6 +16,21 @@ fn turns_have_the_sign_of_an_exterior(rt: HostRuntime) {
     assert_eq!(rt; orient(a, b, c), 100);
     assert_eq!(rt; orient(a, c, b), -100);
     assert_eq!(rt; orient(a, b, position(&rt, (25, 0))), 0);
+}
+
+#[test]
+fn sides_are_told_at_the_greatest_distance(rt: HostRuntime) {
+    let low = position(&rt, (-GREATEST, -GREATEST));
+    let high = position(&rt, (GREATEST, GREATEST));
+    assert_eq!(rt;
+        side(low, high, position(&rt, (GREATEST - 1, GREATEST))),
+        Ordering::Greater
+    );
+    assert_eq!(rt;
+        side(low, high, position(&rt, (GREATEST, GREATEST - 1))),
+        Ordering::Less
+    );
+    assert_eq!(rt; side(low, high, position(&rt, (7, 7))), Ordering::Equal);
 }
 
 #[test]

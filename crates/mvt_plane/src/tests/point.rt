@@ -1,6 +1,12 @@
 use crate::Point;
 
 #[test]
+fn origin_is_zero_on_both_axes(rt: HostRuntime) {
+    assert_eq!(rt; Point::origin().x(), 0);
+    assert_eq!(rt; Point::origin().y(), 0);
+}
+
+#[test]
 fn both_coordinates_are_bounded(rt: HostRuntime) {
     let greatest = 1_073_741_824;
     for (x, y, is_point) in [

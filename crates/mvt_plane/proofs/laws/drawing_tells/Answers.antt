@@ -1,7 +1,7 @@
 use Rattle.mvt_plane.proofs.Beginnings.{passes_spells}
 use Rattle.mvt_plane.proofs.CommandFaults.{has_command_fault}
 use Rattle.mvt_plane.proofs.Figures.{draws_figure}
-use Rattle.mvt_plane.proofs.GoingOn.{sound_behind_start}
+use Rattle.mvt_plane.proofs.SoundStates.{sound_behind_start}
 use Rattle.mvt_plane.proofs.laws.drawing_tells.Goals as goal
 
 pub returns-clause-figure : goal.returns-clause-figure

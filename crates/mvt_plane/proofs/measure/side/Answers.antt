@@ -3,7 +3,7 @@ use Rattle.mvt_plane.specs.Measure.{orientation}
 use Rattle.mvt_plane.specs.Bound.{IsWithin}
 use Rattle.mvt_plane.proofs.Bounds.{IsMultiplied, multiplied}
 use Rattle.mvt_plane.proofs.Sides.{cmp_by_difference}
-use Rattle.mvt_plane.proofs.side.side.Goals as goal
+use Rattle.mvt_plane.proofs.measure.side.Goals as goal
 
 -- the product of two steps, as it is computed
 product : (a b : ℤ) → IsWithin (2 ^ 31) a → IsWithin (2 ^ 31) b → IsMultiplied w64 (2 ^ 62) a b
