@@ -3,8 +3,9 @@
 
 usage: large_polygons.py SECONDS NAME=COMMAND.. -- TILE..
 
-The first program is ours. A tile on which a program takes longer than so many seconds is left out for it, with the
-shape's larger tiles. Each status is 0 or 1, and beside a time stands what the program said.
+The first program is ours. A first run of each, by GNU time, is for its memory; the others are timed. A tile on which a
+program takes longer than so many seconds is left out for it, with the shape's larger tiles. Each status is 0 or 1, and
+beside a time stands what the program said.
 """
 import os
 import shlex
@@ -12,6 +13,8 @@ import statistics
 import subprocess
 import sys
 import time
+
+from measure import GNU_TIME, start
 
 # A row has at least so many runs of each program, and more while they take little time: a host that gives more time at
 # one moment than at another changes the median of a few short runs.
@@ -23,11 +26,12 @@ LONG = 10
 PAGE_KIB = 1024
 
 
-def run(words, tile, limit):
-    """What a program says of a tile, its time and its greatest resident set in MiB, or None where it takes too long."""
+def look(words, tile, limit):
+    """What a program says of a tile, its time and its greatest resident set in MiB, or None where it takes too long. The
+    time is a little longer than its own, since GNU time starts it."""
     before = time.perf_counter()
     with open(tile, "rb") as it:
-        started = subprocess.Popen(["/usr/bin/time", "-f", "%M", *words], stdin=it, stdout=subprocess.DEVNULL, stderr=subprocess.PIPE)
+        started = subprocess.Popen([GNU_TIME, "-f", "%M", *words], stdin=it, stdout=subprocess.DEVNULL, stderr=subprocess.PIPE)
     try:
         _, said = started.communicate(timeout=limit)
     except subprocess.TimeoutExpired:
@@ -40,23 +44,33 @@ def run(words, tile, limit):
     return ("yes", "no")[started.returncode], took, int(said.split()[-1]) / PAGE_KIB
 
 
+def timed(words, tile):
+    """The time of one run of a program, from its start to its end."""
+    before = time.perf_counter()
+    start(words, tile)
+    return time.perf_counter() - before
+
+
 def measure(programs, tile, limit, left_out):
-    """The medians of each program, by name."""
-    found = {name: [] for name in programs}
+    """What each program says, by name, with the median of its times and its greatest resident set."""
     shape = os.path.basename(tile).rpartition("_")[0]
+    looks = {}
+    for name, words in programs.items():
+        if (name, shape) not in left_out:
+            looks[name] = look(words, tile, limit)
+            if looks[name] is None:
+                left_out.add((name, shape))
+    looks = {name: it for name, it in looks.items() if it is not None}
+    # (a run for memory alone is enough where it takes long)
+    times = {name: [it[1]] if it[1] > LONG else [] for name, it in looks.items()}
     begin = time.perf_counter()
     for number in range(MOST_RUNS):
         if number >= LEAST_RUNS and time.perf_counter() - begin > SECONDS_FOR_MORE:
             break
-        for name, words in programs.items():
-            if (name, shape) in left_out or (found[name] and found[name][0][1] > LONG):
-                continue
-            ran = run(words, tile, limit)
-            if ran is None:
-                left_out.add((name, shape))
-            else:
-                found[name].append(ran)
-    return {name: (runs[0][0], statistics.median(it[1] for it in runs), max(it[2] for it in runs)) for name, runs in found.items() if runs}
+        for name, (_, took, _) in looks.items():
+            if took <= LONG:
+                times[name].append(timed(programs[name], tile))
+    return {name: (verdict, statistics.median(times[name]), mib) for name, (verdict, _, mib) in looks.items()}
 
 
 def cells(programs, tile, found):

@@ -105,4 +105,5 @@ def main():
         print_row(cells)
 
 
-main()
+if __name__ == "__main__":
+    main()

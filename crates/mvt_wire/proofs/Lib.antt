@@ -1,6 +1,7 @@
 pub mod Contents
 pub mod Defects
 pub mod Entries
+pub mod Groups
 pub mod Judgements
 pub mod LastFields
 pub mod Members

@@ -30,29 +30,6 @@ sum_of_groups-take-below rest i h = rw (length-take-le i rest h) at (sum_of_grou
 pub weight-le : (i : ℕ) → i ≤ 9 → 128 ^ i ≤ 2 ^ 63
 weight-le i h = let positive : 0 < 128 = lit< tt in let raised : 128 ^ i ≤ 128 ^ 9 = pow-le-pow_right positive h in omega arith
 
--- a loop that has summed i groups sums one more
-pub next_group : (rest : List ℕ) (i value weight group : ℕ) → i < length rest → value ≡ sum_of_groups (take i rest) → weight ≡ 128 ^ i → group ≡ get_or rest i 0 % 128
-    → value + group * weight ≡ sum_of_groups (take (i + 1) rest)
-next_group rest i value weight group within is weighs low = rw (is, weighs, low) (sym (sum_of_groups-take rest i within))
-
--- and at one of the ten places the sum fits 64 bits, if a tenth byte is at most 1
-pub next_group-fits : (rest : List ℕ) (i value weight group : ℕ) → i < length rest → value ≡ sum_of_groups (take i rest) → weight ≡ 128 ^ i → group ≡ get_or rest i 0 % 128
-    → i ≤ 9 → (i ≡ 9 → get_or rest i 0 ≤ 1) → value + group * weight < 2 ^ 64
-next_group-fits rest i value weight group within is weighs low few last = elim (cases_lt i 9) [
-  | inl less ↦
-      let sum = next_group rest i value weight group within is weighs low in
-      let below = sum_of_groups-take-below rest (i + 1) (omega arith) in
-      let fits = weight-le (i + 1) (omega arith) in
-      omega arith
-  | inr more ↦
-      let byte : get_or rest i 0 ≤ 1 = last (omega arith) in
-      let small : group ≤ 1 = omega arith in
-      let product : group * weight ≤ 1 * weight = mul-le-mul_right weight small in
-      let below = sum_of_groups-take-below rest i (omega arith) in
-      let fits = weight-le i few in
-      omega arith
-]
-
 -- the first byte below 128 ends the varint
 pub IsVarint-take : (rest : List ℕ) (i n : ℕ) → i < length rest → i ≤ 9 → ((k : ℕ) → k < i → 128 ≤ get_or rest k 0) → get_or rest i 0 < 128 → n ≡ sum_of_groups (take (i + 1) rest) → n < 2 ^ 64 → IsVarint (take (i + 1) rest) n
 IsVarint-take rest i n within few earlier last value fits =

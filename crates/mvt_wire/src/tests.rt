@@ -3,10 +3,21 @@ use crate::{Body, Fields, WireCause, WireCode, read_varint, text, unzigzag32, un
 // 150 is the example of the Protocol Buffers documentation; the greatest number takes ten bytes.
 #[test]
 fn varints(rt: HostRuntime) {
-    let cases: [(&[u8], Result<(u64, usize), WireCode>); 7] = [
+    let cases: [(&[u8], Result<(u64, usize), WireCode>); 13] = [
         (&[0x96, 0x01], Ok((150, 2))),
         (&[0x02, 0xff], Ok((2, 1))),
         (&[0x82, 0x80, 0x00], Ok((2, 3))),
+        // 2^14, at the end and before other bytes, 2^21, 2^28, and the greatest number of 32 bits
+        (&[0x80, 0x80, 0x01], Ok((16_384, 3))),
+        (&[0x80, 0x80, 0x01, 0xff, 0xff], Ok((16_384, 3))),
+        (&[0x80, 0x80, 0x80, 0x01, 0xff], Ok((2_097_152, 4))),
+        (&[0x80, 0x80, 0x80, 0x80, 0x01], Ok((268_435_456, 5))),
+        (&[0xff, 0xff, 0xff, 0xff, 0x0f], Ok((4_294_967_295, 5))),
+        // 2^35
+        (
+            &[0x80, 0x80, 0x80, 0x80, 0x80, 0x01],
+            Ok((34_359_738_368, 6)),
+        ),
         (
             &[0xff, 0xff, 0xff, 0xff, 0xff, 0xff, 0xff, 0xff, 0xff, 0x01],
             Ok((u64::MAX, 10)),

@@ -9,7 +9,7 @@ use crate::sweep::corners::{Corner, meeting_at, next_of, previous_of};
 use crate::sweep::neighbors::meeting_with;
 use crate::sweep::place::place_of;
 use crate::sweep::step::Step;
-use mvt_plane::{Count, orient};
+use mvt_plane::{Count, side};
 use mvt_status::Status;
 use std::alloc::AllocError;
 
@@ -61,7 +61,7 @@ fn in_order(corners: &[Corner], number: usize, count: &mut Count) -> (usize, usi
     let before = corners[previous].position;
     let behind = corners[next_of(corners, number)].position;
     count.tick_probe();
-    if orient(position, before, behind) > 0 {
+    if side(position, before, behind).is_gt() {
         (previous, number)
     } else {
         (number, previous)

@@ -8,7 +8,7 @@ ghost use Rattle.mvt_status.specs.Counts.{bits};
 ghost use Rattle.mvt_status.specs.Split.{AreBeside};
 
 use crate::sweep::corners::{Corner, next_of};
-use mvt_plane::{Count, Point, orient, sweep_key};
+use mvt_plane::{Count, Point, side, sweep_key};
 use mvt_status::{Split, Status};
 
 /// How many edges of the status are below a corner, which come before the others, and the two edges beside it.
@@ -49,9 +49,10 @@ fn is_below(corners: &[Corner], edge: usize, position: Point) -> bool
 {
     let from = corners[edge].position;
     let to = corners[next_of(corners, edge)].position;
+    let side = side(from, to, position);
     if sweep_key(from) < sweep_key(to) {
-        orient(from, to, position) > 0
+        side.is_gt()
     } else {
-        orient(to, from, position) > 0
+        side.is_lt()
     }
 }
