@@ -4,7 +4,6 @@ use Rattle.std.proofs.lemmas.Bool.{eq-eqb, ne_eqb, lt-ltb, cond-true, cond-false
 use Rattle.std.proofs.lemmas.List.Elements.{filter-append}
 use Rattle.mvt_wire.specs.Field.{Entry}
 use Rattle.mvt_wire.specs.Schema.{rule_of}
-use Rattle.mvt_wire.specs.Scope.{fields_of}
 use Rattle.mvt_wire.specs.WireFault.{count_of, stands_in, count_known, EntryFault, FieldFault}
 use Rattle.mvt_wire.specs.declared.cause.WireCause.{WireCause}
 use Rattle.mvt_wire.specs.declared.schema.FieldRule.{FieldRule}
