@@ -29,12 +29,13 @@ pub enum PolygonFault {
     Nesting(NestFault),
 }
 
-/// The first fault of the polygon of these rings: a meeting, as `find_meeting` answers, or else what `check_nesting` answers, or
-/// None where there is neither (Mapbox Vector Tile Specification 2.1, section 4.3.4.4). The first ring is the exterior, the
-/// others are the holes. Each ring is to have three vertices or more, none at the position of the next one. One sweep decides
-/// both: where its line comes to a ring, the edges below tell which rings are around it. So of n vertices it makes at most
-/// 3 * n tests of two edges, n * (2 * bits(n) + 3) comparisons of an edge with a vertex and n * 20 * bits(n) visits of the
-/// status's nodes, as `count` has it, also where rings are many. A polygon of one ring has no holes, so nothing is noted of it. The only error is that memory was refused.
+/// The first fault of the polygon of these rings: a meeting, as `find_meeting` answers, or else what `check_nesting`
+/// answers, or None where there is neither (Mapbox Vector Tile Specification 2.1, section 4.3.4.4). The first ring is
+/// the exterior, the others are the holes. Each ring is to have three vertices or more, none at the position of the
+/// next one. One sweep decides both: where its line comes to a ring, the edges below tell which rings are around it. So
+/// of n vertices it makes at most 3 * n tests of two edges, n * (2 * bits(n) + 3) comparisons of an edge with a vertex
+/// and n * 20 * bits(n) visits of the status's nodes, as `count` has it, also where rings are many. A polygon of one
+/// ring has no holes, so nothing is noted of it. The only error is that memory was refused.
 pub fn check_polygon(
     alloc: Global,
     rings: &[Vec<Point>],

@@ -41,8 +41,8 @@ pub trait Status {
         ensures list { edges self.new ≡ (if is_ok result then insert (edges self.old) at edge else edges self.old) }
         ensures counted { AddsAtMost 0 (2 * bits (length (edges self.old))) count.old count.new };
 
-    /// Puts two edges at a place, the lower one first, in front of the one that was there. The only error is that memory
-    /// was refused. The list is then as it was.
+    /// Puts two edges at a place, the lower one first, in front of the one that was there. The only error is that
+    /// memory was refused. The list is then as it was.
     fn insert_two(
         &mut self,
         at: usize,

@@ -33,15 +33,14 @@ use std::alloc::{AllocError, Global};
 use summary::summarize;
 pub use tags::check_tags;
 
-/// The first fault of a tile by its rules, or None where it keeps them: its layers have version 2 and
-/// different names (Mapbox Vector Tile Specification 2.1, section 4.1), the tags of each feature are pairs
-/// of a key and a value of its layer, no key twice (section 4.4), and each feature keeps the further rule.
-/// The layers' faults come first; then the first feature that has a fault decides, and its tags come before
-/// the further rule. The bytes must have no wire fault (`wire_fault`), and the rule's faults must come
-/// behind those of the tags of their feature in the order of faults. The bytes are read again: each layer at
-/// most once, or twice where a tag names a key or a value that the layer doesn't have. No record of the tile is
-/// built. Its memory is for the names of the layers, for one feature at a time, and for marks of keys. The only
-/// error is that memory was refused.
+/// The first fault of a tile by its rules, or None where it keeps them: its layers have version 2 and different names
+/// (Mapbox Vector Tile Specification 2.1, section 4.1), the tags of each feature are pairs of a key and a value of its
+/// layer, no key twice (section 4.4), and each feature keeps the further rule. The layers' faults come first; then the
+/// first feature that has a fault decides, and its tags come before the further rule. The bytes must have no wire fault
+/// (`wire_fault`), and the rule's faults must come behind those of the tags of their feature in the order of faults.
+/// The bytes are read again: each layer at most once, or twice where a list of tags has an odd length, or a tag names a
+/// key or a value that the layer doesn't have. No record of the tile is built. Its memory is for the names of the
+/// layers, for one feature at a time, and for marks of keys. The only error is that memory was refused.
 pub fn rule_fault<R: FeatureRule>(
     alloc: Global,
     bytes: &[u8],

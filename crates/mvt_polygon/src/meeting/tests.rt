@@ -101,8 +101,8 @@ struct Findings {
     in_vector: Count,
 }
 
-/// The meetings that are found in rings. Where the sweep finds one, `find_meeting` does, and neither makes more tests than
-/// three for each vertex.
+/// The meetings that are found in rings. Where the sweep finds one, `find_meeting` does, and neither makes more tests
+/// than three for each vertex.
 fn meeting_in(rt: &impl Abort, alloc: Global, rings: &[Vec<Point>]) -> Result<Findings, AllocError>
     requires { AreProperRings (rings_of rings.now) }
 {

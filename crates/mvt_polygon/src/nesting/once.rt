@@ -81,8 +81,8 @@ fn hole_around(
     None
 }
 
-/// Whether the position is inside the ring, with a probe for each edge of it: `inside` holds the position against each of
-/// them once.
+/// Whether the position is inside the ring, with a probe for each edge of it: `inside` holds the position against each
+/// of them once.
 fn inside_counted(position: Point, ring: &[Point], count: &mut Count) -> bool
     ensures inside { IsTrue result ↔ IsInside position ring.now }
     ensures counted { AddsWork 0 (length ring.now) 0 count.old count.new }

@@ -25,7 +25,8 @@ fn told_by_both(alloc: Global, rings: &[Vec<Point>]) -> Result<Option<PolygonFau
     })
 }
 
-/// What is told of the polygon of these rings, which is what the two others tell, with at most three tests for each vertex.
+/// What is told of the polygon of these rings, which is what the two others tell, with at most three tests for each
+/// vertex.
 fn fault_in(
     rt: &impl Abort,
     alloc: Global,

@@ -14,9 +14,9 @@ fn few_edges(rt: HostRuntime) -> Result<(), Fail> {
     Ok(())
 }
 
-// Many edges, each put in at the end, which leaves full nodes behind: 125 of them. A balanced tree has these on seven to
-// nine levels, and none of its nodes without a left or a right side is above the fourth. So a call visits four to nine
-// nodes, and a split makes at most three probes more, among the edges of one of them.
+// Many edges, each put in at the end, which leaves full nodes behind: 125 of them. A balanced tree has these on seven
+// to nine levels, and none of its nodes without a left or a right side is above the fourth. So a call visits four to
+// nine nodes, and a split makes at most three probes more, among the edges of one of them.
 #[test]
 fn many_edges(rt: HostRuntime) -> Result<(), Fail> {
     for limit in [0, 1, 700, 999, 1000] {

@@ -66,9 +66,9 @@ impl FeatureRoom {
     }
 }
 
-/// The summary of the layer with an ordinal, which stands in the bytes from one offset up to another, and the first fault
-/// of its features or None. The layer is walked once, unless a tag names a key or a value that the layer doesn't have.
-/// The only error is that memory was refused.
+/// The summary of the layer with an ordinal, which stands in the bytes from one offset up to another, and the first
+/// fault of its features or None. The layer is walked once, unless a tag names a key or a value that the layer doesn't
+/// have. The only error is that memory was refused.
 pub(crate) fn look_at_layer<'a, R: FeatureRule>(
     bytes: &'a [u8],
     rule: &mut R,
@@ -142,8 +142,8 @@ fn fault_in_layer<R: FeatureRule>(
     Ok(None) // no feature of the layer has a fault
 }
 
-/// The first fault of the feature that was read into the room, or None: its tags, in a layer of so many keys and values,
-/// come before the further rule. The only error is that memory was refused.
+/// The first fault of the feature that was read into the room, or None: its tags, in a layer of so many keys and
+/// values, come before the further rule. The only error is that memory was refused.
 pub(crate) fn fault_of_feature<R: FeatureRule>(
     rule: &mut R,
     keys: usize,

@@ -46,8 +46,8 @@ impl KeyMarks {
         }
     }
 
-    /// Adds a key, and tells whether it wasn't there. It takes memory for a mark of each key of a lesser index. The only
-    /// error is that memory was refused, and then the set is as it was.
+    /// Adds a key, and tells whether it wasn't there. It takes memory for a mark of each key of a lesser index. The
+    /// only error is that memory was refused, and then the set is as it was.
     #[inline(always)]
     pub(crate) fn insert(&mut self, key: u32) -> Result<bool, AllocError>
         ensures added { IfOk result (λ added. added ≡ not (has_key self.old key)) }
@@ -64,8 +64,8 @@ impl KeyMarks {
     }
 }
 
-/// Lengthens a list of marks, so that so many keys have theirs. Its room doubles where it has to grow. The only error is
-/// that memory was refused.
+/// Lengthens a list of marks, so that so many keys have theirs. Its room doubles where it has to grow. The only error
+/// is that memory was refused.
 #[cold]
 #[inline(never)]
 fn lengthen(marks: &mut Vec<u32>, count: usize) -> Result<(), AllocError>

@@ -1,5 +1,5 @@
-//! One walk over a layer: its summary, and the first fault of its features as far as that can be told before all its keys
-//! and values were counted.
+//! One walk over a layer: its summary, and the first fault of its features as far as that can be told before all its
+//! keys and values were counted.
 ghost use Rattle.std.specs.Prelude.{◌≤◌, ℕ, length, IfOk, IfNone, IfSome};
 ghost use Rattle.mvt_fault.specs.Place.{IsLeast, place_of};
 ghost use Rattle.mvt_fault.specs.declared.fault.Fault.{Fault};
@@ -25,12 +25,13 @@ pub(crate) struct LayerScan<'a> {
     pub(crate) summary: LayerSummary<'a>,
     /// What the tags of the features need that were looked at.
     pub(crate) needs: TagNeeds,
-    /// The first fault of the features, where the layer has what their tags need. The features behind it were not looked at.
+    /// The first fault of the features, where the layer has what their tags need. The features behind it were not
+    /// looked at.
     pub(crate) found: Option<Fault>,
 }
 
-/// Walks over the layer with an ordinal, which stands in the bytes from one offset up to another. Its keys and values may
-/// stand behind its features, so the tags are held against as many as they need, and the walk looks at no further
+/// Walks over the layer with an ordinal, which stands in the bytes from one offset up to another. Its keys and values
+/// may stand behind its features, so the tags are held against as many as they need, and the walk looks at no further
 /// features where these are more keys than the layer has bytes. The only error is that memory was refused.
 pub(crate) fn scan_layer<'a, R: FeatureRule>(
     bytes: &'a [u8],
