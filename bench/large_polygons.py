@@ -52,7 +52,7 @@ def timed(words, tile):
 
 
 def measure(programs, tile, limit, left_out):
-    """What each program says, by name, with the median of its times and its greatest resident set."""
+    """What each program says, by name, with its times and its greatest resident set."""
     shape = os.path.basename(tile).rpartition("_")[0]
     looks = {}
     for name, words in programs.items():
@@ -70,7 +70,12 @@ def measure(programs, tile, limit, left_out):
         for name, (_, took, _) in looks.items():
             if took <= LONG:
                 times[name].append(timed(programs[name], tile))
-    return {name: (verdict, statistics.median(times[name]), mib) for name, (verdict, _, mib) in looks.items()}
+    return {name: (verdict, times[name], mib) for name, (verdict, _, mib) in looks.items()}
+
+
+def ratio(ours, theirs):
+    """The median of the quotients of two runs, one after the other: a host that is slower for a while slows both."""
+    return statistics.median(one / other for one, other in zip(ours, theirs))
 
 
 def cells(programs, tile, found):
@@ -80,10 +85,10 @@ def cells(programs, tile, found):
         if name not in found:
             yield "-"
             continue
-        verdict, took, mib = found[name]
-        yield f"{took:.3f} ({verdict}, {mib:.0f} MiB)"
+        verdict, times, mib = found[name]
+        yield f"{statistics.median(times):.4f} ({verdict}, {mib:.0f} MiB)"
     for name in list(programs)[1:]:
-        yield f"{found[ours][1] / found[name][1]:.2f}" if {ours, name} <= set(found) else "-"
+        yield f"{ratio(found[ours][1], found[name][1]):.2f}" if {ours, name} <= set(found) else "-"
 
 
 def main():
