@@ -12,27 +12,27 @@ use Rattle.mvt_confirm.proofs.TileFeatures.{feature_of_this_tile, one_feature_of
 module _ (bytes : List ℕ) (layer feature : ℕ) where
   -- the feature with these ordinals stands at a place
   abbrev StandsThere : FeaturePlace → Type 0
-  StandsThere place = (tile : TileRecord) → IsTile bytes tile → (whose : LayerRecord) × (it : FeatureRecord) × IsFeatureOf tile layer feature whose it × IsFeatureAt place it
+  StandsThere place = (tile : TileRecord) → IsTile bytes tile → (layer_record : LayerRecord) × (it : FeatureRecord) × IsFeatureOf tile layer feature layer_record it × IsFeatureAt place it
 
   -- and draws rings there
   abbrev DrawsThere : FeaturePlace → Type 0
   DrawsThere place =
-      (tile : TileRecord) → IsTile bytes tile → (whose : LayerRecord) × (it : FeatureRecord) × (rings : List (List Position))
-      × IsFeatureOf tile layer feature whose it × HasRings it.kind it.geometry rings × DrawsRings place rings
+      (tile : TileRecord) → IsTile bytes tile → (layer_record : LayerRecord) × (it : FeatureRecord) × (rings : List (List Position))
+      × IsFeatureOf tile layer feature layer_record it × HasRings it.kind it.geometry rings × DrawsRings place rings
 
   -- there is no feature with these ordinals
   abbrev IsNowhere : Type 0
-  IsNowhere = (tile : TileRecord) (whose : LayerRecord) (it : FeatureRecord) → IsTile bytes tile → ¬ IsFeatureOf tile layer feature whose it
+  IsNowhere = (tile : TileRecord) (layer_record : LayerRecord) (it : FeatureRecord) → IsTile bytes tile → ¬ IsFeatureOf tile layer feature layer_record it
 
   -- or none that draws rings
   abbrev DrawsNowhere : Type 0
   DrawsNowhere =
-      (tile : TileRecord) (whose : LayerRecord) (it : FeatureRecord) (rings : List (List Position)) → IsTile bytes tile
-      → IsFeatureOf tile layer feature whose it → ¬ HasRings it.kind it.geometry rings
+      (tile : TileRecord) (layer_record : LayerRecord) (it : FeatureRecord) (rings : List (List Position)) → IsTile bytes tile
+      → IsFeatureOf tile layer feature layer_record it → ¬ HasRings it.kind it.geometry rings
 
   -- a test of the feature that stands there
   pub place_tells : (tile : TileRecord) (place : FeaturePlace) (test : Bool) (Holds : FeatureRecord → Type 0) → IsTile bytes tile → StandsThere place
-      → ((it : FeatureRecord) → IsFeatureAt place it → IsTrue test ↔ Holds it) → IsTrue test ↔ OfFeature bytes layer feature (λ whose it. Holds it)
+      → ((it : FeatureRecord) → IsFeatureAt place it → IsTrue test ↔ Holds it) → IsTrue test ↔ OfFeature bytes layer feature (λ layer_record it. Holds it)
   place_tells tile place test Holds is stands tells =
       let found = stands tile is in
       let its = tells found.1 found.3 in (
@@ -52,7 +52,7 @@ module _ (bytes : List ℕ) (layer feature : ℕ) where
   -- a test of the rings that are drawn there
   pub rings_tell : (tile : TileRecord) (place : FeaturePlace) (test : Bool) (Holds : List (List Position) → Type 0) → IsTile bytes tile → DrawsThere place
       → ((rings : List (List Position)) → DrawsRings place rings → IsTrue test ↔ Holds rings)
-      → IsTrue test ↔ OfFeature bytes layer feature (λ whose it. OfRings it Holds)
+      → IsTrue test ↔ OfFeature bytes layer feature (λ layer_record it. OfRings it Holds)
   rings_tell tile place test Holds is draws tells =
       let found = draws tile is in
       let its = tells found.2 found.5 in (
@@ -66,7 +66,7 @@ module _ (bytes : List ℕ) (layer feature : ℕ) where
 
   -- where no feature draws rings, nothing is true of them
   pub no_rings_told : (tile : TileRecord) (Holds : List (List Position) → Type 0) → IsTile bytes tile → DrawsNowhere
-      → IsTrue false ↔ OfFeature bytes layer feature (λ whose it. OfRings it Holds)
+      → IsTrue false ↔ OfFeature bytes layer feature (λ layer_record it. OfRings it Holds)
   no_rings_told tile Holds is nowhere = (
     λ holds. absurd (cc holds),
     λ shown.
@@ -80,12 +80,12 @@ module _ (bytes : List ℕ) (layer feature : ℕ) where
     draws_told holds = λ tile is.
         let found = stands tile is in
         let drawn = (tells found.1 found.3).0 holds in
-        (found.0, found.1, drawn.0, found.2, drawn.1, record { it = found.1; is = found.3; drawn = drawn.1 })
+        (found.0, found.1, drawn.0, found.2, drawn.1, record { feature_record = found.1; is = found.3; drawn = drawn.1 })
 
     -- and one of which it isn't
     pub none_told : test ≡ false → DrawsNowhere
-    none_told fails = λ tile whose it rings is there drawn.
+    none_told fails = λ tile layer_record it rings is there drawn.
         let found = stands tile is in
-        let same = one_feature_of tile layer feature whose found.0 it found.1 there found.2 in
+        let same = one_feature_of tile layer feature layer_record found.0 it found.1 there found.2 in
         let holds : IsTrue test = (tells found.1 found.3).1 (rings, subst (λ (one : FeatureRecord). HasRings one.kind one.geometry rings) same.1 drawn) in
         absurd (cc (holds, fails))

@@ -24,7 +24,7 @@ meeting : {rings : List (List Position)} {polygon : ℕ} {first second : RingEdg
     → MeetsWrongly rings (number_of first) (number_of second) point → IsRingOf it first.ring → IsRingOf it second.ring → ComesBefore (number_of first) (number_of second) → IsBounded point
     → IsMeeting rings polygon first second point
 meeting it of meets first_in second_in in_order bounded =
-    record { it = it; of = of; first_in = first_in; second_in = second_in; in_order = in_order; bounded = bounded; meets = meets }
+    record { polygon_rings = it; of = of; first_in = first_in; second_in = second_in; in_order = in_order; bounded = bounded; meets = meets }
 
 -- two that cross
 pub crossing_shown : IsMeeting (crossed ∷ []) 0 (record { ring = 0; edge = 0 }) (record { ring = 0; edge = 2 }) (fraction 800 800 180)
@@ -62,12 +62,12 @@ touching_shown = meeting (rings_from 0 2) touching_polygon rings_touch (search r
 
 -- a hole beside the square
 pub vertex_outside : IsVertexOutside (square ∷ hole_beside ∷ []) 0 1 0
-vertex_outside = record { it = rings_from 0 2; of = beside_polygon; outside = hole_outside }
+vertex_outside = record { polygon_rings = rings_from 0 2; of = beside_polygon; outside = hole_outside }
 
 -- the square has the only polygon
 pub none_of_other_polygon : (ring vertex : ℕ) → ¬ IsVertexOutside (square ∷ hole_beside ∷ []) 1 ring vertex
 none_of_other_polygon ring vertex outside =
-    let same = no_other_polygon (square ∷ hole_beside ∷ []) 1 outside.it beside_polygon.there outside.of.there in
+    let same = no_other_polygon (square ∷ hole_beside ∷ []) 1 outside.polygon_rings beside_polygon.there outside.of.there in
     let none = same.0 in
     omega arith
 
@@ -84,23 +84,23 @@ hole_outside_second = record {
 
 -- it is outside the second polygon
 pub vertex_outside_second : IsVertexOutside (square ∷ square ∷ hole_beside ∷ []) 1 2 0
-vertex_outside_second = record { it = rings_from 1 3; of = beside_second; outside = hole_outside_second }
+vertex_outside_second = record { polygon_rings = rings_from 1 3; of = beside_second; outside = hole_outside_second }
 
 -- the second square is no hole
 pub none_of_own_number : (vertex : ℕ) → ¬ IsVertexOutside (square ∷ square ∷ hole_beside ∷ []) 1 1 vertex
 none_of_own_number vertex outside =
     let behind = outside.outside.hole.behind in
-    let exterior = exterior_behind (square ∷ square ∷ hole_beside ∷ []) 1 outside.it.exterior outside.of.there.begins in
+    let exterior = exterior_behind (square ∷ square ∷ hole_beside ∷ []) 1 outside.polygon_rings.exterior outside.of.there.begins in
     omega arith
 
 -- a hole inside another
 pub vertex_in_hole : IsVertexInHole hole_in_hole 0 2 0 1
-vertex_in_hole = record { it = rings_from 0 3; of = two_holes; inside = hole_in_other }
+vertex_in_hole = record { polygon_rings = rings_from 0 3; of = two_holes; inside = hole_in_other }
 
 -- the same in a second polygon
 pub vertex_in_hole_second : IsVertexInHole (square ∷ hole_in_hole) 1 3 0 2
 vertex_in_hole_second = record {
-  it = rings_from 1 4;
+  polygon_rings = rings_from 1 4;
   of = two_holes_second;
   inside = record {
     hole = search rules;
@@ -129,8 +129,8 @@ none_outside polygon ring vertex outside =
     let behind = outside.outside.hole.behind in
     let before = outside.outside.hole.before in
     let within : ring < 3 = slice_get_within two_polygons ring outside.outside.here.vertices outside.outside.here.there in
-    let two : ring ≡ 2 = hole_of_second ring polygon outside.it outside.of.there behind before within in
-    let its = one_polygon two_polygons ring polygon 1 outside.it (rings_from 1 3) outside.of.there
+    let two : ring ≡ 2 = hole_of_second ring polygon outside.polygon_rings outside.of.there behind before within in
+    let its = one_polygon two_polygons ring polygon 1 outside.polygon_rings (rings_from 1 3) outside.of.there
     (record { from = omega arith; before = before }) second_polygon (record { from = omega arith; before = omega arith }) in
     hole_within ring vertex (subst (λ (it : PolygonRings). IsOutside two_polygons it ring vertex) its.1 outside.outside)
 

@@ -40,7 +40,7 @@ outside_by_test rings polygon ring vertex exterior position inside sound hole he
     let around = vertices_there rings polygon hole.0.exterior hole.0 hole.1 (exterior_in rings polygon hole.0 hole.1) in
     let there : slice_get rings exterior ≡ Some around.0 = subst (λ (number : ℕ). slice_get rings number ≡ Some around.0) hole.3 around.1 in
     record {
-      it = hole.0;
+      polygon_rings = hole.0;
       of = record { sound = sound; there = hole.1 };
       outside = record {
         hole = hole.2;
@@ -56,8 +56,8 @@ outside_by_test rings polygon ring vertex exterior position inside sound hole he
 test_by_outside : (rings : List (List Position)) (polygon ring vertex exterior : ℕ) (position : Position) (inside : Bool) → IsHoleRound rings polygon ring exterior
     → IsVertexOf rings ring vertex position → TellsInside rings exterior position inside → IsVertexOutside rings polygon ring vertex → ¬ IsTrue inside
 test_by_outside rings polygon ring vertex exterior position inside hole here tells is within =
-    let one : is.it ≡ hole.0 = same_polygon rings polygon is.it hole.0 is.of.there hole.1 in
-    let number : is.it.exterior ≡ exterior = ap (λ (it : PolygonRings). it.exterior) one ∙ hole.3 in
+    let one : is.polygon_rings ≡ hole.0 = same_polygon rings polygon is.polygon_rings hole.0 is.of.there hole.1 in
+    let number : is.polygon_rings.exterior ≡ exterior = ap (λ (it : PolygonRings). it.exterior) one ∙ hole.3 in
     let there : slice_get rings exterior ≡ Some is.outside.exterior = subst (λ (number : ℕ). slice_get rings number ≡ Some is.outside.exterior) number is.outside.there in
     let same : position ≡ is.outside.position = one_position rings ring vertex position is.outside.position here is.outside.here in
     is.outside.outside (subst (λ (at : Position). IsInside at is.outside.exterior) same ((tells is.outside.exterior there).0 within))
@@ -80,7 +80,7 @@ in_hole_by_test rings polygon ring vertex other position inside sound different 
     let around = vertices_there rings polygon other other_hole.0 other_hole.1 (hole_in other_hole.0 other other_hole.2) in
     let one : other_hole.0 ≡ hole.0 = same_polygon rings polygon other_hole.0 hole.0 other_hole.1 hole.1 in
     record {
-      it = hole.0;
+      polygon_rings = hole.0;
       of = record { sound = sound; there = hole.1 };
       inside = record {
         hole = hole.2;

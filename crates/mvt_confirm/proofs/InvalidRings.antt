@@ -20,17 +20,17 @@ ring_is_invalid rings code ring broken valid = not_sound rings code ring broken 
 -- two edges of a polygon meet
 pub meeting_is_invalid : (rings : List (List Position)) (polygon : ℕ) (first second : RingEdge) (point : RationalPoint) → IsMeeting rings polygon first second point → ¬ AreValidRings rings
 meeting_is_invalid rings polygon first second point meeting valid =
-    let its = valid.polygons polygon meeting.it meeting.of.there in
+    let its = valid.polygons polygon meeting.polygon_rings meeting.of.there in
     its.apart (number_of first) (number_of second) point meeting.first_in meeting.second_in meeting.meets
 
 -- a vertex of a hole is outside the exterior
 pub outside_is_invalid : (rings : List (List Position)) (polygon ring vertex : ℕ) → IsVertexOutside rings polygon ring vertex → ¬ AreValidRings rings
 outside_is_invalid rings polygon ring vertex outside valid =
-    let its = valid.polygons polygon outside.it outside.of.there in
+    let its = valid.polygons polygon outside.polygon_rings outside.of.there in
     its.enclosed ring vertex outside.outside
 
 -- it is inside another hole
 pub in_hole_is_invalid : (rings : List (List Position)) (polygon ring vertex other : ℕ) → IsVertexInHole rings polygon ring vertex other → ¬ AreValidRings rings
 in_hole_is_invalid rings polygon ring vertex other inside valid =
-    let its = valid.polygons polygon inside.it inside.of.there in
+    let its = valid.polygons polygon inside.polygon_rings inside.of.there in
     its.side_by_side ring vertex other inside.inside

@@ -52,8 +52,8 @@ hole_in it ring hole = let behind = hole.behind in record { from = omega arith; 
 -- is one of the polygon that is told, and of no other
 pub told_by_place : (rings : List (List Position)) (polygon ring : ℕ) (place : RingPlace) → IsPlaceOf rings ring place → IsTrue (place.polygon == polygon) ↔ IsMember rings polygon ring
 told_by_place rings polygon ring place is = (
-  λ same. (is.it, subst (λ (number : ℕ). IsPolygon rings number is.it) ((Decides-eqb place.polygon polygon).0 same) is.there, is.of),
-  λ member. (Decides-eqb place.polygon polygon).1 (one_polygon rings ring place.polygon polygon is.it member.0 is.there is.of member.1 member.2).0,
+  λ same. (is.polygon_rings, subst (λ (number : ℕ). IsPolygon rings number is.polygon_rings) ((Decides-eqb place.polygon polygon).0 same) is.there, is.of),
+  λ member. (Decides-eqb place.polygon polygon).1 (one_polygon rings ring place.polygon polygon is.polygon_rings member.0 is.there is.of member.1 member.2).0,
 )
 
 -- is a hole where it isn't the exterior that is told
@@ -62,8 +62,8 @@ pub hole_by_place : (rings : List (List Position)) (polygon ring : ℕ) (place :
 hole_by_place rings polygon ring place is same other =
     let from = is.of.from in
     let begins = is.begins in (
-      is.it,
-      subst (λ (number : ℕ). IsPolygon rings number is.it) same is.there,
+      is.polygon_rings,
+      subst (λ (number : ℕ). IsPolygon rings number is.polygon_rings) same is.there,
       record { behind = omega arith; before = is.of.before },
       begins,
     )
@@ -71,14 +71,14 @@ hole_by_place rings polygon ring place is same other =
 -- is a hole of no other polygon
 pub of_another_polygon : (rings : List (List Position)) (polygon ring : ℕ) (place : RingPlace) (it : PolygonRings) → IsPlaceOf rings ring place → place.polygon ≢ polygon → IsPolygon rings polygon it
     → ¬ IsHoleOf it ring
-of_another_polygon rings polygon ring place it is other there hole = other (one_polygon rings ring place.polygon polygon is.it it is.there is.of there (hole_in it ring hole)).0
+of_another_polygon rings polygon ring place it is other there hole = other (one_polygon rings ring place.polygon polygon is.polygon_rings it is.there is.of there (hole_in it ring hole)).0
 
 -- is none where it is the exterior
 pub is_exterior : (rings : List (List Position)) (polygon ring : ℕ) (place : RingPlace) (it : PolygonRings) → IsPlaceOf rings ring place → place.exterior ≡ ring → IsPolygon rings polygon it
     → ¬ IsHoleOf it ring
 is_exterior rings polygon ring place it is same there hole =
-    let one = (one_polygon rings ring place.polygon polygon is.it it is.there is.of there (hole_in it ring hole)).1 in
-    let exterior : is.it.exterior ≡ it.exterior = ap (λ (its : PolygonRings). its.exterior) one in
+    let one = (one_polygon rings ring place.polygon polygon is.polygon_rings it is.there is.of there (hole_in it ring hole)).1 in
+    let exterior : is.polygon_rings.exterior ≡ it.exterior = ap (λ (its : PolygonRings). its.exterior) one in
     let begins = is.begins in
     let behind = hole.behind in
     omega arith
@@ -98,7 +98,7 @@ pub meeting_of_members : {Met : Type 0} (rings : List (List Position)) (polygon 
 meeting_of_members {Met} rings polygon first second point sound one other met =
     let same : other.0 ≡ one.0 = same_polygon rings polygon other.0 one.0 other.1 one.1 in (
       λ it. let all = met.0 it in record {
-        it = one.0;
+        polygon_rings = one.0;
         of = record { sound = sound; there = one.1 };
         first_in = one.2;
         second_in = subst (λ (its : PolygonRings). IsRingOf its second.ring) same other.2;
@@ -112,4 +112,4 @@ meeting_of_members {Met} rings polygon first second point sound one other met =
 -- what a meeting wants of its rings
 pub meeting_members : (rings : List (List Position)) (polygon : ℕ) (first second : RingEdge) (point : RationalPoint) → IsMeeting rings polygon first second point
     → IsMember rings polygon first.ring × IsMember rings polygon second.ring
-meeting_members rings polygon first second point meeting = ((meeting.it, meeting.of.there, meeting.first_in), (meeting.it, meeting.of.there, meeting.second_in))
+meeting_members rings polygon first second point meeting = ((meeting.polygon_rings, meeting.of.there, meeting.first_in), (meeting.polygon_rings, meeting.of.there, meeting.second_in))

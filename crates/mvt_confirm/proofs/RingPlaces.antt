@@ -91,7 +91,7 @@ place_there rings ring polygon exterior able within begins from none =
       | inr earlier ↦ λ more. none number behind (omega arith)
     ] in
     record {
-      it = record { exterior = exterior; after = after };
+      polygon_rings = record { exterior = exterior; after = after };
       there = record { begins = begins; further = omega arith; holes = holes; ends = home.2.ends };
       begins = refl;
       of = record { from = from; before = before };

@@ -117,4 +117,4 @@ IfNone-weaker (Some x) P Q follows holds = tt
 pub one_layer : (bytes : List ℕ) (layer field_number ordinal : ℕ) (span found : Span) → IsPart bytes (whole_span bytes) 3 layer found → ((part : Span) → ¬ IsPart bytes found field_number ordinal part)
     → (outer : Span) → IsPart bytes (whole_span bytes) 3 layer outer → ¬ IsPart bytes outer field_number ordinal span
 one_layer bytes layer field_number ordinal span found there none outer other part =
-    none span (subst (λ (whose : Span). IsPart bytes whose field_number ordinal span) (one_part bytes (whole_span bytes) outer found 3 layer other there) part)
+    none span (subst (λ (layer_record : Span). IsPart bytes layer_record field_number ordinal span) (one_part bytes (whole_span bytes) outer found 3 layer other there) part)

@@ -56,7 +56,7 @@ wire_faults_alone bytes code scope at field fault broken shown = elim ((shown_by
 -- where a ring has a fault, nothing is true that has a polygon of these rings
 pub rings_before_polygons : (bytes : List ℕ) (code : RingCode) (layer feature ring : ℕ) (Holds : List (List Position) → Type 0)
     → ((rings : List (List Position)) → Holds rings → ArePolygonRings rings)
-    → Shows bytes (Ring code layer feature ring) → ¬ OfFeature bytes layer feature (λ whose it. OfRings it Holds)
+    → Shows bytes (Ring code layer feature ring) → ¬ OfFeature bytes layer feature (λ layer_record it. OfRings it Holds)
 rings_before_polygons bytes code layer feature ring Holds sound broken shown =
     let same = same_rings bytes layer feature Holds (λ rings. BreaksRings rings (ring_code code) ring) shown broken in
     not_sound broken.3.0 (ring_code code) ring broken.3.2 (subst ArePolygonRings same (sound shown.3.0 shown.3.2))
@@ -66,10 +66,10 @@ rings_before_polygons bytes code layer feature ring Holds sound broken shown =
 -- two meetings of one feature that have a ring in common
 pub one_polygon_of_ring : (bytes : List ℕ) (layer feature polygon other ring its_ring : ℕ) (first second its_first its_second : RingEdge) (x y w its_x its_y its_w : ℤ)
     → (one : Shows bytes (Meeting layer feature polygon first second x y w)) → (another : Shows bytes (Meeting layer feature other its_first its_second its_x its_y its_w))
-    → IsRingOf one.3.2.it ring → IsRingOf another.3.2.it its_ring → ring ≡ its_ring → polygon ≡ other
+    → IsRingOf one.3.2.polygon_rings ring → IsRingOf another.3.2.polygon_rings its_ring → ring ≡ its_ring → polygon ≡ other
 one_polygon_of_ring bytes layer feature polygon other ring its_ring first second its_first its_second x y w its_x its_y its_w one another ring_in its_ring_in same =
     let rings = same_rings bytes layer feature (λ rings. IsMeeting rings polygon first second (record { x = x; y = y; w = w }))
     (λ rings. IsMeeting rings other its_first its_second (record { x = its_x; y = its_y; w = its_w })) one another in
-    let moved : IsPolygon another.3.0 polygon one.3.2.it = subst (λ (rings : List (List Position)). IsPolygon rings polygon one.3.2.it) rings one.3.2.of.there in
-    let both = one_polygon another.3.0 ring polygon other one.3.2.it another.3.2.it moved ring_in another.3.2.of.there (subst (IsRingOf another.3.2.it) (sym same) its_ring_in) in
+    let moved : IsPolygon another.3.0 polygon one.3.2.polygon_rings = subst (λ (rings : List (List Position)). IsPolygon rings polygon one.3.2.polygon_rings) rings one.3.2.of.there in
+    let both = one_polygon another.3.0 ring polygon other one.3.2.polygon_rings another.3.2.polygon_rings moved ring_in another.3.2.of.there (subst (IsRingOf another.3.2.polygon_rings) (sym same) its_ring_in) in
     both.0

@@ -11,7 +11,7 @@ use Rattle.mvt_wire.specs.declared.cause.WireCode.{WireCode}
 use Rattle.mvt_wire.specs.declared.scope.Scope.{Scope}
 use Rattle.mvt_confirm.proofs.Shown.{wire_faults_alone}
 use Rattle.mvt_confirm.proofs.TileFeatures.{of_this_tile, feature_of_this_tile}
-use Rattle.mvt_confirm.specs.Shows.{OfTile, OfFeature, IsOfPolygon, Shows}
+use Rattle.mvt_confirm.specs.Shows.{OfTile, OfFeature, IsOfPolygon, Shows, meeting, outside, in_hole}
 
 -- what a test tells of a fault that is one of a polygon
 pub with_polygon : {Found Is Told : Type 0} → Is → (Found ↔ Told) → Found ↔ Is × Told
@@ -30,19 +30,18 @@ IsOneOfPolygon fault =
 
 -- each of them is one of a polygon
 pub any_of_polygon : (fault : Fault) → IsOneOfPolygon fault → IsOfPolygon fault
-any_of_polygon fault (inl is) = subst IsOfPolygon (sym is.8) tt
-any_of_polygon fault (inr (inl is)) = subst IsOfPolygon (sym is.5) tt
-any_of_polygon fault (inr (inr is)) = subst IsOfPolygon (sym is.6) tt
+any_of_polygon fault (inl is) = subst IsOfPolygon (sym is.8) (meeting _ _ _ _ _ _ _ _)
+any_of_polygon fault (inr (inl is)) = subst IsOfPolygon (sym is.5) (outside _ _ _ _ _)
+any_of_polygon fault (inr (inr is)) = subst IsOfPolygon (sym is.6) (in_hole _ _ _ _ _ _)
 
 -- and no others
 pub not_of_polygon : (fault : Fault)
     → ((layer feature polygon : ℕ) (first second : RingEdge) (x y w : ℤ) → fault ≡ Meeting layer feature polygon first second x y w → ⊥)
     → ((layer feature polygon ring vertex : ℕ) → fault ≡ Outside layer feature polygon ring vertex → ⊥)
     → ((layer feature polygon ring vertex other : ℕ) → fault ≡ HoleInHole layer feature polygon ring vertex other → ⊥) → ¬ IsOfPolygon fault
-not_of_polygon (Meeting layer feature polygon first second x y w) meeting outside in_hole is = meeting layer feature polygon first second x y w refl
-not_of_polygon (Outside layer feature polygon ring vertex) meeting outside in_hole is = outside layer feature polygon ring vertex refl
-not_of_polygon (HoleInHole layer feature polygon ring vertex other) meeting outside in_hole is = in_hole layer feature polygon ring vertex other refl
-not_of_polygon fault meeting outside in_hole is = is
+not_of_polygon fault no_meeting no_outside no_in_hole (meeting layer feature polygon first second x y w) = no_meeting layer feature polygon first second x y w refl
+not_of_polygon fault no_meeting no_outside no_in_hole (outside layer feature polygon ring vertex) = no_outside layer feature polygon ring vertex refl
+not_of_polygon fault no_meeting no_outside no_in_hole (in_hole layer feature polygon ring vertex other) = no_in_hole layer feature polygon ring vertex other refl
 
 module _ (bytes : List ℕ) (tile : TileRecord) (is : IsTile bytes tile) where
   -- of the tile
@@ -51,7 +50,7 @@ module _ (bytes : List ℕ) (tile : TileRecord) (is : IsTile bytes tile) where
 
   -- of a feature of it
   pub of_feature : (test : Bool) (layer feature : ℕ) (Holds : LayerRecord → FeatureRecord → Type 0)
-      → (IsTrue test ↔ (whose : LayerRecord) × (it : FeatureRecord) × IsFeatureOf tile layer feature whose it × Holds whose it)
+      → (IsTrue test ↔ (layer_record : LayerRecord) × (it : FeatureRecord) × IsFeatureOf tile layer feature layer_record it × Holds layer_record it)
       → IsTrue test ↔ OfFeature bytes layer feature Holds
   of_feature test layer feature Holds tells = (
     λ holds. let found = tells.0 holds in (found.0, found.1, record { tile = tile; is = is; there = found.2 }, found.3),

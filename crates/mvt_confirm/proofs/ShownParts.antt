@@ -18,15 +18,15 @@ abbrev ByParts : List ℕ → Fault → Type 0
 ByParts bytes fault = IsWireFault bytes fault ⊎ OfTile bytes (λ tile. BreaksOne tile fault)
 
 -- a feature of the bytes has it
-pub one_has : {IsFaultOf : FeatureFault} {tile : TileRecord} {layer feature : ℕ} {whose : LayerRecord} {it : FeatureRecord} {fault : Fault}
-    → IsFeatureOf tile layer feature whose it → IsFaultOf whose it layer feature fault → OneFeatureHas IsFaultOf tile fault
-one_has {layer = layer} {feature = feature} {whose = whose} {it = it} there broken =
-    record { layer = layer; feature = feature; whose = whose; it = it; there = there; broken = broken }
+pub one_has : {IsFaultOf : FeatureFault} {tile : TileRecord} {layer feature : ℕ} {layer_record : LayerRecord} {feature_record : FeatureRecord} {fault : Fault}
+    → IsFeatureOf tile layer feature layer_record feature_record → IsFaultOf layer_record feature_record layer feature fault → OneFeatureHas IsFaultOf tile fault
+one_has {layer = layer} {feature = feature} {layer_record = layer_record} {feature_record = feature_record} there broken =
+    record { layer = layer; feature = feature; layer_record = layer_record; feature_record = feature_record; there = there; broken = broken }
 
 -- in its geometry
-in_geometry : (bytes : List ℕ) (layer feature : ℕ) (whose : LayerRecord) (it : FeatureRecord) (fault : Fault)
-    → IsFeatureIn bytes layer feature whose it → IsFaultOfGeometry it layer feature fault → ByParts bytes fault
-in_geometry bytes layer feature whose it fault there broken = inr (there.tile, there.is, inr (one_has there.there broken))
+in_geometry : (bytes : List ℕ) (layer feature : ℕ) (layer_record : LayerRecord) (feature_record : FeatureRecord) (fault : Fault)
+    → IsFeatureIn bytes layer feature layer_record feature_record → IsFaultOfGeometry feature_record layer feature fault → ByParts bytes fault
+in_geometry bytes layer feature layer_record feature_record fault there broken = inr (there.tile, there.is, inr (one_has there.there broken))
 
 -- so a shown fault is one of these
 by_parts : (bytes : List ℕ) (fault : Fault) → Shows bytes fault → ByParts bytes fault
@@ -49,18 +49,18 @@ by_parts bytes (HoleInHole layer feature polygon hole vertex other) shown =
 -- The other way round
 
 -- a fault of a geometry is shown
-geometry_shows : (bytes : List ℕ) (layer feature : ℕ) (whose : LayerRecord) (it : FeatureRecord) (fault : Fault)
-    → IsFeatureIn bytes layer feature whose it → IsFaultOfGeometry it layer feature fault → Shows bytes fault
-geometry_shows bytes layer feature whose it fault there (command code index broken) = (whose, it, there, broken)
-geometry_shows bytes layer feature whose it fault there (ring code index broken) = (whose, it, there, broken)
-geometry_shows bytes layer feature whose it fault there (meeting polygon first second x y w broken) = (whose, it, there, broken)
-geometry_shows bytes layer feature whose it fault there (outside polygon hole vertex broken) = (whose, it, there, broken)
-geometry_shows bytes layer feature whose it fault there (hole_in_hole polygon hole vertex other broken) = (whose, it, there, broken)
+geometry_shows : (bytes : List ℕ) (layer feature : ℕ) (layer_record : LayerRecord) (feature_record : FeatureRecord) (fault : Fault)
+    → IsFeatureIn bytes layer feature layer_record feature_record → IsFaultOfGeometry feature_record layer feature fault → Shows bytes fault
+geometry_shows bytes layer feature layer_record feature_record fault there (command code index broken) = (layer_record, feature_record, there, broken)
+geometry_shows bytes layer feature layer_record feature_record fault there (ring code index broken) = (layer_record, feature_record, there, broken)
+geometry_shows bytes layer feature layer_record feature_record fault there (meeting polygon first second x y w broken) = (layer_record, feature_record, there, broken)
+geometry_shows bytes layer feature layer_record feature_record fault there (outside polygon hole vertex broken) = (layer_record, feature_record, there, broken)
+geometry_shows bytes layer feature layer_record feature_record fault there (hole_in_hole polygon hole vertex other broken) = (layer_record, feature_record, there, broken)
 
 -- one of tags is
-tags_show : (bytes : List ℕ) (layer feature : ℕ) (whose : LayerRecord) (it : FeatureRecord) (fault : Fault)
-    → IsFeatureIn bytes layer feature whose it → IsFaultOfTags whose it layer feature fault → Shows bytes fault
-tags_show bytes layer feature whose it fault there (tag code index broken) = (whose, it, there, broken)
+tags_show : (bytes : List ℕ) (layer feature : ℕ) (layer_record : LayerRecord) (feature_record : FeatureRecord) (fault : Fault)
+    → IsFeatureIn bytes layer feature layer_record feature_record → IsFaultOfTags layer_record feature_record layer feature fault → Shows bytes fault
+tags_show bytes layer feature layer_record feature_record fault there (tag code index broken) = (layer_record, feature_record, there, broken)
 
 -- one of layers is
 layers_show : (bytes : List ℕ) (tile : TileRecord) (fault : Fault) → IsTile bytes tile → IsFaultOfLayers tile fault → Shows bytes fault
@@ -72,9 +72,9 @@ parts_show : (bytes : List ℕ) (fault : Fault) → ByParts bytes fault → Show
 parts_show bytes _ (inl (wire code scope at field broken)) = broken
 parts_show bytes fault (inr (tile, is, inl (inl layers))) = layers_show bytes tile fault is layers
 parts_show bytes fault (inr (tile, is, inl (inr one))) =
-    tags_show bytes one.layer one.feature one.whose one.it fault (record { tile = tile; is = is; there = one.there }) one.broken
+    tags_show bytes one.layer one.feature one.layer_record one.feature_record fault (record { tile = tile; is = is; there = one.there }) one.broken
 parts_show bytes fault (inr (tile, is, inr one)) =
-    geometry_shows bytes one.layer one.feature one.whose one.it fault (record { tile = tile; is = is; there = one.there }) one.broken
+    geometry_shows bytes one.layer one.feature one.layer_record one.feature_record fault (record { tile = tile; is = is; there = one.there }) one.broken
 
 -- and these alone
 pub shown_by_parts : (bytes : List ℕ) (fault : Fault) → Shows bytes fault ↔ (IsWireFault bytes fault

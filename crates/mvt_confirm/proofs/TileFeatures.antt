@@ -15,24 +15,24 @@ pub of_this_tile : (bytes : List ℕ) (tile : TileRecord) (Holds : TileRecord �
 of_this_tile bytes tile Holds is shown = subst Holds (one_tile bytes shown.0 tile shown.1 is) shown.2
 
 -- a feature of it
-pub feature_of_this_tile : (bytes : List ℕ) (tile : TileRecord) (layer feature : ℕ) (whose : LayerRecord) (it : FeatureRecord)
-    → IsTile bytes tile → IsFeatureIn bytes layer feature whose it → IsFeatureOf tile layer feature whose it
-feature_of_this_tile bytes tile layer feature whose it is there =
-    subst (λ (t : TileRecord). IsFeatureOf t layer feature whose it) (one_tile bytes there.tile tile there.is is) there.there
+pub feature_of_this_tile : (bytes : List ℕ) (tile : TileRecord) (layer feature : ℕ) (layer_record : LayerRecord) (it : FeatureRecord)
+    → IsTile bytes tile → IsFeatureIn bytes layer feature layer_record it → IsFeatureOf tile layer feature layer_record it
+feature_of_this_tile bytes tile layer feature layer_record it is there =
+    subst (λ (t : TileRecord). IsFeatureOf t layer feature layer_record it) (one_tile bytes there.tile tile there.is is) there.there
 
 -- a tile has one feature of these ordinals
-pub one_feature_of : (tile : TileRecord) (layer feature : ℕ) (whose other : LayerRecord) (it its : FeatureRecord)
-    → IsFeatureOf tile layer feature whose it → IsFeatureOf tile layer feature other its → (whose ≡ other) × (it ≡ its)
-one_feature_of tile layer feature whose other it its first second =
-    let same : whose ≡ other = cc (first.in_tile, second.in_tile) in
+pub one_feature_of : (tile : TileRecord) (layer feature : ℕ) (layer_record other : LayerRecord) (it its : FeatureRecord)
+    → IsFeatureOf tile layer feature layer_record it → IsFeatureOf tile layer feature other its → (layer_record ≡ other) × (it ≡ its)
+one_feature_of tile layer feature layer_record other it its first second =
+    let same : layer_record ≡ other = cc (first.in_tile, second.in_tile) in
     (same, cc (first.in_layer, second.in_layer))
 
 -- and so have bytes
-pub one_feature : (bytes : List ℕ) (layer feature : ℕ) (whose other : LayerRecord) (it its : FeatureRecord)
-    → IsFeatureIn bytes layer feature whose it → IsFeatureIn bytes layer feature other its → (whose ≡ other) × (it ≡ its)
-one_feature bytes layer feature whose other it its first second =
-    one_feature_of second.tile layer feature whose other it its
-    (feature_of_this_tile bytes second.tile layer feature whose it second.is first) second.there
+pub one_feature : (bytes : List ℕ) (layer feature : ℕ) (layer_record other : LayerRecord) (it its : FeatureRecord)
+    → IsFeatureIn bytes layer feature layer_record it → IsFeatureIn bytes layer feature other its → (layer_record ≡ other) × (it ≡ its)
+one_feature bytes layer feature layer_record other it its first second =
+    one_feature_of second.tile layer feature layer_record other it its
+    (feature_of_this_tile bytes second.tile layer feature layer_record it second.is first) second.there
 
 -- a feature has one list of rings
 pub one_list_of_rings : (it : FeatureRecord) (first second : List (List Position)) → HasRings it.kind it.geometry first → HasRings it.kind it.geometry second → first ≡ second
@@ -42,7 +42,7 @@ one_list_of_rings it first second its others =
 
 -- so what is true of the rings of a feature of the bytes is true of one list
 pub same_rings : (bytes : List ℕ) (layer feature : ℕ) (First Second : List (List Position) → Type 0)
-    → (one : OfFeature bytes layer feature (λ whose it. OfRings it First)) → (other : OfFeature bytes layer feature (λ whose it. OfRings it Second)) → one.3.0 ≡ other.3.0
+    → (one : OfFeature bytes layer feature (λ layer_record it. OfRings it First)) → (other : OfFeature bytes layer feature (λ layer_record it. OfRings it Second)) → one.3.0 ≡ other.3.0
 same_rings bytes layer feature First Second one other =
     let same = one_feature bytes layer feature one.0 other.0 one.1 other.1 one.2 other.2 in
     one_list_of_rings other.1 one.3.0 other.3.0 (subst (λ (it : FeatureRecord). HasRings it.kind it.geometry one.3.0) same.1 one.3.1) other.3.1

@@ -60,5 +60,5 @@ feature_tells bytes tile layer feature span test Holds is scope tells =
       λ holds. (found.0, found.1, found.2, its.0 holds),
       λ broken.
           let same = one_feature_of tile layer feature broken.0 found.0 broken.1 found.1 broken.2 found.2 in
-          its.1 (subst (λ (it : FeatureRecord). Holds found.0 it) same.1 (subst (λ (whose : LayerRecord). Holds whose broken.1) same.0 broken.3)),
+          its.1 (subst (λ (it : FeatureRecord). Holds found.0 it) same.1 (subst (λ (layer_record : LayerRecord). Holds layer_record broken.1) same.0 broken.3)),
     )

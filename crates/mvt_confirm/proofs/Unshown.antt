@@ -59,18 +59,18 @@ figure_without_fault kind numbers small none geometry_type known = elim (figure_
 
 -- Geometries
 
-module _ (bytes : List ℕ) (none : (fault : Fault) → ¬ Shows bytes fault) (layer feature : ℕ) (whose : LayerRecord) (it : FeatureRecord) (there : IsFeatureIn bytes layer feature whose it) where
+module _ (bytes : List ℕ) (none : (fault : Fault) → ¬ Shows bytes fault) (layer feature : ℕ) (layer_record : LayerRecord) (it : FeatureRecord) (there : IsFeatureIn bytes layer feature layer_record it) where
   -- a feature's geometry spells a figure
   figure_unshown : HasFigure it.kind it.geometry
-  figure_unshown = figure_without_fault it.kind it.geometry (geometry_small bytes there.tile layer feature whose it there.is there.there)
-      (λ code index broken. none (Command code layer feature index) (whose, it, there, broken))
+  figure_unshown = figure_without_fault it.kind it.geometry (geometry_small bytes there.tile layer feature layer_record it there.is there.there)
+      (λ code index broken. none (Command code layer feature index) (layer_record, it, there, broken))
 
   -- its rings have no fault of their own
   sound_unshown : (rings : List (List Position)) → HasRings it.kind it.geometry rings → ArePolygonRings rings
   sound_unshown rings has = record {
-    open_ends = λ number ends_so. none (Ring ring_codes.EndsAtItsBeginning layer feature number) (whose, it, there, (rings, has, ends_at_its_beginning refl ends_so));
-    areas = λ number flat. none (Ring ring_codes.NoArea layer feature number) (whose, it, there, (rings, has, no_area refl flat));
-    exterior_first = λ number hole. none (Ring ring_codes.BeginsWithHole layer feature number) (whose, it, there, (rings, has, begins_with_hole refl hole));
+    open_ends = λ number ends_so. none (Ring ring_codes.EndsAtItsBeginning layer feature number) (layer_record, it, there, (rings, has, ends_at_its_beginning refl ends_so));
+    areas = λ number flat. none (Ring ring_codes.NoArea layer feature number) (layer_record, it, there, (rings, has, no_area refl flat));
+    exterior_first = λ number hole. none (Ring ring_codes.BeginsWithHole layer feature number) (layer_record, it, there, (rings, has, begins_with_hole refl hole));
   }
 
   -- its polygons are valid
@@ -78,10 +78,10 @@ module _ (bytes : List ℕ) (none : (fault : Fault) → ¬ Shows bytes fault) (l
   polygon_unshown rings polygon its has of = record {
     apart = λ first second point first_in second_in.
         none_meets it.kind it.geometry rings polygon its first second point has of
-        (λ one other at meeting. none (Meeting layer feature polygon one other at.x at.y at.w) (whose, it, there, (rings, has, meeting))) first_in second_in;
-    enclosed = λ ring vertex outside. none (Outside layer feature polygon ring vertex) (whose, it, there, (rings, has, record { it = its; of = of; outside = outside }));
+        (λ one other at meeting. none (Meeting layer feature polygon one other at.x at.y at.w) (layer_record, it, there, (rings, has, meeting))) first_in second_in;
+    enclosed = λ ring vertex outside. none (Outside layer feature polygon ring vertex) (layer_record, it, there, (rings, has, record { polygon_rings = its; of = of; outside = outside }));
     side_by_side = λ ring vertex other inside.
-        none (HoleInHole layer feature polygon ring vertex other) (whose, it, there, (rings, has, record { it = its; of = of; inside = inside }));
+        none (HoleInHole layer feature polygon ring vertex other) (layer_record, it, there, (rings, has, record { polygon_rings = its; of = of; inside = inside }));
   }
 
   -- so it is valid
@@ -103,7 +103,7 @@ unshown_is_valid bytes none = elim (tile_or_fault bytes) [
     tile,
     is,
     λ fault broken. none fault ((shown_by_parts bytes fault).1 (inr (tile, is, inl broken))),
-    λ layer feature whose it there. geometry_unshown bytes none layer feature whose it (record { tile = tile; is = is; there = there }),
+    λ layer feature layer_record it there. geometry_unshown bytes none layer feature layer_record it (record { tile = tile; is = is; there = there }),
   )
   | inr broken ↦ absurd (none (Wire broken.1.code broken.0 broken.1.at broken.1.field) broken.2)
 ]

@@ -110,7 +110,7 @@ none_in_order : (kind : ℕ) (numbers : List ℕ) (parts : List (List Position))
 none_in_order kind numbers parts polygon it first second point has of none first_in second_in before meets =
     not_in_range kind numbers parts first second point has meets
     (λ found. none (told first) (told second) found.point (record {
-      it = it;
+      polygon_rings = it;
       of = of;
       first_in = first_in;
       second_in = second_in;

@@ -17,15 +17,15 @@ layers_kept tile fault valid (version layer broken) = valid.versions layer broke
 layers_kept tile fault valid (name first second broken) = valid.names first second broken
 
 -- the tags of a valid feature have none
-tags_kept : (layer feature : ℕ) (whose : LayerRecord) (it : FeatureRecord) (fault : Fault) → IsValidFeature whose it → ¬ IsFaultOfTags whose it layer feature fault
-tags_kept layer feature whose it fault valid (tag code index broken) = valid.tags code index broken
+tags_kept : (layer feature : ℕ) (layer_record : LayerRecord) (it : FeatureRecord) (fault : Fault) → IsValidFeature layer_record it → ¬ IsFaultOfTags layer_record it layer feature fault
+tags_kept layer feature layer_record it fault valid (tag code index broken) = valid.tags code index broken
 
 -- so it breaks no rule between its parts
 rules_kept : (tile : TileRecord) (fault : Fault) → IsValidTile tile → ¬ BreaksRule tile fault
 rules_kept tile fault valid (inl broken) = layers_kept tile fault valid broken
 rules_kept tile fault valid (inr broken) =
-    tags_kept broken.layer broken.feature broken.whose broken.it fault
-    (valid.features broken.layer broken.feature broken.whose broken.it broken.there) broken.broken
+    tags_kept broken.layer broken.feature broken.layer_record broken.feature_record fault
+    (valid.features broken.layer broken.feature broken.layer_record broken.feature_record broken.there) broken.broken
 
 -- a valid geometry has none
 geometry_kept : (it : FeatureRecord) (layer feature : ℕ) (fault : Fault) → IsValidGeometry it → ¬ IsFaultOfGeometry it layer feature fault
@@ -41,31 +41,31 @@ geometry_kept it layer feature fault valid (hole_in_hole polygon number vertex o
 pub parts_kept : (tile : TileRecord) (fault : Fault) → IsValidTile tile → ¬ BreaksOne tile fault
 parts_kept tile fault valid (inl broken) = rules_kept tile fault valid broken
 parts_kept tile fault valid (inr one) =
-    let its = valid.features one.layer one.feature one.whose one.it one.there in
-    geometry_kept one.it one.layer one.feature fault its.geometry one.broken
+    let its = valid.features one.layer one.feature one.layer_record one.feature_record one.there in
+    geometry_kept one.feature_record one.layer one.feature fault its.geometry one.broken
 
 -- each feature of the tile has a valid geometry
 abbrev GeometriesValid : TileRecord → Type 0
-GeometriesValid tile = (layer feature : ℕ) (whose : LayerRecord) (it : FeatureRecord) → IsFeatureOf tile layer feature whose it → IsValidGeometry it
+GeometriesValid tile = (layer feature : ℕ) (layer_record : LayerRecord) (it : FeatureRecord) → IsFeatureOf tile layer feature layer_record it → IsValidGeometry it
 
 -- a tile that breaks no rule and has valid geometries is valid
 valid_tile : (tile : TileRecord) → ((fault : Fault) → ¬ BreaksRule tile fault) → GeometriesValid tile → IsValidTile tile
 valid_tile tile kept valid = record {
   versions = λ layer other. kept (Version layer) (inl (version layer other));
   names = λ first second same. kept (Name first second) (inl (name first second same));
-  features = λ layer feature whose it there. record {
+  features = λ layer feature layer_record it there. record {
     tags = λ code index broken. kept (Tag code layer feature index) (inr (one_has there (tag code index broken)));
-    geometry = valid layer feature whose it there;
+    geometry = valid layer feature layer_record it there;
   };
 }
 
 -- the geometries of a valid tile are valid
 valid_geometries : (tile : TileRecord) → IsValidTile tile → GeometriesValid tile
-valid_geometries tile valid layer feature whose it there = let its = valid.features layer feature whose it there in its.geometry
+valid_geometries tile valid layer feature layer_record it there = let its = valid.features layer feature layer_record it there in its.geometry
 
 -- so valid bytes are these
 pub valid_by_parts : (bytes : List ℕ) → Valid bytes ↔ ((tile : TileRecord) × IsTile bytes tile × ((fault : Fault) → ¬ BreaksRule tile fault)
-    × ((layer feature : ℕ) (whose : LayerRecord) (it : FeatureRecord) → IsFeatureOf tile layer feature whose it → IsValidGeometry it))
+    × ((layer feature : ℕ) (layer_record : LayerRecord) (it : FeatureRecord) → IsFeatureOf tile layer feature layer_record it → IsValidGeometry it))
 valid_by_parts bytes = (
   λ valid. (valid.tile, valid.is, λ fault. rules_kept valid.tile fault valid.valid, valid_geometries valid.tile valid.valid),
   λ parts. record { tile = parts.0; is = parts.1; valid = valid_tile parts.0 parts.2 parts.3 },

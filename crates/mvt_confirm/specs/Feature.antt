@@ -6,11 +6,11 @@ use Rattle.mvt_wire.specs.Rules.{IsFeatureOf}
 use Rattle.mvt_wire.specs.Tile.{FeatureRecord, LayerRecord, TileRecord, IsTile}
 
 -- the bytes are a tile, and this is its feature of these ordinals, in this layer
-pub record IsFeatureIn (bytes : List ℕ) (layer feature : ℕ) (whose : LayerRecord) (it : FeatureRecord) : Type 0 where
+pub record IsFeatureIn (bytes : List ℕ) (layer feature : ℕ) (layer_record : LayerRecord) (feature_record : FeatureRecord) : Type 0 where
   pub tile : TileRecord
   pub is : IsTile bytes tile
-  pub there : IsFeatureOf tile layer feature whose it
+  pub there : IsFeatureOf tile layer feature layer_record feature_record
 
 -- the feature is of the type of polygons, its geometry is the spelling of rings, and this of them is true
 abbrev pub OfRings : FeatureRecord → (List (List Position) → Type 0) → Type 0
-OfRings it Holds = (rings : List (List Position)) × HasRings it.kind it.geometry rings × Holds rings
+OfRings feature_record Holds = (rings : List (List Position)) × HasRings feature_record.kind feature_record.geometry rings × Holds rings

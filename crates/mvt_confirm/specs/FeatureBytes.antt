@@ -12,10 +12,10 @@ pub record FeaturePlace : Type 0 where
 
 -- the feature that stands there
 abbrev pub IsFeatureAt : FeaturePlace → FeatureRecord → Type 0
-IsFeatureAt place it = IsFeature place.bytes place.span it
+IsFeatureAt place feature_record = IsFeature place.bytes place.span feature_record
 
 -- a feature stands there whose geometry is the spelling of these rings
 pub record DrawsRings (place : FeaturePlace) (rings : List (List Position)) : Type 0 where
-  pub it : FeatureRecord
-  pub is : IsFeatureAt place it
-  pub drawn : HasRings it.kind it.geometry rings
+  pub feature_record : FeatureRecord
+  pub is : IsFeatureAt place feature_record
+  pub drawn : HasRings feature_record.kind feature_record.geometry rings

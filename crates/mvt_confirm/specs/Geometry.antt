@@ -14,15 +14,15 @@ use Rattle.mvt_plane.specs.Ring.{BreaksRings}
 use Rattle.mvt_wire.specs.Tile.{FeatureRecord}
 
 -- the feature has this fault of its geometry, which names it by its ordinals
-pub data IsFaultOfGeometry (it : FeatureRecord) (layer feature : ℕ) : Fault → Type 0 where
-  command : (code : CommandCode) (index : ℕ) → BreaksCommands it.kind it.geometry (command_code code) index
-      → IsFaultOfGeometry it layer feature (Command code layer feature index)
-  ring : (code : RingCode) (ring : ℕ) → OfRings it (λ rings. BreaksRings rings (ring_code code) ring)
-      → IsFaultOfGeometry it layer feature (Ring code layer feature ring)
+pub data IsFaultOfGeometry (feature_record : FeatureRecord) (layer feature : ℕ) : Fault → Type 0 where
+  command : (code : CommandCode) (index : ℕ) → BreaksCommands feature_record.kind feature_record.geometry (command_code code) index
+      → IsFaultOfGeometry feature_record layer feature (Command code layer feature index)
+  ring : (code : RingCode) (ring : ℕ) → OfRings feature_record (λ rings. BreaksRings rings (ring_code code) ring)
+      → IsFaultOfGeometry feature_record layer feature (Ring code layer feature ring)
   meeting : (polygon : ℕ) (first second : RingEdge) (x y w : ℤ)
-      → OfRings it (λ rings. IsMeeting rings polygon first second (record { x = x; y = y; w = w }))
-      → IsFaultOfGeometry it layer feature (Meeting layer feature polygon first second x y w)
-  outside : (polygon ring vertex : ℕ) → OfRings it (λ rings. IsVertexOutside rings polygon ring vertex)
-      → IsFaultOfGeometry it layer feature (Outside layer feature polygon ring vertex)
-  hole_in_hole : (polygon ring vertex other : ℕ) → OfRings it (λ rings. IsVertexInHole rings polygon ring vertex other)
-      → IsFaultOfGeometry it layer feature (HoleInHole layer feature polygon ring vertex other)
+      → OfRings feature_record (λ rings. IsMeeting rings polygon first second (record { x = x; y = y; w = w }))
+      → IsFaultOfGeometry feature_record layer feature (Meeting layer feature polygon first second x y w)
+  outside : (polygon ring vertex : ℕ) → OfRings feature_record (λ rings. IsVertexOutside rings polygon ring vertex)
+      → IsFaultOfGeometry feature_record layer feature (Outside layer feature polygon ring vertex)
+  hole_in_hole : (polygon ring vertex other : ℕ) → OfRings feature_record (λ rings. IsVertexInHole rings polygon ring vertex other)
+      → IsFaultOfGeometry feature_record layer feature (HoleInHole layer feature polygon ring vertex other)

@@ -14,28 +14,28 @@ abbrev pub number_of : RingEdge → EdgeNumber
 number_of edge = record { ring = edge.ring; edge = edge.edge }
 
 -- the polygon of this number in a feature, where no ring has a fault of its own
-pub record IsPolygonOf (rings : List (List Position)) (polygon : ℕ) (it : PolygonRings) : Type 0 where
+pub record IsPolygonOf (rings : List (List Position)) (polygon : ℕ) (polygon_rings : PolygonRings) : Type 0 where
   pub sound : ArePolygonRings rings
-  pub there : IsPolygon rings polygon it
+  pub there : IsPolygon rings polygon polygon_rings
 
 -- two edges of the polygon, in order, meet wrongly at this point, whose numbers are in range
 pub record IsMeeting (rings : List (List Position)) (polygon : ℕ) (first second : RingEdge) (point : RationalPoint) : Type 0 where
-  pub it : PolygonRings
-  pub of : IsPolygonOf rings polygon it
-  pub first_in : IsRingOf it first.ring
-  pub second_in : IsRingOf it second.ring
+  pub polygon_rings : PolygonRings
+  pub of : IsPolygonOf rings polygon polygon_rings
+  pub first_in : IsRingOf polygon_rings first.ring
+  pub second_in : IsRingOf polygon_rings second.ring
   pub in_order : ComesBefore (number_of first) (number_of second)
   pub bounded : IsBounded point
   pub meets : MeetsWrongly rings (number_of first) (number_of second) point
 
 -- the vertex of a hole of the polygon isn't inside its exterior
 pub record IsVertexOutside (rings : List (List Position)) (polygon ring vertex : ℕ) : Type 0 where
-  pub it : PolygonRings
-  pub of : IsPolygonOf rings polygon it
-  pub outside : IsOutside rings it ring vertex
+  pub polygon_rings : PolygonRings
+  pub of : IsPolygonOf rings polygon polygon_rings
+  pub outside : IsOutside rings polygon_rings ring vertex
 
 -- the vertex of a hole of the polygon is inside another one
 pub record IsVertexInHole (rings : List (List Position)) (polygon ring vertex other : ℕ) : Type 0 where
-  pub it : PolygonRings
-  pub of : IsPolygonOf rings polygon it
-  pub inside : IsInHole rings it ring vertex other
+  pub polygon_rings : PolygonRings
+  pub of : IsPolygonOf rings polygon polygon_rings
+  pub inside : IsInHole rings polygon_rings ring vertex other

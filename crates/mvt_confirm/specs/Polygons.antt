@@ -6,7 +6,7 @@ use Rattle.mvt_plane.specs.Position.{Position}
 
 -- the ring belongs to the polygon of this number, whose exterior is this one
 pub record IsPlaceOf (rings : List (List Position)) (ring : ℕ) (place : RingPlace) : Type 0 where
-  pub it : PolygonRings
-  pub there : IsPolygon rings place.polygon it
-  pub begins : it.exterior ≡ place.exterior
-  pub of : IsRingOf it ring
+  pub polygon_rings : PolygonRings
+  pub there : IsPolygon rings place.polygon polygon_rings
+  pub begins : polygon_rings.exterior ≡ place.exterior
+  pub of : IsRingOf polygon_rings ring

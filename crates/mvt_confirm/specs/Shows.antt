@@ -1,11 +1,12 @@
 -- Which faults are true of the bytes of a tile.
-use Rattle.std.specs.Prelude.{ℕ, List, length}
+use Rattle.std.specs.Prelude.{ℕ, ℤ, List, length}
 use Rattle.mvt_confirm.specs.Feature.{IsFeatureIn, OfRings}
 use Rattle.mvt_confirm.specs.PolygonFault.{IsMeeting, IsVertexOutside, IsVertexInHole}
 use Rattle.mvt_fault.specs.Code.{command_code, ring_code}
 use Rattle.mvt_fault.specs.Truth.{TagsBreak}
 use Rattle.mvt_fault.specs.declared.fault.Fault.{Fault}
 use Rattle.mvt_fault.specs.declared.fault.Fault.TheVariants.{Wire, Version, Name, Tag, Command, Ring, Meeting, Outside, HoleInHole}
+use Rattle.mvt_fault.specs.declared.ring.RingEdge.{RingEdge}
 use Rattle.mvt_plane.specs.Geometry.{BreaksCommands}
 use Rattle.mvt_plane.specs.Ring.{BreaksRings}
 use Rattle.mvt_wire.specs.Field.{cause_at}
@@ -19,7 +20,7 @@ OfTile bytes Holds = (tile : TileRecord) × IsTile bytes tile × Holds tile
 
 -- the bytes are a tile with a feature of these ordinals, and this of the feature and its layer is true
 abbrev pub OfFeature : List ℕ → ℕ → ℕ → (LayerRecord → FeatureRecord → Type 0) → Type 0
-OfFeature bytes layer feature Holds = (whose : LayerRecord) × (it : FeatureRecord) × IsFeatureIn bytes layer feature whose it × Holds whose it
+OfFeature bytes layer feature Holds = (layer_record : LayerRecord) × (feature_record : FeatureRecord) × IsFeatureIn bytes layer feature layer_record feature_record × Holds layer_record feature_record
 
 -- The fault is true of the bytes. All but wire faults are true of a tile alone, so of bytes with no wire fault.
 abbrev pub Shows : List ℕ → Fault → Type 0
@@ -27,21 +28,20 @@ Shows bytes (Wire code scope at field) = WireFault bytes scope (cause_at code at
 Shows bytes (Version layer) = OfTile bytes (λ tile. OtherVersion tile layer)
 Shows bytes (Name first second) = OfTile bytes (λ tile. SameName tile first second)
 Shows bytes (Tag code layer feature index) =
-    OfFeature bytes layer feature (λ whose it. TagsBreak code (length whose.keys) (length whose.values) it.tags index)
+    OfFeature bytes layer feature (λ layer_record feature_record. TagsBreak code (length layer_record.keys) (length layer_record.values) feature_record.tags index)
 Shows bytes (Command code layer feature index) =
-    OfFeature bytes layer feature (λ whose it. BreaksCommands it.kind it.geometry (command_code code) index)
+    OfFeature bytes layer feature (λ layer_record feature_record. BreaksCommands feature_record.kind feature_record.geometry (command_code code) index)
 Shows bytes (Ring code layer feature ring) =
-    OfFeature bytes layer feature (λ whose it. OfRings it (λ rings. BreaksRings rings (ring_code code) ring))
+    OfFeature bytes layer feature (λ layer_record feature_record. OfRings feature_record (λ rings. BreaksRings rings (ring_code code) ring))
 Shows bytes (Meeting layer feature polygon first second x y w) =
-    OfFeature bytes layer feature (λ whose it. OfRings it (λ rings. IsMeeting rings polygon first second (record { x = x; y = y; w = w })))
+    OfFeature bytes layer feature (λ layer_record feature_record. OfRings feature_record (λ rings. IsMeeting rings polygon first second (record { x = x; y = y; w = w })))
 Shows bytes (Outside layer feature polygon ring vertex) =
-    OfFeature bytes layer feature (λ whose it. OfRings it (λ rings. IsVertexOutside rings polygon ring vertex))
+    OfFeature bytes layer feature (λ layer_record feature_record. OfRings feature_record (λ rings. IsVertexOutside rings polygon ring vertex))
 Shows bytes (HoleInHole layer feature polygon ring vertex other) =
-    OfFeature bytes layer feature (λ whose it. OfRings it (λ rings. IsVertexInHole rings polygon ring vertex other))
+    OfFeature bytes layer feature (λ layer_record feature_record. OfRings feature_record (λ rings. IsVertexInHole rings polygon ring vertex other))
 
 -- the fault is one of a polygon
-abbrev pub IsOfPolygon : Fault → Type 0
-IsOfPolygon (Meeting layer feature polygon first second x y w) = Unit {0}
-IsOfPolygon (Outside layer feature polygon ring vertex) = Unit {0}
-IsOfPolygon (HoleInHole layer feature polygon ring vertex other) = Unit {0}
-IsOfPolygon fault = ⊥
+pub data IsOfPolygon : Fault → Type 0 where
+  meeting : (layer feature polygon : ℕ) (first second : RingEdge) (x y w : ℤ) → IsOfPolygon (Meeting layer feature polygon first second x y w)
+  outside : (layer feature polygon ring vertex : ℕ) → IsOfPolygon (Outside layer feature polygon ring vertex)
+  in_hole : (layer feature polygon ring vertex other : ℕ) → IsOfPolygon (HoleInHole layer feature polygon ring vertex other)

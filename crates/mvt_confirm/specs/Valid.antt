@@ -14,33 +14,33 @@ use Rattle.mvt_wire.specs.Tile.{FeatureRecord, LayerRecord, TileRecord, IsTile}
 
 -- the rings of one polygon neither cross nor touch, and its holes are inside its exterior and not inside each other (section
 -- 4.3.4.4)
-pub record IsValidPolygon (rings : List (List Position)) (it : PolygonRings) : Type 0 where
-  pub apart : (first second : EdgeNumber) (point : RationalPoint) → IsRingOf it first.ring → IsRingOf it second.ring
+pub record IsValidPolygon (rings : List (List Position)) (polygon_rings : PolygonRings) : Type 0 where
+  pub apart : (first second : EdgeNumber) (point : RationalPoint) → IsRingOf polygon_rings first.ring → IsRingOf polygon_rings second.ring
       → ¬ MeetsWrongly rings first second point
-  pub enclosed : (ring vertex : ℕ) → ¬ IsOutside rings it ring vertex
-  pub side_by_side : (ring vertex other : ℕ) → ¬ IsInHole rings it ring vertex other
+  pub enclosed : (ring vertex : ℕ) → ¬ IsOutside rings polygon_rings ring vertex
+  pub side_by_side : (ring vertex other : ℕ) → ¬ IsInHole rings polygon_rings ring vertex other
 
 -- rings are those of valid polygons
 pub record AreValidRings (rings : List (List Position)) : Type 0 where
   pub sound : ArePolygonRings rings
-  pub polygons : (polygon : ℕ) (it : PolygonRings) → IsPolygon rings polygon it → IsValidPolygon rings it
+  pub polygons : (polygon : ℕ) (polygon_rings : PolygonRings) → IsPolygon rings polygon polygon_rings → IsValidPolygon rings polygon_rings
 
 -- the numbers of the geometry spell a figure of its type, if that is known; and if that is rings, they are those of valid
 -- polygons
-pub record IsValidGeometry (it : FeatureRecord) : Type 0 where
-  pub figure : HasFigure it.kind it.geometry
-  pub polygons : (rings : List (List Position)) → HasRings it.kind it.geometry rings → AreValidRings rings
+pub record IsValidGeometry (feature_record : FeatureRecord) : Type 0 where
+  pub figure : HasFigure feature_record.kind feature_record.geometry
+  pub polygons : (rings : List (List Position)) → HasRings feature_record.kind feature_record.geometry rings → AreValidRings rings
 
 -- the feature of a layer has good tags and a valid geometry
-pub record IsValidFeature (whose : LayerRecord) (it : FeatureRecord) : Type 0 where
-  pub tags : (code : TagCode) (index : ℕ) → ¬ TagsBreak code (length whose.keys) (length whose.values) it.tags index
-  pub geometry : IsValidGeometry it
+pub record IsValidFeature (layer_record : LayerRecord) (feature_record : FeatureRecord) : Type 0 where
+  pub tags : (code : TagCode) (index : ℕ) → ¬ TagsBreak code (length layer_record.keys) (length layer_record.values) feature_record.tags index
+  pub geometry : IsValidGeometry feature_record
 
 -- all layers have version 2 and names of their own, and all features are valid
 pub record IsValidTile (tile : TileRecord) : Type 0 where
   pub versions : (layer : ℕ) → ¬ OtherVersion tile layer
   pub names : (first second : ℕ) → ¬ SameName tile first second
-  pub features : (layer feature : ℕ) (whose : LayerRecord) (it : FeatureRecord) → IsFeatureOf tile layer feature whose it → IsValidFeature whose it
+  pub features : (layer feature : ℕ) (layer_record : LayerRecord) (feature_record : FeatureRecord) → IsFeatureOf tile layer feature layer_record feature_record → IsValidFeature layer_record feature_record
 
 -- the bytes are a tile that keeps all rules
 pub record Valid (bytes : List ℕ) : Type 0 where

@@ -48,9 +48,9 @@ impl<'a> Model for FeatureBytes<'a> {
 /// The feature with these ordinals, of bytes that are a tile; None where there is none.
 pub(crate) fn feature_of(bytes: &[u8], layer: usize, feature: usize) -> Option<FeatureBytes>
     ensures there { IfSome result (λ place. (tile : TileRecord) → IsTile bytes.now tile
-        → (whose : LayerRecord) × (it : FeatureRecord) × IsFeatureOf tile layer feature whose it × IsFeatureAt place it) }
-    ensures none { IfNone result ((tile : TileRecord) (whose : LayerRecord) (it : FeatureRecord) → IsTile bytes.now tile
-        → ¬ IsFeatureOf tile layer feature whose it) }
+        → (layer_record : LayerRecord) × (feature_record : FeatureRecord) × IsFeatureOf tile layer feature layer_record feature_record × IsFeatureAt place feature_record) }
+    ensures none { IfNone result ((tile : TileRecord) (layer_record : LayerRecord) (feature_record : FeatureRecord) → IsTile bytes.now tile
+        → ¬ IsFeatureOf tile layer feature layer_record feature_record) }
 {
     let stretch = stretch_of(bytes, &Scope::Feature(layer, feature))?;
     Some(FeatureBytes { bytes, stretch })
@@ -59,14 +59,14 @@ pub(crate) fn feature_of(bytes: &[u8], layer: usize, feature: usize) -> Option<F
 impl<'a> FeatureBytes<'a> {
     /// A walk over the numbers of its geometry.
     pub(crate) fn geometry(&self) -> Numbers<'a>
-        ensures { (it : FeatureRecord) → IsFeatureAt self.now it → NumbersLeft result it.geometry None }
+        ensures { (feature_record : FeatureRecord) → IsFeatureAt self.now feature_record → NumbersLeft result feature_record.geometry None }
     {
         Numbers::new(self.bytes, self.stretch.from, self.stretch.to, GEOMETRY)
     }
 
     /// Whether its geometry has this command fault, at this index.
     pub(crate) fn breaks_commands(&self, code: CommandCode, index: usize) -> bool
-        ensures { (it : FeatureRecord) → IsFeatureAt self.now it → (IsTrue result ↔ BreaksCommands it.kind it.geometry (command_code code) index) }
+        ensures { (feature_record : FeatureRecord) → IsFeatureAt self.now feature_record → (IsTrue result ↔ BreaksCommands feature_record.kind feature_record.geometry (command_code code) index) }
     {
         let Some(kind) = self.kind() else {
             return false;
@@ -76,8 +76,8 @@ impl<'a> FeatureBytes<'a> {
 
     /// Whether it is of the type of polygons, and its geometry draws rings.
     pub(crate) fn draws_rings(&self) -> bool
-        ensures { (it : FeatureRecord) → IsFeatureAt self.now it →
-            (IsTrue result ↔ ((rings : List (List Position)) × HasRings it.kind it.geometry rings)) }
+        ensures { (feature_record : FeatureRecord) → IsFeatureAt self.now feature_record →
+            (IsTrue result ↔ ((rings : List (List Position)) × HasRings feature_record.kind feature_record.geometry rings)) }
     {
         self.kind() == Some(POLYGON) && draws_rings(self.geometry())
     }
@@ -91,7 +91,7 @@ impl<'a> FeatureBytes<'a> {
 
     /// The number of its geometry type.
     fn kind(&self) -> Option<u32>
-        ensures { (it : FeatureRecord) → IsFeatureAt self.now it → result ≡ Some it.kind }
+        ensures { (feature_record : FeatureRecord) → IsFeatureAt self.now feature_record → result ≡ Some feature_record.kind }
     {
         let mut numbers = Numbers::new(self.bytes, self.stretch.from, self.stretch.to, TYPE);
         match numbers.next_number() {

@@ -28,7 +28,7 @@ pub(crate) fn has_command_fault(
     index: usize,
 ) -> bool
     ensures { (tile : TileRecord) → IsTile bytes.now tile → (IsTrue result
-        ↔ OfFeature bytes.now layer feature (λ whose it. BreaksCommands it.kind it.geometry (command_code code) index)) }
+        ↔ OfFeature bytes.now layer feature (λ layer_record feature_record. BreaksCommands feature_record.kind feature_record.geometry (command_code code) index)) }
 {
     match feature_of(bytes, layer, feature) {
         Some(place) => place.breaks_commands(code, index),
@@ -45,7 +45,7 @@ pub(crate) fn has_ring_fault(
     ring: usize,
 ) -> bool
     ensures { (tile : TileRecord) → IsTile bytes.now tile → (IsTrue result
-        ↔ OfFeature bytes.now layer feature (λ whose it. OfRings it (λ rings. BreaksRings rings (ring_code code) ring))) }
+        ↔ OfFeature bytes.now layer feature (λ layer_record feature_record. OfRings feature_record (λ rings. BreaksRings rings (ring_code code) ring))) }
 {
     match drawn_feature(bytes, layer, feature) {
         Some(place) => breaks_rings(place.corners(), code, ring),
@@ -65,7 +65,7 @@ pub(crate) fn has_meeting(
     point: PointNumbers,
 ) -> bool
     ensures { (tile : TileRecord) → IsTile bytes.now tile → (IsTrue result ↔ OfFeature bytes.now layer feature
-        (λ whose it. OfRings it (λ rings. IsMeeting rings polygon first second (record { x = point.x; y = point.y; w = point.w })))) }
+        (λ layer_record feature_record. OfRings feature_record (λ rings. IsMeeting rings polygon first second (record { x = point.x; y = point.y; w = point.w })))) }
 {
     match drawn_feature(bytes, layer, feature) {
         Some(place) => is_meeting(&place, polygon, first, second, point),
@@ -84,7 +84,7 @@ pub(crate) fn has_vertex_outside(
     vertex: usize,
 ) -> bool
     ensures { (tile : TileRecord) → IsTile bytes.now tile → (IsTrue result
-        ↔ OfFeature bytes.now layer feature (λ whose it. OfRings it (λ rings. IsVertexOutside rings polygon ring vertex))) }
+        ↔ OfFeature bytes.now layer feature (λ layer_record feature_record. OfRings feature_record (λ rings. IsVertexOutside rings polygon ring vertex))) }
 {
     match drawn_feature(bytes, layer, feature) {
         Some(place) => is_vertex_outside(&place, polygon, ring, vertex),
@@ -104,7 +104,7 @@ pub(crate) fn has_vertex_in_hole(
     other: usize,
 ) -> bool
     ensures { (tile : TileRecord) → IsTile bytes.now tile → (IsTrue result
-        ↔ OfFeature bytes.now layer feature (λ whose it. OfRings it (λ rings. IsVertexInHole rings polygon ring vertex other))) }
+        ↔ OfFeature bytes.now layer feature (λ layer_record feature_record. OfRings feature_record (λ rings. IsVertexInHole rings polygon ring vertex other))) }
 {
     match drawn_feature(bytes, layer, feature) {
         Some(place) => is_vertex_in_hole(&place, polygon, ring, vertex, other),
@@ -114,10 +114,10 @@ pub(crate) fn has_vertex_in_hole(
 
 /// The feature with these ordinals, if there is one and it draws rings.
 fn drawn_feature(bytes: &[u8], layer: usize, feature: usize) -> Option<FeatureBytes>
-    ensures there { IfSome result (λ place. (tile : TileRecord) → IsTile bytes.now tile → (whose : LayerRecord) × (it : FeatureRecord)
-        × (rings : List (List Position)) × IsFeatureOf tile layer feature whose it × HasRings it.kind it.geometry rings × DrawsRings place rings) }
-    ensures none { IfNone result ((tile : TileRecord) (whose : LayerRecord) (it : FeatureRecord) (rings : List (List Position)) → IsTile bytes.now tile
-        → IsFeatureOf tile layer feature whose it → ¬ HasRings it.kind it.geometry rings) }
+    ensures there { IfSome result (λ place. (tile : TileRecord) → IsTile bytes.now tile → (layer_record : LayerRecord) × (feature_record : FeatureRecord)
+        × (rings : List (List Position)) × IsFeatureOf tile layer feature layer_record feature_record × HasRings feature_record.kind feature_record.geometry rings × DrawsRings place rings) }
+    ensures none { IfNone result ((tile : TileRecord) (layer_record : LayerRecord) (feature_record : FeatureRecord) (rings : List (List Position)) → IsTile bytes.now tile
+        → IsFeatureOf tile layer feature layer_record feature_record → ¬ HasRings feature_record.kind feature_record.geometry rings) }
 {
     let place = feature_of(bytes, layer, feature)?;
     if place.draws_rings() {

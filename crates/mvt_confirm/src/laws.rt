@@ -22,10 +22,10 @@ pub mod examples;
 
 /// Bytes have at most one feature of the same ordinals, and a feature has at most one list of rings.
 pub fn one_feature()
-    ensures feature { (bytes : List ℕ) (layer feature : ℕ) (whose other : LayerRecord) (it its : FeatureRecord) →
-        IsFeatureIn bytes layer feature whose it → IsFeatureIn bytes layer feature other its → (whose ≡ other) × (it ≡ its) }
-    ensures rings { (it : FeatureRecord) (first second : List (List Position)) →
-        HasRings it.kind it.geometry first → HasRings it.kind it.geometry second → first ≡ second }
+    ensures feature { (bytes : List ℕ) (layer feature : ℕ) (layer_record other : LayerRecord) (feature_record other_record : FeatureRecord) →
+        IsFeatureIn bytes layer feature layer_record feature_record → IsFeatureIn bytes layer feature other other_record → (layer_record ≡ other) × (feature_record ≡ other_record) }
+    ensures rings { (feature_record : FeatureRecord) (first second : List (List Position)) →
+        HasRings feature_record.kind feature_record.geometry first → HasRings feature_record.kind feature_record.geometry second → first ≡ second }
 {}
 
 /// No fault is true of a valid tile.
@@ -41,7 +41,7 @@ pub fn unshown_is_valid()
 /// Where a wire fault is true, no other fault is but wire faults: bytes with one are no tile.
 pub fn wire_faults_alone()
     ensures { (bytes : List ℕ) (code : WireCode) (scope : Scope) (at field : ℕ) (fault : Fault) → Shows bytes (Wire code scope at field) →
-        Shows bytes fault → (other : WireCode) × (its : Scope) × (place : ℕ) × (number : ℕ) × (fault ≡ Wire other its place number) }
+        Shows bytes fault → (other : WireCode) × (other_record : Scope) × (place : ℕ) × (number : ℕ) × (fault ≡ Wire other other_record place number) }
 {}
 
 /// Where a ring of a feature has a fault of its own, nothing is said of the feature's polygons.
@@ -91,5 +91,5 @@ pub fn shown_by_parts()
 pub fn valid_by_parts()
     ensures { (bytes : List ℕ) → Valid bytes ↔
         ((tile : TileRecord) × IsTile bytes tile × ((fault : Fault) → ¬ BreaksRule tile fault) ×
-        ((layer feature : ℕ) (whose : LayerRecord) (it : FeatureRecord) → IsFeatureOf tile layer feature whose it → IsValidGeometry it)) }
+        ((layer feature : ℕ) (layer_record : LayerRecord) (feature_record : FeatureRecord) → IsFeatureOf tile layer feature layer_record feature_record → IsValidGeometry feature_record)) }
 {}

@@ -52,7 +52,7 @@ pub(crate) fn is_meeting(
 /// Whether the ring with this ordinal belongs to this polygon, of rings that have no fault of their own.
 fn is_ring_of_polygon(feature: &FeatureBytes, polygon: usize, ring: usize) -> bool
     ensures { (rings : List (List Position)) → DrawsRings feature.now rings → ArePolygonRings rings →
-        (IsTrue result ↔ ((it : PolygonRings) × IsPolygon rings polygon it × IsRingOf it ring)) }
+        (IsTrue result ↔ ((polygon_rings : PolygonRings) × IsPolygon rings polygon polygon_rings × IsRingOf polygon_rings ring)) }
 {
     match place_of_ring(feature.corners(), ring) {
         Some(place) => place.polygon == polygon,

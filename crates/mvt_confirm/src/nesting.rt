@@ -62,7 +62,7 @@ pub(crate) fn is_vertex_in_hole(
 /// Whether the ring with this ordinal is a hole of this polygon, of rings that have no fault of their own.
 fn is_hole(feature: &FeatureBytes, polygon: usize, ring: usize) -> bool
     ensures { (rings : List (List Position)) → DrawsRings feature.now rings → ArePolygonRings rings →
-        (IsTrue result ↔ ((it : PolygonRings) × IsPolygon rings polygon it × IsHoleOf it ring)) }
+        (IsTrue result ↔ ((polygon_rings : PolygonRings) × IsPolygon rings polygon polygon_rings × IsHoleOf polygon_rings ring)) }
 {
     exterior_round(feature, polygon, ring).is_some()
 }
@@ -71,9 +71,9 @@ fn is_hole(feature: &FeatureBytes, polygon: usize, ring: usize) -> bool
 /// no fault of their own.
 fn exterior_round(feature: &FeatureBytes, polygon: usize, ring: usize) -> Option<usize>
     ensures there { IfSome result (λ exterior. (rings : List (List Position)) → DrawsRings feature.now rings → ArePolygonRings rings
-        → (it : PolygonRings) × IsPolygon rings polygon it × IsHoleOf it ring × (it.exterior ≡ exterior)) }
-    ensures none { IfNone result ((rings : List (List Position)) (it : PolygonRings) → DrawsRings feature.now rings → ArePolygonRings rings
-        → IsPolygon rings polygon it → ¬ IsHoleOf it ring) }
+        → (polygon_rings : PolygonRings) × IsPolygon rings polygon polygon_rings × IsHoleOf polygon_rings ring × (polygon_rings.exterior ≡ exterior)) }
+    ensures none { IfNone result ((rings : List (List Position)) (polygon_rings : PolygonRings) → DrawsRings feature.now rings → ArePolygonRings rings
+        → IsPolygon rings polygon polygon_rings → ¬ IsHoleOf polygon_rings ring) }
 {
     let place = place_of_ring(feature.corners(), ring)?;
     if place.polygon == polygon && place.exterior != ring {

@@ -22,7 +22,7 @@ use mvt_tile::Kind;
 pub fn command_fault(kind: Kind, numbers: &[u32]) -> Option<(CommandCode, usize)>
     ensures figure { IfNone result (HasFigure (kind_number kind) numbers.now) }
     ensures none { IfNone result ((code : CommandCode) (index : ℕ) → ¬ IsCommandFault (kind_number kind) numbers.now code index) }
-    ensures fault { IfSome result (λ it. IsCommandFault (kind_number kind) numbers.now it.0 it.1) }
+    ensures fault { IfSome result (λ fault. IsCommandFault (kind_number kind) numbers.now fault.0 fault.1) }
 {
     match read(kind, numbers) {
         Ok(()) => None,

@@ -36,8 +36,8 @@ pub(crate) fn command(
     ensures number { IfOk result (λ count. slice_index numbers.now at ≡ command_integer id count) }
     ensures goes { IfOk result (λ count. (geometry_type : GeometryType) (state : State) → AsksCommand geometry_type state id fewest most
         → StandsAt geometry_type numbers.now at state → StandsAt geometry_type numbers.now (at + 1) (next geometry_type state (command_integer id count))) }
-    ensures fault { IfErr result (λ it. (geometry_type : GeometryType) (state : State) → AsksCommand geometry_type state id fewest most
-        → (at ≡ length numbers.now → ¬ MayEnd state) → StandsAt geometry_type numbers.now at state → IsFaulty geometry_type numbers.now (command_code it.0) it.1) }
+    ensures fault { IfErr result (λ stop. (geometry_type : GeometryType) (state : State) → AsksCommand geometry_type state id fewest most
+        → (at ≡ length numbers.now → ¬ MayEnd state) → StandsAt geometry_type numbers.now at state → IsFaulty geometry_type numbers.now (command_code stop.0) stop.1) }
 {
     if at >= numbers.len() {
         return Err((CommandCode::Unfinished, at));
@@ -59,8 +59,8 @@ fn coordinate(numbers: &[u32], at: usize, from: i32) -> Result<i32, (CommandCode
     ensures within { IfOk result (λ _. at < length numbers.now) }
     ensures allowed { IfOk result (λ _. IsMove from (slice_index numbers.now at)) }
     ensures value { IfOk result (λ to. to ≡ from +ℤ unzigzag (slice_index numbers.now at)) }
-    ensures fault { IfErr result (λ it. (geometry_type : GeometryType) (state : State) → AsksCoordinate state from
-        → StandsAt geometry_type numbers.now at state → IsFaulty geometry_type numbers.now (command_code it.0) it.1) }
+    ensures fault { IfErr result (λ stop. (geometry_type : GeometryType) (state : State) → AsksCoordinate state from
+        → StandsAt geometry_type numbers.now at state → IsFaulty geometry_type numbers.now (command_code stop.0) stop.1) }
 {
     if at >= numbers.len() {
         return Err((CommandCode::Unfinished, at));
@@ -88,8 +88,8 @@ pub(crate) fn step(
     ensures within { IfOk result (λ _. at + 1 < length numbers.now) }
     ensures goes { IfOk result (λ _. (geometry_type : GeometryType) (leg : Leg) → is_line leg ≡ line
         → StandsAt geometry_type numbers.now at (step_x leg (position_of cursor.old)) → StandsAt geometry_type numbers.now (at + 2) (behind geometry_type leg (position_of cursor.new))) }
-    ensures fault { IfErr result (λ it. (geometry_type : GeometryType) (leg : Leg) → is_line leg ≡ line
-        → StandsAt geometry_type numbers.now at (step_x leg (position_of cursor.old)) → IsFaulty geometry_type numbers.now (command_code it.0) it.1) }
+    ensures fault { IfErr result (λ stop. (geometry_type : GeometryType) (leg : Leg) → is_line leg ≡ line
+        → StandsAt geometry_type numbers.now at (step_x leg (position_of cursor.old)) → IsFaulty geometry_type numbers.now (command_code stop.0) stop.1) }
     ensures inside { OnOk result (IsPosition (position_of cursor.new)) }
     ensures drawn { OnOk result ((to : Position) (rest : List ℕ) → IsStepAhead (course_at numbers.now at (position_of cursor.old)) to rest
         → course_at numbers.now (at + 2) (position_of cursor.new) ≡ record { here = to; left = rest }) }
@@ -114,13 +114,13 @@ pub(crate) fn path_start(
     closed: bool,
 ) -> Result<(Cursor, u32), (CommandCode, usize)>
     ensures within { IfOk result (λ _. start + 4 ≤ length numbers.now) }
-    ensures inside { IfOk result (λ it. IsPosition (position_of it.0)) }
-    ensures goes { IfOk result (λ it. (drawn : Bool) → StandsAt (path_type closed) numbers.now start (path_command drawn (position_of from))
-        → StandsAt (path_type closed) numbers.now (start + 4) (with_left (path_type closed) true it.1 (position_of it.0))) }
-    ensures drawn { IfOk result (λ it. (part : List Position) (rest : List ℕ) → IsPathAhead (course_at numbers.now start (position_of from)) part rest
-        → (further : List Position) × (position_of it.0 ∷ further ≡ part) × AreStepsAhead (course_at numbers.now (start + 4) (position_of it.0)) it.1 further rest) }
-    ensures fault { IfErr result (λ it. (drawn : Bool) → (start ≡ length numbers.now → drawn ≡ false)
-        → StandsAt (path_type closed) numbers.now start (path_command drawn (position_of from)) → IsFaulty (path_type closed) numbers.now (command_code it.0) it.1) }
+    ensures inside { IfOk result (λ begun. IsPosition (position_of begun.0)) }
+    ensures goes { IfOk result (λ begun. (drawn : Bool) → StandsAt (path_type closed) numbers.now start (path_command drawn (position_of from))
+        → StandsAt (path_type closed) numbers.now (start + 4) (with_left (path_type closed) true begun.1 (position_of begun.0))) }
+    ensures drawn { IfOk result (λ begun. (part : List Position) (rest : List ℕ) → IsPathAhead (course_at numbers.now start (position_of from)) part rest
+        → (further : List Position) × (position_of begun.0 ∷ further ≡ part) × AreStepsAhead (course_at numbers.now (start + 4) (position_of begun.0)) begun.1 further rest) }
+    ensures fault { IfErr result (λ stop. (drawn : Bool) → (start ≡ length numbers.now → drawn ≡ false)
+        → StandsAt (path_type closed) numbers.now start (path_command drawn (position_of from)) → IsFaulty (path_type closed) numbers.now (command_code stop.0) stop.1) }
 {
     command(numbers, start, MOVE_TO, 1, 1)?;
     let mut first = from;

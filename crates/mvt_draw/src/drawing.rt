@@ -34,7 +34,7 @@ pub enum DrawFault {
 impl From<(CommandCode, usize)> for DrawFault {
     ghost use Rattle.mvt_draw.specs.declared.drawing.DrawFault.{DrawFault};
 
-    ghost from_gives = { λ it fault. fault ≡ DrawFault.Command it.0 it.1 };
+    ghost from_gives = { λ stop fault. fault ≡ DrawFault.Command stop.0 stop.1 };
 
     fn from((code, index): (CommandCode, usize)) -> DrawFault {
         DrawFault::Command { code, index }

@@ -44,14 +44,14 @@ pub(crate) fn read_path<S: PositionSink>(
     from: Cursor,
     closed: bool,
 ) -> Result<(usize, Cursor), DrawFault>
-    ensures forward { IfOk result (λ it. (start < it.0) × (it.0 ≤ length numbers.now)) }
-    ensures goes { IfOk result (λ it. (drawn : Bool) → StandsAt (path_type closed) numbers.now start (path_command drawn (position_of from))
-        → StandsAt (path_type closed) numbers.now it.0 (path_command true (position_of it.1))) }
-    ensures drawn { IfOk result (λ it. S.Keeps → (part : List Position) (rest : List ℕ)
+    ensures forward { IfOk result (λ behind. (start < behind.0) × (behind.0 ≤ length numbers.now)) }
+    ensures goes { IfOk result (λ behind. (drawn : Bool) → StandsAt (path_type closed) numbers.now start (path_command drawn (position_of from))
+        → StandsAt (path_type closed) numbers.now behind.0 (path_command true (position_of behind.1))) }
+    ensures drawn { IfOk result (λ behind. S.Keeps → (part : List Position) (rest : List ℕ)
         → IsPathAhead (course_at numbers.now start (position_of from)) part (ending_of closed ++ rest)
-        → (S.kept sink.new ≡ S.kept sink.old ++ part) × (course_at numbers.now it.0 (position_of it.1) ≡ record { here = cursor (position_of from) part; left = rest })) }
-    ensures fault { IfErr result (λ it. (drawn : Bool) → (start ≡ length numbers.now → drawn ≡ false)
-        → StandsAt (path_type closed) numbers.now start (path_command drawn (position_of from)) → IsStopAhead S.Keeps (path_type closed) numbers.now it) }
+        → (S.kept sink.new ≡ S.kept sink.old ++ part) × (course_at numbers.now behind.0 (position_of behind.1) ≡ record { here = cursor (position_of from) part; left = rest })) }
+    ensures fault { IfErr result (λ stop. (drawn : Bool) → (start ≡ length numbers.now → drawn ≡ false)
+        → StandsAt (path_type closed) numbers.now start (path_command drawn (position_of from)) → IsStopAhead S.Keeps (path_type closed) numbers.now stop) }
 {
     let (first, count) = path_start(numbers, start, from, closed)?;
     sink.take(first)?;
@@ -83,7 +83,7 @@ fn read_steps<S: PositionSink>(
         → AreStepsAhead (course_at numbers.now start (position_of from)) count positions rest
         → (S.kept sink.new ≡ S.kept sink.old ++ positions)
         × (course_at numbers.now (start + 2 * count) (position_of to) ≡ record { here = cursor (position_of from) positions; left = rest })) }
-    ensures fault { IfErr result (λ it. (geometry_type : GeometryType) → StandsAt geometry_type numbers.now start (with_left geometry_type line count (position_of from)) → IsStopAhead S.Keeps geometry_type numbers.now it) }
+    ensures fault { IfErr result (λ stop. (geometry_type : GeometryType) → StandsAt geometry_type numbers.now start (with_left geometry_type line count (position_of from)) → IsStopAhead S.Keeps geometry_type numbers.now stop) }
 {
     let mut cursor = from;
     let mut at = start;

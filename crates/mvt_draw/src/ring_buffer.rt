@@ -81,14 +81,14 @@ impl RingBuffer {
         start: usize,
         from: Cursor,
     ) -> Result<(usize, Cursor), DrawFault>
-        ensures forward { IfOk result (λ it. (start < it.0) × (it.0 ≤ length numbers.now)) }
-        ensures goes { IfOk result (λ it. (drawn : Bool) → StandsAt polygon numbers.now start (path_command drawn (position_of from))
-            → StandsAt polygon numbers.now it.0 (path_command true (position_of it.1))) }
-        ensures drawn { IfOk result (λ it. (ring : List Position) (rest : List ℕ)
+        ensures forward { IfOk result (λ behind. (start < behind.0) × (behind.0 ≤ length numbers.now)) }
+        ensures goes { IfOk result (λ behind. (drawn : Bool) → StandsAt polygon numbers.now start (path_command drawn (position_of from))
+            → StandsAt polygon numbers.now behind.0 (path_command true (position_of behind.1))) }
+        ensures drawn { IfOk result (λ behind. (ring : List Position) (rest : List ℕ)
             → IsPathAhead (course_at numbers.now start (position_of from)) ring (ending_of true ++ rest)
-            → (self.new ≡ self.old ++ ring ∷ []) × (course_at numbers.now it.0 (position_of it.1) ≡ record { here = cursor (position_of from) ring; left = rest })) }
-        ensures fault { IfErr result (λ it. (drawn : Bool) → (start ≡ length numbers.now → drawn ≡ false)
-            → StandsAt polygon numbers.now start (path_command drawn (position_of from)) → IsFaultAhead polygon numbers.now it) }
+            → (self.new ≡ self.old ++ ring ∷ []) × (course_at numbers.now behind.0 (position_of behind.1) ≡ record { here = cursor (position_of from) ring; left = rest })) }
+        ensures fault { IfErr result (λ stop. (drawn : Bool) → (start ≡ length numbers.now → drawn ≡ false)
+            → StandsAt polygon numbers.now start (path_command drawn (position_of from)) → IsFaultAhead polygon numbers.now stop) }
     {
         if self.count == self.parts.len() {
             // a ring has three vertices or more, so one of three takes no more memory than that

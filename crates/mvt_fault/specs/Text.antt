@@ -84,9 +84,9 @@ ring_data code layer feature ring =
 
 -- the object of an edge
 abbrev pub edge_data : RingEdge → Data
-edge_data it =
-    object (member (codes "edge") (whole it.edge)
-    (member (codes "ring") (whole it.ring)
+edge_data ring_edge =
+    object (member (codes "edge") (whole ring_edge.edge)
+    (member (codes "ring") (whole ring_edge.ring)
     no_members))
 
 -- a whole number that may be larger than JSON readers take: its decimal digits as a string

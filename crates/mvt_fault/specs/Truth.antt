@@ -30,9 +30,9 @@ TagsBreak NoValue keys values tags place = NoSuchValue values tags place
 TagsBreak Repeated keys values tags place = KeyAgain tags place
 
 -- the feature of a layer has this fault of tags, which names the two by their ordinals
-pub data IsFaultOfTags (whose : LayerRecord) (it : FeatureRecord) (layer feature : ℕ) : Fault → Type 0 where
-  tag : (code : TagCode) (index : ℕ) → TagsBreak code (length whose.keys) (length whose.values) it.tags index
-      → IsFaultOfTags whose it layer feature (Tag code layer feature index)
+pub data IsFaultOfTags (layer_record : LayerRecord) (feature_record : FeatureRecord) (layer feature : ℕ) : Fault → Type 0 where
+  tag : (code : TagCode) (index : ℕ) → TagsBreak code (length layer_record.keys) (length layer_record.values) feature_record.tags index
+      → IsFaultOfTags layer_record feature_record layer feature (Tag code layer feature index)
 
 -- What is said of a feature of a layer, of their ordinals and of a fault
 abbrev pub FeatureFault : Type 1
@@ -42,10 +42,10 @@ FeatureFault = LayerRecord → FeatureRecord → ℕ → ℕ → Fault → Type 
 pub record OneFeatureHas (IsFaultOf : FeatureFault) (tile : TileRecord) (fault : Fault) : Type 0 where
   pub layer : ℕ
   pub feature : ℕ
-  pub whose : LayerRecord
-  pub it : FeatureRecord
-  pub there : IsFeatureOf tile layer feature whose it
-  pub broken : IsFaultOf whose it layer feature fault
+  pub layer_record : LayerRecord
+  pub feature_record : FeatureRecord
+  pub there : IsFeatureOf tile layer feature layer_record feature_record
+  pub broken : IsFaultOf layer_record feature_record layer feature fault
 
 -- the tile's record breaks a rule between its parts
 abbrev pub BreaksRule : TileRecord → Fault → Type 0

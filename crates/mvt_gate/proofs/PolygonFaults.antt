@@ -26,7 +26,7 @@ use Rattle.mvt_gate.specs.Polygons.{AreApart, IsFirstOfRings, AreValidBefore}
 -- where no edges of a polygon meet wrongly, it has no meeting
 no_meeting : (parts : List (List Position)) (polygon : ℕ) (its : PolygonRings) (first second : RingEdge) (point : RationalPoint) → IsPolygon parts polygon its → AreApart parts its → ¬ IsMeeting parts polygon first second point
 no_meeting parts polygon its first second point there apart meets =
-    let same : meets.it ≡ its = same_polygon parts polygon meets.it its meets.of.there there in
+    let same : meets.polygon_rings ≡ its = same_polygon parts polygon meets.polygon_rings its meets.of.there there in
     apart (number_of first) (number_of second) point
     (subst (λ (it : PolygonRings). IsRingOf it first.ring) same meets.first_in)
     (subst (λ (it : PolygonRings). IsRingOf it second.ring) same meets.second_in)
@@ -35,13 +35,13 @@ no_meeting parts polygon its first second point there apart meets =
 -- a vertex outside is one outside this polygon
 vertex_outside : (parts : List (List Position)) (polygon hole vertex : ℕ) (its : PolygonRings) → IsPolygon parts polygon its → IsVertexOutside parts polygon hole vertex → IsOutside parts its hole vertex
 vertex_outside parts polygon hole vertex its there of =
-    let same : of.it ≡ its = same_polygon parts polygon of.it its of.of.there there in
+    let same : of.polygon_rings ≡ its = same_polygon parts polygon of.polygon_rings its of.of.there there in
     subst (λ (it : PolygonRings). IsOutside parts it hole vertex) same of.outside
 
 -- and one in a hole is in one of this polygon
 vertex_in_hole : (parts : List (List Position)) (polygon hole vertex other : ℕ) (its : PolygonRings) → IsPolygon parts polygon its → IsVertexInHole parts polygon hole vertex other → IsInHole parts its hole vertex other
 vertex_in_hole parts polygon hole vertex other its there of =
-    let same : of.it ≡ its = same_polygon parts polygon of.it its of.of.there there in
+    let same : of.polygon_rings ≡ its = same_polygon parts polygon of.polygon_rings its of.of.there there in
     subst (λ (it : PolygonRings). IsInHole parts it hole vertex other) same of.inside
 
 -- where the polygons before this one are valid, each fault is of this one or a later one
@@ -50,15 +50,15 @@ at_least number polygon none = elim (cases_lt number polygon) [ inl less ↦ abs
 
 meeting_at_least : (parts : List (List Position)) (polygon number : ℕ) (first second : RingEdge) (point : RationalPoint) → AreValidBefore parts polygon → IsMeeting parts number first second point → polygon ≤ number
 meeting_at_least parts polygon number first second point valid meets =
-    at_least number polygon (λ less. (valid number meets.it less meets.of.there).apart (number_of first) (number_of second) point meets.first_in meets.second_in meets.meets)
+    at_least number polygon (λ less. (valid number meets.polygon_rings less meets.of.there).apart (number_of first) (number_of second) point meets.first_in meets.second_in meets.meets)
 
 outside_at_least : (parts : List (List Position)) (polygon number hole vertex : ℕ) → AreValidBefore parts polygon → IsVertexOutside parts number hole vertex → polygon ≤ number
 outside_at_least parts polygon number hole vertex valid of =
-    at_least number polygon (λ less. (valid number of.it less of.of.there).enclosed hole vertex of.outside)
+    at_least number polygon (λ less. (valid number of.polygon_rings less of.of.there).enclosed hole vertex of.outside)
 
 hole_at_least : (parts : List (List Position)) (polygon number hole vertex other : ℕ) → AreValidBefore parts polygon → IsVertexInHole parts number hole vertex other → polygon ≤ number
 hole_at_least parts polygon number hole vertex other valid of =
-    at_least number polygon (λ less. (valid number of.it less of.of.there).side_by_side hole vertex other of.inside)
+    at_least number polygon (λ less. (valid number of.polygon_rings less of.of.there).side_by_side hole vertex other of.inside)
 
 -- Places
 
@@ -134,7 +134,7 @@ before_hole it layer feature parts polygon its place other has of_it valid apart
 pub outside_is_least : (parts : List (List Position)) (layer feature polygon hole vertex : ℕ) (its : PolygonRings) → IsPolygonOf parts polygon its → AreValidBefore parts polygon → AreApart parts its
     → IsOutside parts its hole vertex → IsFirstHole parts its (hole ∷ vertex ∷ 505 ∷ 0 ∷ []) → IsFirstOfRings parts layer feature (Outside layer feature polygon hole vertex)
 outside_is_least parts layer feature polygon hole vertex its of_it valid apart wrong least it has = record {
-  holds = outside polygon hole vertex (parts, has, record { it = its; of = of_it; outside = wrong });
+  holds = outside polygon hole vertex (parts, has, record { polygon_rings = its; of = of_it; outside = wrong });
   least = λ other broken. before_hole it layer feature parts polygon its (hole ∷ vertex ∷ 505 ∷ 0 ∷ []) other has of_it valid apart least broken;
 }
 
@@ -142,6 +142,6 @@ outside_is_least parts layer feature polygon hole vertex its of_it valid apart w
 pub in_hole_is_least : (parts : List (List Position)) (layer feature polygon hole vertex another : ℕ) (its : PolygonRings) → IsPolygonOf parts polygon its → AreValidBefore parts polygon → AreApart parts its
     → IsInHole parts its hole vertex another → IsFirstHole parts its (hole ∷ vertex ∷ 506 ∷ another ∷ []) → IsFirstOfRings parts layer feature (HoleInHole layer feature polygon hole vertex another)
 in_hole_is_least parts layer feature polygon hole vertex another its of_it valid apart wrong least it has = record {
-  holds = hole_in_hole polygon hole vertex another (parts, has, record { it = its; of = of_it; inside = wrong });
+  holds = hole_in_hole polygon hole vertex another (parts, has, record { polygon_rings = its; of = of_it; inside = wrong });
   least = λ other broken. before_hole it layer feature parts polygon its (hole ∷ vertex ∷ 506 ∷ another ∷ []) other has of_it valid apart least broken;
 }

@@ -71,7 +71,7 @@ meeting_in_whole parts polygon its found within of_it meets =
     let first_below : found.first_ring < its.after - its.exterior = (ring_of_whole parts its found.first_ring meets.one_there.ring within meets.one_there.there).0 in
     let second_below : found.second_ring < its.after - its.exterior = (ring_of_whole parts its found.second_ring meets.other_there.ring within meets.other_there.there).0 in
     record {
-      it = its;
+      polygon_rings = its;
       of = of_it;
       first_in = record { from = omega arith; before = omega arith };
       second_in = record { from = omega arith; before = omega arith };

@@ -20,11 +20,11 @@ use Rattle.mvt_gate.specs.declared.polygons.PolygonPlace.{PolygonPlace}
 -- of a feature that has these rings, and these ordinals, the fault is the first of its geometry
 abbrev pub IsFirstOfRings : List (List Position) → ℕ → ℕ → Fault → Type 0
 IsFirstOfRings rings layer feature fault =
-    (it : FeatureRecord) → HasRings it.kind it.geometry rings → IsLeast (IsFaultOfGeometry it layer feature) fault
+    (feature_record : FeatureRecord) → HasRings feature_record.kind feature_record.geometry rings → IsLeast (IsFaultOfGeometry feature_record layer feature) fault
 
 -- the polygons before that of this number are valid
 abbrev pub AreValidBefore : List (List Position) → ℕ → Type 0
-AreValidBefore rings polygon = (earlier : ℕ) (it : PolygonRings) → earlier < polygon → IsPolygon rings earlier it → IsValidPolygon rings it
+AreValidBefore rings polygon = (earlier : ℕ) (polygon_rings : PolygonRings) → earlier < polygon → IsPolygon rings earlier polygon_rings → IsValidPolygon rings polygon_rings
 
 -- One polygon
 
@@ -38,7 +38,7 @@ IsRingWithin place ring = place.exterior + ring < place.after
 
 -- no edges of these rings meet wrongly
 abbrev pub AreApart : List (List Position) → PolygonRings → Type 0
-AreApart rings it = (first second : EdgeNumber) (point : RationalPoint) → IsRingOf it first.ring → IsRingOf it second.ring
+AreApart rings polygon_rings = (first second : EdgeNumber) (point : RationalPoint) → IsRingOf polygon_rings first.ring → IsRingOf polygon_rings second.ring
     → ¬ MeetsWrongly rings first second point
 
 -- the fault of a meeting, with the numbers that the rings have in the feature

@@ -65,7 +65,7 @@ pub record IsDue (geometry_type : GeometryType) (numbers : List ℕ) (part : Par
   pub next : Word
   pub after : List Word
   pub split : words figure ≡ before ++ next ∷ after
-  pub passed : map (λ (it : Word). it.number) before ≡ numbers
+  pub passed : map (λ (word : Word). word.number) before ≡ numbers
   pub here : next.part ≡ part
 
 -- What is wrong with a number where no spelling goes on with it, by what is due there

@@ -142,7 +142,7 @@ state_behind geometry_type state (n ∷ rest) = state_behind geometry_type (next
 -- each of these words is due and its number allowed, one behind another, and behind the last one the numbers may end
 abbrev pub Draws : GeometryType → State → List Word → Type 0
 Draws geometry_type state [] = MayEnd state
-Draws geometry_type state (it ∷ rest) = (due state ≡ Some it.part) × IsAllowed geometry_type state it.number × Draws geometry_type (next geometry_type state it.number) rest
+Draws geometry_type state (word ∷ rest) = (due state ≡ Some word.part) × IsAllowed geometry_type state word.number × Draws geometry_type (next geometry_type state word.number) rest
 
 -- the cursor is in range, and an x that was read leads to a coordinate
 abbrev pub IsSound : State → Type 0

@@ -25,15 +25,15 @@ segment_between one other = cond (lt_z (key_of one) (key_of other)) (segment one
 
 -- the edge that goes so
 abbrev pub edge_along : Segment → Edge
-edge_along it = record { a = it.low; b = it.high }
+edge_along edge_segment = record { a = edge_segment.low; b = edge_segment.high }
 
 -- the first end has the lesser key indeed
 abbrev pub IsRising : Segment → Type 0
-IsRising it = key_of it.low <ℤ key_of it.high
+IsRising edge_segment = key_of edge_segment.low <ℤ key_of edge_segment.high
 
 -- the position is one of the two ends
 abbrev pub IsEndOf : Position → Segment → Type 0
-IsEndOf position it = (position ≡ it.low) ⊎ (position ≡ it.high)
+IsEndOf position edge_segment = (position ≡ edge_segment.low) ⊎ (position ≡ edge_segment.high)
 
 -- Where they are at a key. A key is a fraction: t stands for t / w.
 
@@ -42,17 +42,17 @@ abbrev pub key_at : RationalPoint → ℤ
 key_at point = point.x *ℤ pos (2 ^ 32) +ℤ point.y
 
 -- the edge has a point of this key
-pub record Reaches (t w : ℤ) (it : Segment) : Type 0 where
-  pub begun : (key_of it.low *ℤ w) ≤ℤ t
-  pub lasts : t ≤ℤ (key_of it.high *ℤ w)
+pub record Reaches (t w : ℤ) (edge_segment : Segment) : Type 0 where
+  pub begun : (key_of edge_segment.low *ℤ w) ≤ℤ t
+  pub lasts : t ≤ℤ (key_of edge_segment.high *ℤ w)
 
 -- how far the edge goes, in keys
 abbrev pub reach : Segment → ℤ
-reach it = key_of it.high -ℤ key_of it.low
+reach edge_segment = key_of edge_segment.high -ℤ key_of edge_segment.low
 
 -- the y of its point of this key, times its reach and w
 abbrev pub height : Segment → ℤ → ℤ → ℤ
-height it t w = it.low.y *ℤ reach it *ℤ w +ℤ (t -ℤ key_of it.low *ℤ w) *ℤ (it.high.y -ℤ it.low.y)
+height edge_segment t w = edge_segment.low.y *ℤ reach edge_segment *ℤ w +ℤ (t -ℤ key_of edge_segment.low *ℤ w) *ℤ (edge_segment.high.y -ℤ edge_segment.low.y)
 
 -- how far the second edge is above the first, in y, at this key, times both reaches and w
 abbrev pub gap : Segment → Segment → ℤ → ℤ → ℤ

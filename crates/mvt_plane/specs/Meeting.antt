@@ -16,10 +16,10 @@ abbrev pub ComesBefore : EdgeNumber → EdgeNumber → Type 0
 ComesBefore first second = (first.ring < second.ring) ⊎ ((first.ring ≡ second.ring) × (first.edge < second.edge))
 
 -- the edge of this number
-pub record IsEdgeOf (rings : List (List Position)) (number : EdgeNumber) (it : Edge) : Type 0 where
+pub record IsEdgeOf (rings : List (List Position)) (number : EdgeNumber) (edge : Edge) : Type 0 where
   pub ring : List Position
   pub there : slice_get rings number.ring ≡ Some ring
-  pub here : slice_get (edges ring) number.edge ≡ Some it
+  pub here : slice_get (edges ring) number.edge ≡ Some edge
 
 -- the second edge follows the first in their ring, and this is the vertex between them
 pub record Follows (rings : List (List Position)) (first second : EdgeNumber) (vertex : Position) : Type 0 where

@@ -12,20 +12,20 @@ pub record IsVertexOf (rings : List (List Position)) (ring vertex : ℕ) (positi
   pub here : slice_get vertices vertex ≡ Some position
 
 -- the vertex of a hole isn't inside the exterior
-pub record IsOutside (rings : List (List Position)) (it : PolygonRings) (ring vertex : ℕ) : Type 0 where
-  pub hole : IsHoleOf it ring
+pub record IsOutside (rings : List (List Position)) (polygon_rings : PolygonRings) (ring vertex : ℕ) : Type 0 where
+  pub hole : IsHoleOf polygon_rings ring
   pub position : Position
   pub here : IsVertexOf rings ring vertex position
   pub exterior : List Position
-  pub there : slice_get rings it.exterior ≡ Some exterior
+  pub there : slice_get rings polygon_rings.exterior ≡ Some exterior
   pub outside : ¬ IsInside position exterior
 
 -- the vertex of a hole is inside another hole
-pub record IsInHole (rings : List (List Position)) (it : PolygonRings) (ring vertex other : ℕ) : Type 0 where
-  pub hole : IsHoleOf it ring
+pub record IsInHole (rings : List (List Position)) (polygon_rings : PolygonRings) (ring vertex other : ℕ) : Type 0 where
+  pub hole : IsHoleOf polygon_rings ring
   pub position : Position
   pub here : IsVertexOf rings ring vertex position
-  pub other_hole : IsHoleOf it other
+  pub other_hole : IsHoleOf polygon_rings other
   pub different : other ≢ ring
   pub around : List Position
   pub there : slice_get rings other ≡ Some around

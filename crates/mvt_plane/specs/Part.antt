@@ -6,11 +6,11 @@ use Rattle.mvt_plane.specs.Position.{Position}
 
 -- the rings of a polygon
 abbrev pub part_of : List (List Position) → PolygonRings → List (List Position)
-part_of rings it = slice_range rings it.exterior it.after
+part_of rings polygon_rings = slice_range rings polygon_rings.exterior polygon_rings.after
 
 -- in the part they are all the rings
 abbrev pub within_part : PolygonRings → PolygonRings
-within_part it = record { exterior = 0; after = it.after - it.exterior }
+within_part polygon_rings = record { exterior = 0; after = polygon_rings.after - polygon_rings.exterior }
 
 -- the number in the whole list of an edge of the part that begins with this ring
 abbrev pub in_whole : ℕ → EdgeNumber → EdgeNumber

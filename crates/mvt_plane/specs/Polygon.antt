@@ -26,18 +26,18 @@ pub record PolygonRings : Type 0 where
   pub after : ℕ
 
 -- the polygon of this number: an exterior with the rings up to the next exterior, or to the last ring
-pub record IsPolygon (rings : List (List Position)) (polygon : ℕ) (it : PolygonRings) : Type 0 where
-  pub begins : IsExteriorOf rings polygon it.exterior
-  pub further : it.exterior < it.after
-  pub holes : NoExterior rings (suc it.exterior) it.after
-  pub ends : (it.after ≡ length rings) ⊎ IsExterior rings it.after
+pub record IsPolygon (rings : List (List Position)) (polygon : ℕ) (polygon_rings : PolygonRings) : Type 0 where
+  pub begins : IsExteriorOf rings polygon polygon_rings.exterior
+  pub further : polygon_rings.exterior < polygon_rings.after
+  pub holes : NoExterior rings (suc polygon_rings.exterior) polygon_rings.after
+  pub ends : (polygon_rings.after ≡ length rings) ⊎ IsExterior rings polygon_rings.after
 
 -- the ring belongs to the polygon
-pub record IsRingOf (it : PolygonRings) (ring : ℕ) : Type 0 where
-  pub from : it.exterior ≤ ring
-  pub before : ring < it.after
+pub record IsRingOf (polygon_rings : PolygonRings) (ring : ℕ) : Type 0 where
+  pub from : polygon_rings.exterior ≤ ring
+  pub before : ring < polygon_rings.after
 
 -- and is one of its holes
-pub record IsHoleOf (it : PolygonRings) (ring : ℕ) : Type 0 where
-  pub behind : it.exterior < ring
-  pub before : ring < it.after
+pub record IsHoleOf (polygon_rings : PolygonRings) (ring : ℕ) : Type 0 where
+  pub behind : polygon_rings.exterior < ring
+  pub before : ring < polygon_rings.after

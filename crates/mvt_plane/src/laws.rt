@@ -45,7 +45,7 @@ pub fn one_command_fault()
 
 /// The numbers of a figure's words are its spelling.
 pub fn words_spell()
-    ensures { (figure : Figure) → map (λ (it : Word). it.number) (words figure) ≡ spelling figure }
+    ensures { (figure : Figure) → map (λ (word : Word). word.number) (words figure) ≡ spelling figure }
 {}
 
 /// A reader that goes number by number, as `Drawing` says, finds the figure or the command fault.

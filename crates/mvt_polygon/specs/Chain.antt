@@ -3,8 +3,8 @@ use Rattle.std.specs.Prelude.{◌≡◌, ⊤, ◌⊎◌, ℕ, List, [], ◌∷�
 
 -- the number is in the list
 abbrev pub Has : List ℕ → ℕ → Type 0
-Has [] it = ⊥
-Has (first ∷ rest) it = (first ≡ it) ⊎ Has rest it
+Has [] number = ⊥
+Has (first ∷ rest) number = (first ≡ number) ⊎ Has rest number
 
 -- this is true of each
 abbrev pub Each : (ℕ → Type 0) → List ℕ → Type 0
@@ -13,8 +13,8 @@ Each P (first ∷ rest) = P first × Each P rest
 
 -- it stands in the relation to the first one, if there is one
 abbrev pub Head : (ℕ → ℕ → Type 0) → ℕ → List ℕ → Type 0
-Head R it [] = ⊤
-Head R it (first ∷ rest) = R it first
+Head R number [] = ⊤
+Head R number (first ∷ rest) = R number first
 
 -- each stands in the relation to the next one
 abbrev pub Chain : (ℕ → ℕ → Type 0) → List ℕ → Type 0

@@ -32,16 +32,16 @@ pub record IsNumbered (rings : List (List Position)) (number : ℕ) (place : Edg
   pub numbered : number ≡ vertex_count (take place.ring rings) + place.edge
 
 -- The corner of this number is the vertex of the rings that has it
-pub record IsCornerOf (rings : List (List Position)) (number : ℕ) (it : Corner) : Type 0 where
+pub record IsCornerOf (rings : List (List Position)) (number : ℕ) (corner : Corner) : Type 0 where
   pub place : EdgeNumber
   pub is : IsNumbered rings number place
-  pub here : slice_get is.ring place.edge ≡ Some it.position
-  pub far_end : it.far_end ≡ vertex_count (take place.ring rings) + far_end_of (length is.ring) place.edge
+  pub here : slice_get is.ring place.edge ≡ Some corner.position
+  pub far_end : corner.far_end ≡ vertex_count (take place.ring rings) + far_end_of (length is.ring) place.edge
 
 -- these are all corners of the rings
 pub record AreCorners (rings : List (List Position)) (corners : List Corner) : Type 0 where
   pub count : length corners ≡ vertex_count rings
-  pub each : (number : ℕ) (it : Corner) → slice_get corners number ≡ Some it → IsCornerOf rings number it
+  pub each : (number : ℕ) (corner : Corner) → slice_get corners number ≡ Some corner → IsCornerOf rings number corner
 
 -- these are all corners of proper rings
 pub record AreOfRings (corners : List Corner) : Type 0 where

@@ -26,20 +26,20 @@ AreBehindTags IsBroken = (it : FeatureRecord) (layer feature : ℕ) (fault : Fau
 -- the feature in a stretch is sound, in each layer of which so much is known
 abbrev pub IsGoodFeature : Breaks → Keeps → List ℕ → (LayerRecord → Type 0) → ℕ → ℕ → Span → Type 0
 IsGoodFeature IsBroken IsKept bytes IsKnown layer ordinal span =
-    (it : FeatureRecord) → IsFeature bytes span it → (whose : LayerRecord) → IsKnown whose → IsSound IsBroken IsKept whose it layer ordinal
+    (it : FeatureRecord) → IsFeature bytes span it → (layer_record : LayerRecord) → IsKnown layer_record → IsSound IsBroken IsKept layer_record it layer ordinal
 
 -- it has this one as its first fault
 abbrev pub IsFirstOfFeature : Breaks → List ℕ → (LayerRecord → Type 0) → ℕ → Fault → ℕ → Span → Type 0
 IsFirstOfFeature IsBroken bytes IsKnown layer fault ordinal span =
-    (it : FeatureRecord) → IsFeature bytes span it → (whose : LayerRecord) → IsKnown whose → IsLeast (IsFaultOfFeature IsBroken whose it layer ordinal) fault
+    (it : FeatureRecord) → IsFeature bytes span it → (layer_record : LayerRecord) → IsKnown layer_record → IsLeast (IsFaultOfFeature IsBroken layer_record it layer ordinal) fault
 
 -- all features of the layer in a stretch are sound
 abbrev pub IsGoodLayer : Breaks → Keeps → List ℕ → ℕ → Span → Type 0
-IsGoodLayer IsBroken IsKept bytes ordinal span = (whose : LayerRecord) → IsLayer bytes span whose → AllSoundInLayer IsBroken IsKept whose ordinal
+IsGoodLayer IsBroken IsKept bytes ordinal span = (layer_record : LayerRecord) → IsLayer bytes span layer_record → AllSoundInLayer IsBroken IsKept layer_record ordinal
 
 -- this is the first of the faults that they have
 abbrev pub IsFirstInLayer : Breaks → List ℕ → Fault → ℕ → Span → Type 0
-IsFirstInLayer IsBroken bytes fault ordinal span = (whose : LayerRecord) → IsLayer bytes span whose → IsLeast (IsFaultInLayer IsBroken whose ordinal) fault
+IsFirstInLayer IsBroken bytes fault ordinal span = (layer_record : LayerRecord) → IsLayer bytes span layer_record → IsLeast (IsFaultInLayer IsBroken layer_record ordinal) fault
 
 -- the fault's place is one of this feature's
 abbrev IsPlaceAt : ℕ → ℕ → Fault → Type 0
@@ -87,22 +87,22 @@ HasSameTagFaults-enough needs layer tags met enough = record { there = there; ba
 
 module _ (IsBroken : Breaks) where
   -- one feature: its tags decide where they have a fault
-  module _ (keys values : ℕ) (whose : LayerRecord) (it : FeatureRecord) (same : HasSameTagFaults keys values whose it.tags) (layer feature : ℕ) where
+  module _ (keys values : ℕ) (layer_record : LayerRecord) (it : FeatureRecord) (same : HasSameTagFaults keys values layer_record it.tags) (layer feature : ℕ) where
     -- the first fault of the tags, by the layer's own numbers of keys and values
-    first_in_layer_of : (code : TagCode) (index : ℕ) → IsFirstTagFault keys values it.tags code index → IsFirstTagFault (length whose.keys) (length whose.values) it.tags code index
+    first_in_layer_of : (code : TagCode) (index : ℕ) → IsFirstTagFault keys values it.tags code index → IsFirstTagFault (length layer_record.keys) (length layer_record.values) it.tags code index
     first_in_layer_of code index first = record {
       broken = same.there code index first.broken;
       first = λ other place broken. first.first other place (same.back other place broken);
     }
 
     pub tags_decide : ((fault : Fault) → IsBroken it layer feature fault → IsBehindTags layer feature (place_of fault)) → (code : TagCode) (index : ℕ)
-        → IsFirstTagFault keys values it.tags code index → IsLeast (IsFaultOfFeature IsBroken whose it layer feature) (Tag code layer feature index)
+        → IsFirstTagFault keys values it.tags code index → IsLeast (IsFaultOfFeature IsBroken layer_record it layer feature) (Tag code layer feature index)
     tags_decide behind_tags code index first = record { holds = inl of_tags.holds; least = behind }
       where
-        of_tags : IsLeast (IsFaultOfTags whose it layer feature) (Tag code layer feature index)
-        of_tags = IsLeast-first whose it layer feature code index (first_in_layer_of code index first)
+        of_tags : IsLeast (IsFaultOfTags layer_record it layer feature) (Tag code layer feature index)
+        of_tags = IsLeast-first layer_record it layer feature code index (first_in_layer_of code index first)
 
-        behind : (other : Fault) → IsFaultOfFeature IsBroken whose it layer feature other → ComesFirst (place_of (Tag code layer feature index)) (place_of other)
+        behind : (other : Fault) → IsFaultOfFeature IsBroken layer_record it layer feature other → ComesFirst (place_of (Tag code layer feature index)) (place_of other)
         behind other (inl broken) = of_tags.least other broken
         behind other (inr broken) =
             let place = behind_tags other broken in
@@ -112,103 +112,103 @@ module _ (IsBroken : Breaks) where
 
   -- what is found of the feature that was read, as said of the one that stands there
   module _ (bytes : List ℕ) (IsKnown : LayerRecord → Type 0) (layer ordinal : ℕ) (span : Span) (read : FeatureRecord) (reads : (it : FeatureRecord) → IsFeature bytes span it → read ≡ it) where
-    pub good_feature : (IsKept : Keeps) → ((whose : LayerRecord) → IsKnown whose → IsSound IsBroken IsKept whose read layer ordinal) → IsGoodFeature IsBroken IsKept bytes IsKnown layer ordinal span
-    good_feature IsKept good = λ it stands whose known. subst (λ (feature : FeatureRecord). IsSound IsBroken IsKept whose feature layer ordinal) (reads it stands) (good whose known)
+    pub good_feature : (IsKept : Keeps) → ((layer_record : LayerRecord) → IsKnown layer_record → IsSound IsBroken IsKept layer_record read layer ordinal) → IsGoodFeature IsBroken IsKept bytes IsKnown layer ordinal span
+    good_feature IsKept good = λ it stands layer_record known. subst (λ (feature : FeatureRecord). IsSound IsBroken IsKept layer_record feature layer ordinal) (reads it stands) (good layer_record known)
 
-    pub first_of_feature : (fault : Fault) → ((whose : LayerRecord) → IsKnown whose → IsLeast (IsFaultOfFeature IsBroken whose read layer ordinal) fault)
+    pub first_of_feature : (fault : Fault) → ((layer_record : LayerRecord) → IsKnown layer_record → IsLeast (IsFaultOfFeature IsBroken layer_record read layer ordinal) fault)
         → IsFirstOfFeature IsBroken bytes IsKnown layer fault ordinal span
-    first_of_feature fault first = λ it stands whose known.
-        subst (λ (feature : FeatureRecord). IsLeast (IsFaultOfFeature IsBroken whose feature layer ordinal) fault) (reads it stands) (first whose known)
+    first_of_feature fault first = λ it stands layer_record known.
+        subst (λ (feature : FeatureRecord). IsLeast (IsFaultOfFeature IsBroken layer_record feature layer ordinal) fault) (reads it stands) (first layer_record known)
 
   module _ (behind_tags : AreBehindTags IsBroken) where
     -- each fault of a feature is at one of its places
-    place_at : (whose : LayerRecord) (it : FeatureRecord) (layer feature : ℕ) (fault : Fault) → IsFaultOfFeature IsBroken whose it layer feature fault → IsPlaceAt layer feature fault
-    place_at whose it layer feature fault (inl of_tags) = place_of_tags whose it layer feature fault of_tags
-    place_at whose it layer feature fault (inr broken) = let place = behind_tags it layer feature fault broken in (_, place.3)
+    place_at : (layer_record : LayerRecord) (it : FeatureRecord) (layer feature : ℕ) (fault : Fault) → IsFaultOfFeature IsBroken layer_record it layer feature fault → IsPlaceAt layer feature fault
+    place_at layer_record it layer feature fault (inl of_tags) = place_of_tags layer_record it layer feature fault of_tags
+    place_at layer_record it layer feature fault (inr broken) = let place = behind_tags it layer feature fault broken in (_, place.3)
 
     -- the place of a fault of a tile's features begins as those of all features do
     pub features_begin : (tile : TileRecord) (fault : Fault) → OneFeatureHas (IsFaultOfFeature IsBroken) tile fault → (rest : List ℕ) × (place_of fault ≡ 2 ∷ rest)
-    features_begin tile fault holds = let place = place_at holds.whose holds.it holds.layer holds.feature fault holds.broken in (_, place.1)
+    features_begin tile fault holds = let place = place_at holds.layer_record holds.feature_record holds.layer holds.feature fault holds.broken in (_, place.1)
 
     -- it is a fault of its layer
-    in_its_layer : (tile : TileRecord) (fault : Fault) (holds : OneFeatureHas (IsFaultOfFeature IsBroken) tile fault) → IsFaultInLayer IsBroken holds.whose holds.layer fault
-    in_its_layer tile fault holds = record { feature = holds.feature; it = holds.it; there = holds.there.in_layer; broken = holds.broken }
+    in_its_layer : (tile : TileRecord) (fault : Fault) (holds : OneFeatureHas (IsFaultOfFeature IsBroken) tile fault) → IsFaultInLayer IsBroken holds.layer_record holds.layer fault
+    in_its_layer tile fault holds = record { feature = holds.feature; feature_record = holds.feature_record; there = holds.there.in_layer; broken = holds.broken }
 
     module _ (IsKept : Keeps) where
-      module _ (bytes : List ℕ) (span : Span) (whose : LayerRecord) (is : IsLayer bytes span whose) (layer : ℕ) (IsKnown : LayerRecord → Type 0) (known : IsKnown whose) where
+      module _ (bytes : List ℕ) (span : Span) (layer_record : LayerRecord) (is : IsLayer bytes span layer_record) (layer : ℕ) (IsKnown : LayerRecord → Type 0) (known : IsKnown layer_record) where
         -- where each feature is good, all are sound
-        pub good_layer : AreClean (IsGoodFeature IsBroken IsKept bytes IsKnown layer) (spans_of 2 is.entries) → AllSoundInLayer IsBroken IsKept whose layer
+        pub good_layer : AreClean (IsGoodFeature IsBroken IsKept bytes IsKnown layer) (spans_of 2 is.entries) → AllSoundInLayer IsBroken IsKept layer_record layer
         good_layer clean feature it there =
-            let member = each_here (IsFeature bytes) (spans_of 2 is.entries) whose.features feature it is.features there in
-            clean feature member.0 member.1 it member.2 whose known
+            let member = each_here (IsFeature bytes) (spans_of 2 is.entries) layer_record.features feature it is.features there in
+            clean feature member.0 member.1 it member.2 layer_record known
 
         -- the first fault of the first feature that has one comes before all others of the layer
         pub first_in_layer : (feature : ℕ) (inner : Span) (fault : Fault) → IsNext (IsGoodFeature IsBroken IsKept bytes IsKnown layer) (spans_of 2 is.entries) feature inner
-            → IsFirstOfFeature IsBroken bytes IsKnown layer fault feature inner → IsLeast (IsFaultInLayer IsBroken whose layer) fault
+            → IsFirstOfFeature IsBroken bytes IsKnown layer fault feature inner → IsLeast (IsFaultInLayer IsBroken layer_record layer) fault
         first_in_layer feature inner fault next found = record { holds = here; least = behind }
           where
-            at : (it : FeatureRecord) × (slice_get whose.features feature ≡ Some it) × IsFeature bytes inner it
-            at = each_there (IsFeature bytes) (spans_of 2 is.entries) whose.features feature inner is.features next.here
+            at : (it : FeatureRecord) × (slice_get layer_record.features feature ≡ Some it) × IsFeature bytes inner it
+            at = each_there (IsFeature bytes) (spans_of 2 is.entries) layer_record.features feature inner is.features next.here
 
-            first : IsLeast (IsFaultOfFeature IsBroken whose at.0 layer feature) fault
-            first = found at.0 at.2 whose known
+            first : IsLeast (IsFaultOfFeature IsBroken layer_record at.0 layer feature) fault
+            first = found at.0 at.2 layer_record known
 
-            here : IsFaultInLayer IsBroken whose layer fault
-            here = record { feature = feature; it = at.0; there = at.1; broken = first.holds }
+            here : IsFaultInLayer IsBroken layer_record layer fault
+            here = record { feature = feature; feature_record = at.0; there = at.1; broken = first.holds }
 
-            behind : (other : Fault) → IsFaultInLayer IsBroken whose layer other → ComesFirst (place_of fault) (place_of other)
+            behind : (other : Fault) → IsFaultInLayer IsBroken layer_record layer other → ComesFirst (place_of fault) (place_of other)
             behind other holds =
-                let member = each_here (IsFeature bytes) (spans_of 2 is.entries) whose.features holds.feature holds.it is.features holds.there in
+                let member = each_here (IsFeature bytes) (spans_of 2 is.entries) layer_record.features holds.feature holds.feature_record is.features holds.there in
                 elim (cases_lt feature holds.feature) [
                   | inl later ↦
-                      by_feature fault other layer feature holds.feature (place_at whose at.0 layer feature fault first.holds) (place_at whose holds.it layer holds.feature other holds.broken) later
+                      by_feature fault other layer feature holds.feature (place_at layer_record at.0 layer feature fault first.holds) (place_at layer_record holds.feature_record layer holds.feature other holds.broken) later
                   | inr not_later ↦ elim (cases_lt holds.feature feature) [
-                    | inl earlier ↦ absurd ((next.before holds.feature member.0 earlier member.1 holds.it member.2 whose known).faultless other holds.broken)
+                    | inl earlier ↦ absurd ((next.before holds.feature member.0 earlier member.1 holds.feature_record member.2 layer_record known).faultless other holds.broken)
                     | inr not_earlier ↦
                         let same : holds.feature ≡ feature = omega arith in
                         let both : Some member.0 ≡ Some inner = sym member.1 ∙ ap (slice_get (spans_of 2 is.entries)) same ∙ next.here in
                         let spans : member.0 ≡ inner = cc in
-                        (found holds.it (subst (λ (s : Span). IsFeature bytes s holds.it) spans member.2) whose known).least other
-                        (subst (λ (ordinal : ℕ). IsFaultOfFeature IsBroken whose holds.it layer ordinal other) same holds.broken)
+                        (found holds.feature_record (subst (λ (s : Span). IsFeature bytes s holds.feature_record) spans member.2) layer_record known).least other
+                        (subst (λ (ordinal : ℕ). IsFaultOfFeature IsBroken layer_record holds.feature_record layer ordinal other) same holds.broken)
                   ]
                 ]
 
       module _ (bytes : List ℕ) (tile : TileRecord) (is : IsTile bytes tile) where
         -- where each layer is good, all features are sound
         pub good_tile : AreClean (IsGoodLayer IsBroken IsKept bytes) (spans_of 3 is.entries) → AllSound IsBroken IsKept tile
-        good_tile clean layer feature whose it there =
-            let member = each_here (IsLayer bytes) (spans_of 3 is.entries) tile.layers layer whose is.layers there.in_tile in
-            clean layer member.0 member.1 whose member.2 feature it there.in_layer
+        good_tile clean layer feature layer_record it there =
+            let member = each_here (IsLayer bytes) (spans_of 3 is.entries) tile.layers layer layer_record is.layers there.in_tile in
+            clean layer member.0 member.1 layer_record member.2 feature it there.in_layer
 
         -- the first fault of the first layer that has one comes before all others
         pub first_in_tile : (layer : ℕ) (inner : Span) (fault : Fault) → IsNext (IsGoodLayer IsBroken IsKept bytes) (spans_of 3 is.entries) layer inner
             → IsFirstInLayer IsBroken bytes fault layer inner → IsLeast (OneFeatureHas (IsFaultOfFeature IsBroken) tile) fault
         first_in_tile layer inner fault next found = record { holds = here; least = behind }
           where
-            at : (whose : LayerRecord) × (slice_get tile.layers layer ≡ Some whose) × IsLayer bytes inner whose
+            at : (layer_record : LayerRecord) × (slice_get tile.layers layer ≡ Some layer_record) × IsLayer bytes inner layer_record
             at = each_there (IsLayer bytes) (spans_of 3 is.entries) tile.layers layer inner is.layers next.here
 
             held : IsFaultInLayer IsBroken at.0 layer fault
             held = (found at.0 at.2).holds
 
             here : OneFeatureHas (IsFaultOfFeature IsBroken) tile fault
-            here = record { layer = layer; feature = held.feature; whose = at.0; it = held.it; there = record { in_tile = at.1; in_layer = held.there }; broken = held.broken }
+            here = record { layer = layer; feature = held.feature; layer_record = at.0; feature_record = held.feature_record; there = record { in_tile = at.1; in_layer = held.there }; broken = held.broken }
 
             behind : (other : Fault) → OneFeatureHas (IsFaultOfFeature IsBroken) tile other → ComesFirst (place_of fault) (place_of other)
             behind other holds =
-                let member = each_here (IsLayer bytes) (spans_of 3 is.entries) tile.layers holds.layer holds.whose is.layers holds.there.in_tile in
+                let member = each_here (IsLayer bytes) (spans_of 3 is.entries) tile.layers holds.layer holds.layer_record is.layers holds.there.in_tile in
                 elim (cases_lt layer holds.layer) [
                   | inl later ↦
-                      by_layer fault other layer held.feature holds.layer holds.feature (place_at at.0 held.it layer held.feature fault held.broken)
-                      (place_at holds.whose holds.it holds.layer holds.feature other holds.broken) later
+                      by_layer fault other layer held.feature holds.layer holds.feature (place_at at.0 held.feature_record layer held.feature fault held.broken)
+                      (place_at holds.layer_record holds.feature_record holds.layer holds.feature other holds.broken) later
                   | inr not_later ↦ elim (cases_lt holds.layer layer) [
                     | inl earlier ↦
-                        absurd ((next.before holds.layer member.0 earlier member.1 holds.whose member.2 holds.feature holds.it holds.there.in_layer).faultless other holds.broken)
+                        absurd ((next.before holds.layer member.0 earlier member.1 holds.layer_record member.2 holds.feature holds.feature_record holds.there.in_layer).faultless other holds.broken)
                     | inr not_earlier ↦
                         let same : holds.layer ≡ layer = omega arith in
                         let both : Some member.0 ≡ Some inner = sym member.1 ∙ ap (slice_get (spans_of 3 is.entries)) same ∙ next.here in
                         let spans : member.0 ≡ inner = cc in
-                        (found holds.whose (subst (λ (s : Span). IsLayer bytes s holds.whose) spans member.2)).least other
-                        (subst (λ (l : ℕ). IsFaultInLayer IsBroken holds.whose l other) same (in_its_layer tile other holds))
+                        (found holds.layer_record (subst (λ (s : Span). IsLayer bytes s holds.layer_record) spans member.2)).least other
+                        (subst (λ (l : ℕ). IsFaultInLayer IsBroken holds.layer_record l other) same (in_its_layer tile other holds))
                   ]
                 ]

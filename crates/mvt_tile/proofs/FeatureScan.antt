@@ -20,9 +20,9 @@ use Rattle.mvt_tile.proofs.FeatureFaults.{AreBehindTags, IsGoodFeature, good_fea
 use Rattle.mvt_wire.proofs.Walking.{IsWalking}
 
 -- the layer has what the tags need, and no more keys than these
-pub record IsRoomy (needs : TagNeeds) (most : ℕ) (whose : LayerRecord) : Type 0 where
-  pub enough : HasEnough needs whose
-  pub few : length whose.keys ≤ most
+pub record IsRoomy (needs : TagNeeds) (most : ℕ) (layer_record : LayerRecord) : Type 0 where
+  pub enough : HasEnough needs layer_record
+  pub few : length layer_record.keys ≤ most
 
 -- what is good in front of a feature
 abbrev Good : Breaks → Keeps → List ℕ → ℕ → ℕ → TagNeeds → ℕ → Span → Type 0
@@ -32,7 +32,7 @@ Good IsBroken IsKept bytes most layer needs = IsGoodFeature IsBroken IsKept byte
 -- a key that no layer of this size has
 pub record IsScanned (IsBroken : Breaks) (IsKept : Keeps) (bytes : List ℕ) (from to layer : ℕ) (needs : TagNeeds) (found : Option Fault) (walk : Walk) (count : ℕ) : Type 0 where
   pub none : IfNone found (needs.keys ≤ to - from → CleanWalk (Good IsBroken IsKept bytes (to - from) layer needs) 2 (take to bytes) from walk count)
-  pub some : IfSome found (λ fault. (whose : LayerRecord) → IsLayer bytes (record { from = from; to = to }) whose → IsRoomy needs (to - from) whose → IsLeast (IsFaultInLayer IsBroken whose layer) fault)
+  pub some : IfSome found (λ fault. (layer_record : LayerRecord) → IsLayer bytes (record { from = from; to = to }) layer_record → IsRoomy needs (to - from) layer_record → IsLeast (IsFaultInLayer IsBroken layer_record layer) fault)
 
 module _ {IsBroken : Breaks} {IsKept : Keeps} {bytes : List ℕ} {from to layer : ℕ} where
   module _ {needs : TagNeeds} {found : Option Fault} {old new : Walk} {count : ℕ} (so_far : IsScanned IsBroken IsKept bytes from to layer needs found old count) where
@@ -52,40 +52,40 @@ module _ {IsBroken : Breaks} {IsKept : Keeps} {bytes : List ℕ} {from to layer 
   module _ {old new : Walk} {count : ℕ} {before : TagNeeds} (so_far : CleanWalk (Good IsBroken IsKept bytes (to - from) layer before) 2 (take to bytes) from old count) {entry : Entry} (given : GivesField old new entry)
       (own : entry.number ≡ 2) (span : Span) (there : span_of entry.content ≡ Some span) (needs : TagNeeds) (more_keys : before.keys ≤ needs.keys) (more_values : before.values ≤ needs.values) where
     pub IsScanned-more : AreBehindTags IsBroken → (read : FeatureRecord) → ((it : FeatureRecord) → IsFeature bytes span it → read ≡ it)
-        → (found : Option Fault) → IfNone found ((whose : LayerRecord) → HasEnough needs whose → length whose.keys ≤ to - from → IsSound IsBroken IsKept whose read layer count)
-        → IfSome found (λ fault. (whose : LayerRecord) → HasEnough needs whose → IsLeast (IsFaultOfFeature IsBroken whose read layer count) fault)
+        → (found : Option Fault) → IfNone found ((layer_record : LayerRecord) → HasEnough needs layer_record → length layer_record.keys ≤ to - from → IsSound IsBroken IsKept layer_record read layer count)
+        → IfSome found (λ fault. (layer_record : LayerRecord) → HasEnough needs layer_record → IsLeast (IsFaultOfFeature IsBroken layer_record read layer count) fault)
         → IsScanned IsBroken IsKept bytes from to layer needs found new (count + 1)
     IsScanned-more behind_tags read reads found none some = record {
       none = IfNone_then found none (λ sound small.
-          CleanWalk-more grown given own span there (good_feature IsBroken bytes (IsRoomy needs (to - from)) layer count span read reads IsKept (λ whose roomy. sound whose roomy.enough roomy.few)));
-      some = IfSome_then found some (λ fault least whose is roomy.
-          first_in_layer IsBroken behind_tags IsKept bytes _ whose is layer (IsRoomy needs (to - from)) roomy count span fault
+          CleanWalk-more grown given own span there (good_feature IsBroken bytes (IsRoomy needs (to - from)) layer count span read reads IsKept (λ layer_record roomy. sound layer_record roomy.enough roomy.few)));
+      some = IfSome_then found some (λ fault least layer_record is roomy.
+          first_in_layer IsBroken behind_tags IsKept bytes _ layer_record is layer (IsRoomy needs (to - from)) roomy count span fault
           (CleanWalk-next grown given own span there is.entries is.whole)
           (first_of_feature IsBroken bytes (IsRoomy needs (to - from)) layer count span read reads fault (λ other known. least other known.enough)));
     }
       where
         still_good : (ordinal : ℕ) (other : Span) → Good IsBroken IsKept bytes (to - from) layer before ordinal other → Good IsBroken IsKept bytes (to - from) layer needs ordinal other
-        still_good ordinal other good = λ it stands whose roomy.
+        still_good ordinal other good = λ it stands layer_record roomy.
             let enough = roomy.enough in
-            good it stands whose (record { enough = record { keys = omega (arith, enough.keys); values = omega (arith, enough.values) }; few = roomy.few })
+            good it stands layer_record (record { enough = record { keys = omega (arith, enough.keys); values = omega (arith, enough.values) }; few = roomy.few })
 
         grown : CleanWalk (Good IsBroken IsKept bytes (to - from) layer needs) 2 (take to bytes) from old count
         grown = CleanWalk-weaker (Good IsBroken IsKept bytes (to - from) layer needs) still_good so_far
 
   -- behind the last field
   module _ (forward : from ≤ to) {needs : TagNeeds} {found : Option Fault} {old : Walk} {count : ℕ} (so_far : IsScanned IsBroken IsKept bytes from to layer needs found old count) where
-    roomy : (whose : LayerRecord) → IsLayer bytes (record { from = from; to = to }) whose → HasEnough needs whose → IsRoomy needs (to - from) whose
-    roomy whose is enough = record { enough = enough; few = few_keys bytes from to whose is forward }
+    roomy : (layer_record : LayerRecord) → IsLayer bytes (record { from = from; to = to }) layer_record → HasEnough needs layer_record → IsRoomy needs (to - from) layer_record
+    roomy layer_record is enough = record { enough = enough; few = few_keys bytes from to layer_record is forward }
 
     pub IsScanned-sound : AreBehindTags IsBroken → {new : Walk} → IsOver old new
-        → IfNone found ((whose : LayerRecord) → IsLayer bytes (record { from = from; to = to }) whose → HasEnough needs whose → AllSoundInLayer IsBroken IsKept whose layer)
-    IsScanned-sound behind_tags over = IfNone_then found so_far.none (λ clean whose is enough.
-        let room = roomy whose is enough in
-        good_layer IsBroken behind_tags IsKept bytes _ whose is layer (IsRoomy needs (to - from)) room
+        → IfNone found ((layer_record : LayerRecord) → IsLayer bytes (record { from = from; to = to }) layer_record → HasEnough needs layer_record → AllSoundInLayer IsBroken IsKept layer_record layer)
+    IsScanned-sound behind_tags over = IfNone_then found so_far.none (λ clean layer_record is enough.
+        let room = roomy layer_record is enough in
+        good_layer IsBroken behind_tags IsKept bytes _ layer_record is layer (IsRoomy needs (to - from)) room
         (CleanWalk-over (clean (omega (arith, enough.keys, room.few))) over is.entries is.whole))
 
-    pub IsScanned-least : IfSome found (λ fault. (whose : LayerRecord) → IsLayer bytes (record { from = from; to = to }) whose → HasEnough needs whose → IsLeast (IsFaultInLayer IsBroken whose layer) fault)
-    IsScanned-least = IfSome_then found so_far.some (λ fault least whose is enough. least whose is (roomy whose is enough))
+    pub IsScanned-least : IfSome found (λ fault. (layer_record : LayerRecord) → IsLayer bytes (record { from = from; to = to }) layer_record → HasEnough needs layer_record → IsLeast (IsFaultInLayer IsBroken layer_record layer) fault)
+    IsScanned-least = IfSome_then found so_far.some (λ fault least layer_record is enough. least layer_record is (roomy layer_record is enough))
 
 -- the fields that were passed, what they tell of the layer, and what was found of its features
 pub record IsLayerScan (IsBroken : Breaks) (IsKept : Keeps) (bytes : List ℕ) (from to layer : ℕ) (scan : LayerScan) (walk : Walk) (count : ℕ) : Type 0 where
@@ -96,5 +96,5 @@ pub record IsLayerScan (IsBroken : Breaks) (IsKept : Keeps) (bytes : List ℕ) (
   pub few : count ≤ walk.at
 
 -- a layer that was counted has what the tags need
-pub enough_counted : {needs : TagNeeds} {summary : LayerSummary} {whose : LayerRecord} → needs.keys ≤ summary.keys → needs.values ≤ summary.values → IsSummary summary whose → HasEnough needs whose
+pub enough_counted : {needs : TagNeeds} {summary : LayerSummary} {layer_record : LayerRecord} → needs.keys ≤ summary.keys → needs.values ≤ summary.values → IsSummary summary layer_record → HasEnough needs layer_record
 enough_counted keys values sum = record { keys = omega (arith, keys, sum.keys); values = omega (arith, values, sum.values) }

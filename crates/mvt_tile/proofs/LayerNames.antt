@@ -38,7 +38,7 @@ module _ (rules : LayerRules) (tile : TileRecord) (layers : ArePassed rules tile
   -- a layer of another version wasn't passed
   behind_version : (layer : ℕ) → OtherVersion tile layer → passed rules ≤ layer
   behind_version layer fault = elim (cases_lt layer (passed rules)) [
-    | inl before ↦ absurd (fault.other (layers.version layer fault.whose before fault.there))
+    | inl before ↦ absurd (fault.other (layers.version layer fault.layer_record before fault.there))
     | inr behind ↦ behind
   ]
 
@@ -48,8 +48,8 @@ module _ (rules : LayerRules) (tile : TileRecord) (layers : ArePassed rules tile
       let earlier = fault.earlier in
       record {
         earlier = earlier;
-        name = fault.whose.name;
-        there = layers.named first fault.whose (omega arith) fault.there;
+        name = fault.layer_record.name;
+        there = layers.named first fault.layer_record (omega arith) fault.there;
         again = layers.named second fault.other before fault.other_there ∙ ap Some (sym fault.same);
       }
 
@@ -62,7 +62,7 @@ module _ (rules : LayerRules) (tile : TileRecord) (layers : ArePassed rules tile
       let other = layers.there second within in
       record {
         earlier = earlier;
-        whose = one.0;
+        layer_record = one.0;
         there = one.1;
         other = other.0;
         other_there = other.1;
@@ -74,7 +74,7 @@ module _ (rules : LayerRules) (tile : TileRecord) (layers : ArePassed rules tile
     pub no_layer_fault : length tile.layers ≡ passed rules → (fault : Fault) → ¬ IsFaultOfLayers tile fault
     no_layer_fault all fault (faults.version layer holds) =
         let behind = behind_version layer holds in
-        let within = slice_get_within tile.layers layer holds.whose holds.there in
+        let within = slice_get_within tile.layers layer holds.layer_record holds.there in
         absurd (omega arith)
     no_layer_fault all fault (faults.name first second holds) =
         let within = slice_get_within tile.layers second holds.other holds.other_there in
@@ -83,7 +83,7 @@ module _ (rules : LayerRules) (tile : TileRecord) (layers : ArePassed rules tile
     -- where the next layer has another version, that is the first fault
     pub IsLeast-version : IsOtherNext rules tile → IsLeast (IsFaultOfLayers tile) (Version (passed rules))
     IsLeast-version next = record {
-      holds = faults.version (passed rules) (record { whose = next.layer_record; there = next.there; other = next.other });
+      holds = faults.version (passed rules) (record { layer_record = next.layer_record; there = next.there; other = next.other });
       least = least;
     }
       where

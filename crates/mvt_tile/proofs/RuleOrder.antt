@@ -29,15 +29,15 @@ module _ (IsBroken : Breaks) (behind_tags : AreBehindTags IsBroken) where
   by_part : (tile : TileRecord) (fault : Fault) → BreaksAnyRule IsBroken tile fault → IsFaultOfLayers tile fault ⊎ OneFeatureHas (IsFaultOfFeature IsBroken) tile fault
   by_part tile fault (inl (inl of_layers)) = inl of_layers
   by_part tile fault (inl (inr of_tags)) =
-      inr (record { layer = of_tags.layer; feature = of_tags.feature; whose = of_tags.whose; it = of_tags.it; there = of_tags.there; broken = inl of_tags.broken })
+      inr (record { layer = of_tags.layer; feature = of_tags.feature; layer_record = of_tags.layer_record; feature_record = of_tags.feature_record; there = of_tags.there; broken = inl of_tags.broken })
   by_part tile fault (inr of_rule) =
-      inr (record { layer = of_rule.layer; feature = of_rule.feature; whose = of_rule.whose; it = of_rule.it; there = of_rule.there; broken = inr of_rule.broken })
+      inr (record { layer = of_rule.layer; feature = of_rule.feature; layer_record = of_rule.layer_record; feature_record = of_rule.feature_record; there = of_rule.there; broken = inr of_rule.broken })
 
   -- and the other way round
   of_feature : (tile : TileRecord) (fault : Fault) (holds : OneFeatureHas (IsFaultOfFeature IsBroken) tile fault) → BreaksAnyRule IsBroken tile fault
   of_feature tile fault holds = elim holds.broken [
-    | inl of_tags ↦ inl (inr (record { layer = holds.layer; feature = holds.feature; whose = holds.whose; it = holds.it; there = holds.there; broken = of_tags }))
-    | inr of_rule ↦ inr (record { layer = holds.layer; feature = holds.feature; whose = holds.whose; it = holds.it; there = holds.there; broken = of_rule })
+    | inl of_tags ↦ inl (inr (record { layer = holds.layer; feature = holds.feature; layer_record = holds.layer_record; feature_record = holds.feature_record; there = holds.there; broken = of_tags }))
+    | inr of_rule ↦ inr (record { layer = holds.layer; feature = holds.feature; layer_record = holds.layer_record; feature_record = holds.feature_record; there = holds.there; broken = of_rule })
   ]
 
   module _ (tile : TileRecord) where
@@ -65,14 +65,14 @@ module _ (IsBroken : Breaks) (behind_tags : AreBehindTags IsBroken) where
       where
         parts : (fault : Fault) → ¬ BreaksRule tile fault
         parts fault (inl of_layers) = none fault of_layers
-        parts fault (inr of_tags) = (sound of_tags.layer of_tags.feature of_tags.whose of_tags.it of_tags.there).faultless fault (inl of_tags.broken)
+        parts fault (inr of_tags) = (sound of_tags.layer of_tags.feature of_tags.layer_record of_tags.feature_record of_tags.there).faultless fault (inl of_tags.broken)
 
   -- Where the layers have no fault, all were passed, and the features decide.
   module _ (bytes : List ℕ) (rules : LayerRules) (ends : (tile : TileRecord) → IsTile bytes tile → EndsLayers rules tile)
       (none : (tile : TileRecord) → EndsLayers rules tile → (fault : Fault) → ¬ IsFaultOfLayers tile fault) where
     all_passed : (tile : TileRecord) → IsTile bytes tile → passed rules ≡ length tile.layers
     all_passed tile is = elim (ends tile is).end [
-      | inl next ↦ absurd (none tile (ends tile is) (Version (passed rules)) (version (passed rules) (record { whose = next.1.layer_record; there = next.1.there; other = next.1.other })))
+      | inl next ↦ absurd (none tile (ends tile is) (Version (passed rules)) (version (passed rules) (record { layer_record = next.1.layer_record; there = next.1.there; other = next.1.other })))
       | inr last ↦ sym last.1
     ]
 

@@ -237,13 +237,13 @@ index_first : (code other : TagCode) (index at : ℕ) → (index < at) ⊎ ((ind
 index_first code other index at (inl before) = inl before
 index_first code other index at (inr same) = inr (same.0, head_first (tag_code code) (tag_code other) (0 ∷ 0 ∷ 0 ∷ 0 ∷ []) same.1 (inr (refl, inr (refl, inr (refl, inr (refl, tt))))))
 
-module _ (whose : LayerRecord) (it : FeatureRecord) (layer feature : ℕ) (code : TagCode) (index : ℕ) (first : IsFirstTagFault (length whose.keys) (length whose.values) it.tags code index) where
+module _ (layer_record : LayerRecord) (it : FeatureRecord) (layer feature : ℕ) (code : TagCode) (index : ℕ) (first : IsFirstTagFault (length layer_record.keys) (length layer_record.values) it.tags code index) where
   -- no fault of the feature's tags has a lesser place than their first
-  comes_first : (other : Fault) → IsFaultOfTags whose it layer feature other → ComesFirst (place_of (Tag code layer feature index)) (place_of other)
+  comes_first : (other : Fault) → IsFaultOfTags layer_record it layer feature other → ComesFirst (place_of (Tag code layer feature index)) (place_of other)
   comes_first fault (tag other at broken) = inr (refl, inr (refl, inr (refl, inr (refl, index_first code other index at (first.first other at broken)))))
 
   -- the first fault of a feature's tags, told with its layer and its feature, is the one with the least place
-  pub IsLeast-first : IsLeast (IsFaultOfTags whose it layer feature) (Tag code layer feature index)
+  pub IsLeast-first : IsLeast (IsFaultOfTags layer_record it layer feature) (Tag code layer feature index)
   IsLeast-first = record { holds = tag code index first.broken; least = comes_first }
 
 -- a record's feature shows the tags that the record has

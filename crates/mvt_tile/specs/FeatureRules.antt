@@ -15,14 +15,14 @@ Keeps = FeatureRecord → Type 0
 
 -- the feature has this fault, of its tags or of the further rule
 abbrev pub IsFaultOfFeature : Breaks → FeatureFault
-IsFaultOfFeature IsBroken whose it layer feature fault = IsFaultOfTags whose it layer feature fault ⊎ IsBroken it layer feature fault
+IsFaultOfFeature IsBroken layer_record feature_record layer feature fault = IsFaultOfTags layer_record feature_record layer feature fault ⊎ IsBroken feature_record layer feature fault
 
 -- one of the features of the layer with an ordinal has this fault
-pub record IsFaultInLayer (IsBroken : Breaks) (whose : LayerRecord) (layer : ℕ) (fault : Fault) : Type 0 where
+pub record IsFaultInLayer (IsBroken : Breaks) (layer_record : LayerRecord) (layer : ℕ) (fault : Fault) : Type 0 where
   pub feature : ℕ
-  pub it : FeatureRecord
-  pub there : slice_get whose.features feature ≡ Some it
-  pub broken : IsFaultOfFeature IsBroken whose it layer feature fault
+  pub feature_record : FeatureRecord
+  pub there : slice_get layer_record.features feature ≡ Some feature_record
+  pub broken : IsFaultOfFeature IsBroken layer_record feature_record layer feature fault
 
 -- the feature has no fault, neither of its tags nor of the further rule, and keeps that rule
 pub record IsSound (IsBroken : Breaks) (IsKept : Keeps) (layer_record : LayerRecord) (feature_record : FeatureRecord) (layer feature : ℕ) : Type 0 where

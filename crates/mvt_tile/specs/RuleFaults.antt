@@ -39,9 +39,9 @@ IsBehindTags layer feature place = (part : ℕ) × (rest : List ℕ) × (1 ≤ p
 
 -- the tile's record breaks a rule between its parts, or a further one on its features
 abbrev pub BreaksAnyRule : Breaks → TileRecord → Fault → Type 0
-BreaksAnyRule IsBroken tile fault = BreaksRule tile fault ⊎ OneFeatureHas (λ whose. IsBroken) tile fault
+BreaksAnyRule IsBroken tile fault = BreaksRule tile fault ⊎ OneFeatureHas (λ layer_record. IsBroken) tile fault
 
 -- the tile's record keeps the rules between its parts, and each of its features keeps a further one
 pub record KeepsRules (IsKept : Keeps) (tile : TileRecord) : Type 0 where
   pub parts : (fault : Fault) → ¬ BreaksRule tile fault
-  pub features : (layer feature : ℕ) (whose : LayerRecord) (it : FeatureRecord) → IsFeatureOf tile layer feature whose it → IsKept it
+  pub features : (layer feature : ℕ) (layer_record : LayerRecord) (feature_record : FeatureRecord) → IsFeatureOf tile layer feature layer_record feature_record → IsKept feature_record

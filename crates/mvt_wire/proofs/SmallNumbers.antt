@@ -54,10 +54,10 @@ geometry_end bytes span feature is =
     ends_with_message Feature 4 (field_rule 4 Numbers AtLeastOnce) (take span.to bytes) span.from is.entries feature.geometry refl refl is.keeps is.whole is.geometry
 
 -- the law: so the numbers of the geometry of a tile's feature have 32 bits
-pub geometry_small : (bytes : List ℕ) (tile : TileRecord) (layer feature : ℕ) (whose : LayerRecord) (it : FeatureRecord) → IsTile bytes tile → IsFeatureOf tile layer feature whose it → AreSmall it.geometry
-geometry_small bytes tile layer feature whose it whole there =
-    let in_tile = each_here (IsLayer bytes) (spans_of 3 whole.entries) tile.layers layer whose whole.layers there.in_tile in
-    let is_layer : IsLayer bytes in_tile.0 whose = in_tile.2 in
-    let in_layer = each_here (IsFeature bytes) (spans_of 2 is_layer.entries) whose.features feature it is_layer.features there.in_layer in
+pub geometry_small : (bytes : List ℕ) (tile : TileRecord) (layer feature : ℕ) (layer_record : LayerRecord) (it : FeatureRecord) → IsTile bytes tile → IsFeatureOf tile layer feature layer_record it → AreSmall it.geometry
+geometry_small bytes tile layer feature layer_record it whole there =
+    let in_tile = each_here (IsLayer bytes) (spans_of 3 whole.entries) tile.layers layer layer_record whole.layers there.in_tile in
+    let is_layer : IsLayer bytes in_tile.0 layer_record = in_tile.2 in
+    let in_layer = each_here (IsFeature bytes) (spans_of 2 is_layer.entries) layer_record.features feature it is_layer.features there.in_layer in
     let ending = geometry_end bytes in_layer.0 it in_layer.2 in
     ending.3

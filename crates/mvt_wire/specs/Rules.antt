@@ -5,18 +5,18 @@ use Rattle.mvt_wire.specs.Tile.{FeatureRecord, LayerRecord, TileRecord}
 
 -- the layer's version isn't 2 (section 4.1)
 pub record OtherVersion (tile : TileRecord) (layer : ℕ) : Type 0 where
-  pub whose : LayerRecord
-  pub there : slice_get tile.layers layer ≡ Some whose
-  pub other : whose.version ≢ 2
+  pub layer_record : LayerRecord
+  pub there : slice_get tile.layers layer ≡ Some layer_record
+  pub other : layer_record.version ≢ 2
 
 -- two layers have one name, the same byte for byte (section 4.1)
 pub record SameName (tile : TileRecord) (first second : ℕ) : Type 0 where
   pub earlier : first < second
-  pub whose : LayerRecord
-  pub there : slice_get tile.layers first ≡ Some whose
+  pub layer_record : LayerRecord
+  pub there : slice_get tile.layers first ≡ Some layer_record
   pub other : LayerRecord
   pub other_there : slice_get tile.layers second ≡ Some other
-  pub same : whose.name ≡ other.name
+  pub same : layer_record.name ≡ other.name
 
 -- Tags are pairs of an index of a key and an index of a value (section 4.4). A fault of tags is at a place in their list.
 
@@ -63,6 +63,6 @@ pub record KeyAgain (tags : List ℕ) (place : ℕ) : Type 0 where
   pub there : IsKeyAt tags earlier key
 
 -- a feature of a tile, and the layer that it is in
-pub record IsFeatureOf (tile : TileRecord) (layer feature : ℕ) (whose : LayerRecord) (it : FeatureRecord) : Type 0 where
-  pub in_tile : slice_get tile.layers layer ≡ Some whose
-  pub in_layer : slice_get whose.features feature ≡ Some it
+pub record IsFeatureOf (tile : TileRecord) (layer feature : ℕ) (layer_record : LayerRecord) (feature_record : FeatureRecord) : Type 0 where
+  pub in_tile : slice_get tile.layers layer ≡ Some layer_record
+  pub in_layer : slice_get layer_record.features feature ≡ Some feature_record

@@ -23,8 +23,8 @@ pub(crate) enum GeometryType {
 impl GeometryType {
     /// The type of this number; None where it isn't known.
     pub(crate) fn of_number(number: u64) -> Option<GeometryType>
-        ensures known { IfSome result (λ it. number ≡ type_number (plane_type it)) }
-        ensures unknown { IfNone result ((it : figures.GeometryType) → number ≢ type_number it) }
+        ensures known { IfSome result (λ geometry_type. number ≡ type_number (plane_type geometry_type)) }
+        ensures unknown { IfNone result ((geometry_type : figures.GeometryType) → number ≢ type_number geometry_type) }
     {
         match number {
             1 => Some(GeometryType::Point),

@@ -38,7 +38,7 @@ pub fn rings_with_faults()
 pub fn polygons()
     ensures first { IsPolygon two_polygons 0 (rings_from 0 1) }
     ensures second { IsPolygon two_polygons 1 (rings_from 1 3) }
-    ensures no_third { (it : PolygonRings) → ¬ IsPolygon two_polygons 2 it }
+    ensures no_third { (polygon_rings : PolygonRings) → ¬ IsPolygon two_polygons 2 polygon_rings }
     ensures of_no_hole { (polygon after : ℕ) → ¬ IsPolygon two_polygons polygon (rings_from 2 after) }
     ensures cut_short { ¬ IsPolygon two_polygons 1 (rings_from 1 2) }
     ensures with_two_holes { IsPolygon hole_in_hole 0 (rings_from 0 3) }

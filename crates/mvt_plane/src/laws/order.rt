@@ -40,22 +40,22 @@ pub fn gaps_join()
 pub fn order_after_a_key()
     ensures transitive { (key : ℤ) (first second third : Segment) → IsRising first → IsRising second → IsRising third →
         IsAfter key first second → IsAfter key second third → IsAfter key first third }
-    ensures strict { (key : ℤ) (it : Segment) → ¬ IsAfter key it it }
+    ensures strict { (key : ℤ) (edge_segment : Segment) → ¬ IsAfter key edge_segment edge_segment }
 {}
 
 /// Between two keys they are in one too.
 pub fn order_between_keys()
     ensures transitive { (left right : ℤ) (first second third : Segment) → IsRising first → IsRising second → IsRising third →
         IsBelow left right first second → IsBelow left right second third → IsBelow left right first third }
-    ensures strict { (left right : ℤ) (it : Segment) → ¬ IsBelow left right it it }
+    ensures strict { (left right : ℤ) (edge_segment : Segment) → ¬ IsBelow left right edge_segment edge_segment }
 {}
 
 /// The orientation of an edge's ends and a position tells how far the position is above the edge. Of two edges that
 /// begin at one vertex the first is below the second right after it exactly where the orientation of the vertex and
 /// their other ends is positive.
 pub fn order_by_orientation()
-    ensures above { (it : Segment) (position : Position) → position.y *ℤ reach it -ℤ height it (key_of position) (pos 1)
-        ≡ pos (2 ^ 32) *ℤ orientation it.low it.high position }
+    ensures above { (edge_segment : Segment) (position : Position) → position.y *ℤ reach edge_segment -ℤ height edge_segment (key_of position) (pos 1)
+        ≡ pos (2 ^ 32) *ℤ orientation edge_segment.low edge_segment.high position }
     ensures at_vertex { (vertex one other : Position) →
         (pos 0 <ℤ orientation vertex one other) ↔ IsAfter (key_of vertex) (segment vertex one) (segment vertex other) }
 {}

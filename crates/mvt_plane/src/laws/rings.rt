@@ -35,31 +35,31 @@ pub fn one_shared_vertex()
 /// each number has just one place among the rings.
 pub fn one_polygon_a_ring()
     ensures some { (rings : List (List Position)) (ring : ℕ) → ArePolygonRings rings → ring < length rings →
-        (polygon : ℕ) × (it : PolygonRings) × IsPolygon rings polygon it × IsRingOf it ring }
-    ensures alone { (rings : List (List Position)) (ring polygon other : ℕ) (it its : PolygonRings) →
-        IsPolygon rings polygon it → IsRingOf it ring → IsPolygon rings other its → IsRingOf its ring → (polygon ≡ other) × (it ≡ its) }
-    ensures numbered { (rings : List (List Position)) (polygon : ℕ) (it its : PolygonRings) →
-        IsPolygon rings polygon it → IsPolygon rings polygon its → it ≡ its }
+        (polygon : ℕ) × (polygon_rings : PolygonRings) × IsPolygon rings polygon polygon_rings × IsRingOf polygon_rings ring }
+    ensures alone { (rings : List (List Position)) (ring polygon other : ℕ) (polygon_rings other_rings : PolygonRings) →
+        IsPolygon rings polygon polygon_rings → IsRingOf polygon_rings ring → IsPolygon rings other other_rings → IsRingOf other_rings ring → (polygon ≡ other) × (polygon_rings ≡ other_rings) }
+    ensures numbered { (rings : List (List Position)) (polygon : ℕ) (polygon_rings other_rings : PolygonRings) →
+        IsPolygon rings polygon polygon_rings → IsPolygon rings polygon other_rings → polygon_rings ≡ other_rings }
 {}
 
 /// Where some of the rings, from one up to another, are handed on alone, their numbers begin with 0. What is
 /// said of the part is said of the whole, with the number of the part's first ring added to those of rings.
 pub fn a_part_of_rings()
-    ensures count { (rings : List (List Position)) (it : PolygonRings) → it.after ≤ length rings → length (part_of rings it) ≡ it.after - it.exterior }
-    ensures ring { (rings : List (List Position)) (it : PolygonRings) (ring : ℕ) → ring < it.after - it.exterior →
-        slice_get (part_of rings it) ring ≡ slice_get rings (it.exterior + ring) }
-    ensures edge { (rings : List (List Position)) (it : PolygonRings) (number : EdgeNumber) (edge : Edge) → number.ring < it.after - it.exterior →
-        IsEdgeOf (part_of rings it) number edge ↔ IsEdgeOf rings (in_whole it.exterior number) edge }
-    ensures shared { (rings : List (List Position)) (it : PolygonRings) (first second : EdgeNumber) (vertex : Position) →
-        first.ring < it.after - it.exterior → second.ring < it.after - it.exterior →
-        IsShared (part_of rings it) first second vertex ↔ IsShared rings (in_whole it.exterior first) (in_whole it.exterior second) vertex }
-    ensures meeting { (rings : List (List Position)) (it : PolygonRings) (first second : EdgeNumber) (point : RationalPoint) →
-        first.ring < it.after - it.exterior → second.ring < it.after - it.exterior →
-        MeetsWrongly (part_of rings it) first second point ↔ MeetsWrongly rings (in_whole it.exterior first) (in_whole it.exterior second) point }
-    ensures outside { (rings : List (List Position)) (it : PolygonRings) (ring vertex : ℕ) →
-        IsOutside (part_of rings it) (within_part it) ring vertex ↔ IsOutside rings it (it.exterior + ring) vertex }
-    ensures in_hole { (rings : List (List Position)) (it : PolygonRings) (ring vertex other : ℕ) →
-        IsInHole (part_of rings it) (within_part it) ring vertex other ↔ IsInHole rings it (it.exterior + ring) vertex (it.exterior + other) }
-    ensures numbered { (it : PolygonRings) (ring : ℕ) → IsRingOf it ring →
-        (own : ℕ) × (own < it.after - it.exterior) × (ring ≡ it.exterior + own) }
+    ensures count { (rings : List (List Position)) (polygon_rings : PolygonRings) → polygon_rings.after ≤ length rings → length (part_of rings polygon_rings) ≡ polygon_rings.after - polygon_rings.exterior }
+    ensures ring { (rings : List (List Position)) (polygon_rings : PolygonRings) (ring : ℕ) → ring < polygon_rings.after - polygon_rings.exterior →
+        slice_get (part_of rings polygon_rings) ring ≡ slice_get rings (polygon_rings.exterior + ring) }
+    ensures edge { (rings : List (List Position)) (polygon_rings : PolygonRings) (number : EdgeNumber) (edge : Edge) → number.ring < polygon_rings.after - polygon_rings.exterior →
+        IsEdgeOf (part_of rings polygon_rings) number edge ↔ IsEdgeOf rings (in_whole polygon_rings.exterior number) edge }
+    ensures shared { (rings : List (List Position)) (polygon_rings : PolygonRings) (first second : EdgeNumber) (vertex : Position) →
+        first.ring < polygon_rings.after - polygon_rings.exterior → second.ring < polygon_rings.after - polygon_rings.exterior →
+        IsShared (part_of rings polygon_rings) first second vertex ↔ IsShared rings (in_whole polygon_rings.exterior first) (in_whole polygon_rings.exterior second) vertex }
+    ensures meeting { (rings : List (List Position)) (polygon_rings : PolygonRings) (first second : EdgeNumber) (point : RationalPoint) →
+        first.ring < polygon_rings.after - polygon_rings.exterior → second.ring < polygon_rings.after - polygon_rings.exterior →
+        MeetsWrongly (part_of rings polygon_rings) first second point ↔ MeetsWrongly rings (in_whole polygon_rings.exterior first) (in_whole polygon_rings.exterior second) point }
+    ensures outside { (rings : List (List Position)) (polygon_rings : PolygonRings) (ring vertex : ℕ) →
+        IsOutside (part_of rings polygon_rings) (within_part polygon_rings) ring vertex ↔ IsOutside rings polygon_rings (polygon_rings.exterior + ring) vertex }
+    ensures in_hole { (rings : List (List Position)) (polygon_rings : PolygonRings) (ring vertex other : ℕ) →
+        IsInHole (part_of rings polygon_rings) (within_part polygon_rings) ring vertex other ↔ IsInHole rings polygon_rings (polygon_rings.exterior + ring) vertex (polygon_rings.exterior + other) }
+    ensures numbered { (polygon_rings : PolygonRings) (ring : ℕ) → IsRingOf polygon_rings ring →
+        (own : ℕ) × (own < polygon_rings.after - polygon_rings.exterior) × (ring ≡ polygon_rings.exterior + own) }
 {}

@@ -42,8 +42,8 @@ pub(crate) fn read_feature_into(
 ) -> Result<(), AllocError>
     requires forward { from ≤ to }
     requires within { to ≤ length bytes.now }
-    requires stands { (it : FeatureRecord) × IsFeature bytes.now (record { from = from; to = to }) it }
-    ensures { OnOk result ((it : FeatureRecord) → IsFeature bytes.now (record { from = from; to = to }) it → feature_of feature.new ≡ it) }
+    requires stands { (feature_record : FeatureRecord) × IsFeature bytes.now (record { from = from; to = to }) feature_record }
+    ensures { OnOk result ((feature_record : FeatureRecord) → IsFeature bytes.now (record { from = from; to = to }) feature_record → feature_of feature.new ≡ feature_record) }
 {
     feature.id = None;
     feature.tags.clear();

@@ -17,32 +17,31 @@ use crate::record::Layer;
 use mvt_fault::{Fault, TagCode};
 use std::alloc::{AllocError, Global};
 
-/// The first fault of the tags of a layer's feature, or None where there is none (section 4.4). `layer`
-/// is the layer's ordinal in its tile, for the fault to tell; `feature` is the feature's ordinal in the
-/// layer, and below the number of its features; both count from 0. The only error is that memory was
-/// refused.
+/// The first fault of the tags of a layer's feature, or None where there is none (section 4.4). `layer_index`
+/// is the ordinal of the layer in its tile, for the fault to name; `feature_index` is that of the feature in the
+/// layer, and below the number of its features; both count from 0. The only error is that memory was refused.
 pub fn check_tags(
     alloc: Global,
-    whose: &Layer<'_>,
-    layer: usize,
-    feature: usize,
+    layer: &Layer<'_>,
+    layer_index: usize,
+    feature_index: usize,
 ) -> Result<Option<Fault>, AllocError>
-    requires { feature < length whose.now.features.items }
-    ensures none { IfOk result (λ found. IfNone found ((it : FeatureRecord) → slice_get (layer_of whose.now).features feature ≡ Some it
-        → (fault : Fault) → ¬ IsFaultOfTags (layer_of whose.now) it layer feature fault)) }
-    ensures least { IfOk result (λ found. IfSome found (λ fault. (it : FeatureRecord) → slice_get (layer_of whose.now).features feature ≡ Some it
-        → IsLeast (IsFaultOfTags (layer_of whose.now) it layer feature) fault)) }
+    requires { feature_index < length layer.now.features.items }
+    ensures none { IfOk result (λ found. IfNone found ((feature_record : FeatureRecord) → slice_get (layer_of layer.now).features feature_index ≡ Some feature_record
+        → (fault : Fault) → ¬ IsFaultOfTags (layer_of layer.now) feature_record layer_index feature_index fault)) }
+    ensures least { IfOk result (λ found. IfSome found (λ fault. (feature_record : FeatureRecord) → slice_get (layer_of layer.now).features feature_index ≡ Some feature_record
+        → IsLeast (IsFaultOfTags (layer_of layer.now) feature_record layer_index feature_index) fault)) }
 {
-    let tags = &whose.features[feature].tags;
+    let tags = &layer.features[feature_index].tags;
     let mut marks = KeyMarks::new(alloc);
-    let found = fault_of_tags(&mut marks, tags, whose.keys.len(), whose.values.len())?;
+    let found = fault_of_tags(&mut marks, tags, layer.keys.len(), layer.values.len())?;
     let Some((code, index)) = found else {
         return Ok(None);
     };
     Ok(Some(Fault::Tag {
         code,
-        layer,
-        feature,
+        layer: layer_index,
+        feature: feature_index,
         index,
     }))
 }
@@ -90,7 +89,7 @@ pub(crate) fn fault_of_tags(
     values: usize,
 ) -> Result<Option<(TagCode, usize)>, AllocError>
     ensures none { IfOk result (λ found. IfNone found ((code : TagCode) (place : ℕ) → ¬ TagsBreak code keys values tags.now place)) }
-    ensures first { IfOk result (λ found. IfSome found (λ it. IsFirstTagFault keys values tags.now it.0 it.1)) }
+    ensures first { IfOk result (λ found. IfSome found (λ fault. IsFirstTagFault keys values tags.now fault.0 fault.1)) }
 {
     if tags.len() % 2 != 0 {
         return Ok(Some((TagCode::OddLength, tags.len())));

@@ -18,7 +18,7 @@ returns-in-Name c = λ tile is.
 pub returns-in-Tag : goal.returns-in-Tag
 returns-in-Tag c = λ tile is.
     rw c.in-Tag.is (of_feature c.args.bytes.now tile is c.breaks_tags.result c.in-Tag.layer c.in-Tag.feature
-    (λ whose it. TagsBreak c.in-Tag.code (length whose.keys) (length whose.values) it.tags c.in-Tag.index) (c.breaks_tags.ensures tile is))
+    (λ layer_record it. TagsBreak c.in-Tag.code (length layer_record.keys) (length layer_record.values) it.tags c.in-Tag.index) (c.breaks_tags.ensures tile is))
 
 pub returns-in-Command : goal.returns-in-Command
 returns-in-Command c = λ tile is. rw c.in-Command.is (c.has_command_fault.ensures tile is)

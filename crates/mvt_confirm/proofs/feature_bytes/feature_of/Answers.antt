@@ -3,8 +3,8 @@ use Rattle.mvt_confirm.proofs.TileScopes.{feature_of_scope, scope_of_feature}
 use Rattle.mvt_confirm.proofs.feature_bytes.feature_of.Goals as goal
 
 pub returns-in_err-stretch-clause-none : goal.returns-in_err-stretch-clause-none
-returns-in_err-stretch-clause-none c = rw c.from_residual.ensures (λ tile whose it is there.
-    let found = scope_of_feature c.args.bytes.now tile c.args.layer c.args.feature whose it is there in
+returns-in_err-stretch-clause-none c = rw c.from_residual.ensures (λ tile layer_record it is there.
+    let found = scope_of_feature c.args.bytes.now tile c.args.layer c.args.feature layer_record it is there in
     c.in_err-stretch.ensures.none found.0 found.1)
 
 pub returns-clause-there : goal.returns-clause-there

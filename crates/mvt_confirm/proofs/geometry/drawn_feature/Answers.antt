@@ -2,7 +2,7 @@ use Rattle.mvt_confirm.proofs.DrawnFeatures.{draws_told, none_told}
 use Rattle.mvt_confirm.proofs.geometry.drawn_feature.Goals as goal
 
 pub returns-in_err-place-clause-none : goal.returns-in_err-place-clause-none
-returns-in_err-place-clause-none c = rw c.from_residual.ensures (λ tile whose it rings is there drawn. c.in_err-place.ensures.none tile whose it is there)
+returns-in_err-place-clause-none c = rw c.from_residual.ensures (λ tile layer_record it rings is there drawn. c.in_err-place.ensures.none tile layer_record it is there)
 
 pub returns-then-draws_rings-clause-there : goal.returns-then-draws_rings-clause-there
 returns-then-draws_rings-clause-there c =

@@ -11,4 +11,4 @@ returns-in-Some c = λ tile is.
 pub returns-in-None : goal.returns-in-None
 returns-in-None c = λ tile is.
     nothing_told c.args.bytes.now c.args.layer c.args.feature tile
-    (λ whose it. BreaksCommands it.kind it.geometry (command_code c.args.code) c.args.index) is c.in-None.ensures.none
+    (λ layer_record it. BreaksCommands it.kind it.geometry (command_code c.args.code) c.args.index) is c.in-None.ensures.none

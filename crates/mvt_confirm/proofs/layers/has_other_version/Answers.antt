@@ -27,8 +27,8 @@ version_tells : (bytes : List ℕ) (tile : TileRecord) (layer : ℕ) (span : Spa
 version_tells bytes tile layer span test found is scope version tests =
     let there = layer_of_scope bytes tile layer span is scope in
     let tells = test_tells test there.0.version (tests ∙ ap (λ (o : Option ℕ). not (option_eq (λ n m. n == m) o (Some 2))) (version there.0 there.2)) in (
-      λ holds. record { whose = there.0; there = there.1; other = tells.0 holds },
-      λ other. let same : there.0 ≡ other.whose = cc (there.1, other.there) in tells.1 (subst (λ (layer_record : LayerRecord). layer_record.version ≢ 2) (sym same) other.other),
+      λ holds. record { layer_record = there.0; there = there.1; other = tells.0 holds },
+      λ other. let same : there.0 ≡ other.layer_record = cc (there.1, other.there) in tells.1 (subst (λ (layer_record : LayerRecord). layer_record.version ≢ 2) (sym same) other.other),
     )
 
 pub returns-in-Some : goal.returns-in-Some
@@ -37,4 +37,4 @@ returns-in-Some c = λ tile is.
 
 pub returns-in-None : goal.returns-in-None
 returns-in-None c = λ tile is.
-    (λ holds. absurd (cc), λ other. let found = scope_of_layer c.args.bytes.now tile c.args.layer other.whose is other.there in absurd (c.in-None.ensures.none found.0 found.1))
+    (λ holds. absurd (cc), λ other. let found = scope_of_layer c.args.bytes.now tile c.args.layer other.layer_record is other.there in absurd (c.in-None.ensures.none found.0 found.1))

@@ -15,14 +15,14 @@ names_tell : (tile : TileRecord) (first second : ℕ) (name other : List ℕ) (t
 names_tell tile first second name other test below one two decides = (
   λ holds. record {
     earlier = below;
-    whose = one.0;
+    layer_record = one.0;
     there = one.1;
     other = two.0;
     other_there = two.1;
     same = one.2 ∙ decides.0 holds ∙ sym two.2;
   },
   λ same.
-      let its : one.0 ≡ same.whose = cc (one.1, same.there) in
+      let its : one.0 ≡ same.layer_record = cc (one.1, same.there) in
       let others : two.0 ≡ same.other = cc (two.1, same.other_there) in
       decides.1 (cc (one.2, two.2, same.same)),
 )

@@ -40,11 +40,11 @@ read_feature_into-requires-clause-stands over c =
     _ c.if-field-eq-FEATURES.true c.stretch_of-start.ensures
 
 pub returns-in-Some-found-clause-least : goal.returns-in-Some-found-clause-least
-returns-in-Some-found-clause-least over c = λ whose is.
+returns-in-Some-found-clause-least over c = λ layer_record is.
     let summary = c.args.summary in
     let read = feature_of c.read_feature_into.new.feature in
     let least = rw c.in-Some-found.is at c.in_ok-found.ensures.least in
-    first_in_layer over.R.FeatureRule.IsBroken c.requires.behind_tags over.R.FeatureRule.IsKept c.args.bytes.now _ whose is c.args.layer_index (IsSummary summary) (c.requires.summary whose is) c.walk.feature_index _ c.in-Some-found.fault
+    first_in_layer over.R.FeatureRule.IsBroken c.requires.behind_tags over.R.FeatureRule.IsKept c.args.bytes.now _ layer_record is c.args.layer_index (IsSummary summary) (c.requires.summary layer_record is) c.walk.feature_index _ c.in-Some-found.fault
     (CleanWalk-next c.walk.invariant c.in-Some.ensures.field c.if-field-eq-FEATURES.true _ c.stretch_of-start.ensures is.entries is.whole)
     (first_of_feature over.R.FeatureRule.IsBroken c.args.bytes.now (IsSummary summary) c.args.layer_index c.walk.feature_index _ read c.in_ok-read_feature_into.ensures c.in-Some-found.fault
     (λ other sums. least other (HasSameTagFaults-counts summary.keys summary.values other read.tags sums.keys sums.values)))
@@ -62,6 +62,6 @@ pub walk-preserved : goal.walk-preserved
 walk-preserved over c = CleanWalk-other c.walk.invariant c.in-Some.ensures.field c.if-field-eq-FEATURES.false
 
 pub returns-clause-none : goal.returns-clause-none
-returns-clause-none over c = λ whose is.
-    good_layer over.R.FeatureRule.IsBroken c.requires.behind_tags over.R.FeatureRule.IsKept c.args.bytes.now _ whose is c.args.layer_index (IsSummary c.args.summary) (c.requires.summary whose is)
+returns-clause-none over c = λ layer_record is.
+    good_layer over.R.FeatureRule.IsBroken c.requires.behind_tags over.R.FeatureRule.IsKept c.args.bytes.now _ layer_record is c.args.layer_index (IsSummary c.args.summary) (c.requires.summary layer_record is)
     (CleanWalk-over c.walk.invariant c.in_default.ensures.over is.entries is.whole)
