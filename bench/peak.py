@@ -1,5 +1,6 @@
 #!/usr/bin/env python3
-"""Runs a command, and then says how long it took and the most memory that it and all that it started held at one time.
+"""Runs a command, and then says how long it took, by the clock and of the processors, and the most memory that it and
+all that it started held at one time.
 
 usage: peak.py [--crates] COMMAND..
 
@@ -11,6 +12,7 @@ import argparse
 import ctypes
 import os
 import re
+import resource
 import subprocess
 import sys
 import time
@@ -102,6 +104,7 @@ while True:
 took = time.monotonic() - before
 if said.crates:
     print_crates(spans)
-print(f"wall time: {took:.1f} s")
+used = resource.getrusage(resource.RUSAGE_CHILDREN)
+print(f"wall time: {took:.1f} s, processor time: {used.ru_utime + used.ru_stime:.0f} s")
 print(f"peak memory, all processes together: {most / MIB:.0f} MiB, a shared page counted once ({most_resident / MIB:.0f} MiB as the sum of resident sets)")
 sys.exit(status if status >= 0 else 128 - status)
