@@ -47,7 +47,7 @@ fn short_varint(bytes: &[u8], at: usize) -> Option<(u64, usize)>
 }
 
 /// The varint that the bytes begin with, and how many bytes it has, at least three; None where they begin with none.
-#[inline(never)]
+#[inline(always)]
 fn long_varint(rest: &[u8]) -> Option<(u64, usize)>
     requires { 2 ≤ length rest.now → (128 ≤ slice_index rest.now 0) × (128 ≤ slice_index rest.now 1) }
     ensures within { IfSome result (λ read. read.1 ≤ length rest.now) }
@@ -88,6 +88,7 @@ fn middle_varint(rest: &[u8]) -> Option<(u64, usize)>
 }
 
 /// How many bytes the varint has that the bytes begin with, or None where they begin with none.
+#[inline(never)]
 fn varint_size(rest: &[u8]) -> Option<usize>
     ensures within { IfSome result (λ size. size ≤ length rest.now) }
     ensures found { IfSome result (λ size. IsVarint (take size rest.now) (sum_of_groups (take size rest.now))) }
@@ -106,6 +107,7 @@ fn varint_size(rest: &[u8]) -> Option<usize>
 }
 
 /// The number that a varint spells.
+#[inline(never)]
 fn varint_value(spelling: &[u8]) -> u64
     requires { sum_of_groups spelling.now < 2 ^ 64 }
     ensures { result ≡ sum_of_groups spelling.now }
