@@ -10,9 +10,9 @@ use Rattle.mvt_wire.specs.declared.cause.WireCause.{WireCause}
 use Rattle.mvt_wire.specs.declared.schema.FieldRule.{FieldRule}
 use Rattle.mvt_wire.specs.declared.schema.Message.{Message}
 use Rattle.mvt_wire.proofs.Messages.{one_list, whole_or_defect}
-use Rattle.mvt_confirm.proofs.FieldCounts.{of_number-own, of_number-other}
 use Rattle.mvt_confirm.proofs.PackedWalk.{fault_ahead}
 use Rattle.mvt_wire.proofs.Walking.{IsWalking, IsWalking-more, IsWalking-defect, IsWalking-whole}
+use Rattle.mvt_wire.proofs.Schemas.{stands_in-own, stands_in-other}
 use Rattle.mvt_wire.proofs.LastFields.{LastFault, FieldFault-last, FieldFault-earlier}
 
 -- a fault of a field names its number
@@ -22,17 +22,6 @@ names_field rule stood entry cause (again singular stands is) = ap (λ (c : Wire
 names_field rule stood entry cause (no_text from part shape content not is) = ap (λ (c : WireCause). c.field) is
 names_field rule stood entry cause (out_of_range value at content over is) = ap (λ (c : WireCause). c.field) is
 names_field rule stood entry cause (packed from part shape content fault) = (fault_ahead from part entry.number cause fault).0
-
--- the number of the last field stands
-pub stands_in-own : (field_number : ℕ) (entries : List Entry) (entry : Entry) → entry.number ≡ field_number → stands_in field_number (entries ++ entry ∷ []) ≡ true
-stands_in-own field_number entries entry own =
-    let more = of_number-own field_number entries entry own in
-    lt-ltb 0 (count_of field_number (entries ++ entry ∷ [])) (omega arith)
-
--- another number stands where it stood before
-pub stands_in-other : (field_number : ℕ) (entries : List Entry) (entry : Entry) → entry.number ≢ field_number → stands_in field_number (entries ++ entry ∷ []) ≡ stands_in field_number entries
-stands_in-other field_number entries entry other =
-    ap (nat_lt 0) (of_number-other field_number entries entry other)
 
 module _ (bytes : List ℕ) (from : ℕ) (message : Message) (cause : WireCause) where
   -- whether the fault is one of the fields that were passed

@@ -9,7 +9,7 @@ use Rattle.mvt_wire.specs.Scope.{contents_of, Span, span_of, spans_of, IsMessage
 use Rattle.mvt_wire.specs.Tile.{Each, bytes_in, texts_of, LayerRecord, IsLayer, IsValue}
 use Rattle.mvt_wire.proofs.Contents.{contents_of-own, contents_of-other}
 use Rattle.mvt_wire.proofs.Entries.{slice_range-append}
-use Rattle.mvt_wire.proofs.Members.{each_there, each_here, same_length}
+use Rattle.mvt_wire.proofs.PairedLists.{each_there, each_here, same_length}
 use Rattle.mvt_wire.proofs.Tiles.{part_here}
 use Rattle.mvt_confirm.specs.Stretch.{as_span}
 use Rattle.mvt_confirm.specs.declared.stretch.Stretch.{Stretch}

@@ -6,6 +6,7 @@ use Rattle.mvt_wire.specs.Scope.{Span, span_of, spans_of, IsPart}
 use Rattle.mvt_wire.specs.Walk.{Walk, GivesField}
 use Rattle.mvt_wire.proofs.Messages.{one_list}
 use Rattle.mvt_wire.proofs.Walking.{IsWalking}
+use Rattle.mvt_wire.proofs.Spans.{Within}
 use Rattle.mvt_wire.proofs.Payloads.{spans_of-append, payload_within}
 
 -- a field of the number is added, with a payload of wire type 2
@@ -43,11 +44,6 @@ slice_get-other [] y zero other = absurd (other refl)
 slice_get-other [] y (suc i) other = refl
 slice_get-other (x ∷ xs) y zero other = refl
 slice_get-other (x ∷ xs) y (suc i) other = slice_get-other xs y i (λ same. other (omega arith))
-
--- a stretch of the bytes
-pub record Within (bytes : List ℕ) (span : Span) : Type 0 where
-  pub forward : span.from ≤ span.to
-  pub inside : span.to ≤ length bytes
 
 pub Within-given : (bytes : List ℕ) (end from : ℕ) (old new : Walk) (entries : List Entry) (entry : Entry) (span : Span)
     → IsWalking (take end bytes) from old entries → GivesField old new entry → span_of entry.content ≡ Some span → Within bytes span

@@ -62,11 +62,6 @@ pub where_some : {X : Type 0} (found : Option X) (P : X → Type 0) → is_some 
 where_some None P is holds = absurd (cc)
 where_some (Some x) P is holds = (x, holds)
 
--- there is none
-pub where_none : {X : Type 0} (found : Option X) (P : Type 0) → is_some found ≡ false → IfNone found P → P
-where_none None P is holds = holds
-where_none (Some x) P is holds = absurd (cc)
-
 -- Faults
 
 -- the ring of a number is one

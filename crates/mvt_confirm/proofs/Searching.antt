@@ -7,7 +7,8 @@ use Rattle.mvt_wire.specs.declared.cause.WireCause.{WireCause}
 use Rattle.mvt_wire.proofs.Messages.{one_list, whole_or_defect}
 use Rattle.mvt_confirm.specs.Stretch.{as_span}
 use Rattle.mvt_confirm.specs.declared.stretch.Stretch.{Stretch}
-use Rattle.mvt_confirm.proofs.Payloads.{Within, Within-given, one_part, slice_get-other, spans_of-push, spans_of-same}
+use Rattle.mvt_wire.proofs.Spans.{Within}
+use Rattle.mvt_confirm.proofs.Payloads.{Within-given, one_part, slice_get-other, spans_of-push, spans_of-same}
 use Rattle.mvt_wire.proofs.Walking.{IsWalking, IsWalking-more, IsWalking-defect, IsWalking-whole}
 use Rattle.mvt_wire.proofs.Payloads.{slice_get-last}
 

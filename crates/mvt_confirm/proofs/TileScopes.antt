@@ -4,7 +4,7 @@ use Rattle.mvt_wire.specs.Rules.{IsFeatureOf}
 use Rattle.mvt_wire.specs.Scope.{Span, spans_of, whole_span, IsScope}
 use Rattle.mvt_wire.specs.Tile.{FeatureRecord, IsFeature, LayerRecord, IsLayer, TileRecord, IsTile}
 use Rattle.mvt_wire.specs.declared.scope.Scope.TheVariants.{Layer, Feature}
-use Rattle.mvt_wire.proofs.Members.{each_there, each_here}
+use Rattle.mvt_wire.proofs.PairedLists.{each_there, each_here}
 use Rattle.mvt_wire.proofs.Tiles.{part_here}
 use Rattle.mvt_confirm.proofs.TileFeatures.{one_feature_of}
 

@@ -4,7 +4,7 @@ use Rattle.mvt_wire.specs.Field.{Content, varint, eight_bytes, delimited, four_b
 use Rattle.mvt_wire.specs.Message.{IsMessage}
 use Rattle.mvt_wire.specs.Number.{VarintList, AreSmall}
 use Rattle.mvt_wire.specs.Schema.{is_out_of_range, is_singular, is_required}
-use Rattle.mvt_wire.specs.Scope.{Span, span_of, spans_of}
+use Rattle.mvt_wire.specs.Scope.{Span, spans_of}
 use Rattle.mvt_wire.specs.Tile.{Fits, KeepsSchema}
 use Rattle.mvt_wire.specs.WireFault.{count_of, count_known}
 use Rattle.mvt_wire.specs.declared.schema.FieldRule.{FieldRule}
@@ -12,10 +12,6 @@ use Rattle.mvt_wire.specs.declared.schema.Message.{Message}
 use Rattle.mvt_wire.specs.declared.schema.Message.TheVariants.{Layer, Value, Feature}
 use Rattle.mvt_wire.specs.declared.schema.Shape.{Shape}
 use Rattle.mvt_wire.specs.declared.schema.Shape.TheVariants.{Text, Numbers}
-
--- the stretch between two places
-abbrev pub stretch : ℕ → ℕ → Span
-stretch from to = record { from = from; to = to }
 
 -- the bytes from a place on are a whole message, and its fields have a property
 pub record HoldsFields (bytes : List ℕ) (from : ℕ) (Have : List Entry → Type 0) : Type 0 where
@@ -36,10 +32,6 @@ pub record HoldsLayer (bytes : List ℕ) (span : Span) : Type 0 where
   pub own : HoldsMessage Layer bytes span
   pub features : HoldsParts bytes span 2 (HoldsMessage Feature bytes)
   pub values : HoldsParts bytes span 4 (HoldsMessage Value bytes)
-
--- where the field has the number and a payload of wire type 2, that stretch is as it should be
-abbrev pub Embeds : ℕ → (Span → Type 0) → Entry → Type 0
-Embeds field_number Stands entry = (span : Span) → entry.number ≡ field_number → span_of entry.content ≡ Some span → Stands span
 
 -- the bytes from a place on are a packed list of numbers of 32 bits
 abbrev pub AreSmallFrom : List ℕ → ℕ → Type 0

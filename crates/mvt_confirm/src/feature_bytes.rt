@@ -19,13 +19,9 @@ use crate::commands::{breaks_commands, draws_rings};
 use crate::corners::Corners;
 use crate::stretch::{Stretch, stretch_of};
 use mvt_fault::CommandCode;
+use mvt_wire::field_number::{GEOMETRY, GEOMETRY_TYPE};
 use mvt_wire::{Numbers, Scope};
 use std::marker::Model;
-
-// The field numbers of a feature's geometry type and of its geometry.
-const TYPE: u32 = 3;
-
-const GEOMETRY: u32 = 4;
 
 // The number of the geometry type of polygons.
 const POLYGON: u32 = 3;
@@ -93,7 +89,12 @@ impl<'a> FeatureBytes<'a> {
     fn kind(&self) -> Option<u32>
         ensures { (feature_record : FeatureRecord) → IsFeatureAt self.now feature_record → result ≡ Some feature_record.kind }
     {
-        let mut numbers = Numbers::new(self.bytes, self.stretch.from, self.stretch.to, TYPE);
+        let mut numbers = Numbers::new(
+            self.bytes,
+            self.stretch.from,
+            self.stretch.to,
+            GEOMETRY_TYPE,
+        );
         match numbers.next_number() {
             Some(Ok(kind)) => Some(kind),
             Some(Err(_)) => None,

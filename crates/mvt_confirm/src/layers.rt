@@ -8,12 +8,8 @@ ghost use Rattle.mvt_confirm.specs.Stretch.{as_span};
 mod tests;
 
 use crate::stretch::{Stretch, payload_of, stretch_of};
+use mvt_wire::field_number::{LAYER_NAME, VERSION};
 use mvt_wire::{Numbers, Scope};
-
-// The field numbers of a layer's name and of its version.
-const NAME: u32 = 1;
-
-const VERSION: u32 = 15;
 
 /// Of bytes that are a tile: there is a layer with this ordinal, and its version isn't 2 (section
 /// 4.1).
@@ -66,6 +62,6 @@ fn name_of(bytes: &[u8], layer: usize) -> Option<&[u8]>
         ¬ (slice_get tile.layers layer ≡ Some layer_record)) }
 {
     let stretch = stretch_of(bytes, &Scope::Layer(layer))?;
-    let name = payload_of(bytes, stretch, NAME, 0)?;
+    let name = payload_of(bytes, stretch, LAYER_NAME, 0)?;
     Some(&bytes[name.from..name.to])
 }

@@ -4,17 +4,11 @@ ghost use Rattle.mvt_wire.specs.Field.{content_of};
 ghost use Rattle.mvt_wire.specs.Scope.{Span, span_of, whole_span, IsPart, IsScope};
 ghost use Rattle.mvt_confirm.specs.Stretch.{as_span};
 
+use mvt_wire::field_number::{FEATURES, LAYERS, VALUES};
 use mvt_wire::{Body, Field, Fields, Scope};
 
 #[cfg(test)]
 mod tests;
-
-// The field numbers of the messages that a tile and its layers hold.
-const LAYERS: u32 = 3;
-
-const FEATURES: u32 = 2;
-
-const VALUES: u32 = 4;
 
 /// A stretch of the bytes: the offset of its first byte, and the offset behind its last.
 #[derive(Clone, Copy, Debug, PartialEq, Eq)]

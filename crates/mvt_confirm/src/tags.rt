@@ -12,14 +12,8 @@ mod tests;
 
 use crate::stretch::{Stretch, payload_of, stretch_of};
 use mvt_fault::TagCode;
+use mvt_wire::field_number::{KEYS, TAGS, VALUES};
 use mvt_wire::{Numbers, Scope};
-
-// The field numbers of a feature's tags, and of a layer's keys and values.
-const TAGS: u32 = 2;
-
-const KEYS: u32 = 3;
-
-const VALUES: u32 = 4;
 
 /// Of bytes that are a tile: there is a feature with this ordinal in the layer with that ordinal,
 /// and its tags are wrong at this index, with this code (section 4.4).

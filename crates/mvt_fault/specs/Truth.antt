@@ -6,11 +6,16 @@ use Rattle.mvt_wire.specs.Rules.{OtherVersion, SameName, OddTags, NoSuchKey, NoS
 use Rattle.mvt_wire.specs.Tile.{FeatureRecord, LayerRecord, TileRecord}
 use Rattle.mvt_wire.specs.WireFault.{WireFault}
 use Rattle.mvt_wire.specs.declared.cause.WireCode.{WireCode}
+use Rattle.mvt_wire.specs.declared.cause.WireCause.{WireCause}
 use Rattle.mvt_wire.specs.declared.scope.Scope.{Scope}
 use Rattle.mvt_fault.specs.declared.fault.Fault.{Fault}
 use Rattle.mvt_fault.specs.declared.fault.Fault.TheVariants.{Wire, Version, Name, Tag}
 use Rattle.mvt_fault.specs.declared.tag.TagCode.{TagCode}
 use Rattle.mvt_fault.specs.declared.tag.TagCode.TheVariants.{OddLength, NoKey, NoValue, Repeated}
+
+-- the fault of a cause in the message of a scope
+abbrev pub wire_fault_in : Scope → WireCause → Fault
+wire_fault_in scope cause = Wire cause.code scope cause.at cause.field
 
 -- the bytes have this wire fault
 pub data IsWireFault (bytes : List ℕ) : Fault → Type 0 where

@@ -1,12 +1,13 @@
 ghost use Rattle.std.specs.Prelude.{◌≡◌, ◌∷◌, []};
 ghost use Rattle.mvt_fault.specs.Code.{fault_code};
 ghost use Rattle.mvt_fault.specs.Place.{place_of, scope_place};
+ghost use Rattle.mvt_fault.specs.Truth.{wire_fault_in};
 
 use crate::command::CommandCode;
 use crate::order::Place;
 use crate::ring::{RingCode, RingEdge};
 use crate::tag::TagCode;
-use mvt_wire::{Scope, WireCode};
+use mvt_wire::{Scope, WireCause, WireCode};
 
 /// What is wrong with a tile, and where. Any value may be built: it says nothing of a tile's bytes
 /// until it is confirmed on them.
@@ -130,6 +131,18 @@ pub(crate) const MEETING_CODE: u16 = 504;
 pub(crate) const OUTSIDE_CODE: u16 = 505;
 
 pub(crate) const HOLE_IN_HOLE_CODE: u16 = 506;
+
+/// The fault of a cause in the message of a scope.
+pub fn wire_fault_in(scope: Scope, cause: WireCause) -> Fault
+    ensures { result ≡ wire_fault_in scope cause }
+{
+    Fault::Wire {
+        code: cause.code,
+        scope,
+        at: cause.at,
+        field: cause.field,
+    }
+}
 
 /// The number that names the fault's cause: 101 to 111 for a wire fault, 201 for a layer's version, 202
 /// for two layers of one name, 301 to 304 for tags, 401 to 406 for geometry commands, 501 to 503 for

@@ -14,7 +14,7 @@ mod tests;
 mod text;
 
 pub use command::CommandCode;
-pub use fault::{Fault, code, place};
+pub use fault::{Fault, code, place, wire_fault_in};
 pub use mvt_wire::Scope;
 pub use order::Place;
 pub use reading::{FaultTextError, fault_from_text};

@@ -1,7 +1,7 @@
 //! The engine of `fields`: the outermost fields of a tile, as one line of JSON.
 ghost use Rattle.std.specs.Prelude.{◌≡◌, ◌≢◌, ◌<◌, IfOk, IfErr, OnOk};
 ghost use Rattle.mvt_gate.specs.Engine.{Answers, BreaksOff, HasFailed, IsClean, IsOfClaim, input_limit};
-ghost use Rattle.mvt_gate.specs.Fields.{IsFieldsAnswer, tile_fault};
+ghost use Rattle.mvt_gate.specs.Fields.{IsFieldsAnswer};
 ghost use Rattle.mvt_gate.specs.Tally.{IsUntouched, counts_of};
 
 mod defect;
@@ -12,8 +12,7 @@ use crate::engine::{EngineFault, Outcome, Task, fault_line};
 use crate::tally::Tally;
 use defect::first_defect;
 use line::fields_line;
-use mvt_fault::{Fault, Scope};
-use mvt_wire::WireCause;
+use mvt_fault::{Scope, wire_fault_in};
 use std::alloc::{AllocError, Global};
 use std::io::{Read, Write};
 
@@ -56,20 +55,11 @@ impl Task for ListFields {
     fn answer(&self, alloc: Global, input: &[u8]) -> Result<(Outcome, String), AllocError> {
         match first_defect(input) {
             None => Ok((Outcome::Yes, fields_line(alloc, input)?)),
-            Some(cause) => Ok((Outcome::No, fault_line(alloc, &tile_fault(cause))?)),
+            Some(cause) => {
+                let fault = wire_fault_in(Scope::Tile, cause);
+                Ok((Outcome::No, fault_line(alloc, &fault)?))
+            }
         }
-    }
-}
-
-/// The fault of a defect in the tile's own fields.
-fn tile_fault(cause: WireCause) -> Fault
-    ensures { result ≡ tile_fault cause }
-{
-    Fault::Wire {
-        code: cause.code,
-        scope: Scope::Tile,
-        at: cause.at,
-        field: cause.field,
     }
 }
 

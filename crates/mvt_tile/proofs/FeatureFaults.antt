@@ -10,7 +10,7 @@ use Rattle.mvt_fault.specs.declared.fault.Fault.{Fault}
 use Rattle.mvt_fault.specs.declared.fault.Fault.TheVariants.{Tag}
 use Rattle.mvt_fault.specs.declared.tag.TagCode.{TagCode}
 use Rattle.mvt_fault.specs.declared.tag.TagCode.TheVariants.{OddLength, NoKey, NoValue, Repeated}
-use Rattle.mvt_wire.proofs.Members.{each_here, each_there}
+use Rattle.mvt_wire.proofs.PairedLists.{each_here, each_there}
 use Rattle.mvt_tile.specs.FeatureRules.{Breaks, Keeps, IsFaultOfFeature, IsFaultInLayer, IsSound, AllSoundInLayer, AllSound}
 use Rattle.mvt_tile.specs.First.{AreClean}
 use Rattle.mvt_tile.specs.RuleFaults.{HasEnough, HasSameTagFaults, IsFirstTagFault, IsBehindTags}

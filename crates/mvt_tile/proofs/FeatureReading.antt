@@ -7,7 +7,7 @@ use Rattle.mvt_wire.specs.Scope.{contents_of, Span}
 use Rattle.mvt_wire.specs.Tile.{number_in, numbers_of, FeatureRecord, IsFeature}
 use Rattle.mvt_tile.specs.Reading.{TellsFeature, last_of}
 use Rattle.mvt_tile.proofs.Filters.{contents_of-push, contents_of-other, picked-push, picked-other, few_picked, last_of-push, StateTogether-push}
-use Rattle.mvt_tile.proofs.StatedNumbers.{one_stated_together}
+use Rattle.mvt_wire.proofs.Contents.{one_joined}
 
 module _ (entries : List Entry) (entry : Entry) (feature : FeatureRecord) (tells : TellsFeature entries feature) where
   -- what a field of another number leaves
@@ -81,7 +81,7 @@ only (n ∷ m ∷ numbers) few = absurd (omega arith)
 pub told_is : {bytes : List ℕ} {span : Span} {feature told : FeatureRecord} (is : IsFeature bytes span feature) → TellsFeature is.entries told → told ≡ feature
 told_is {feature = feature} {told = told} is tells =
     let id : told.id ≡ feature.id = tells.id ∙ only (numbers_of 1 is.entries) (few_picked number_in 1 is.entries (is.keeps.at_most 1 _ refl refl)) ∙ sym is.id in
-    let tags : told.tags ≡ feature.tags = one_stated_together (contents_of 2 is.entries) told.tags feature.tags tells.tags is.tags in
+    let tags : told.tags ≡ feature.tags = one_joined (contents_of 2 is.entries) told.tags feature.tags tells.tags is.tags in
     let kind : told.kind ≡ feature.kind = tells.kind ∙ ap (last_of 0) is.kind in
-    let geometry : told.geometry ≡ feature.geometry = one_stated_together (contents_of 4 is.entries) told.geometry feature.geometry tells.geometry is.geometry in
+    let geometry : told.geometry ≡ feature.geometry = one_joined (contents_of 4 is.entries) told.geometry feature.geometry tells.geometry is.geometry in
     λ i. record { id = id i; tags = tags i; kind = kind i; geometry = geometry i }

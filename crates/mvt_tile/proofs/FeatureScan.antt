@@ -12,7 +12,7 @@ use Rattle.mvt_tile.specs.RuleFaults.{HasEnough, IsSummary}
 use Rattle.mvt_tile.specs.declared.rules.summary.LayerSummary.{LayerSummary}
 use Rattle.mvt_tile.specs.declared.rules.tags.TagNeeds.{TagNeeds}
 use Rattle.mvt_tile.proofs.CleanWalk.{CleanWalk, CleanWalk-weaker, CleanWalk-other, CleanWalk-more, CleanWalk-next, CleanWalk-over}
-use Rattle.mvt_tile.proofs.Found.{IfNone_then, IfNone-found}
+use Rattle.mvt_wire.proofs.NothingFound.{IfNone_then, IfNone-found}
 use Rattle.mvt_tile.specs.Reading.{TellsSummary}
 use Rattle.mvt_tile.specs.declared.rules.layer_scan.LayerScan.{LayerScan}
 use Rattle.mvt_tile.proofs.SummaryReading.{few_keys}

@@ -1,7 +1,7 @@
 -- What is known while the fields of a layer are walked, and what it says of the layer's faults.
 use Rattle.std.proofs.Common.{◌≡◌, ℕ, ◌+◌, ◌≤◌, List, [], ◌∷◌, ◌++◌, length, take, Option, Some, None, ◌∙◌, subst, arith}
 use Rattle.mvt_wire.specs.Field.{Entry}
-use Rattle.mvt_wire.specs.Scope.{spans_of}
+use Rattle.mvt_wire.specs.Scope.{spans_of, stretch}
 use Rattle.mvt_wire.specs.Walk.{Walk, IsOver, GivesField, FindsDefect}
 use Rattle.mvt_wire.specs.WireFault.{EndFault, MessageFault}
 use Rattle.mvt_wire.specs.declared.cause.WireCause.{WireCause}
@@ -12,14 +12,15 @@ use Rattle.mvt_fault.specs.Place.{IsLeast}
 use Rattle.mvt_fault.specs.declared.fault.Fault.{Fault}
 use Rattle.mvt_tile.specs.Embedded.{HasNone, HasFirst}
 use Rattle.mvt_tile.specs.First.{FindsFirst}
-use Rattle.mvt_tile.specs.LayerFault.{IsLayerFault, stretch}
+use Rattle.mvt_tile.specs.LayerFault.{IsLayerFault}
 use Rattle.mvt_tile.specs.Least.{FindsLeastCause}
 use Rattle.mvt_tile.specs.Placed.{IsPlaced}
 use Rattle.mvt_tile.specs.Rest.{IsDefectOr}
 use Rattle.mvt_tile.specs.Scan.{Passes, IsFirstFault}
 use Rattle.mvt_tile.specs.declared.wire.embedded.EmbeddedScan.{EmbeddedScan}
 use Rattle.mvt_tile.specs.declared.wire.scan.FieldScan.{FieldScan}
-use Rattle.mvt_tile.proofs.Layers.{fault_in, IsLeast-own, IsLeast-value, IsLeast-feature, IsLayerFault-none}
+use Rattle.mvt_fault.specs.Truth.{wire_fault_in}
+use Rattle.mvt_tile.proofs.Layers.{IsLeast-own, IsLeast-value, IsLeast-feature, IsLayerFault-none}
 use Rattle.mvt_tile.proofs.Walking.{IsScanning, IsPlaced-within, IsScanning-more, IsScanning-fault, IsScanning-whole, defect_alone}
 use Rattle.mvt_wire.proofs.Walking.{IsWalking-defect, IsWalking-whole}
 
@@ -86,12 +87,12 @@ module _ (bytes : List ℕ) (from to : ℕ) (old new : Walk) (own : FieldScan) (
     -- or has a fault, which is the first of the layer unless a field behind it has a defect
     pub LayerWalk-fault : (layer : ℕ) (first cause : WireCause)
         → ((passed : List Entry) (next : ℕ) → IsPlaced entry next → Passes own passed → IsFirstFault own.message (passed ++ entry ∷ []) next first)
-        → IsDefectOr new first cause → IsLeast (IsLayerFault bytes (stretch from to) layer) (fault_in (scopes.Layer layer) cause)
+        → IsDefectOr new first cause → IsLeast (IsLayerFault bytes (stretch from to) layer) (wire_fault_in (scopes.Layer layer) cause)
     LayerWalk-fault layer first cause fault rest =
         IsLeast-own bytes (stretch from to) layer cause (IsScanning-fault messages.Layer (take to bytes) from old new own so_far.entries entry first cause so_far.scanning given fault rest)
 
   -- a defect of a field is the first fault of the layer
-  pub LayerWalk-defect : (layer : ℕ) (cause : WireCause) → FindsDefect old new cause → IsLeast (IsLayerFault bytes (stretch from to) layer) (fault_in (scopes.Layer layer) cause)
+  pub LayerWalk-defect : (layer : ℕ) (cause : WireCause) → FindsDefect old new cause → IsLeast (IsLayerFault bytes (stretch from to) layer) (wire_fault_in (scopes.Layer layer) cause)
   LayerWalk-defect layer cause found =
       IsLeast-own bytes (stretch from to) layer cause
       (defect_alone messages.Layer (take to bytes) from cause (IsWalking-defect (take to bytes) from old new so_far.entries cause so_far.scanning.walked found))
@@ -104,19 +105,19 @@ module _ (bytes : List ℕ) (from to : ℕ) (old new : Walk) (own : FieldScan) (
 
     pub LayerWalk-own : (layer : ℕ) (cause : WireCause)
         → ((passed : List Entry) → Passes own passed → FindsLeastCause (EndFault own.message passed to) (Some cause))
-        → IsLeast (IsLayerFault bytes (stretch from to) layer) (fault_in (scopes.Layer layer) cause)
+        → IsLeast (IsLayerFault bytes (stretch from to) layer) (wire_fault_in (scopes.Layer layer) cause)
     LayerWalk-own layer cause finds = IsLeast-own bytes (stretch from to) layer cause (own_finds (Some cause) finds)
 
     module _ (none : (passed : List Entry) → Passes own passed → FindsLeastCause (EndFault own.message passed to) None) where
       -- that of a value, where the layer has none of its own
-      pub LayerWalk-value : (layer ordinal : ℕ) (cause : WireCause) → value_scan.first ≡ Some (ordinal, cause) → IsLeast (IsLayerFault bytes (stretch from to) layer) (fault_in (scopes.Value layer ordinal) cause)
+      pub LayerWalk-value : (layer ordinal : ℕ) (cause : WireCause) → value_scan.first ≡ Some (ordinal, cause) → IsLeast (IsLayerFault bytes (stretch from to) layer) (wire_fault_in (scopes.Value layer ordinal) cause)
       LayerWalk-value layer ordinal cause first =
           IsLeast-value bytes (stretch from to) layer so_far.entries ordinal cause (IsWalking-whole (take to bytes) from old new so_far.entries so_far.scanning.walked over) (own_finds None none)
           (scan_finds bytes value_scan so_far.entries messages.Value 4 (Some (ordinal, cause)) so_far.value_message so_far.value_number first so_far.values)
 
       -- that of a feature, where no value has one
       pub LayerWalk-feature : (layer ordinal : ℕ) (cause : WireCause) → value_scan.first ≡ None → feature_scan.first ≡ Some (ordinal, cause)
-          → IsLeast (IsLayerFault bytes (stretch from to) layer) (fault_in (scopes.Feature layer ordinal) cause)
+          → IsLeast (IsLayerFault bytes (stretch from to) layer) (wire_fault_in (scopes.Feature layer ordinal) cause)
       LayerWalk-feature layer ordinal cause values first =
           IsLeast-feature bytes (stretch from to) layer so_far.entries ordinal cause (IsWalking-whole (take to bytes) from old new so_far.entries so_far.scanning.walked over) (own_finds None none)
           (scan_finds bytes value_scan so_far.entries messages.Value 4 None so_far.value_message so_far.value_number values so_far.values).1

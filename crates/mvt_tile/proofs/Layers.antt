@@ -8,8 +8,9 @@ use Rattle.mvt_wire.specs.declared.scope.Scope.{Scope}
 use Rattle.mvt_wire.specs.declared.scope.Scope.TheVariants.{Tile, Layer, Value, Feature}
 use Rattle.mvt_wire.specs.declared.schema.Message.{Message}
 use Rattle.mvt_wire.specs.declared.schema.Message.TheVariants as messages
-use Rattle.mvt_wire.proofs.Messages.{one_list}
+use Rattle.mvt_wire.proofs.Tiles.{part_here}
 use Rattle.mvt_fault.specs.Place.{ComesFirst, IsLeast, place_of}
+use Rattle.mvt_fault.specs.Truth.{wire_fault_in}
 use Rattle.mvt_fault.specs.declared.fault.Fault.{Fault}
 use Rattle.mvt_fault.specs.declared.fault.Fault.TheVariants.{Wire}
 use Rattle.mvt_tile.specs.Embedded.{HasFault, HasNone, HasFirst}
@@ -17,25 +18,15 @@ use Rattle.mvt_tile.specs.First.{AreClean, IsFirst}
 use Rattle.mvt_tile.specs.LayerFault.{FaultInLayer, IsLayerFault, wire}
 use Rattle.mvt_tile.specs.Least.{cause_place, IsLeastCause}
 
--- a cause as the fault of a message
-abbrev pub fault_in : Scope → WireCause → Fault
-fault_in scope cause = Wire cause.code scope cause.at cause.field
-
--- a message in a whole one is among those that its field list tells
-pub part_among : (bytes : List ℕ) (outer : Span) (entries : List Entry) (field_number ordinal : ℕ) (inner : Span) → IsMessageAt bytes outer entries → IsPart bytes outer field_number ordinal inner
-    → slice_get (spans_of field_number entries) ordinal ≡ Some inner
-part_among bytes outer entries field_number ordinal inner whole part =
-    ap (λ (list : List Entry). slice_get (spans_of field_number list) ordinal) (one_list (take outer.to bytes) outer.from entries part.entries whole part.whole) ∙ part.here
-
 -- where all are clean, none of them has a fault
 part_clean : (message : Message) (bytes : List ℕ) (outer : Span) (entries : List Entry) (field_number ordinal : ℕ) (inner : Span) (cause : WireCause) → IsMessageAt bytes outer entries
     → AreClean (HasNone message bytes) (spans_of field_number entries) → IsPart bytes outer field_number ordinal inner → HasFault message bytes inner cause → ⊥
-part_clean message bytes outer entries field_number ordinal inner cause whole clean part fault = clean ordinal inner (part_among bytes outer entries field_number ordinal inner whole part) cause fault
+part_clean message bytes outer entries field_number ordinal inner cause whole clean part fault = clean ordinal inner (part_here bytes outer field_number ordinal inner entries whole part) cause fault
 
 -- the first that has a fault is one of them
-part_here : (message : Message) (bytes : List ℕ) (outer : Span) (entries : List Entry) (field_number ordinal : ℕ) (cause : WireCause) → IsMessageAt bytes outer entries
+first_part : (message : Message) (bytes : List ℕ) (outer : Span) (entries : List Entry) (field_number ordinal : ℕ) (cause : WireCause) → IsMessageAt bytes outer entries
     → IsFirst (HasNone message bytes) (HasFirst message bytes (ordinal, cause)) (spans_of field_number entries) → (inner : Span) × IsPart bytes outer field_number ordinal inner × HasFault message bytes inner cause
-part_here message bytes outer entries field_number ordinal cause whole first =
+first_part message bytes outer entries field_number ordinal cause whole first =
     (first.span, record { entries = entries; whole = whole; here = ap (slice_get (spans_of field_number entries)) (sym first.found.0) ∙ first.here }, first.found.1.holds)
 
 -- and its first fault comes before those of the others
@@ -43,7 +34,7 @@ part_first : (message : Message) (bytes : List ℕ) (outer : Span) (entries : Li
     → IsFirst (HasNone message bytes) (HasFirst message bytes (ordinal, cause)) (spans_of field_number entries)
     → IsPart bytes outer field_number other inner → HasFault message bytes inner fault → ComesFirst (ordinal ∷ cause_place cause) (other ∷ cause_place fault)
 part_first message bytes outer entries field_number ordinal cause other inner fault whole first part holds =
-    let among = part_among bytes outer entries field_number other inner whole part in
+    let among = part_here bytes outer field_number other inner entries whole part in
     let place : first.ordinal ≡ ordinal = first.found.0 in
     elim (cases_lt ordinal other) [
       | inl behind ↦ inl behind
@@ -64,7 +55,7 @@ within_layer layer other xs ys same first = inr (refl, inr (refl, inr (sym same,
 module _ (bytes : List ℕ) (outer : Span) (layer : ℕ) where
   -- a fault of the layer's own fields comes before those of the messages in it
   behind_own : (cause : WireCause) → IsLeastCause (HasFault messages.Layer bytes outer) cause → (scope : Scope) (fault : WireCause) → FaultInLayer bytes outer layer scope fault
-      → ComesFirst (place_of (fault_in (Layer layer) cause)) (place_of (fault_in scope fault))
+      → ComesFirst (place_of (wire_fault_in (Layer layer) cause)) (place_of (wire_fault_in scope fault))
   behind_own cause least Tile fault holds = absurd holds
   behind_own cause least (Layer other) fault holds = within_layer layer other (0 ∷ 0 ∷ cause_place cause) (0 ∷ 0 ∷ cause_place fault) holds.0 (inr (refl, inr (refl, least.least fault holds.1)))
   behind_own cause least (Value other value) fault holds =
@@ -72,16 +63,16 @@ module _ (bytes : List ℕ) (outer : Span) (layer : ℕ) where
   behind_own cause least (Feature other feature) fault holds =
       within_layer layer other (0 ∷ 0 ∷ cause_place cause) (2 ∷ feature ∷ cause_place fault) holds.0 (inl (omega arith))
 
-  pub IsLeast-own : (cause : WireCause) → IsLeastCause (HasFault messages.Layer bytes outer) cause → IsLeast (IsLayerFault bytes outer layer) (fault_in (Layer layer) cause)
+  pub IsLeast-own : (cause : WireCause) → IsLeastCause (HasFault messages.Layer bytes outer) cause → IsLeast (IsLayerFault bytes outer layer) (wire_fault_in (Layer layer) cause)
   IsLeast-own cause least = record { holds = wire cause.code (Layer layer) cause.at cause.field (refl, least.holds); least = behind }
     where
-      behind : (fault : Fault) → IsLayerFault bytes outer layer fault → ComesFirst (place_of (fault_in (Layer layer) cause)) (place_of fault)
+      behind : (fault : Fault) → IsLayerFault bytes outer layer fault → ComesFirst (place_of (wire_fault_in (Layer layer) cause)) (place_of fault)
       behind fault (wire code scope at field holds) = behind_own cause least scope (cause_at code at field) holds
 
   -- else that of a value
   behind_value : (entries : List Entry) (ordinal : ℕ) (cause : WireCause) → IsMessageAt bytes outer entries → ((own : WireCause) → ¬ HasFault messages.Layer bytes outer own)
       → IsFirst (HasNone messages.Value bytes) (HasFirst messages.Value bytes (ordinal, cause)) (spans_of 4 entries)
-      → (scope : Scope) (fault : WireCause) → FaultInLayer bytes outer layer scope fault → ComesFirst (place_of (fault_in (Value layer ordinal) cause)) (place_of (fault_in scope fault))
+      → (scope : Scope) (fault : WireCause) → FaultInLayer bytes outer layer scope fault → ComesFirst (place_of (wire_fault_in (Value layer ordinal) cause)) (place_of (wire_fault_in scope fault))
   behind_value entries ordinal cause whole none first Tile fault holds = absurd holds
   behind_value entries ordinal cause whole none first (Layer other) fault holds = absurd (none fault holds.1)
   behind_value entries ordinal cause whole none first (Value other value) fault holds =
@@ -91,17 +82,17 @@ module _ (bytes : List ℕ) (outer : Span) (layer : ℕ) where
 
   pub IsLeast-value : (entries : List Entry) (ordinal : ℕ) (cause : WireCause) → IsMessageAt bytes outer entries → ((own : WireCause) → ¬ HasFault messages.Layer bytes outer own)
       → IsFirst (HasNone messages.Value bytes) (HasFirst messages.Value bytes (ordinal, cause)) (spans_of 4 entries)
-      → IsLeast (IsLayerFault bytes outer layer) (fault_in (Value layer ordinal) cause)
-  IsLeast-value entries ordinal cause whole none first = record { holds = wire cause.code (Value layer ordinal) cause.at cause.field (refl, part_here messages.Value bytes outer entries 4 ordinal cause whole first); least = behind }
+      → IsLeast (IsLayerFault bytes outer layer) (wire_fault_in (Value layer ordinal) cause)
+  IsLeast-value entries ordinal cause whole none first = record { holds = wire cause.code (Value layer ordinal) cause.at cause.field (refl, first_part messages.Value bytes outer entries 4 ordinal cause whole first); least = behind }
     where
-      behind : (fault : Fault) → IsLayerFault bytes outer layer fault → ComesFirst (place_of (fault_in (Value layer ordinal) cause)) (place_of fault)
+      behind : (fault : Fault) → IsLayerFault bytes outer layer fault → ComesFirst (place_of (wire_fault_in (Value layer ordinal) cause)) (place_of fault)
       behind fault (wire code scope at field holds) = behind_value entries ordinal cause whole none first scope (cause_at code at field) holds
 
   -- else that of a feature
   behind_feature : (entries : List Entry) (ordinal : ℕ) (cause : WireCause) → IsMessageAt bytes outer entries → ((own : WireCause) → ¬ HasFault messages.Layer bytes outer own)
       → AreClean (HasNone messages.Value bytes) (spans_of 4 entries)
       → IsFirst (HasNone messages.Feature bytes) (HasFirst messages.Feature bytes (ordinal, cause)) (spans_of 2 entries)
-      → (scope : Scope) (fault : WireCause) → FaultInLayer bytes outer layer scope fault → ComesFirst (place_of (fault_in (Feature layer ordinal) cause)) (place_of (fault_in scope fault))
+      → (scope : Scope) (fault : WireCause) → FaultInLayer bytes outer layer scope fault → ComesFirst (place_of (wire_fault_in (Feature layer ordinal) cause)) (place_of (wire_fault_in scope fault))
   behind_feature entries ordinal cause whole none values first Tile fault holds = absurd holds
   behind_feature entries ordinal cause whole none values first (Layer other) fault holds = absurd (none fault holds.1)
   behind_feature entries ordinal cause whole none values first (Value other value) fault holds =
@@ -112,10 +103,10 @@ module _ (bytes : List ℕ) (outer : Span) (layer : ℕ) where
   pub IsLeast-feature : (entries : List Entry) (ordinal : ℕ) (cause : WireCause) → IsMessageAt bytes outer entries → ((own : WireCause) → ¬ HasFault messages.Layer bytes outer own)
       → AreClean (HasNone messages.Value bytes) (spans_of 4 entries)
       → IsFirst (HasNone messages.Feature bytes) (HasFirst messages.Feature bytes (ordinal, cause)) (spans_of 2 entries)
-      → IsLeast (IsLayerFault bytes outer layer) (fault_in (Feature layer ordinal) cause)
-  IsLeast-feature entries ordinal cause whole none values first = record { holds = wire cause.code (Feature layer ordinal) cause.at cause.field (refl, part_here messages.Feature bytes outer entries 2 ordinal cause whole first); least = behind }
+      → IsLeast (IsLayerFault bytes outer layer) (wire_fault_in (Feature layer ordinal) cause)
+  IsLeast-feature entries ordinal cause whole none values first = record { holds = wire cause.code (Feature layer ordinal) cause.at cause.field (refl, first_part messages.Feature bytes outer entries 2 ordinal cause whole first); least = behind }
     where
-      behind : (fault : Fault) → IsLayerFault bytes outer layer fault → ComesFirst (place_of (fault_in (Feature layer ordinal) cause)) (place_of fault)
+      behind : (fault : Fault) → IsLayerFault bytes outer layer fault → ComesFirst (place_of (wire_fault_in (Feature layer ordinal) cause)) (place_of fault)
       behind fault (wire code scope at field holds) = behind_feature entries ordinal cause whole none values first scope (cause_at code at field) holds
 
   -- else there is none

@@ -21,12 +21,10 @@ pub mod ValueReading
 pub mod Stretches
 pub mod LayerReading
 pub mod SummaryReading
-pub mod StatedNumbers
 pub mod TagFaults
 pub mod LayerNames
 pub mod Names
 pub mod CleanWalk
-pub mod Found
 pub mod FeatureFaults
 pub mod FeatureScan
 pub mod TileScan

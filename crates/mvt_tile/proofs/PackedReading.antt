@@ -5,14 +5,6 @@ use Rattle.mvt_wire.specs.Varint.{SpellsVarint}
 use Rattle.mvt_wire.specs.Number.{VarintList, AreSmall}
 use Rattle.mvt_wire.proofs.Varints.{one_end}
 
--- one more number behind a list of numbers
-pub VarintList-push : (part : List ℕ) (from : ℕ) (numbers : List ℕ) (at next n : ℕ)
-    → VarintList part from numbers at → SpellsVarint part at next n → VarintList part from (numbers ++ n ∷ []) next
-VarintList-push part from [] at next n here spelled =
-    (next, subst (λ (place : ℕ). SpellsVarint part place next n) (sym here) spelled, refl)
-VarintList-push part from (first ∷ numbers) at next n list spelled =
-    (list.0, list.1, VarintList-push part list.0 numbers at next n list.2 spelled)
-
 -- before the end of a list of small numbers stands a small number
 pub next_number : (part : List ℕ) (from : ℕ) (given numbers : List ℕ) (at : ℕ)
     → VarintList part from given (length part) → AreSmall given → VarintList part from numbers at → at < length part

@@ -16,21 +16,6 @@ use Rattle.mvt_tile.proofs.FieldFaults.{fault_within}
 use Rattle.mvt_wire.proofs.Schemas.{count_of-append}
 use Rattle.mvt_wire.proofs.LastFields.{LastFault, FieldFault-last, FieldFault-earlier}
 
--- the number of the field stands behind it
-pub stands_in-own : (entries : List Entry) (entry : Entry) → stands_in entry.number (entries ++ entry ∷ []) ≡ true
-stands_in-own entries entry =
-    let parts = count_of-append entry.number entries (entry ∷ []) in
-    let own : count_of entry.number (entry ∷ []) ≡ 1 = ap length (cond-true (entry.number == entry.number) (entry ∷ []) [] (eq-eqb entry.number entry.number refl)) in
-    lt-ltb 0 (count_of entry.number (entries ++ entry ∷ [])) (omega arith)
-
--- and another number where it stood before
-pub stands_in-other : (field_number : ℕ) (entries : List Entry) (entry : Entry) → ¬ (entry.number ≡ field_number) → stands_in field_number (entries ++ entry ∷ []) ≡ stands_in field_number entries
-stands_in-other field_number entries entry other =
-    let parts = count_of-append field_number entries (entry ∷ []) in
-    let none : count_of field_number (entry ∷ []) ≡ 0 = ap length (cond-false (entry.number == field_number) (entry ∷ []) [] (ne_eqb entry.number field_number other)) in
-    let same : count_of field_number (entries ++ entry ∷ []) ≡ count_of field_number entries = omega arith in
-    ap (nat_lt 0) same
-
 count_known-append : (message : Message) (entries : List Entry) (entry : Entry) → count_known message (entries ++ entry ∷ []) ≡ count_known message entries + length (filter (λ (e : Entry). is_some (rule_of message e.number)) (entry ∷ []))
 count_known-append message entries entry =
     ap length (filter-append (λ (e : Entry). is_some (rule_of message e.number)) entries (entry ∷ [])) ∙ length-append (filter (λ (e : Entry). is_some (rule_of message e.number)) entries) _

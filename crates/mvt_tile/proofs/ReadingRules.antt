@@ -5,12 +5,11 @@ use Rattle.std.proofs.lemmas.List.Elements.{All-cons, All-nil}
 use Rattle.mvt_wire.specs.Field.{Content, varint, eight_bytes, delimited, four_bytes, Entry, wire_type_of}
 use Rattle.mvt_wire.specs.Number.{States, AreSmall}
 use Rattle.mvt_wire.specs.Schema.{rule_of, is_own, is_out_of_range}
-use Rattle.mvt_wire.specs.Tile.{Fits, number_in}
+use Rattle.mvt_wire.specs.Tile.{Fits, number_in, FitsRule}
 use Rattle.mvt_wire.specs.declared.schema.FieldRule.{FieldRule}
 use Rattle.mvt_wire.specs.declared.schema.Message.{Message}
 use Rattle.mvt_wire.specs.declared.schema.Shape.{Shape}
 use Rattle.mvt_wire.specs.declared.schema.Shape.TheVariants.{Numbers}
-use Rattle.mvt_tile.specs.Reading.{FitsRule}
 
 -- the rule for a number that is known
 pub fits_at : (message : Message) (entry : Entry) (field_number : ℕ) (rule : FieldRule)

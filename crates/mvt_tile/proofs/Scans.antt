@@ -1,5 +1,5 @@
 -- What a scan keeps of the fields of a message.
-use Rattle.std.proofs.Common.{◌≡◌, ℕ, ◌+◌, ◌<◌, nat_lt, Bool, true, false, List, [], ◌∷◌, ◌++◌, length, get_or, slice_set, Some, None, inl, inr, sym, ◌∙◌, ap, subst, arith, get_or-set_same, get_or-set_other}
+use Rattle.std.proofs.Common.{◌≡◌, ℕ, ◌+◌, ◌<◌, nat_lt, Bool, true, false, List, [], ◌∷◌, ◌++◌, length, get_or, slice_set, Some, None, inl, inr, refl, sym, ◌∙◌, ap, subst, arith, get_or-set_same, get_or-set_other}
 use Rattle.std.proofs.lemmas.Bool.{cases_eq, cases_lt, lt-ltb, le-ltb}
 use Rattle.mvt_wire.specs.Field.{Entry}
 use Rattle.mvt_wire.specs.Schema.{rule_of}
@@ -11,7 +11,8 @@ use Rattle.mvt_tile.specs.Least.{IsLeastCause}
 use Rattle.mvt_tile.specs.Placed.{IsPlaced}
 use Rattle.mvt_tile.specs.Scan.{was_seen, Passes, IsFirstFault}
 use Rattle.mvt_tile.specs.declared.wire.scan.FieldScan.{FieldScan}
-use Rattle.mvt_tile.proofs.Passing.{stands_in-own, stands_in-other, count_known-more, count_known-same, faultless-unknown, faultless-known, IsFirstFault-new}
+use Rattle.mvt_wire.proofs.Schemas.{stands_in-own, stands_in-other}
+use Rattle.mvt_tile.proofs.Passing.{count_known-more, count_known-same, faultless-unknown, faultless-known, IsFirstFault-new}
 
 -- no field was passed
 none_split : (before : List Entry) (entry : Entry) (after : List Entry) → [] ≡ before ++ entry ∷ after → ⊥
@@ -41,7 +42,7 @@ stood_more : (stood : List Bool) (entries : List Entry) (entry : Entry) (field_n
 stood_more stood entries entry field_number within so_far = elim (cases_eq field_number entry.number) [
   | inl same ↦
       let here : get_or (slice_set stood entry.number true) field_number false ≡ true = ap (λ (n : ℕ). get_or (slice_set stood entry.number true) n false) same ∙ get_or-set_same stood entry.number true false within in
-      here ∙ sym (stands_in-own entries entry) ∙ ap (λ (n : ℕ). stands_in n (entries ++ entry ∷ [])) (sym same)
+      here ∙ sym (stands_in-own entry.number entries entry refl) ∙ ap (λ (n : ℕ). stands_in n (entries ++ entry ∷ [])) (sym same)
   | inr other ↦
       get_or-set_other stood entry.number field_number true false other ∙ so_far ∙ sym (stands_in-other field_number entries entry (λ same. other (sym same)))
 ]

@@ -10,22 +10,17 @@ use Rattle.mvt_wire.specs.Number.{VarintList, AreSmall, PackedFault, no_varint, 
 use Rattle.mvt_wire.specs.declared.cause.WireCause.{WireCause}
 use Rattle.mvt_wire.specs.declared.cause.WireCode.{WireCode}
 use Rattle.mvt_wire.specs.declared.cause.WireCode.TheVariants.{OutOfRange}
-use Rattle.mvt_wire.proofs.PackedLists.{one_goes_on, packed_or_fault, varints_forward}
+use Rattle.mvt_wire.proofs.NumberPlaces.{list-push}
+use Rattle.mvt_wire.proofs.PackedLists.{one_goes_on, packed_or_fault, small_behind, varints_forward}
 use Rattle.mvt_wire.proofs.Varints.{sum_of_groups-take-below, IsVarint-take, last_byte, earlier_byte, one_value, varint_or_defect, one_defect_of_varint}
 use Rattle.mvt_fault.specs.Place.{ComesFirst}
 use Rattle.mvt_tile.specs.Least.{IsLeastCause, cause_place}
 use Rattle.mvt_tile.specs.Packed.{IsSmallNumber, NumberFault, AreSmallBefore, IsFirstBad}
 use Rattle.mvt_tile.proofs.Causes.{by_offset, same_cause}
 
--- one more number behind others
-VarintList-push : (part : List ℕ) (from : ℕ) (numbers : List ℕ) (at next n : ℕ) → VarintList part from numbers at → SpellsVarint part at next n
-    → VarintList part from (numbers ++ n ∷ []) next
-VarintList-push part from [] at next n list spelled = (next, subst (λ (place : ℕ). SpellsVarint part place next n) (sym list) spelled, refl)
-VarintList-push part from (m ∷ numbers) at next n list spelled = (list.0, list.1, VarintList-push part list.0 numbers at next n list.2 spelled)
-
 pub AreSmallBefore-more : (part : List ℕ) (at next n : ℕ) → AreSmallBefore part at → SpellsVarint part at next n → n < 2 ^ 32 → AreSmallBefore part next
 AreSmallBefore-more part at next n so_far spelled small =
-    (so_far.0 ++ n ∷ [], VarintList-push part 0 so_far.0 at next n so_far.1 spelled, All-push (λ (m : ℕ). m < 2 ^ 32) so_far.0 n so_far.2 small)
+    (so_far.0 ++ n ∷ [], list-push part 0 so_far.0 at next n so_far.1 spelled, All-push (λ (m : ℕ). m < 2 ^ 32) so_far.0 n so_far.2 small)
 
 -- the bytes between two places are 128 or more
 abbrev pub AreContinued : List ℕ → ℕ → ℕ → Type 0
@@ -152,23 +147,16 @@ fault_in_part from part field_number cause fault =
     let left = bad.left in
     (omega arith, omega arith)
 
--- a small number in the middle of others
-All-middle : (front : List ℕ) (n : ℕ) (rest whole : List ℕ) → whole ≡ front ++ n ∷ rest → AreSmall whole → n < 2 ^ 32
-All-middle front n rest whole is small =
-    let longer : length whole ≡ length front + suc (length rest) = ap length is ∙ length-append front (n ∷ rest) in
-    let here : get_or whole (length front) 0 ≡ n = ap (λ (list : List ℕ). get_or list (length front) 0) is ∙ get_or_at front n rest 0 (length front) refl in
-    subst (λ (k : ℕ). k < 2 ^ 32) here (small (length front) 0 (omega arith))
-
 -- behind the end of a list that goes on by small numbers stands no bad one, unless it has come to the end
-small_behind : (part : List ℕ) (at end : ℕ) (whole front rest : List ℕ) (code : WireCode) → AreSmall whole → whole ≡ front ++ rest → VarintList part at rest end → NumberFault part at code → end ≤ at
-small_behind part at end whole front [] code small is list bad = omega arith
-small_behind part at end whole front (n ∷ rest) code small is list bad =
-    absurd (small_or_bad part at list.0 n code list.1 (All-middle front n rest whole is small) bad)
+none_behind : (part : List ℕ) (at end : ℕ) (whole front rest : List ℕ) (code : WireCode) → AreSmall whole → whole ≡ front ++ rest → VarintList part at rest end → NumberFault part at code → end ≤ at
+none_behind part at end whole front [] code small is list bad = omega arith
+none_behind part at end whole front (n ∷ rest) code small is list bad =
+    absurd (small_or_bad part at list.0 n code list.1 (small_behind whole front rest n is small) bad)
 
 -- no bad number stands before the first
 pub none_before : (part : List ℕ) (at place : ℕ) (code other : WireCode) (numbers : List ℕ) → IsFirstBad part at code → VarintList part 0 numbers place → NumberFault part place other → at ≤ place
 none_before part at place code other numbers first list bad = elim (one_goes_on part 0 at place first.before.0 numbers first.before.1 list) [
-  | inl longer ↦ small_behind part place at first.before.0 numbers longer.0 other first.before.2 longer.1 longer.2 bad
+  | inl longer ↦ none_behind part place at first.before.0 numbers longer.0 other first.before.2 longer.1 longer.2 bad
   | inr shorter ↦ varints_forward part at place shorter.0 shorter.2
 ]
 

@@ -4,13 +4,12 @@ use Rattle.std.proofs.lemmas.Bool.{cases_lt}
 use Rattle.std.proofs.lemmas.List.Elements.{filter_map-append}
 use Rattle.std.proofs.lemmas.Option.{slice_get_within}
 use Rattle.mvt_wire.specs.Field.{Entry, content_of, entry_of}
-use Rattle.mvt_wire.specs.Scope.{contents_of, Span, span_of, spans_of}
+use Rattle.mvt_wire.specs.Scope.{contents_of, Span, span_of, spans_of, stretch}
 use Rattle.std.specs.Borrow.{Bor}
 use Rattle.mvt_wire.specs.declared.field.Field.{Field}
 use Rattle.mvt_wire.specs.declared.field.Body.{Body}
 use Rattle.mvt_wire.specs.declared.field.Body.TheVariants.{Varint, Fixed64, Bytes, Fixed32}
 use Rattle.mvt_tile.specs.First.{AreClean, IsFirst, FindsFirst}
-use Rattle.mvt_tile.specs.LayerFault.{stretch}
 use Rattle.mvt_tile.proofs.Filters.{contents_of-push, picked-push, picked-other}
 use Rattle.mvt_wire.proofs.Payloads.{spans_of-append, slice_get-last}
 

@@ -2,10 +2,10 @@
 use Rattle.std.proofs.Common.{◌≡◌, ◌≢◌, ℕ, List, [], ◌∷◌, ◌++◌, take, Some, sym, ◌∙◌, ap, subst, arith, length-take}
 use Rattle.mvt_wire.specs.Field.{Entry, IsField}
 use Rattle.mvt_wire.specs.Message.{IsMessage}
-use Rattle.mvt_wire.specs.Scope.{Span, span_of, spans_of}
+use Rattle.mvt_wire.specs.Scope.{Span, span_of, spans_of, Embeds}
 use Rattle.mvt_wire.specs.Tile.{Each}
 use Rattle.mvt_wire.specs.Walk.{Walk, GivesField}
-use Rattle.mvt_tile.specs.Reading.{Embeds, LiesIn}
+use Rattle.mvt_tile.specs.Reading.{LiesIn}
 use Rattle.mvt_tile.proofs.Filters.{picked-push, picked-other}
 use Rattle.mvt_tile.proofs.ReadingWalk.{IsWalking-front}
 use Rattle.mvt_wire.proofs.Walking.{IsWalking}

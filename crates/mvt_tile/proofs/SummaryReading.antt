@@ -8,7 +8,7 @@ use Rattle.mvt_wire.specs.Scope.{contents_of, Span, span_of, spans_of}
 use Rattle.mvt_wire.specs.Tile.{number_in, numbers_of, bytes_in, texts_of, LayerRecord, IsLayer}
 use Rattle.mvt_wire.specs.Walk.{Walk, GivesField}
 use Rattle.mvt_wire.proofs.Entries.{field_extent}
-use Rattle.mvt_wire.proofs.Members.{same_length}
+use Rattle.mvt_wire.proofs.PairedLists.{same_length}
 use Rattle.mvt_tile.specs.Reading.{TellsSummary, last_of}
 use Rattle.mvt_tile.specs.RuleFaults.{IsSummary}
 use Rattle.mvt_tile.specs.declared.rules.summary.LayerSummary.{LayerSummary}

@@ -5,7 +5,7 @@ use Rattle.mvt_wire.specs.Field.{Entry}
 use Rattle.mvt_wire.specs.Scope.{Span, span_of, spans_of}
 use Rattle.mvt_wire.specs.Tile.{LayerRecord, IsLayer, TileRecord, IsTile}
 use Rattle.mvt_wire.specs.Walk.{Walk, IsOver, GivesField}
-use Rattle.mvt_wire.proofs.Members.{each_there, same_length}
+use Rattle.mvt_wire.proofs.PairedLists.{each_there, same_length}
 use Rattle.mvt_fault.specs.Place.{IsLeast}
 use Rattle.mvt_fault.specs.Truth.{OneFeatureHas}
 use Rattle.mvt_fault.specs.declared.fault.Fault.{Fault}
@@ -16,7 +16,7 @@ use Rattle.mvt_tile.specs.RuleFaults.{IsSummary}
 use Rattle.mvt_tile.specs.declared.rules.summary.LayerSummary.{LayerSummary}
 use Rattle.mvt_tile.proofs.CleanWalk.{CleanWalk, CleanWalk-other, CleanWalk-more, CleanWalk-next}
 use Rattle.mvt_tile.proofs.FeatureFaults.{AreBehindTags, IsGoodLayer, IsFirstInLayer, first_in_tile}
-use Rattle.mvt_tile.proofs.Found.{IfNone_then, IfNone-found}
+use Rattle.mvt_wire.proofs.NothingFound.{IfNone_then, IfNone-found}
 use Rattle.mvt_tile.proofs.ReadingWalk.{IsWalking-over}
 
 -- so many layers were passed, of which nothing is asked

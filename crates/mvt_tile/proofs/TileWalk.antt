@@ -9,7 +9,7 @@ use Rattle.mvt_wire.specs.declared.scope.Scope.{Scope}
 use Rattle.mvt_wire.specs.declared.scope.Scope.TheVariants as scopes
 use Rattle.mvt_wire.specs.declared.schema.Message.TheVariants.{Tile}
 use Rattle.mvt_fault.specs.Place.{IsLeast}
-use Rattle.mvt_fault.specs.Truth.{IsWireFault}
+use Rattle.mvt_fault.specs.Truth.{IsWireFault, wire_fault_in}
 use Rattle.mvt_fault.specs.declared.fault.Fault.{Fault}
 use Rattle.mvt_tile.specs.First.{FindsFirst}
 use Rattle.mvt_tile.specs.LayerScan.{IsFaultless, IsFirstOf}
@@ -20,7 +20,6 @@ use Rattle.mvt_tile.specs.Scan.{Passes, IsFirstFault}
 use Rattle.mvt_tile.specs.declared.wire.Layers.{Layers}
 use Rattle.mvt_tile.specs.declared.wire.embedded.EmbeddedScan.{EmbeddedScan}
 use Rattle.mvt_tile.specs.declared.wire.scan.FieldScan.{FieldScan}
-use Rattle.mvt_tile.proofs.Layers.{fault_in}
 use Rattle.mvt_tile.proofs.Tiles.{IsLeast-tile, IsLeast-layer, WireFault-none}
 use Rattle.mvt_tile.proofs.Walking.{IsScanning, IsPlaced-within, IsScanning-more, IsScanning-fault, IsScanning-whole, defect_alone}
 use Rattle.mvt_wire.proofs.Walking.{IsWalking-defect, IsWalking-whole}
@@ -62,12 +61,12 @@ module _ (bytes : List ℕ) (old new : Walk) (own : FieldScan) (layer_scan : Emb
     -- or has a fault, which is the first of the tile unless a field behind it has a defect
     pub TileWalk-fault : (first cause : WireCause)
         → ((passed : List Entry) (next : ℕ) → IsPlaced entry next → Passes own passed → IsFirstFault own.message (passed ++ entry ∷ []) next first)
-        → IsDefectOr new first cause → IsLeast (IsWireFault bytes) (fault_in scopes.Tile cause)
+        → IsDefectOr new first cause → IsLeast (IsWireFault bytes) (wire_fault_in scopes.Tile cause)
     TileWalk-fault first cause fault rest =
         IsLeast-tile bytes cause (IsScanning-fault Tile (take (length bytes) bytes) 0 old new own so_far.entries entry first cause so_far.scanning given fault rest)
 
   -- a defect of a field is the first fault of the tile
-  pub TileWalk-defect : (cause : WireCause) → FindsDefect old new cause → IsLeast (IsWireFault bytes) (fault_in scopes.Tile cause)
+  pub TileWalk-defect : (cause : WireCause) → FindsDefect old new cause → IsLeast (IsWireFault bytes) (wire_fault_in scopes.Tile cause)
   TileWalk-defect cause found =
       IsLeast-tile bytes cause (defect_alone Tile (take (length bytes) bytes) 0 cause (IsWalking-defect (take (length bytes) bytes) 0 old new so_far.entries cause so_far.scanning.walked found))
 
@@ -79,7 +78,7 @@ module _ (bytes : List ℕ) (old new : Walk) (own : FieldScan) (layer_scan : Emb
 
     pub TileWalk-own : (cause : WireCause)
         → ((passed : List Entry) → Passes own passed → FindsLeastCause (EndFault own.message passed (length bytes)) (Some cause))
-        → IsLeast (IsWireFault bytes) (fault_in scopes.Tile cause)
+        → IsLeast (IsWireFault bytes) (wire_fault_in scopes.Tile cause)
     TileWalk-own cause finds = IsLeast-tile bytes cause (own_finds (Some cause) finds)
 
     module _ (none : (passed : List Entry) → Passes own passed → FindsLeastCause (EndFault own.message passed (length bytes)) None) where

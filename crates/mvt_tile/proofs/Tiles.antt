@@ -9,9 +9,9 @@ use Rattle.mvt_wire.specs.declared.cause.WireCause.{WireCause}
 use Rattle.mvt_wire.specs.declared.scope.Scope.{Scope}
 use Rattle.mvt_wire.specs.declared.scope.Scope.TheVariants.{Tile, Layer, Value, Feature}
 use Rattle.mvt_wire.specs.declared.schema.Message.TheVariants as messages
-use Rattle.mvt_wire.proofs.Tiles.{tile_or_fault}
+use Rattle.mvt_wire.proofs.Tiles.{tile_or_fault, part_here}
 use Rattle.mvt_fault.specs.Place.{ComesFirst, IsLeast, place_of}
-use Rattle.mvt_fault.specs.Truth.{IsWireFault, wire}
+use Rattle.mvt_fault.specs.Truth.{IsWireFault, wire, wire_fault_in}
 use Rattle.mvt_fault.specs.declared.fault.Fault.{Fault}
 use Rattle.mvt_tile.specs.Embedded.{HasFault}
 use Rattle.mvt_tile.specs.First.{IsFirst, FindsFirst}
@@ -19,7 +19,6 @@ use Rattle.mvt_tile.specs.LayerFault.{FaultInLayer, IsLayerFault}
 use Rattle.mvt_tile.specs.LayerFault as layer_faults
 use Rattle.mvt_tile.specs.LayerScan.{IsFaultless, IsFirstOf}
 use Rattle.mvt_tile.specs.Least.{cause_place, IsLeastCause}
-use Rattle.mvt_tile.proofs.Layers.{fault_in, part_among}
 
 -- bytes with no wire fault are a tile
 pub is_tile : (bytes : List ℕ) → ((scope : Scope) (cause : WireCause) → WireFault bytes scope cause → ⊥) → (tile : TileRecord) × IsTile bytes tile
@@ -62,7 +61,7 @@ IsWireFault-in bytes ordinal span fault part (layer_faults.wire code scope at fi
 abbrev IsBehind : ℕ → List ℕ → Type 0
 IsBehind ordinal place = (rest : List ℕ) × (place ≡ 0 ∷ 1 ∷ ordinal ∷ rest)
 
-place_in_layer : (bytes : List ℕ) (span : Span) (ordinal : ℕ) (scope : Scope) (cause : WireCause) → FaultInLayer bytes span ordinal scope cause → IsBehind ordinal (place_of (fault_in scope cause))
+place_in_layer : (bytes : List ℕ) (span : Span) (ordinal : ℕ) (scope : Scope) (cause : WireCause) → FaultInLayer bytes span ordinal scope cause → IsBehind ordinal (place_of (wire_fault_in scope cause))
 place_in_layer bytes span ordinal Tile cause fault = absurd fault
 place_in_layer bytes span ordinal (Layer layer) cause fault = (0 ∷ 0 ∷ cause_place cause, ap (λ (l : ℕ). 0 ∷ 1 ∷ l ∷ 0 ∷ 0 ∷ cause_place cause) fault.0)
 place_in_layer bytes span ordinal (Value layer value) cause fault = (1 ∷ value ∷ cause_place cause, ap (λ (l : ℕ). 0 ∷ 1 ∷ l ∷ 1 ∷ value ∷ cause_place cause) fault.0)
@@ -79,17 +78,17 @@ earlier_layer ordinal other place behind first second less =
 
 -- a fault of the tile's own fields comes before those in its layers
 behind_own : (bytes : List ℕ) (cause : WireCause) → IsLeastCause (HasFault messages.Tile bytes (whole_span bytes)) cause → (scope : Scope) (fault : WireCause) → WireFault bytes scope fault
-    → ComesFirst (place_of (fault_in Tile cause)) (place_of (fault_in scope fault))
+    → ComesFirst (place_of (wire_fault_in Tile cause)) (place_of (wire_fault_in scope fault))
 behind_own bytes cause least Tile fault holds =
     inr (refl, inr (refl, inr (refl, inr (refl, inr (refl, least.least fault (subst (λ (span : Span). HasFault messages.Tile bytes span fault) holds.there holds.fault))))))
 behind_own bytes cause least (Layer layer) fault holds = inr (refl, inl (omega arith))
 behind_own bytes cause least (Value layer value) fault holds = inr (refl, inl (omega arith))
 behind_own bytes cause least (Feature layer feature) fault holds = inr (refl, inl (omega arith))
 
-pub IsLeast-tile : (bytes : List ℕ) (cause : WireCause) → IsLeastCause (HasFault messages.Tile bytes (whole_span bytes)) cause → IsLeast (IsWireFault bytes) (fault_in Tile cause)
+pub IsLeast-tile : (bytes : List ℕ) (cause : WireCause) → IsLeastCause (HasFault messages.Tile bytes (whole_span bytes)) cause → IsLeast (IsWireFault bytes) (wire_fault_in Tile cause)
 IsLeast-tile bytes cause least = record { holds = wire cause.code Tile cause.at cause.field (record { span = whole_span bytes; there = refl; fault = least.holds }); least = behind }
   where
-    behind : (fault : Fault) → IsWireFault bytes fault → ComesFirst (place_of (fault_in Tile cause)) (place_of fault)
+    behind : (fault : Fault) → IsWireFault bytes fault → ComesFirst (place_of (wire_fault_in Tile cause)) (place_of fault)
     behind fault (wire code scope at field holds) = behind_own bytes cause least scope (cause_at code at field) holds
 
 module _ (bytes : List ℕ) (entries : List Entry) (whole : IsMessageAt bytes (whole_span bytes) entries) (none : (cause : WireCause) → ¬ HasFault messages.Tile bytes (whole_span bytes) cause) where
@@ -97,7 +96,7 @@ module _ (bytes : List ℕ) (entries : List Entry) (whole : IsMessageAt bytes (w
   pub WireFault-none : (count : ℕ) → FindsFirst (IsFaultless bytes) (IsFirstOf bytes) (spans_of 3 entries) count None → (scope : Scope) (cause : WireCause) → ¬ WireFault bytes scope cause
   WireFault-none count finds scope cause holds = elim (own_or_in bytes scope cause holds) [
     | inl own ↦ none cause own.1
-    | inr inside ↦ finds.1 inside.layer inside.span (part_among bytes (whole_span bytes) entries 3 inside.layer inside.span whole inside.part) (fault_in scope cause) (layer_faults.wire cause.code scope cause.at cause.field inside.fault)
+    | inr inside ↦ finds.1 inside.layer inside.span (part_here bytes (whole_span bytes) 3 inside.layer inside.span entries whole inside.part) (wire_fault_in scope cause) (layer_faults.wire cause.code scope cause.at cause.field inside.fault)
   ]
 
   -- the first fault of the first layer that has one comes before those of the others
@@ -107,7 +106,7 @@ module _ (bytes : List ℕ) (entries : List Entry) (whole : IsMessageAt bytes (w
 
     behind_first : (fault : Fault) (layer : ℕ) (span : Span) → IsPart bytes (whole_span bytes) 3 layer span → IsLayerFault bytes span layer fault → ComesFirst (place_of first) (place_of fault)
     behind_first fault layer span part holds =
-        let among = part_among bytes (whole_span bytes) entries 3 layer span whole part in
+        let among = part_here bytes (whole_span bytes) 3 layer span entries whole part in
         elim (cases_lt finds.ordinal layer) [
           | inl behind ↦ earlier_layer finds.ordinal layer (place_of first) (place_of fault) (fault_place bytes finds.span finds.ordinal first finds.found.holds) (fault_place bytes span layer fault holds) behind
           | inr not_behind ↦ elim (cases_lt layer finds.ordinal) [
@@ -120,10 +119,10 @@ module _ (bytes : List ℕ) (entries : List Entry) (whole : IsMessageAt bytes (w
           ]
         ]
 
-    behind_all : (scope : Scope) (cause : WireCause) → WireFault bytes scope cause → ComesFirst (place_of first) (place_of (fault_in scope cause))
+    behind_all : (scope : Scope) (cause : WireCause) → WireFault bytes scope cause → ComesFirst (place_of first) (place_of (wire_fault_in scope cause))
     behind_all scope cause holds = elim (own_or_in bytes scope cause holds) [
       | inl own ↦ absurd (none cause own.1)
-      | inr inside ↦ behind_first (fault_in scope cause) inside.layer inside.span inside.part (layer_faults.wire cause.code scope cause.at cause.field inside.fault)
+      | inr inside ↦ behind_first (wire_fault_in scope cause) inside.layer inside.span inside.part (layer_faults.wire cause.code scope cause.at cause.field inside.fault)
     ]
 
     pub IsLeast-layer : IsLeast (IsWireFault bytes) first

@@ -11,10 +11,6 @@ use Rattle.mvt_fault.specs.declared.fault.Fault.{Fault}
 use Rattle.mvt_fault.specs.declared.fault.Fault.TheVariants.{Wire}
 use Rattle.mvt_tile.specs.Embedded.{HasFault}
 
--- the bytes from one place up to another
-abbrev pub stretch : ℕ → ℕ → Span
-stretch from to = record { from = from; to = to }
-
 -- the message of a scope, in the layer that lies in a stretch and has an ordinal, has a fault
 abbrev pub FaultInLayer : List ℕ → Span → ℕ → Scope → WireCause → Type 0
 FaultInLayer bytes span ordinal Tile cause = ⊥

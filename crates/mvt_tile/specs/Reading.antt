@@ -2,16 +2,9 @@
 use Rattle.std.specs.Prelude.{◌≡◌, ℕ, ◌≤◌, List, [], ◌∷◌, length, map, Some, None}
 use Rattle.mvt_wire.specs.Field.{Entry}
 use Rattle.mvt_wire.specs.Number.{StateTogether}
-use Rattle.mvt_wire.specs.Schema.{rule_of}
 use Rattle.mvt_wire.specs.Scope.{contents_of, Span, span_of, spans_of}
-use Rattle.mvt_wire.specs.Tile.{Fits, numbers_of, texts_of, FeatureRecord, IsFeature, IsValue, LayerRecord, IsLayer, TileRecord, Each}
-use Rattle.mvt_wire.specs.declared.schema.FieldRule.{FieldRule}
-use Rattle.mvt_wire.specs.declared.schema.Message.{Message}
+use Rattle.mvt_wire.specs.Tile.{numbers_of, texts_of, FeatureRecord, IsFeature, IsValue, LayerRecord, IsLayer, TileRecord, Each}
 use Rattle.mvt_tile.specs.declared.rules.summary.LayerSummary.{LayerSummary}
-
--- the field fits the message's rule for its number, if there is one
-abbrev pub FitsRule : Message → Entry → Type 0
-FitsRule message entry = (rule : FieldRule) → rule_of message entry.number ≡ Some rule → Fits rule entry.content
 
 -- the last of a list, or another value where there is none
 abbrev pub last_of : {A : Type 0} → A → List A → A
@@ -24,10 +17,6 @@ pub record TellsFeature (entries : List Entry) (feature : FeatureRecord) : Type 
   pub tags : StateTogether (contents_of 2 entries) feature.tags
   pub kind : feature.kind ≡ last_of 0 (numbers_of 3 entries)
   pub geometry : StateTogether (contents_of 4 entries) feature.geometry
-
--- where the field has the number and a payload of wire type 2, that stretch is as it should be
-abbrev pub Embeds : ℕ → (Span → Type 0) → Entry → Type 0
-Embeds field_number Stands entry = (span : Span) → entry.number ≡ field_number → span_of entry.content ≡ Some span → Stands span
 
 -- a payload of wire type 2 lies within the bytes
 abbrev pub LiesIn : List ℕ → Entry → Type 0

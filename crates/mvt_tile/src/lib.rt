@@ -2,7 +2,6 @@
 //! first fault of the rules between their parts.
 #![tactic(auto)]
 
-mod field_number;
 mod read;
 mod record;
 mod rules;

@@ -1,10 +1,11 @@
 //! A tile's records, read from its bytes.
 ghost use Rattle.std.specs.Prelude.{◌≡◌, ◌≤◌, ℕ, List, ◌∷◌, [], ◌++◌, length, map, IfOk, IfErr, OnOk};
 ghost use Rattle.mvt_wire.specs.Field.{Entry, entry_of};
-ghost use Rattle.mvt_wire.specs.Tile.{TileRecord, IsTile, LayerRecord, IsLayer};
+ghost use Rattle.mvt_wire.specs.Tile.{TileRecord, IsTile, LayerRecord, IsLayer, FitsRule};
 ghost use Rattle.mvt_wire.specs.declared.schema.Message.TheVariants as messages;
 ghost use Rattle.mvt_tile.specs.ReadFault.{IsReadFault};
-ghost use Rattle.mvt_tile.specs.Reading.{Embeds, FitsRule, LiesIn, TellsTile};
+ghost use Rattle.mvt_wire.specs.Scope.{Embeds};
+ghost use Rattle.mvt_tile.specs.Reading.{LiesIn, TellsTile};
 ghost use Rattle.mvt_tile.specs.View.{layer_of, tile_of};
 
 pub(crate) mod feature;
@@ -19,6 +20,7 @@ use crate::record::{Layer, Tile};
 use crate::wire::wire_fault;
 use layer::read_layer;
 use mvt_fault::Fault;
+use mvt_wire::field_number::LAYERS;
 use mvt_wire::{Field, Fields};
 use payload::stretch_of;
 use std::alloc::{AllocError, Global};
@@ -79,7 +81,7 @@ fn add_field<'a>(
         → TellsTile bytes.entry.now entries (record { layers = map layer_of layers.old.items })
         → TellsTile bytes.entry.now (entries ++ entry_of field.entry ∷ []) (record { layers = map layer_of layers.new.items })) }
 {
-    if field.number == 3 {
+    if field.number == LAYERS {
         let (from, to) = stretch_of(field.body);
         layers.push(read_layer(alloc, bytes, from, to)?)?;
     }

@@ -20,7 +20,6 @@ mod tags;
 #[cfg(test)]
 mod tests;
 
-use crate::field_number::LAYERS;
 use crate::read::payload::stretch_of;
 use crate::read::walk::next_whole;
 pub use features::FeatureRule;
@@ -29,6 +28,7 @@ use layer_rules::LayerRules;
 pub use layers::check_layers;
 use mvt_fault::Fault;
 use mvt_wire::Fields;
+use mvt_wire::field_number::LAYERS;
 use std::alloc::{AllocError, Global};
 use summary::summarize;
 pub use tags::check_tags;

@@ -17,12 +17,12 @@ mod scan;
 #[cfg(test)]
 mod tests;
 
-use crate::field_number::LAYERS;
 use crate::wire::embedded::{EmbeddedScan, Look};
-use crate::wire::layer::{in_scope, layer_fault};
+use crate::wire::layer::layer_fault;
 use crate::wire::message::defect_or;
 use crate::wire::scan::FieldScan;
-use mvt_fault::Fault;
+use mvt_fault::{Fault, wire_fault_in};
+use mvt_wire::field_number::LAYERS;
 use mvt_wire::{Body, Field, Fields, Message, Scope, WireCause};
 
 /// The first wire fault of the bytes of a tile, or None where there is none: a fault of the wire
@@ -44,15 +44,15 @@ pub fn wire_fault(bytes: &[u8]) -> Option<Fault>
         match item {
             Ok(field) => {
                 if let Some(cause) = own.pass(&field) {
-                    return Some(in_scope(Scope::Tile, defect_or(fields, cause)));
+                    return Some(wire_fault_in(Scope::Tile, defect_or(fields, cause)));
                 }
                 layers.note(bytes, &field);
             }
-            Err(cause) => return Some(in_scope(Scope::Tile, cause)),
+            Err(cause) => return Some(wire_fault_in(Scope::Tile, cause)),
         }
     }
     if let Some(cause) = own.end_fault(bytes.len()) {
-        return Some(in_scope(Scope::Tile, cause));
+        return Some(wire_fault_in(Scope::Tile, cause));
     }
     layers.first
 }

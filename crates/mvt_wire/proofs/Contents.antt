@@ -7,13 +7,12 @@ use Rattle.mvt_wire.specs.Field.{Content, varint, delimited, Entry, wire_type_of
 use Rattle.mvt_wire.specs.Number.{States, StateTogether}
 use Rattle.mvt_wire.specs.Schema.{rule_of, is_own, is_singular, is_required}
 use Rattle.mvt_wire.specs.Scope.{fields_of, contents_of}
-use Rattle.mvt_wire.specs.Tile.{Fits, KeepsSchema, number_in, bytes_in, numbers_of, texts_of}
+use Rattle.mvt_wire.specs.Tile.{Fits, FitsRule, KeepsSchema, number_in, bytes_in, numbers_of, texts_of}
 use Rattle.mvt_wire.specs.WireFault.{count_of}
 use Rattle.mvt_wire.specs.declared.schema.FieldRule.{FieldRule}
 use Rattle.mvt_wire.specs.declared.schema.Message.{Message}
 use Rattle.mvt_wire.specs.declared.schema.Shape.TheVariants.{Numbers}
 use Rattle.mvt_wire.proofs.PackedLists.{one_varint_list}
-use Rattle.mvt_wire.proofs.Schemas.{FitsRule}
 
 -- a field adds its payload to those of its own number, and to no others
 pub contents_of-own : (field_number : ℕ) (entry : Entry) (entries : List Entry) → (entry.number == field_number) ≡ true → contents_of field_number (entry ∷ entries) ≡ entry.content ∷ contents_of field_number entries
@@ -67,14 +66,14 @@ pub alone_in : {X : Type 0} (xs : List X) → length xs ≡ 1 → (x : X) × (xs
 alone_in (x ∷ []) size = (x, refl)
 alone_in p size = absurd (omega arith)
 
--- a number that stands just once
+-- a number that occurs just once
 stands_once : (message : Message) (field_number : ℕ) (rule : FieldRule) (entries : List Entry) → KeepsSchema message entries → rule_of message field_number ≡ Some rule → is_singular rule.occurrence ≡ true → is_required rule.occurrence ≡ true → count_of field_number entries ≡ 1
 stands_once message field_number rule entries keeps known singular required =
     let most = keeps.at_most field_number rule known singular in
     let least = keeps.at_least field_number rule known required in
     omega arith
 
--- a varint that stands just once states one number
+-- a varint that occurs just once states one number
 pub one_number : (message : Message) (field_number : ℕ) (rule : FieldRule) (entries : List Entry) → KeepsSchema message entries → rule_of message field_number ≡ Some rule → TakesOnly rule 0 → is_singular rule.occurrence ≡ true → is_required rule.occurrence ≡ true
     → (n : ℕ) × (numbers_of field_number entries ≡ n ∷ [])
 one_number message field_number rule entries keeps known only singular required =
@@ -82,7 +81,7 @@ one_number message field_number rule entries keeps known only singular required 
     let size = numbers_count (contents_of field_number entries) types ∙ contents_count field_number entries ∙ stands_once message field_number rule entries keeps known singular required in
     alone_in (numbers_of field_number entries) size
 
--- a payload behind a length that stands just once states one text
+-- a payload behind a length that occurs just once states one text
 pub one_text : (message : Message) (field_number : ℕ) (rule : FieldRule) (entries : List Entry) → KeepsSchema message entries → rule_of message field_number ≡ Some rule → TakesOnly rule 2 → is_singular rule.occurrence ≡ true → is_required rule.occurrence ≡ true
     → (text : List ℕ) × (texts_of field_number entries ≡ text ∷ [])
 one_text message field_number rule entries keeps known only singular required =

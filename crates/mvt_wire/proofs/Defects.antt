@@ -14,7 +14,7 @@ type_or_refused : (content : Content) → IsRefusedType (wire_type_of content) �
 type_or_refused (varint value at) refused = grind arith
 type_or_refused content refused = grind arith
 
--- where a payload stands, its leading varint has no defect
+-- where a payload is spelled, its leading varint has no defect
 payload_or_varint_defect : (bytes : List ℕ) (from to : ℕ) (content : Content) (code : WireCode) → IsPayload bytes from to content → HasLeadingVarint (wire_type_of content) → VarintDefect code (drop from bytes) → ⊥
 payload_or_varint_defect bytes from to (varint value at) code p leading defect = varint_or_defect bytes from to value code p.1 defect
 payload_or_varint_defect bytes from to (delimited start part) code p leading defect = varint_or_defect bytes from start p.0 code p.1 defect
@@ -35,7 +35,7 @@ one_payload_end bytes from wire_type end other (inr (inr p)) (inr (inr q)) =
     let sizes : p.1.1 ≡ q.1.1 = one_value bytes from p.1.0 q.1.0 p.1.1 q.1.1 p.1.2 q.1.2 in
     p.1.3 ∙ ap (λ (k : ℕ). k + p.1.1) starts ∙ ap (λ (k : ℕ). q.1.0 + k) sizes ∙ sym q.1.3
 
--- where a payload stands, it ends within its message
+-- where a payload is spelled, it ends within its message
 payload_within : (bytes : List ℕ) (from to end : ℕ) (content : Content) → IsPayload bytes from to content → PayloadEnd bytes from (wire_type_of content) end → end ≤ length bytes
 payload_within bytes from to end (eight_bytes part) p q =
     let same = one_payload_end bytes from 1 end to q (inl (refl, p.0)) in omega arith
@@ -142,7 +142,7 @@ BadNumber-at bytes at to n test spelled decides failed = elim (cases_lt n 8) [
   ]
 ]
 
--- a key whose low three bits are none of a field's wire types
+-- a key with low three bits that are none of a field's wire types
 pub BadWireType-at : (bytes : List ℕ) (at to n : ℕ) → SpellsVarint bytes at to n → n < 2 ^ 32 → 8 ≤ n → n % 8 ≢ 0 → n % 8 ≢ 1 → n % 8 ≢ 2 → n % 8 ≢ 5
     → FieldDefect bytes at (record { code = BadWireType; at = at; field = n / 8 })
 BadWireType-at bytes at to n spelled small numbered a b c d =
@@ -161,7 +161,7 @@ varint_begins bytes at within = elim (place_begins bytes at within) [
 abbrev pub FieldOrDefect : List ℕ → ℕ → Type 0
 FieldOrDefect bytes at = ((to : ℕ) × (e : Entry) × (e.at ≡ at) × IsField bytes to e) ⊎ ((cause : WireCause) × FieldDefect bytes at cause)
 
--- behind a key with a wire type stands its payload, or a defect
+-- behind a key with a wire type is its payload, or a defect
 value_begins : (bytes : List ℕ) (at to n : ℕ) → IsKey bytes at to n 0 → to ≤ length bytes → FieldOrDefect bytes at
 value_begins bytes at to n k within = elim (varint_begins bytes to within) [
   | inl found ↦ inl (found.0, entry_at n at (varint found.1 to), refl, record { key_end = to; key = k; payload = (refl, found.2) })

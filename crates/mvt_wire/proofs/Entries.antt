@@ -1,4 +1,4 @@
--- What stands at a place: at most one key, one payload, one field; and what stands in a list stands in a longer one.
+-- A place has at most one key, one payload, one field; and what is in a list is in a longer one.
 use Rattle.std.proofs.Common.{◌≡◌, ℕ, ◌+◌, ◌-◌, ◌*◌, ◌/◌, ◌%◌, ◌^◌, ◌<◌, ◌≤◌, List, [], ◌++◌, length, take, drop, slice_range, sym, ◌∙◌, ap, subst, arith, length-drop, length-append}
 use Rattle.std.proofs.lemmas.List.{drop-append-le, take-append-le, nil_from_length}
 use Rattle.mvt_wire.specs.Varint.{SpellsVarint}
@@ -63,7 +63,7 @@ one_field bytes to end e f here first second =
     let payloads = one_payload bytes first.key_end to end e.content f.content keys.types first.payload payload in
     (payloads.0, same_entry e f keys.numbers here payloads.1)
 
--- no field stands at the end
+-- no field is at the end
 pub no_field_at_end : (bytes : List ℕ) (from next : ℕ) (e : Entry) → from ≡ length bytes → e.at ≡ from → IsField bytes next e → ⊥
 no_field_at_end bytes from next e end here field =
     omega arith
@@ -86,7 +86,7 @@ slice_range-append bytes more from to forward within =
     let left : to - from ≤ length (drop from bytes) = omega (arith, length-drop from bytes) in
     ap (take (to - from)) (drop-append-le from bytes more start) ∙ take-append-le (to - from) (drop from bytes) more left
 
--- what stands in a list stands in a longer one: a varint, a key, a payload, a field
+-- what is in a list is in a longer one: a varint, a key, a payload, a field
 pub SpellsVarint-append : (bytes more : List ℕ) (from to n : ℕ) → SpellsVarint bytes from to n → SpellsVarint (bytes ++ more) from to n
 SpellsVarint-append bytes more from to n spelled =
     let forward = spelled.forward in

@@ -8,7 +8,7 @@ use Rattle.mvt_wire.specs.Field.{Content, varint, delimited, Entry, wire_type_of
 use Rattle.mvt_wire.specs.Message.{IsMessage}
 use Rattle.mvt_wire.specs.Number.{States, AreSmall}
 use Rattle.mvt_wire.specs.Schema.{find_rule, rules_of, rule_of, is_own, is_out_of_range, is_singular, is_required}
-use Rattle.mvt_wire.specs.Tile.{Fits, KeepsSchema}
+use Rattle.mvt_wire.specs.Tile.{Fits, FitsRule, KeepsSchema}
 use Rattle.mvt_wire.specs.WireFault.{count_of, stands_in, count_known, EntryFault, other_type, again, no_text, out_of_range, packed, FieldFault, EndFault, missing, not_one, MessageFault}
 use Rattle.mvt_wire.specs.declared.cause.WireCause.{WireCause}
 use Rattle.mvt_wire.specs.declared.cause.WireCode.TheVariants.{OtherType, Again, Missing, OneField, NotUtf8, OutOfRange}
@@ -20,9 +20,9 @@ use Rattle.mvt_wire.specs.declared.schema.Shape.TheVariants.{Text, Numbers}
 use Rattle.mvt_wire.proofs.Entries.{entry_at}
 use Rattle.mvt_wire.proofs.Messages.{one_list, message_or_defect, whole_or_defect}
 use Rattle.mvt_wire.proofs.PackedLists.{numbers_or_fault}
-use Rattle.mvt_wire.proofs.Schemas.{count_of-append, FitsRule, KeepsSchema-faultless}
+use Rattle.mvt_wire.proofs.Schemas.{count_of-append, KeepsSchema-faultless}
 
--- a field fits its rule, or has a fault wherever it stands
+-- a field fits its rule, or has a fault wherever it is
 abbrev pub FitsOrFault : FieldRule → Bool → Entry → Type 0
 FitsOrFault rule stood entry = Fits rule entry.content ⊎ ((cause : WireCause) × EntryFault rule stood entry cause)
 
@@ -77,18 +77,18 @@ field_judged rule stood entry = elim (cases_Bool (is_own rule.shape (wire_type_o
   | inr other ↦ inr (cause_at OtherType entry.at entry.number, other_type other refl)
 ]
 
--- each number that may stand once stands at most once
+-- each number that may occur once occurs at most once
 abbrev pub Sparse : Message → List Entry → Type 0
 Sparse message entries = (field_number : ℕ) (rule : FieldRule) → rule_of message field_number ≡ Some rule → is_singular rule.occurrence ≡ true → count_of field_number entries ≤ 1
 
--- one field stands alone, for its own number and for each other one
+-- one field is alone, for its own number and for each other one
 count_of-one : (field_number : ℕ) (entry : Entry) → entry.number ≡ field_number → count_of field_number (entry ∷ []) ≡ 1
 count_of-one field_number entry is = ap length (cond-true (entry.number == field_number) (entry ∷ []) [] (eq-eqb entry.number field_number is))
 
 count_of-none : (field_number : ℕ) (entry : Entry) → (entry.number ≡ field_number → ⊥) → count_of field_number (entry ∷ []) ≡ 0
 count_of-none field_number entry other = ap length (cond-false (entry.number == field_number) (entry ∷ []) [] (ne_eqb entry.number field_number other))
 
--- one more field, whose number may stand again or stands for the first time
+-- one more field, of a number that may occur again or occurs for the first time
 Sparse-push : (message : Message) (before : List Entry) (entry : Entry) → Sparse message before → ((rule : FieldRule) → rule_of message entry.number ≡ Some rule → is_singular rule.occurrence ≡ true → stands_in entry.number before ≡ false) → Sparse message (before ++ entry ∷ [])
 Sparse-push message before entry sparse alone field_number rule known singular =
     let parts = count_of-append field_number before (entry ∷ []) in
@@ -108,7 +108,7 @@ pub rule_or_none : (o : Option FieldRule) → ((rule : FieldRule) × (o ≡ Some
 rule_or_none None = inr refl
 rule_or_none (Some rule) = inl (rule, refl)
 
--- what the fields of a message keep, apart from those that have to stand
+-- what the fields of a message keep, apart from those that are required
 abbrev pub FieldsKeep : Message → List Entry → Type 0
 FieldsKeep message entries = All (FitsRule message) entries × Sparse message entries
 
@@ -177,7 +177,7 @@ rule_within (first ∷ rules) field_number rule found = elim (cases_eq first.num
       omega arith
 ]
 
--- each number below a bound that has to stand does, or one doesn't
+-- each required number below a bound occurs, or one doesn't
 abbrev pub Present : Message → List Entry → ℕ → Type 0
 Present message entries field_number = (rule : FieldRule) → rule_of message field_number ≡ Some rule → is_required rule.occurrence ≡ true → 1 ≤ count_of field_number entries
 

@@ -1,11 +1,12 @@
 pub mod Contents
 pub mod Defects
 pub mod Entries
+pub mod FieldSpellings
 pub mod Groups
 pub mod Judgements
 pub mod LastFields
-pub mod Members
 pub mod Messages
+pub mod NothingFound
 pub mod NumberEnds
 pub mod NumberFaults
 pub mod NumberFields
@@ -15,8 +16,8 @@ pub mod NumberStops
 pub mod NumberWalks
 pub mod NumbersLeft
 pub mod PackedLists
+pub mod PairedLists
 pub mod Payloads
-pub mod Pieces
 pub mod Records
 pub mod Schemas
 pub mod SmallNumbers

@@ -16,7 +16,7 @@ use Rattle.mvt_wire.specs.declared.schema.Shape.TheVariants.{Numbers}
 use Rattle.mvt_wire.proofs.Varints.{one_value, varint_or_defect, one_defect_of_varint}
 use Rattle.mvt_wire.proofs.PackedLists.{varints_forward, one_goes_on, one_varint_list, small_behind, NoSmallNumber, numbers_or_stop}
 
--- a packed list's fault, told at its place in the list
+-- a packed list's fault, given at its place in the list
 abbrev pub FaultHere : ℕ → List ℕ → ℕ → ℕ → WireCause → Type 0
 FaultHere from part field_number at cause =
     ((code : WireCode) × (at < length part) × VarintDefect code (drop at part) × (cause ≡ cause_at code (from + at) field_number))
@@ -39,7 +39,7 @@ one_fault_here from part k at c d (inl a) (inr b) = absurd (varint_or_defect par
 one_fault_here from part k at c d (inr a) (inl b) = absurd (varint_or_defect part at a.0 a.1 b.0 a.2 b.2)
 one_fault_here from part k at c d (inr a) (inr b) = a.4 ∙ sym b.4
 
--- and none where a small number stands
+-- and none where a small number is
 small_or_fault : (from : ℕ) (part : List ℕ) (k at next n : ℕ) (cause : WireCause) → SpellsVarint part at next n → n < 2 ^ 32 → FaultHere from part k at cause → ⊥
 small_or_fault from part k at next n cause spelled small (inl bad) = varint_or_defect part at next n bad.0 spelled bad.2
 small_or_fault from part k at next n cause spelled small (inr large) =
@@ -104,11 +104,11 @@ pub place_here : (from : ℕ) (part : List ℕ) (k at : ℕ) (cause : WireCause)
 place_here from part k at cause (inl bad) = ap (λ (c : WireCause). c.at) bad.3
 place_here from part k at cause (inr large) = ap (λ (c : WireCause). c.at) large.4
 
--- the fault is the other, or stands before it
+-- the fault is the other, or is before it
 abbrev pub StandsFirst : WireCause → WireCause → Type 0
 StandsFirst cause other = (cause.at < other.at) ⊎ (cause ≡ other)
 
--- and every other one stands behind it
+-- and every other one is behind it
 pub least_fault_of : (at k : ℕ) (content : Content) (ms ns : List ℕ) (c d : WireCause) → FaultOf at k content ms c → AreSmall ms → FaultOf at k content ns d → StandsFirst c d
 least_fault_of at k (varint value place) ms ns c d first small second = inr (first.2 ∙ sym second.2)
 least_fault_of at k (delimited from part) ms ns c d first small second =

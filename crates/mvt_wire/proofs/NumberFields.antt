@@ -1,4 +1,4 @@
--- What a walk over numbers has left at a field: what stands from the field on.
+-- What a walk over numbers has left at a field: what comes from the field on.
 use Rattle.std.proofs.Common.{Bor, ◌≡◌, ℕ, ◌+◌, ◌-◌, ◌^◌, ◌<◌, ◌≤◌, ◌⊎◌, inl, inr, false, List, [], ◌∷◌, ◌++◌, Option, Some, length, take, drop, refl, sym, ◌∙◌, ap, subst, arith, length-drop}
 use Rattle.std.proofs.lemmas.List.{length-take-le, drop-drop}
 use Rattle.std.proofs.lemmas.List.Elements.{All-nil}
@@ -19,7 +19,7 @@ use Rattle.mvt_wire.proofs.PackedLists.{varints_forward}
 use Rattle.mvt_wire.proofs.VarintLists.{empty_list, alone_in_stretch, front_of_one, VarintList-drop, SpellsVarint-drop, SpellsVarint-take}
 use Rattle.mvt_wire.proofs.NumberEnds.{ends_in_field, ends-skip, ends-cons}
 
--- between two fields a walk has left what stands from the second one on
+-- between two fields a walk has left what comes from the second one on
 pub left_at_field : (bytes : List ℕ) (at k : ℕ) (numbers : List ℕ) (ending : Option WireCause) → at ≤ length bytes → NumbersLeft (walk_at bytes k at at) numbers ending → NumbersEnd bytes at k numbers ending
 left_at_field bytes at k numbers ending within (goes_on first rest list small end joined) =
     let none : first ≡ [] = empty_list (take at bytes) at first list in

@@ -16,7 +16,7 @@ use Rattle.mvt_wire.proofs.VarintLists.{All-front, All-back}
 use Rattle.mvt_wire.proofs.NumberEnds.{ends_whole, ends_at_defect, ends_in_field, ends-skip, ends-cons}
 use Rattle.mvt_wire.proofs.NumberFaults.{FaultOf, fault_of, one_fault_of, states_or_fault, states_or_faulty}
 
--- The end of the numbers at a place where a field is due: it is the message's end, or something stands in the way.
+-- The end of the numbers at a place where a field is due: it is the message's end, or a fault.
 pub data EndsAt (bytes : List ℕ) (at field_number : ℕ) (numbers : List ℕ) (ending : Option WireCause) : Type 0 where
   at_end : at ≡ length bytes → numbers ≡ [] → ending ≡ None → EndsAt bytes at field_number numbers ending
   at_stop : (cause : WireCause) → StopsAt bytes at field_number numbers cause → ending ≡ Some cause → EndsAt bytes at field_number numbers ending
@@ -74,7 +74,7 @@ stated_behind k e es numbers stated = elim (cases_eq e.number k) [
   | inr other ↦ inr (other, subst (λ (contents : List Content). StateTogether contents numbers) (contents_of-other k e es (ne_eqb e.number k other)) stated)
 ]
 
--- where a field states its numbers, nothing stands in the way
+-- where a field states its numbers, it has no fault that ends them
 pub field_or_stop : (bytes : List ℕ) (at to k : ℕ) (e : Entry) (es : List Entry) (numbers last : List ℕ) (cause : WireCause) → e.at ≡ at → IsField bytes to e → StateTogether (contents_of k (e ∷ es)) numbers → AreSmall numbers → StopsAt bytes at k last cause → ⊥
 field_or_stop bytes at to k e es numbers last cause here field stated small (at_defect left defect none) =
     field_or_defect bytes to e cause field (subst (λ (place : ℕ). FieldDefect bytes place cause) (sym here) defect)
@@ -92,7 +92,7 @@ field_or_end : (bytes : List ℕ) (at to k : ℕ) (e : Entry) (es : List Entry) 
 field_or_end bytes at to k e es numbers last ending here field stated small (at_end end none is) = no_field_at_end bytes at to e end here field
 field_or_end bytes at to k e es numbers last ending here field stated small (at_stop cause stop is) = field_or_stop bytes at to k e es numbers last cause here field stated small stop
 
--- behind small numbers one thing at most stands in the way at a place
+-- behind small numbers a place has one fault at most that ends them
 one_stop : (bytes : List ℕ) (at k : ℕ) (ms ns : List ℕ) (c d : WireCause) → StopsAt bytes at k ms c → StopsAt bytes at k ns d → AreSmall ms → AreSmall ns → (ms ≡ ns) × (c ≡ d)
 one_stop bytes at k ms ns c d (at_defect left x none) (at_defect also y neither) small below = (none ∙ sym neither, one_field_defect bytes at c d x y)
 one_stop bytes at k ms ns c d (at_defect left x none) (in_field to e here field is fault) small below =
@@ -103,7 +103,7 @@ one_stop bytes at k ms ns c d (in_field to e here field is fault) (in_field end 
     let same : e ≡ f = (one_field bytes to end e f (here ∙ sym there) field other).1 in
     one_fault_of e.at e.number e.content ms ns c d (fault_of e ms c fault) (subst (λ (x : Entry). FaultOf x.at x.number x.content ns d) (sym same) (fault_of f ns d second)) small below
 
--- nothing stands in the way at the end
+-- there is no such fault at the end
 pub end_or_stop : (bytes : List ℕ) (at k : ℕ) (numbers : List ℕ) (cause : WireCause) → at ≡ length bytes → StopsAt bytes at k numbers cause → ⊥
 end_or_stop bytes at k numbers cause end (at_defect left defect none) = omega arith
 end_or_stop bytes at k numbers cause end (in_field to e here field is fault) = no_field_at_end bytes at to e end here field

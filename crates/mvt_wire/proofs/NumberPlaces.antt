@@ -1,4 +1,4 @@
--- The numbers of a message are those whose varints stand before its end or its first fault, in order.
+-- The numbers of a message are those of the varints before its end or its first fault, in order.
 use Rattle.std.proofs.Common.{◌≡◌, ℕ, ◌+◌, ◌-◌, ◌<◌, ◌≤◌, ◌⊎◌, append_assoc, inl, inr, List, [], ◌∷◌, ◌++◌, Option, length, refl, sym, ◌∙◌, ap, subst, arith}
 use Rattle.std.proofs.lemmas.Bool.{cases_lt}
 use Rattle.std.proofs.lemmas.List.Edits.{length-between}
@@ -17,11 +17,11 @@ use Rattle.mvt_wire.proofs.NumberFaults.{FaultOf, fault_of, place_here}
 use Rattle.mvt_wire.proofs.NumberLaws.{EndsAt, at_end, at_stop, walked, StatedBehind, stated_behind}
 use Rattle.mvt_wire.proofs.NumberStops.{fields_forward, stop_behind, stop_within}
 
--- no number stands between two places
+-- no number is between two places
 abbrev pub NoneBetween : (ℕ → ℕ → Type 0) → ℕ → ℕ → Type 0
 NoneBetween stands_at from to = (place n : ℕ) → from ≤ place → place < to → stands_at place n → ⊥
 
--- numbers from a place on are those from an earlier one on, where none stands between
+-- numbers from a place on are those from an earlier one on, where none is between
 pub between-earlier : (A : ℕ → ℕ → Type 0) (low from : ℕ) (numbers : List ℕ) (to : ℕ) → low ≤ from → NoneBetween A low from → StandBetween A from numbers to → StandBetween A low numbers to
 between-earlier A low from [] to ordered none stand = λ place n above below here. elim (cases_lt place from) [ inl early ↦ none place n above early here | inr late ↦ stand place n late below here ]
 between-earlier A low from (n ∷ numbers) to ordered none stand =
@@ -42,7 +42,7 @@ between-append A from middle to (n ∷ first) rest ordered further stand behind 
     let above : stand.0 + 1 ≤ middle = omega (arith, stand.2) in
     (stand.0, stand.1, below, stand.3, stand.4, between-append A (stand.0 + 1) middle to first rest above further stand.5 behind)
 
--- the same numbers by another account of what stands where
+-- the same numbers where another relation says which number is at which place
 pub between-same : (A B : ℕ → ℕ → Type 0) (low from : ℕ) (numbers : List ℕ) (to : ℕ) → low ≤ from
     → ((place n : ℕ) → low ≤ place → place < to → A place n → B place n) → ((place n : ℕ) → low ≤ place → place < to → B place n → A place n)
     → StandBetween A from numbers to → StandBetween B from numbers to
@@ -93,7 +93,7 @@ between-list from part front at (n ∷ numbers) to before list =
       between-earlier (StatesAt (delimited from part)) (from + at + 1) (from + list.0) numbers (from + to) (omega arith) none behind,
     )
 
--- a number of a payload stands within its field
+-- a number of a payload is within its field
 states_extent : (bytes : List ℕ) (key_end to place n : ℕ) (content : Content) → key_end ≤ length bytes → IsPayload bytes key_end to content → StatesAt content place n → (key_end ≤ place) × (place < to)
 states_extent bytes key_end to place n (varint value at) within payload states =
     (omega arith, omega arith)
@@ -127,13 +127,13 @@ fault_between bytes at key_end to k (delimited from part) numbers cause behind p
 fault_between bytes at key_end to k content numbers cause behind payload fault =
     subst (λ (ns : List ℕ). StandBetween (StatesAt content) at ns cause.at) (sym fault.0) (λ p m above below stands. stands)
 
--- a number of a field stands within it
+-- a number of a field is within it
 in_field_extent : (bytes : List ℕ) (to place n : ℕ) (e : Entry) → IsField bytes to e → StatesAt e.content place n → (e.at ≤ place) × (place < to)
 in_field_extent bytes to place n e field states =
     let extent = states_extent bytes field.key_end to place n e.content field.key.spelled.within field.payload states in
     (omega arith, extent.1)
 
--- a number of a message stands behind its start
+-- a number of a message is behind its start
 number_behind : (bytes : List ℕ) (from k place n : ℕ) → IsNumberAt bytes from k place n → from ≤ place
 number_behind bytes from k place n number =
     let forward = fields_forward bytes from number.at number.entries number.before in
@@ -159,7 +159,7 @@ number_from_field : (bytes : List ℕ) (from next k place n : ℕ) (e : Entry) �
 number_from_field bytes from next k place n e here field own states =
     record { entries = []; at = from; before = refl; to = next; entry = e; here = here; field = field; of_number = own; states = states }
 
--- a number is one of the first field, or stands behind it
+-- a number is one of the first field, or behind it
 abbrev pub InFieldOrBehind : List ℕ → ℕ → ℕ → ℕ → ℕ → Entry → Type 0
 InFieldOrBehind bytes next k place n e = ((e.number ≡ k) × StatesAt e.content place n) ⊎ IsNumberAt bytes next k place n
 
@@ -176,7 +176,7 @@ number_split : (bytes : List ℕ) (from next k place n : ℕ) (e : Entry) → e.
 number_split bytes from next k place n e here field number =
     number_in bytes from number.at next number.to k place n e number.entry number.entries here field number.before number.here number.field number.of_number number.states
 
--- within the first field stand its own numbers
+-- within the first field are its own numbers
 own_in_field : (bytes : List ℕ) (from next k place n : ℕ) (e : Entry) → e.at ≡ from → IsField bytes next e → place < next → IsNumberAt bytes from k place n → (e.number ≡ k) × StatesAt e.content place n
 own_in_field bytes from next k place n e here field below number = elim (number_split bytes from next k place n e here field number) [
   | inl own ↦ own
@@ -234,12 +234,12 @@ behind_fields bytes from at k limit (e ∷ es) first last list within stated sta
     (λ rest together. behind_fields bytes list.1.0 at k limit es rest last list.1.2 within together stand)
     (stated_behind k e es first stated)
 
--- no number stands from a defect on
+-- no number is from a defect on
 number_or_defect : (bytes : List ℕ) (at from to k place n : ℕ) (cause : WireCause) (f : Entry) (entries : List Entry) → FieldDefect bytes from cause → FieldList bytes from entries at → f.at ≡ at → IsField bytes to f → ⊥
 number_or_defect bytes at from to k place n cause f [] defect list here field = field_or_defect bytes to f cause field (subst (λ (p : ℕ). FieldDefect bytes p cause) (list ∙ sym here) defect)
 number_or_defect bytes at from to k place n cause f (g ∷ entries) defect list here field = field_or_defect bytes list.1.0 g cause list.1.1 (subst (λ (p : ℕ). FieldDefect bytes p cause) (sym list.0) defect)
 
--- the numbers before what stands in the way
+-- the numbers before the fault that ends them
 stop_between : (bytes : List ℕ) (at k : ℕ) (numbers : List ℕ) (cause : WireCause) → StopsAt bytes at k numbers cause → StandBetween (IsNumberAt bytes at k) at numbers cause.at
 stop_between bytes at k numbers cause (at_defect left defect none) =
     subst (λ (ns : List ℕ). StandBetween (IsNumberAt bytes at k) at ns cause.at) (sym none)
@@ -259,7 +259,7 @@ end_between bytes at k numbers ending (at_stop cause stop is) =
     subst (λ (e : Option WireCause). (at ≤ place_of_end bytes e) × StandBetween (IsNumberAt bytes at k) at numbers (place_of_end bytes e)) (sym is)
     (stop_behind bytes at k numbers cause stop, stop_between bytes at k numbers cause stop)
 
--- the numbers of a message are those that stand before its end or its first fault
+-- the numbers of a message are those before its end or its first fault
 pub numbers_between : (bytes : List ℕ) (from k : ℕ) (numbers : List ℕ) (ending : Option WireCause) → NumbersEnd bytes from k numbers ending → StandBetween (IsNumberAt bytes from k) from numbers (place_of_end bytes ending)
 numbers_between bytes from k numbers ending end =
     let w = walked bytes from k numbers ending end in

@@ -20,7 +20,7 @@ fields_forward bytes from to (e ∷ entries) list =
     let rest = fields_forward bytes list.1.0 to entries list.1.2 in
     omega arith
 
--- a defect stands at its field or behind
+-- a defect is at its field or behind
 pub defect_behind : (bytes : List ℕ) (at : ℕ) (cause : WireCause) → FieldDefect bytes at cause → at ≤ cause.at
 defect_behind bytes at cause (key code defect is) = let here : cause.at ≡ at = ap (λ (c : WireCause). c.at) is in omega arith
 defect_behind bytes at cause (key_out_of_range to n spelled range is) = let here : cause.at ≡ at = ap (λ (c : WireCause). c.at) is in omega arith
@@ -30,19 +30,19 @@ defect_behind bytes at cause (leading_varint to n t code k leading defect is) =
     omega arith
 defect_behind bytes at cause (past_end to n t end k ends past is) = let here : cause.at ≡ at = ap (λ (c : WireCause). c.at) is in omega arith
 
--- a field's fault stands within it
+-- a field's fault is within it
 pub fault_in_field : (bytes : List ℕ) (to : ℕ) (e : Entry) (numbers : List ℕ) (cause : WireCause) → IsField bytes to e → FaultOf e.at e.number e.content numbers cause → (e.at ≤ cause.at) × (cause.at < to)
 fault_in_field bytes to e numbers cause field fault =
     fault_extent bytes e.at field.key_end to e.number e.content numbers cause field.key.spelled.forward field.key.spelled.within field.payload fault
 
--- what stands in the way at a place stands there or behind
+-- the fault that ends the numbers at a place is there or behind
 pub stop_behind : (bytes : List ℕ) (at k : ℕ) (numbers : List ℕ) (cause : WireCause) → StopsAt bytes at k numbers cause → at ≤ cause.at
 stop_behind bytes at k numbers cause (at_defect left defect none) = defect_behind bytes at cause defect
 stop_behind bytes at k numbers cause (in_field to e here field is fault) =
     let extent = (fault_in_field bytes to e numbers cause field (fault_of e numbers cause fault)).0 in
     omega arith
 
--- and, where a field stands there, within it
+-- and, where a field is there, within it
 pub stop_within : (bytes : List ℕ) (at to k : ℕ) (e : Entry) (numbers : List ℕ) (cause : WireCause) → e.at ≡ at → IsField bytes to e → StopsAt bytes at k numbers cause → cause.at < to
 stop_within bytes at to k e numbers cause here field (at_defect left defect none) =
     absurd (field_or_defect bytes to e cause field (subst (λ (place : ℕ). FieldDefect bytes place cause) (sym here) defect))
@@ -51,7 +51,7 @@ stop_within bytes at to k e numbers cause here field (in_field end f there other
     let extent = (fault_in_field bytes end f numbers cause other (fault_of f numbers cause fault)).1 in
     omega arith
 
--- of all that may stand in the way at a place, that behind small numbers comes first
+-- of all faults that may end the numbers at a place, that behind small numbers comes first
 least_stop : (bytes : List ℕ) (at k : ℕ) (ms ns : List ℕ) (c d : WireCause) → StopsAt bytes at k ms c → AreSmall ms → StopsAt bytes at k ns d → StandsFirst c d
 least_stop bytes at k ms ns c d (at_defect left x none) small (at_defect also y neither) = inr (one_field_defect bytes at c d x y)
 least_stop bytes at k ms ns c d (at_defect left x none) small (in_field to e here field is fault) =
@@ -78,7 +78,7 @@ end_before_field bytes at to k e ms ending other here field (at_stop cause first
     let less : cause.at < other.at = omega arith in
     subst (λ (e : Option WireCause). EndsBefore e other) (sym is) (inl less)
 
--- what stands behind a field's own numbers
+-- what is behind a field's own numbers
 rest_of : (k : ℕ) (e : Entry) (es : List Entry) (numbers : List ℕ) → AreSmall numbers → StatedBehind k e es numbers → (rest : List ℕ) × StateTogether (contents_of k es) rest × AreSmall rest
 rest_of k e es numbers small (inl own) = (own.1.1, own.1.3, All-back (λ (n : ℕ). n < 2 ^ 32) own.1.0 own.1.1 (subst AreSmall own.1.4 small))
 rest_of k e es numbers small (inr other) = (numbers, other.1, small)
@@ -99,13 +99,13 @@ end_before_behind bytes from at place k (e ∷ es) (f ∷ fs) first ms ns ending
     let rest = rest_of k e es first small (stated_behind k e es first stated) in
     end_before_behind bytes h.1.0 at place k es fs rest.0 ms ns ending other h.1.2 next rest.1 rest.2 end last stop
 
--- of all faults that stand in the way of the numbers, they end at the first, and at the message's end where there is none
+-- the numbers end at the first of all faults that may end them, and at the message's end where there is none
 pub ends_before : (bytes : List ℕ) (from k : ℕ) (numbers : List ℕ) (ending : Option WireCause) (other : WireCause) → NumbersEnd bytes from k numbers ending → IsNumbersFault bytes from k other → EndsBefore ending other
 ends_before bytes from k numbers ending other end fault =
     let w = walked bytes from k numbers ending end in
     end_before_behind bytes from w.at fault.at k w.entries fault.entries w.first w.last fault.numbers ending other w.before fault.before w.stated w.first_small w.end w.last_small fault.stop
 
--- where they end with a fault, it stands in their way
+-- where they end with a fault, it is one of these
 pub ends_at_fault : (bytes : List ℕ) (from k : ℕ) (numbers : List ℕ) (cause : WireCause) → NumbersEnd bytes from k numbers (Some cause) → IsNumbersFault bytes from k cause
 ends_at_fault bytes from k numbers cause end = record { entries = end.entries; at = end.at; before = end.before; numbers = end.last; stop = end.stop }
 

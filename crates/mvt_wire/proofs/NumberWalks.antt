@@ -7,7 +7,7 @@ use Rattle.mvt_wire.specs.Numbers.{NumbersEnd, NumberWalk, walk_at, StopsVarints
 use Rattle.mvt_wire.specs.declared.cause.WireCause.{WireCause}
 use Rattle.mvt_wire.proofs.NumbersLeft.{one_left, some_left, rest_left}
 
--- at a field all that stands from there on is left
+-- at a field all that comes from there on is left
 pub left_from_field : (bytes : List ℕ) (at k : ℕ) (numbers : List ℕ) (ending : Option WireCause) → NumbersEnd bytes at k numbers ending → NumbersLeft (walk_at bytes k at at) numbers ending
 left_from_field bytes at k numbers ending end = goes_on [] numbers refl (All-nil (λ (n : ℕ). n < 2 ^ 32)) end refl
 
@@ -45,7 +45,7 @@ EndsNumbers-at old bytes k varint_place field_place ending is none =
 pub left_at_fault : (old : NumberWalk) (at end : ℕ) (cause : WireCause) → LeavesVarints old at end → StopsVarints (take end old.bytes) at old.field_number [] cause → NumbersLeft old [] (Some cause)
 left_at_fault old at end cause leaves fault = leaves.same [] (Some cause) (stops cause fault refl)
 
--- behind an empty stretch of a field's varints stands all that stood from the field on
+-- behind an empty stretch of a field's varints all is left that was left from the field on
 pub same_behind : (bytes : List ℕ) (k from place at end : ℕ) → end ≤ at → at ≤ end
     → ((numbers : List ℕ) (ending : Option WireCause) → NumbersEnd bytes place k numbers ending → NumbersEnd bytes from k numbers ending)
     → ((numbers : List ℕ) (ending : Option WireCause) → NumbersLeft (walk_at bytes k at end) numbers ending → NumbersEnd bytes place k numbers ending)

@@ -53,7 +53,7 @@ one_left walk ms ns c d (stops cause stop is) (stops other also too) =
     let same = one_stop (take walk.field_at walk.bytes) walk.varint_at walk.field_number ms ns cause other stop also in
     (same.0, is ∙ ap (λ (x : WireCause). Some x) same.1 ∙ sym too)
 
--- the fault at a place where no small number stands
+-- the fault at a place that has no small number
 stop_at : (part : List ℕ) (from k : ℕ) (numbers : List ℕ) (at : ℕ) → VarintList part from numbers at → AreSmall numbers → NoSmallNumber part at → (cause : WireCause) × StopsVarints part from k numbers cause
 stop_at part from k numbers at list small (inl bad) = (cause_at bad.0 at k, record { at = at; before = list; small = small; left = bad.1; fault = inl (bad.0, bad.2, refl) })
 stop_at part from k numbers at list small (inr large) =
@@ -77,7 +77,7 @@ some_left bytes k at end forward within =
           (bad.0, Some stop.0, stops stop.0 stop.1 refl)
     ]
 
--- where a number stands in front of all that a walk has left, it is the first that another one has left, and these are
+-- where a number is in front of all that a walk has left, it is the first that another one has left, and these are
 -- the rest
 pub rest_left : (old new : NumberWalk) (n : ℕ) → SomeLeft new → ((numbers : List ℕ) (ending : Option WireCause) → NumbersLeft new numbers ending → NumbersLeft old (n ∷ numbers) ending)
     → (numbers : List ℕ) (ending : Option WireCause) → NumbersLeft old numbers ending → (rest : List ℕ) × (numbers ≡ n ∷ rest) × NumbersLeft new rest ending

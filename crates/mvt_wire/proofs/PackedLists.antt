@@ -38,7 +38,7 @@ one_goes_on bytes from to end (m ∷ ms) (n ∷ ns) h k =
       | inr longer ↦ inr (longer.0, let tail : ns ≡ ms ++ longer.0 = longer.1 in cc, longer.2)
     ]
 
--- no varint stands at the end
+-- no varint is at the end
 no_varint_at_end : (bytes : List ℕ) (next n : ℕ) → SpellsVarint bytes (length bytes) next n → ⊥
 no_varint_at_end bytes next n spelled = let forward = spelled.forward in let within = spelled.within in omega arith
 
@@ -99,12 +99,12 @@ packed_or_fault from part field_number cause numbers list small (too_large short
     let behind = whole_goes_on part 0 at numbers shorter list before in
     front_or_large part at next n numbers shorter behind.0 small behind.1 behind.2 spelled large
 
--- no number of 32 bits stands at a place
+-- no number of 32 bits is at a place
 abbrev pub NoSmallNumber : List ℕ → ℕ → Type 0
 NoSmallNumber part at =
     ((code : WireCode) × (at < length part) × VarintDefect code (drop at part)) ⊎ ((next n : ℕ) × SpellsVarint part at next n × (2 ^ 32 ≤ n))
 
--- from a place on stand small numbers up to the end, or up to a place where no small one stands
+-- from a place on there are small numbers up to the end, or up to a place that has no small one
 abbrev pub NumbersOrStop : List ℕ → ℕ → Type 0
 NumbersOrStop part at =
     ((numbers : List ℕ) × VarintList part at numbers (length part) × AreSmall numbers)

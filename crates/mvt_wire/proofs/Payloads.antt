@@ -13,7 +13,7 @@ spans_of-append field_number xs ys =
     ∙ ap (filter_map span_of) (map-append (λ (entry : Entry). entry.content) (fields_of field_number xs) (fields_of field_number ys))
     ∙ filter_map-append span_of (contents_of field_number xs) (contents_of field_number ys)
 
--- what stands behind a list
+-- what is behind a list
 pub slice_get-last : {X : Type 0} (xs : List X) (y : X) → slice_get (xs ++ y ∷ []) (length xs) ≡ Some y
 slice_get-last [] y = refl
 slice_get-last (x ∷ xs) y = slice_get-last xs y

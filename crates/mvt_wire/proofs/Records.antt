@@ -7,7 +7,7 @@ use Rattle.mvt_wire.specs.Field.{Content, varint, eight_bytes, delimited, four_b
 use Rattle.mvt_wire.specs.Number.{zigzag, StateTogether}
 use Rattle.mvt_wire.specs.Schema.{find_rule, rules_of, rule_of}
 use Rattle.mvt_wire.specs.Scope.{contents_of, Span, IsMessageAt}
-use Rattle.mvt_wire.specs.Tile.{KeepsSchema, numbers_of, FeatureRecord, IsFeature, ValueRecord, text, float, double, int, uint, sint, truth, Says, says_text, says_float, says_double, says_int, says_uint, says_sint, says_truth, IsValue}
+use Rattle.mvt_wire.specs.Tile.{FitsRule, KeepsSchema, numbers_of, FeatureRecord, IsFeature, ValueRecord, text, float, double, int, uint, sint, truth, Says, says_text, says_float, says_double, says_int, says_uint, says_sint, says_truth, IsValue}
 use Rattle.mvt_wire.specs.WireFault.{MessageFault}
 use Rattle.mvt_wire.specs.declared.cause.WireCause.{WireCause}
 use Rattle.mvt_wire.specs.declared.schema.FieldRule.{FieldRule}
@@ -17,10 +17,9 @@ use Rattle.mvt_wire.specs.declared.schema.Shape.TheVariants.{GeometryType, Numbe
 use Rattle.mvt_wire.proofs.Contents.{alone_in, one_number, numbers_stated, one_joined}
 use Rattle.mvt_wire.proofs.Judgements.{rule_or_none, message_judged}
 use Rattle.mvt_wire.proofs.Messages.{one_list}
-use Rattle.mvt_wire.proofs.Schemas.{FitsRule}
 use Rattle.mvt_wire.proofs.Spans.{Within, begins_within}
 
--- a whole feature that keeps its schema stands for a record
+-- a whole feature that keeps its schema has a record
 feature_of_fields : (bytes : List ℕ) (span : Span) (entries : List Entry) → IsMessageAt bytes span entries → KeepsSchema Feature entries → (feature : FeatureRecord) × IsFeature bytes span feature
 feature_of_fields bytes span entries whole keeps =
     let tags = numbers_stated Feature 2 (record { number = 2; shape = Numbers; occurrence = AnyNumber }) entries keeps refl refl in
@@ -128,7 +127,7 @@ entry_says entry fits known = elim (rule_or_none (rule_of Value entry.number)) [
   | inr none ↦ let unknown : is_known entry ≡ false = ap is_some none in absurd (cc)
 ]
 
--- a whole value that keeps its schema stands for a record
+-- a whole value that keeps its schema has a record
 value_of_fields : (bytes : List ℕ) (span : Span) (entries : List Entry) → IsMessageAt bytes span entries → KeepsSchema Value entries → (value : ValueRecord) × IsValue bytes span value
 value_of_fields bytes span entries whole keeps =
     let alone = alone_in (filter is_known entries) (keeps.one refl) in

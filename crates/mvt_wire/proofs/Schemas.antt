@@ -1,13 +1,13 @@
 -- A message that keeps its schema has no fault of a field, and none at its end.
-use Rattle.std.proofs.Common.{◌≡◌, ℕ, suc, ◌+◌, ◌≤◌, ◌==◌, Bool, true, false, ◌⊎◌, inl, inr, List, ◌∷◌, ◌++◌, length, Some, refl, ◌∙◌, ap, subst, arith, length-append, All}
-use Rattle.std.proofs.lemmas.Bool.{both_ways, ltb-false, le-ltb, eq-eqb, cond-true}
+use Rattle.std.proofs.Common.{◌≡◌, ◌≢◌, ℕ, suc, nat_lt, ◌+◌, ◌≤◌, ◌==◌, Bool, true, false, ◌⊎◌, inl, inr, List, [], ◌∷◌, ◌++◌, length, Some, refl, ◌∙◌, ap, subst, arith, length-append, All}
+use Rattle.std.proofs.lemmas.Bool.{both_ways, ltb-false, lt-ltb, le-ltb, eq-eqb, ne_eqb, cond-true, cond-false}
 use Rattle.std.proofs.lemmas.List.{get_or_at}
 use Rattle.std.proofs.lemmas.List.Elements.{filter-append}
 use Rattle.mvt_wire.specs.Field.{Content, Entry}
 use Rattle.mvt_wire.specs.Number.{States}
 use Rattle.mvt_wire.specs.Schema.{rule_of, is_singular}
 use Rattle.mvt_wire.specs.Scope.{fields_of}
-use Rattle.mvt_wire.specs.Tile.{Fits, KeepsSchema}
+use Rattle.mvt_wire.specs.Tile.{Fits, FitsRule, KeepsSchema}
 use Rattle.mvt_wire.specs.WireFault.{count_of, stands_in, EntryFault, other_type, again, no_text, out_of_range, packed, FieldFault, EndFault, missing, not_one}
 use Rattle.mvt_wire.specs.declared.cause.WireCause.{WireCause}
 use Rattle.mvt_wire.specs.declared.schema.FieldRule.{FieldRule}
@@ -22,6 +22,21 @@ count_of-append field_number xs ys =
 -- a field counts for its own number
 pub count_of-own : (entry : Entry) (after : List Entry) → count_of entry.number (entry ∷ after) ≡ suc (count_of entry.number after)
 count_of-own entry after = ap length (cond-true (entry.number == entry.number) (entry ∷ fields_of entry.number after) (fields_of entry.number after) (eq-eqb entry.number entry.number refl))
+
+-- the number of the last field occurs
+pub stands_in-own : (field_number : ℕ) (entries : List Entry) (entry : Entry) → entry.number ≡ field_number → stands_in field_number (entries ++ entry ∷ []) ≡ true
+stands_in-own field_number entries entry own =
+    let parts = count_of-append field_number entries (entry ∷ []) in
+    let one : count_of field_number (entry ∷ []) ≡ 1 = ap length (cond-true (entry.number == field_number) (entry ∷ []) [] (eq-eqb entry.number field_number own)) in
+    lt-ltb 0 (count_of field_number (entries ++ entry ∷ [])) (omega arith)
+
+-- another number occurs where it did before
+pub stands_in-other : (field_number : ℕ) (entries : List Entry) (entry : Entry) → entry.number ≢ field_number → stands_in field_number (entries ++ entry ∷ []) ≡ stands_in field_number entries
+stands_in-other field_number entries entry other =
+    let parts = count_of-append field_number entries (entry ∷ []) in
+    let none : count_of field_number (entry ∷ []) ≡ 0 = ap length (cond-false (entry.number == field_number) (entry ∷ []) [] (ne_eqb entry.number field_number other)) in
+    let same : count_of field_number (entries ++ entry ∷ []) ≡ count_of field_number entries = omega arith in
+    ap (nat_lt 0) same
 
 -- an element in the middle of a list
 All-middle : {X : Type 0} (P : X → Type 0) (xs : List X) (x : X) (ys : List X) → All P (xs ++ x ∷ ys) → P x
@@ -39,16 +54,12 @@ fits_or_fault rule stood entry cause fits alone (packed from part shape content 
     let read = fits.packed from part shape content in
     packed_or_fault from part entry.number cause read.0 (subst (λ (c : Content). States c read.0) content read.1) read.2 fault
 
--- a field that may stand once has none of its number before it
+-- a field that may occur once has none of its number before it
 alone_before : (message : Message) (before : List Entry) (entry : Entry) (after : List Entry) → count_of entry.number (before ++ entry ∷ after) ≤ 1 → stands_in entry.number before ≡ false
 alone_before message before entry after few =
     let parts = count_of-append entry.number before (entry ∷ after) in
     let own = count_of-own entry after in
     le-ltb 0 (count_of entry.number before) (omega arith)
-
--- a field of a number that the message knows fits its rule
-abbrev pub FitsRule : Message → Entry → Type 0
-FitsRule message entry = (rule : FieldRule) → rule_of message entry.number ≡ Some rule → Fits rule entry.content
 
 field_or_fault : (message : Message) (entries : List Entry) (cause : WireCause) → KeepsSchema message entries → FieldFault message entries cause → ⊥
 field_or_fault message entries cause keeps fault =

@@ -17,7 +17,7 @@ use Rattle.mvt_wire.specs.declared.schema.Occurrence.TheVariants.{AnyNumber, AtL
 use Rattle.mvt_wire.specs.declared.schema.Shape.{Shape}
 use Rattle.mvt_wire.specs.declared.schema.Shape.TheVariants.{Numbers}
 use Rattle.mvt_wire.proofs.Contents.{contents_fit, one_stated}
-use Rattle.mvt_wire.proofs.Members.{each_here}
+use Rattle.mvt_wire.proofs.PairedLists.{each_here}
 
 -- a field of numbers that fits its rule states small ones
 states_small : (rule : FieldRule) (content : Content) (numbers : List ℕ) → rule.shape ≡ Numbers → Fits rule content → States content numbers → AreSmall numbers

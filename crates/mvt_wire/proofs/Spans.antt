@@ -1,4 +1,4 @@
--- Where the payloads of a message lie, and lists whose members belong to them in order.
+-- Where the payloads of a message lie, and lists with one member for each of them, in order.
 use Rattle.std.proofs.Common.{◌≡◌, ℕ, suc, ◌+◌, ◌-◌, ◌≤◌, ◌==◌, ◌⊎◌, inl, inr, List, [], ◌∷◌, length, take, slice_get, filter_map, All, Some, refl, sym, ◌∙◌, ap, subst, arith, length-take-le}
 use Rattle.std.proofs.lemmas.Bool.{cases_Bool}
 use Rattle.std.proofs.lemmas.List.{length-take}
@@ -35,7 +35,7 @@ spans_in bytes from to field_number (entry ∷ entries) list =
           (payload_within bytes field.key_end list.1.0 entry.content (contents_of field_number entries) field.payload rest)
     ]
 
--- the payloads of a message that stands in the bytes lie in them
+-- the payloads of a message that is in the bytes lie in them
 pub spans_within : (bytes : List ℕ) (outer : Span) (field_number : ℕ) (entries : List Entry) → IsMessageAt bytes outer entries → All (Within bytes) (spans_of field_number entries)
 spans_within bytes outer field_number entries whole =
     let front = length-take outer.to bytes in

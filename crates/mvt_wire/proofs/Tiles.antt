@@ -14,7 +14,7 @@ use Rattle.mvt_wire.specs.declared.scope.Scope.{Scope}
 use Rattle.mvt_wire.specs.declared.scope.Scope.TheVariants.{Tile, Layer, Value, Feature}
 use Rattle.mvt_wire.proofs.Contents.{one_number, one_text}
 use Rattle.mvt_wire.proofs.Judgements.{message_judged, message_or_fault}
-use Rattle.mvt_wire.proofs.Members.{each_there}
+use Rattle.mvt_wire.proofs.PairedLists.{each_there}
 use Rattle.mvt_wire.proofs.Messages.{one_list}
 use Rattle.mvt_wire.proofs.Records.{feature_or_fault, one_feature, value_or_fault, one_value_record}
 use Rattle.mvt_wire.proofs.Spans.{Within, spans_within, begins_within, one_each, each_or_bad}
@@ -31,7 +31,7 @@ PartFault message bytes outer field_number = (ordinal : ℕ) × (span : Span) ×
 abbrev pub LayerFault : List ℕ → Span → Type 0
 LayerFault bytes span = SpanFault messages.Layer bytes span ⊎ PartFault messages.Value bytes span 4 ⊎ PartFault messages.Feature bytes span 2
 
--- a whole layer that keeps its schema stands for a record, where its features and values do
+-- a whole layer that keeps its schema has a record, where its features and values do
 layer_of_fields : (bytes : List ℕ) (span : Span) (entries : List Entry) (features : List FeatureRecord) (values : List ValueRecord) → IsMessageAt bytes span entries → KeepsSchema messages.Layer entries → Each (IsFeature bytes) (spans_of 2 entries) features → Each (IsValue bytes) (spans_of 4 entries) values
     → (layer : LayerRecord) × IsLayer bytes span layer
 layer_of_fields bytes span entries features values whole keeps have_features have_values =

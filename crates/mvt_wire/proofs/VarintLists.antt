@@ -25,7 +25,7 @@ empty_list bytes at numbers list = one_varint_list bytes at at numbers [] list r
 pub alone_in_stretch : (bytes : List ℕ) (from to n : ℕ) (numbers : List ℕ) → SpellsVarint bytes from to n → VarintList bytes from numbers to → numbers ≡ n ∷ []
 alone_in_stretch bytes from to n numbers spelled list = one_varint_list bytes from to numbers (n ∷ []) list (to, spelled, refl)
 
--- a varint behind the first bytes, told from their end
+-- a varint behind the first bytes, counted from their end
 pub SpellsVarint-drop : (bytes : List ℕ) (start from to n : ℕ) → start ≤ from → SpellsVarint bytes from to n → SpellsVarint (drop start bytes) (from - start) (to - start) n
 SpellsVarint-drop bytes start from to n behind spelled =
     let forward = spelled.forward in
@@ -43,7 +43,7 @@ VarintList-drop bytes start from [] to behind list = ap (λ (k : ℕ). k - start
 VarintList-drop bytes start from (n ∷ numbers) to behind list =
     (list.0 - start, SpellsVarint-drop bytes start from list.0 n behind list.1, VarintList-drop bytes start list.0 numbers to (omega arith) list.2)
 
--- before a varint's end stands no other number of a list
+-- before a varint's end begins no other number of a list
 pub front_of_one : (bytes : List ℕ) (from to n : ℕ) (numbers : List ℕ) (at : ℕ) → SpellsVarint bytes from to n → VarintList bytes from numbers at → at < to → (numbers ≡ []) × (at ≡ from)
 front_of_one bytes from to n [] at spelled list before = (refl, sym list)
 front_of_one bytes from to n (m ∷ numbers) at spelled list before =

@@ -44,7 +44,7 @@ IsVarint-take rest i n within few earlier last value fits =
       fits = fits;
     }
 
--- the last byte of a varint, and those before it, as bytes of the list that it stands in
+-- the last byte of a varint, and those before it, as bytes of the list that it is in
 pub last_byte : (bytes : List ℕ) (from to n : ℕ) → SpellsVarint bytes from to n → get_or bytes (to - 1) 0 < 128
 last_byte bytes from to n spelled =
     let size : length (slice_range bytes from to) ≡ to - from = length-between bytes from to spelled.within in

@@ -1,4 +1,4 @@
--- What the reader of fields tells of its walk.
+-- What the contract of the reader of fields says of its walk.
 use Rattle.std.proofs.Common.{◌≡◌, ℕ, ◌<◌, List, length, refl, subst}
 use Rattle.mvt_wire.specs.Field.{FieldDefect}
 use Rattle.mvt_wire.specs.Walk.{Walk, FindsDefect}

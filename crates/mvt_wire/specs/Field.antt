@@ -48,7 +48,7 @@ pub record IsKey (bytes : List ℕ) (from to field_number wire_type : ℕ) : Typ
   pub numbered : 1 ≤ field_number
   pub low_bits : wire_type < 8
 
--- The payload stands from one place up to another.
+-- The payload is spelled from one place up to another.
 abbrev pub IsPayload : List ℕ → ℕ → ℕ → Content → Type 0
 -- a varint
 IsPayload bytes from to (varint value at) = (at ≡ from) × SpellsVarint bytes from to value
@@ -89,7 +89,7 @@ PayloadEnd bytes from wire_type end =
 abbrev pub cause_at : WireCode → ℕ → ℕ → WireCause
 cause_at code at field_number = record { code = code; at = at; field = field_number }
 
--- What keeps a field from standing at a place that has bytes left, with the cause that says so.
+-- Why no field is at a place that has bytes left, with the cause that says so.
 pub data FieldDefect (bytes : List ℕ) (at : ℕ) (cause : WireCause) : Type 0 where
   -- the key is no varint
   key : (code : WireCode)

@@ -12,6 +12,6 @@ number_of Fixed64 = 1
 number_of Bytes = 2
 number_of Fixed32 = 5
 
--- the key stands in the bytes, between its two places
+-- the key is in the bytes, between its two places
 abbrev pub IsKeyOf : List ℕ → Key → Type 0
 IsKeyOf bytes key = IsKey bytes key.at key.end key.number (number_of key.wire_type)

@@ -12,7 +12,7 @@ FieldList bytes from (entry ∷ entries) to = (entry.at ≡ from) × ((next : �
 abbrev pub IsMessage : List ℕ → ℕ → List Entry → Type 0
 IsMessage bytes from entries = FieldList bytes from entries (length bytes)
 
--- a field whose places are told from that many bytes further back
+-- a field with its places counted from that many bytes further back
 abbrev pub content_moved : ℕ → Content → Content
 content_moved by (varint value at) = varint value (by + at)
 content_moved by (eight_bytes part) = eight_bytes part
@@ -30,7 +30,7 @@ AreSpellings at (piece ∷ pieces) (entry ∷ entries) =
 AreSpellings at [] (entry ∷ entries) = ⊥
 AreSpellings at (piece ∷ pieces) [] = ⊥
 
--- behind whole fields, and before the end, stands a field that has a defect
+-- behind whole fields, and before the end, is a field that has a defect
 pub record HasDefect (bytes : List ℕ) (from : ℕ) (cause : WireCause) : Type 0 where
   pub entries : List Entry
   pub at : ℕ

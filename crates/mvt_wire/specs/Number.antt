@@ -33,13 +33,13 @@ StateTogether (content ∷ contents) numbers =
 abbrev pub AreSmall : List ℕ → Type 0
 AreSmall numbers = All (λ n. n < 2 ^ 32) numbers
 
--- What is wrong in a packed list, which begins at a place, of a field with a number. Before it stand whole varints.
+-- What is wrong in a packed list, which begins at a place, of a field with a number. Before it are whole varints.
 pub data PackedFault (from : ℕ) (part : List ℕ) (field_number : ℕ) (cause : WireCause) : Type 0 where
-  -- no varint stands there
+  -- no varint begins there
   no_varint : (numbers : List ℕ) (at : ℕ) (code : WireCode)
       → VarintList part 0 numbers at → at < length part → VarintDefect code (drop at part)
       → cause ≡ cause_at code (from + at) field_number → PackedFault from part field_number cause
-  -- a number stands there that has more than 32 bits
+  -- a number begins there that has more than 32 bits
   too_large : (numbers : List ℕ) (at next n : ℕ)
       → VarintList part 0 numbers at → SpellsVarint part at next n → 2 ^ 32 ≤ n
       → cause ≡ cause_at OutOfRange (from + at) field_number → PackedFault from part field_number cause

@@ -29,8 +29,8 @@ pub data NumberFault (entry : Entry) (numbers : List ℕ) (cause : WireCause) : 
       → entry.content ≡ delimited from part → VarintList part 0 numbers at
       → PackedFault from part entry.number cause → cause.at ≡ from + at → NumberFault entry numbers cause
 
--- What stands in the way of the numbers at a place where a field is due, and the numbers that this field states before
--- that.
+-- What is wrong at a place where a field is due, so that the numbers end there, and the numbers that this field states
+-- before that.
 pub data StopsAt (bytes : List ℕ) (at field_number : ℕ) (numbers : List ℕ) (cause : WireCause) : Type 0 where
   -- the field isn't whole
   at_defect : at < length bytes → FieldDefect bytes at cause → numbers ≡ [] → StopsAt bytes at field_number numbers cause
@@ -39,7 +39,7 @@ pub data StopsAt (bytes : List ℕ) (at field_number : ℕ) (numbers : List ℕ)
       → entry.at ≡ at → IsField bytes to entry → entry.number ≡ field_number
       → NumberFault entry numbers cause → StopsAt bytes at field_number numbers cause
 
--- what stands in the way of the numbers of a message, behind any whole fields of it
+-- what is wrong in a message, behind any whole fields of it, so that its numbers end there
 pub record IsNumbersFault (bytes : List ℕ) (from field_number : ℕ) (cause : WireCause) : Type 0 where
   pub entries : List Entry
   pub at : ℕ
@@ -66,7 +66,7 @@ NumbersEnd bytes from field_number numbers None =
     (entries : List Entry) × IsMessage bytes from entries × StateTogether (contents_of field_number entries) numbers × AreSmall numbers
 NumbersEnd bytes from field_number numbers (Some cause) = StopsNumbers bytes from field_number numbers cause
 
--- the varint whose first byte stands at a place is a number of the payload: its one, or one of its packed list
+-- the varint that begins at a place is a number of the payload: its one, or one of its packed list
 abbrev pub StatesAt : Content → ℕ → ℕ → Type 0
 StatesAt (varint value at) place n = (place ≡ at) × (n ≡ value)
 StatesAt (eight_bytes part) place n = ⊥
@@ -74,7 +74,7 @@ StatesAt (delimited from part) place n =
     (numbers : List ℕ) × (at next : ℕ) × VarintList part 0 numbers at × SpellsVarint part at next n × (place ≡ from + at)
 StatesAt (four_bytes part) place n = ⊥
 
--- the varint whose first byte stands at a place is a number of a field of the number, behind any whole fields
+-- the varint that begins at a place is a number of a field of the number, behind any whole fields
 pub record IsNumberAt (bytes : List ℕ) (from field_number place n : ℕ) : Type 0 where
   pub entries : List Entry
   pub at : ℕ
@@ -86,7 +86,7 @@ pub record IsNumberAt (bytes : List ℕ) (from field_number place n : ℕ) : Typ
   pub of_number : entry.number ≡ field_number
   pub states : StatesAt entry.content place n
 
--- of all numbers that stand at some place, these are the ones from a place on up to another, in order
+-- of all numbers with their places, these are the ones from a place on up to another, in order
 abbrev pub StandBetween : (ℕ → ℕ → Type 0) → ℕ → List ℕ → ℕ → Type 0
 StandBetween stands_at from [] to = (place n : ℕ) → from ≤ place → place < to → ¬ stands_at place n
 StandBetween stands_at from (n ∷ numbers) to =
@@ -140,7 +140,7 @@ pub record HasEnded (walk : NumberWalk) : Type 0 where
   pub last_varint : walk.varint_at ≡ length walk.bytes
   pub last_field : walk.field_at ≡ length walk.bytes
 
--- a number of 32 bits was given: it stood before all that is left, and of all that was left it was the first
+-- a number of 32 bits was given: it was before all that is left, and of all that was left it was the first
 pub record GivesNumber (old new : NumberWalk) (n : ℕ) : Type 0 where
   pub first : (numbers : List ℕ) (ending : Option WireCause) → NumbersLeft new numbers ending → NumbersLeft old (n ∷ numbers) ending
   pub others : (numbers : List ℕ) (ending : Option WireCause) → NumbersLeft old numbers ending → (rest : List ℕ) × (numbers ≡ n ∷ rest) × NumbersLeft new rest ending
@@ -153,7 +153,7 @@ pub record EndsNumbers (old new : NumberWalk) (ending : Option WireCause) : Type
   pub only : (numbers : List ℕ) (other : Option WireCause) → NumbersLeft old numbers other → (numbers ≡ []) × (other ≡ ending)
   pub over : HasEnded new
 
--- all that was left is left from the varint on that stands at a place of a list
+-- all that was left is left from the varint on that begins at a place of a list
 pub record LeavesVarints (old : NumberWalk) (at end : ℕ) : Type 0 where
   pub same : (numbers : List ℕ) (ending : Option WireCause) → NumbersLeft (walk_at old.bytes old.field_number at end) numbers ending → NumbersLeft old numbers ending
   pub left : at < end

@@ -12,7 +12,7 @@ use Rattle.mvt_wire.specs.declared.schema.FieldRule.{FieldRule}
 -- The fields that each message knows, by its name in vector_tile.proto. The program has these four tables too, and its
 -- contracts compare them with these.
 
--- one line of a table: the fields of this number are of this shape, and so of its wire types (`is_own`), and stand this often
+-- one line of a table: the fields of this number are of this shape, and so of its wire types (`is_own`), and occur this often
 abbrev pub field_rule : ℕ → Shape → Occurrence → FieldRule
 field_rule field_number shape occurrence = record { number = field_number; shape = shape; occurrence = occurrence }
 
@@ -66,7 +66,7 @@ abbrev pub find_rule : List FieldRule → ℕ → Option FieldRule
 find_rule [] field_number = None
 find_rule (rule ∷ rules) field_number = if rule.number == field_number then Some rule else find_rule rules field_number
 
--- what a message asks of the fields of a number, where it knows the number
+-- what a message requires of the fields of a number, where it knows the number
 abbrev pub rule_of : Message → ℕ → Option FieldRule
 rule_of message field_number = find_rule (rules_of message) field_number
 
@@ -92,14 +92,14 @@ is_out_of_range Uint32 n = nat_le (2 ^ 32) n
 is_out_of_range GeometryType n = nat_le 4 n
 is_out_of_range Numbers n = nat_le (2 ^ 32) n
 
--- the field stands at most once in its message
+-- the field occurs at most once in its message
 abbrev pub is_singular : Occurrence → Bool
 is_singular AnyNumber = false
 is_singular AtLeastOnce = false
 is_singular AtMostOnce = true
 is_singular Once = true
 
--- the field stands at least once in its message
+-- the field occurs at least once in its message
 abbrev pub is_required : Occurrence → Bool
 is_required AnyNumber = false
 is_required AtLeastOnce = true

@@ -20,6 +20,10 @@ pub record Span : Type 0 where
   pub from : ℕ
   pub to : ℕ
 
+-- the bytes from one place up to another
+abbrev pub stretch : ℕ → ℕ → Span
+stretch from to = record { from = from; to = to }
+
 -- where a payload of wire type 2 lies
 abbrev pub span_of : Content → Option Span
 span_of (varint value at) = None
@@ -30,6 +34,10 @@ span_of (four_bytes part) = None
 -- where the payloads of wire type 2 of the fields of a number lie
 abbrev pub spans_of : ℕ → List Entry → List Span
 spans_of field_number entries = filter_map span_of (contents_of field_number entries)
+
+-- where the field has the number and a payload of wire type 2, the stretch of that payload has the property
+abbrev pub Embeds : ℕ → (Span → Type 0) → Entry → Type 0
+Embeds field_number Holds entry = (span : Span) → entry.number ≡ field_number → span_of entry.content ≡ Some span → Holds span
 
 -- the stretch holds a whole message, with this field list
 abbrev pub IsMessageAt : List ℕ → Span → List Entry → Type 0

@@ -1,4 +1,4 @@
--- The record that a tile's bytes stand for (Mapbox Vector Tile Specification 2.1, section 4). Its fields are filters of
+-- The record that a tile's bytes spell (Mapbox Vector Tile Specification 2.1, section 4). Its fields are filters of
 -- the field lists of its messages.
 use Rattle.std.specs.Prelude.{◌≡◌, ℕ, ◌==◌, ◌≤◌, Bool, true, false, not, List, [], ◌∷◌, filter, filter_map, All, ℤ, Option, Some, None, unwrap_or, is_some, IsUtf8, slice_get}
 use Rattle.std.specs.Int.{cast_signed, w64}
@@ -20,7 +20,11 @@ pub record Fits (rule : FieldRule) (content : Content) : Type 0 where
   pub in_range : (value at : ℕ) → content ≡ varint value at → is_out_of_range rule.shape value ≡ false
   pub packed : (from : ℕ) (part : List ℕ) → rule.shape ≡ Numbers → content ≡ delimited from part → (numbers : List ℕ) × States content numbers × AreSmall numbers
 
--- What the fields of a message keep: each of a known number fits its rule, and each number stands as often as it may. A
+-- the field fits the message's rule for its number, if there is one
+abbrev pub FitsRule : Message → Entry → Type 0
+FitsRule message entry = (rule : FieldRule) → rule_of message entry.number ≡ Some rule → Fits rule entry.content
+
+-- What the fields of a message keep: each of a known number fits its rule, and each number occurs as often as it may. A
 -- value has just one known field.
 pub record KeepsSchema (message : Message) (entries : List Entry) : Type 0 where
   pub fits : All (λ entry. (rule : FieldRule) → rule_of message entry.number ≡ Some rule → Fits rule entry.content) entries
@@ -98,7 +102,7 @@ pub data Says (field_number : ℕ) (content : Content) (value : ValueRecord) : T
   -- two's complement of 64 bits
   says_int : (n at : ℕ) → field_number ≡ 4 → content ≡ varint n at → value ≡ int (cast_signed w64 n) → Says field_number content value
   says_uint : (n at : ℕ) → field_number ≡ 5 → content ≡ varint n at → value ≡ uint n → Says field_number content value
-  -- the number whose zigzag form the varint is (Protocol Buffers encoding, "Signed Integers")
+  -- the varint is the number's zigzag form (Protocol Buffers encoding, "Signed Integers")
   says_sint : (z : ℤ) (at : ℕ) → field_number ≡ 6 → content ≡ varint (zigzag z) at → value ≡ sint z → Says field_number content value
   -- true where the varint isn't 0
   says_truth : (n at : ℕ) → field_number ≡ 7 → content ≡ varint n at → value ≡ truth (not (n == 0)) → Says field_number content value

@@ -18,21 +18,21 @@ use Rattle.mvt_wire.specs.declared.scope.Scope.{Scope}
 abbrev pub count_of : ℕ → List Entry → ℕ
 count_of field_number entries = length (fields_of field_number entries)
 
--- a field of the number stands in the list
+-- a field of the number occurs in the list
 abbrev pub stands_in : ℕ → List Entry → Bool
 stands_in field_number entries = nat_lt 0 (count_of field_number entries)
 
--- how many fields there are whose numbers the message knows
+-- how many fields there are of numbers that the message knows
 abbrev pub count_known : Message → List Entry → ℕ
 count_known message entries = length (filter (λ entry. is_some (rule_of message entry.number)) entries)
 
 -- What is wrong with a field of a whole message, by the rule for its number. `stood` says whether a field of that
--- number stands before it.
+-- number comes before it.
 pub data EntryFault (rule : FieldRule) (stood : Bool) (entry : Entry) (cause : WireCause) : Type 0 where
   -- another wire type than its own
   other_type : is_own rule.shape (wire_type_of entry.content) ≡ false
       → cause ≡ cause_at OtherType entry.at entry.number → EntryFault rule stood entry cause
-  -- a further field of a number that may stand once
+  -- a further field of a number that may occur once
   again : is_singular rule.occurrence ≡ true → stood ≡ true
       → cause ≡ cause_at Again entry.at entry.number → EntryFault rule stood entry cause
   -- a text that isn't UTF-8
@@ -60,7 +60,7 @@ pub record FieldFault (message : Message) (entries : List Entry) (cause : WireCa
 
 -- what is wrong with a whole message at its end
 pub data EndFault (message : Message) (entries : List Entry) (end : ℕ) (cause : WireCause) : Type 0 where
-  -- no field of a number that has to stand
+  -- no field of a required number
   missing : (field_number : ℕ) (rule : FieldRule)
       → rule_of message field_number ≡ Some rule → is_required rule.occurrence ≡ true → stands_in field_number entries ≡ false
       → cause ≡ cause_at Missing end field_number → EndFault message entries end cause

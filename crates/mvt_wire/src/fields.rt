@@ -10,7 +10,7 @@ use crate::key::{Key, WireType, read_key};
 use crate::varint::read_varint;
 use std::marker::Model;
 
-/// A cursor over the fields of one message, in the order in which they stand in it.
+/// A cursor over the fields of one message, in their order in it.
 #[derive(Drop)]
 pub struct Fields<'a> {
     bytes: &'a [u8],
@@ -26,7 +26,7 @@ impl<'a> Model for Fields<'a> {
 }
 
 impl<'a> Fields<'a> {
-    /// The fields of the message that stands in the bytes from one offset up to another. Offsets
+    /// The fields of the message that the bytes hold from one offset up to another. Offsets
     /// in what comes out are places in all the bytes.
     pub fn new(bytes: &'a [u8], from: usize, to: usize) -> Self
         requires forward { from ≤ to }

@@ -24,7 +24,7 @@ pub fn no_varint_begins_another()
     ensures { (spelling more : List ℕ) (m n : ℕ) → IsVarint spelling m → IsVarint (spelling ++ more) n → more ≡ [] }
 {}
 
-/// At each place stands exactly one of a varint and its two defects: that it ends too early, or is
+/// At each place is exactly one of a varint and its two defects: that it ends too early, or is
 /// too long.
 pub fn varint_or_defect()
     ensures some { (bytes : List ℕ) (at : ℕ) → at ≤ length bytes →
@@ -91,7 +91,7 @@ pub fn longest_field_list()
         FieldList bytes from front to → (rest : List Entry) × (defect.entries ≡ front ++ rest) }
 {}
 
-/// A list of fields goes on by the field that stands behind it.
+/// A list of fields, and the field behind it, are a list of fields.
 pub fn field_list_goes_on()
     ensures { (bytes : List ℕ) (from : ℕ) (entries : List Entry) (at next : ℕ) (entry : Entry) →
         FieldList bytes from entries at → entry.at ≡ at → IsField bytes next entry → FieldList bytes from (entries ++ entry ∷ []) next }
@@ -124,8 +124,8 @@ pub fn one_numbers_end()
         NumbersEnd bytes from field_number first ending → NumbersEnd bytes from field_number second other → (first ≡ second) × (ending ≡ other) }
 {}
 
-/// Of all faults in the way of the numbers, they end at the one of least place: all others stand
-/// behind it.
+/// The numbers end at the fault of least place, of all that could end them: all others are behind
+/// it.
 pub fn numbers_end_at_least_fault()
     ensures fault { (bytes : List ℕ) (from field_number : ℕ) (numbers : List ℕ) (cause : WireCause) →
         NumbersEnd bytes from field_number numbers (Some cause) → IsNumbersFault bytes from field_number cause }
@@ -137,7 +137,7 @@ pub fn numbers_end_at_least_fault()
         NumbersEnd bytes from field_number numbers None → ¬ IsNumbersFault bytes from field_number cause }
 {}
 
-/// The numbers are those whose varints stand before the message's end or the fault, in order.
+/// The numbers are those of the varints before the message's end or the fault, in order.
 pub fn numbers_stand_before_end()
     ensures { (bytes : List ℕ) (from field_number : ℕ) (numbers : List ℕ) (ending : Option WireCause) →
         NumbersEnd bytes from field_number numbers ending → StandBetween (IsNumberAt bytes from field_number) from numbers (place_of_end bytes ending) }

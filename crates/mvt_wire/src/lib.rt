@@ -4,6 +4,7 @@
 
 mod cause;
 mod field;
+pub mod field_number;
 mod fields;
 mod key;
 pub mod laws;

@@ -20,9 +20,8 @@ struct Varints {
 }
 
 /// A cursor over the numbers of a message's fields of one field number: those of single varints and
-/// those of packed lists, joined in the order in which they stand (Protocol Buffers encoding,
-/// "Packed Repeated Fields"). Tags and geometry are such numbers (Mapbox Vector Tile Specification
-/// 2.1, sections 4.2 and 4.3).
+/// those of packed lists, joined in order (Protocol Buffers encoding, "Packed Repeated Fields").
+/// Tags and geometry are such numbers (Mapbox Vector Tile Specification 2.1, sections 4.2 and 4.3).
 #[derive(Drop)]
 pub struct Numbers<'a> {
     bytes: &'a [u8],
@@ -40,8 +39,8 @@ impl<'a> Model for Numbers<'a> {
 }
 
 impl<'a> Numbers<'a> {
-    /// The numbers of the fields with this field number, in the message that stands in the bytes
-    /// from one offset up to another. Offsets in what comes out are places in all the bytes.
+    /// The numbers of the fields with this field number, in the message that the bytes hold from
+    /// one offset up to another. Offsets in what comes out are places in all the bytes.
     pub fn new(bytes: &'a [u8], from: usize, to: usize, number: u32) -> Self
         requires forward { from ≤ to }
         requires within { to ≤ length bytes.now }
@@ -62,14 +61,14 @@ impl<'a> Numbers<'a> {
     ///
     /// Errors: a defect of a field, with code 101 to 105, as `Fields` finds it; `OtherType`, at the
     /// key, where a field of the number is neither a varint nor a packed list; `Ends` or `TooLong`
-    /// where no varint stands in a packed list, and `OutOfRange` where a number is 2^32 or more,
+    /// where a packed list goes on with no varint, and `OutOfRange` where a number is 2^32 or more,
     /// both at the varint's first byte. From then on None.
     #[inline(always)]
     pub fn next_number(&mut self) -> Option<Result<u32, WireCause>>
         ensures end { IfNone result (EndsNumbers self.old self.new None) }
         ensures number { IfSome result (λ item. IfOk item (GivesNumber self.old self.new)) }
         ensures fault { IfSome result (λ item. IfErr item (λ cause. EndsNumbers self.old self.new (Some cause))) }
-        ensures none_for_good { HasEnded self.old → (IsNone result) × (self.new ≡ self.old) }
+        ensures none_from_then_on { HasEnded self.old → (IsNone result) × (self.new ≡ self.old) }
     {
         match varints_left(self.bytes, self.field_number, self.varints) {
             Some(Ok(varints)) => match read_number(self.bytes, self.field_number, varints) {

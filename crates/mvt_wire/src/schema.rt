@@ -4,6 +4,8 @@
 ghost use Rattle.std.specs.Prelude.{◌≡◌};
 ghost use Rattle.mvt_wire.specs.Schema.{rules_of, rule_of, find_rule, is_own, is_out_of_range, is_singular, is_required};
 
+use crate::field_number;
+
 /// A message of a tile.
 #[derive(Clone, Copy, Debug, PartialEq, Eq)]
 pub enum Message {
@@ -38,7 +40,7 @@ pub enum Shape {
     Numbers,
 }
 
-/// How often a field stands in its message.
+/// How often a field occurs in its message.
 #[derive(Clone, Copy, Debug, PartialEq, Eq)]
 pub enum Occurrence {
     /// Never, once or several times.
@@ -51,21 +53,21 @@ pub enum Occurrence {
     Once,
 }
 
-/// What a message asks of the fields of one number.
+/// What a message requires of the fields of one number.
 #[derive(Clone, Copy, Debug, PartialEq, Eq)]
 pub struct FieldRule {
     /// The field number, from 1 to 15.
     pub number: u32,
     /// What the payload is.
     pub shape: Shape,
-    /// How often the field stands in its message.
+    /// How often the field occurs in its message.
     pub occurrence: Occurrence,
 }
 
 macro_rules! rules {
-    ($($number:literal $shape:ident $occurrence:ident,)*) => {
+    ($($number:ident $shape:ident $occurrence:ident,)*) => {
         [$(FieldRule {
-            number: $number,
+            number: field_number::$number,
             shape: Shape::$shape,
             occurrence: Occurrence::$occurrence,
         }),*]
@@ -74,36 +76,36 @@ macro_rules! rules {
 
 /// The fields of a tile (section 4).
 pub const TILE_FIELDS: [FieldRule; 1] = rules![
-    3 Embedded AnyNumber, // layers
+    LAYERS Embedded AnyNumber,
 ];
 
 /// The fields of a layer (section 4.1).
 pub const LAYER_FIELDS: [FieldRule; 6] = rules![
-    1 Text Once, // name
-    2 Embedded AnyNumber, // features
-    3 Text AnyNumber, // keys
-    4 Embedded AnyNumber, // values
-    5 Uint32 AtMostOnce, // extent
-    15 Uint32 Once, // version
+    LAYER_NAME Text Once,
+    FEATURES Embedded AnyNumber,
+    KEYS Text AnyNumber,
+    VALUES Embedded AnyNumber,
+    EXTENT Uint32 AtMostOnce,
+    VERSION Uint32 Once,
 ];
 
 /// The fields of a value, of which it has just one (section 4.4).
 pub const VALUE_FIELDS: [FieldRule; 7] = rules![
-    1 Text AtMostOnce, // string
-    2 FourBytes AtMostOnce, // float
-    3 EightBytes AtMostOnce, // double
-    4 Uint64 AtMostOnce, // int64
-    5 Uint64 AtMostOnce, // uint64
-    6 Uint64 AtMostOnce, // sint64
-    7 Uint64 AtMostOnce, // bool
+    STRING_VALUE Text AtMostOnce,
+    FLOAT_VALUE FourBytes AtMostOnce,
+    DOUBLE_VALUE EightBytes AtMostOnce,
+    INT_VALUE Uint64 AtMostOnce,
+    UINT_VALUE Uint64 AtMostOnce,
+    SINT_VALUE Uint64 AtMostOnce,
+    BOOL_VALUE Uint64 AtMostOnce,
 ];
 
 /// The fields of a feature (section 4.2).
 pub const FEATURE_FIELDS: [FieldRule; 4] = rules![
-    1 Uint64 AtMostOnce, // id
-    2 Numbers AnyNumber, // tags
-    3 GeometryType Once, // type
-    4 Numbers AtLeastOnce, // geometry
+    FEATURE_ID Uint64 AtMostOnce,
+    TAGS Numbers AnyNumber,
+    GEOMETRY_TYPE GeometryType Once,
+    GEOMETRY Numbers AtLeastOnce,
 ];
 
 impl Shape {
@@ -138,14 +140,14 @@ impl Shape {
 }
 
 impl Occurrence {
-    /// Whether the field stands at most once.
+    /// Whether the field occurs at most once.
     pub fn is_singular(self) -> bool
         ensures { result ≡ is_singular self }
     {
         matches!(self, Occurrence::AtMostOnce | Occurrence::Once)
     }
 
-    /// Whether the field stands at least once.
+    /// Whether the field occurs at least once.
     pub fn is_required(self) -> bool
         ensures { result ≡ is_required self }
     {
@@ -167,7 +169,7 @@ impl Message {
         }
     }
 
-    /// What the message asks of the fields of a number, or None where it doesn't know the number.
+    /// What the message requires of the fields of a number, or None where it doesn't know the number.
     #[inline(always)]
     pub fn rule(self, number: u32) -> Option<FieldRule>
         ensures { result ≡ rule_of self number }

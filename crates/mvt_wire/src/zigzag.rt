@@ -1,7 +1,7 @@
 ghost use Rattle.std.specs.Prelude.{◌≡◌};
 ghost use Rattle.mvt_wire.specs.Number.{zigzag};
 
-/// The number whose zigzag form this is: 0, -1, 1, -2 for 0, 1, 2, 3 (Protocol Buffers encoding,
+/// The number that has this zigzag form: 0, -1, 1, -2 for 0, 1, 2, 3 (Protocol Buffers encoding,
 /// "Signed Integers"). The parameters of geometry commands have this form (Mapbox Vector Tile
 /// Specification 2.1, section 4.3.2).
 pub fn unzigzag32(number: u32) -> i32
@@ -11,7 +11,7 @@ pub fn unzigzag32(number: u32) -> i32
     (number >> 1) as i32 ^ -((number & 1) as i32)
 }
 
-/// The number whose zigzag form this is, with 64 bits (Protocol Buffers encoding, "Signed
+/// The number that has this zigzag form, with 64 bits (Protocol Buffers encoding, "Signed
 /// Integers"). The values of type `sint64` have this form (Mapbox Vector Tile Specification 2.1,
 /// section 4.4).
 pub fn unzigzag64(number: u64) -> i64

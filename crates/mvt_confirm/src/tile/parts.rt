@@ -2,20 +2,12 @@
 //! 2.1, sections 4 and 4.1).
 ghost use Rattle.std.specs.Prelude.{◌≡◌, ◌↔◌, ◌≤◌, ℕ, ◌^◌, ◌<◌, length, IsTrue, IfSome, IfNone, Some};
 ghost use Rattle.mvt_wire.specs.Field.{entry_of, content_of};
-ghost use Rattle.mvt_wire.specs.Scope.{Span, span_of, whole_span};
-ghost use Rattle.mvt_confirm.specs.Walking.{HoldsMessage, HoldsParts, HoldsLayer, Embeds, stretch};
+ghost use Rattle.mvt_wire.specs.Scope.{Span, span_of, whole_span, Embeds, stretch};
+ghost use Rattle.mvt_confirm.specs.Walking.{HoldsMessage, HoldsParts, HoldsLayer};
 
 use crate::tile::schema::keeps_schema;
+use mvt_wire::field_number::{FEATURES, LAYERS, VALUES};
 use mvt_wire::{Body, Field, Fields, Message};
-
-/// The field number of a tile's layers.
-const LAYERS: u32 = 3;
-
-/// The field number of a layer's features.
-const FEATURES: u32 = 2;
-
-/// The field number of a layer's values.
-const VALUES: u32 = 4;
 
 /// Whether the bytes are a whole message, and each layer in it keeps its schema, and so do the
 /// layer's features and values.

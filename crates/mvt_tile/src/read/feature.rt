@@ -1,8 +1,8 @@
 ghost use Rattle.std.specs.Prelude.{◌≡◌, ◌<◌, ◌≤◌, List, ◌∷◌, [], ◌++◌, length, IfOk, OnOk};
 ghost use Rattle.mvt_wire.specs.Field.{Entry, entry_of};
-ghost use Rattle.mvt_wire.specs.Tile.{FeatureRecord, IsFeature};
+ghost use Rattle.mvt_wire.specs.Tile.{FeatureRecord, IsFeature, FitsRule};
 ghost use Rattle.mvt_wire.specs.declared.schema.Message.TheVariants as messages;
-ghost use Rattle.mvt_tile.specs.Reading.{FitsRule, TellsFeature};
+ghost use Rattle.mvt_tile.specs.Reading.{TellsFeature};
 ghost use Rattle.mvt_tile.specs.View.{feature_of, kind_number};
 
 #[cfg(test)]
@@ -11,6 +11,7 @@ mod tests;
 use super::payload::{number_in, push_numbers};
 use super::walk::next_whole;
 use crate::record::{Feature, Kind};
+use mvt_wire::field_number::{FEATURE_ID, GEOMETRY, GEOMETRY_TYPE, TAGS};
 use mvt_wire::{Field, Fields};
 use std::alloc::{AllocError, Global};
 
@@ -63,10 +64,10 @@ fn add_field(feature: &mut Feature, field: Field) -> Result<(), AllocError>
         → TellsFeature (entries ++ entry_of field.entry ∷ []) (feature_of feature.new)) }
 {
     match field.number {
-        1 => feature.id = Some(number_in(field.body)),
-        2 => push_numbers(&mut feature.tags, field.body)?,
-        3 => feature.kind = kind_of(number_in(field.body)),
-        4 => push_numbers(&mut feature.geometry, field.body)?,
+        FEATURE_ID => feature.id = Some(number_in(field.body)),
+        TAGS => push_numbers(&mut feature.tags, field.body)?,
+        GEOMETRY_TYPE => feature.kind = kind_of(number_in(field.body)),
+        GEOMETRY => push_numbers(&mut feature.geometry, field.body)?,
         _ => {}
     }
     Ok(())

@@ -1,8 +1,9 @@
 ghost use Rattle.std.specs.Prelude.{◌≡◌, ◌≤◌, List, ◌∷◌, [], ◌++◌, length, IfOk, OnOk};
 ghost use Rattle.mvt_wire.specs.Field.{Entry, entry_of};
-ghost use Rattle.mvt_wire.specs.Tile.{FeatureRecord, IsFeature, ValueRecord, IsValue, LayerRecord, IsLayer};
+ghost use Rattle.mvt_wire.specs.Tile.{FeatureRecord, IsFeature, ValueRecord, IsValue, LayerRecord, IsLayer, FitsRule};
 ghost use Rattle.mvt_wire.specs.declared.schema.Message.TheVariants as messages;
-ghost use Rattle.mvt_tile.specs.Reading.{Embeds, FitsRule, LiesIn, TellsLayer};
+ghost use Rattle.mvt_wire.specs.Scope.{Embeds};
+ghost use Rattle.mvt_tile.specs.Reading.{LiesIn, TellsLayer};
 ghost use Rattle.mvt_tile.specs.View.{layer_of};
 
 use super::feature::read_feature;
@@ -10,6 +11,7 @@ use super::payload::{number_in, stretch_of, text_in};
 use super::value::read_value;
 use super::walk::next_whole;
 use crate::record::Layer;
+use mvt_wire::field_number::{EXTENT, FEATURES, KEYS, LAYER_NAME, VALUES, VERSION};
 use mvt_wire::{Field, Fields};
 use std::alloc::{AllocError, Global};
 
@@ -58,18 +60,18 @@ fn add_field<'a>(
         → TellsLayer bytes.entry.now (entries ++ entry_of field.entry ∷ []) (layer_of layer.new)) }
 {
     match field.number {
-        1 => layer.name = text_in(field.body),
-        2 => {
+        LAYER_NAME => layer.name = text_in(field.body),
+        FEATURES => {
             let (from, to) = stretch_of(field.body);
             layer.features.push(read_feature(alloc, bytes, from, to)?)?;
         }
-        3 => layer.keys.push(text_in(field.body))?,
-        4 => {
+        KEYS => layer.keys.push(text_in(field.body))?,
+        VALUES => {
             let (from, to) = stretch_of(field.body);
             layer.values.push(read_value(bytes, from, to))?;
         }
-        5 => layer.extent = number_in(field.body) as u32,
-        15 => layer.version = number_in(field.body) as u32,
+        EXTENT => layer.extent = number_in(field.body) as u32,
+        VERSION => layer.version = number_in(field.body) as u32,
         _ => {}
     }
     Ok(())

@@ -1,9 +1,8 @@
 ghost use Rattle.std.specs.Prelude.{◌≡◌, ◌≤◌, true, false, length, is_some, IfSome, IfNone};
 ghost use Rattle.mvt_wire.specs.Field.{content_of, entry_of};
 ghost use Rattle.mvt_wire.specs.Schema.{rule_of};
-ghost use Rattle.mvt_wire.specs.Tile.{ValueRecord, IsValue, Says};
+ghost use Rattle.mvt_wire.specs.Tile.{ValueRecord, IsValue, Says, FitsRule};
 ghost use Rattle.mvt_wire.specs.declared.schema.Message.TheVariants as messages;
-ghost use Rattle.mvt_tile.specs.Reading.{FitsRule};
 ghost use Rattle.mvt_tile.specs.View.{value_of};
 
 use super::payload::{
@@ -11,6 +10,9 @@ use super::payload::{
 };
 use super::walk::next_whole;
 use crate::record::Value;
+use mvt_wire::field_number::{
+    BOOL_VALUE, DOUBLE_VALUE, FLOAT_VALUE, INT_VALUE, SINT_VALUE, STRING_VALUE, UINT_VALUE,
+};
 use mvt_wire::{Field, Fields};
 
 /// The value that stands in the bytes from one offset up to another: what its one known field says
@@ -38,13 +40,13 @@ fn value_in(field: Field<'_>) -> Option<Value<'_>>
     ensures unknown { IfNone result (is_some (rule_of messages.Value field.entry.number) ≡ false) }
 {
     match field.number {
-        1 => Some(Value::Text(text_in(field.body))),
-        2 => Some(Value::Float(four_bytes_in(field.body))),
-        3 => Some(Value::Double(eight_bytes_in(field.body))),
-        4 => Some(Value::Int(int_in(field.body))),
-        5 => Some(Value::Uint(number_in(field.body))),
-        6 => Some(Value::Sint(sint_in(field.body))),
-        7 => Some(Value::Bool(truth_in(field.body))),
+        STRING_VALUE => Some(Value::Text(text_in(field.body))),
+        FLOAT_VALUE => Some(Value::Float(four_bytes_in(field.body))),
+        DOUBLE_VALUE => Some(Value::Double(eight_bytes_in(field.body))),
+        INT_VALUE => Some(Value::Int(int_in(field.body))),
+        UINT_VALUE => Some(Value::Uint(number_in(field.body))),
+        SINT_VALUE => Some(Value::Sint(sint_in(field.body))),
+        BOOL_VALUE => Some(Value::Bool(truth_in(field.body))),
         _ => None,
     }
 }

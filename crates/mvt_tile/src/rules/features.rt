@@ -12,13 +12,13 @@ use super::key_marks::KeyMarks;
 use super::layer_scan::scan_layer;
 use super::summary::LayerSummary;
 use super::tags::fault_of_tags;
-use crate::field_number::FEATURES;
 use crate::read::feature::read_feature_into;
 use crate::read::payload::stretch_of;
 use crate::read::walk::next_whole;
 use crate::record::Feature;
 use mvt_fault::Fault;
 use mvt_wire::Fields;
+use mvt_wire::field_number::FEATURES;
 use std::alloc::{AllocError, Global};
 
 /// What is required of each feature of a tile beyond its tags. A rule may change its state, to reuse memory and

@@ -11,12 +11,12 @@ ghost use Rattle.mvt_tile.specs.View.{feature_of};
 use super::features::{FeatureRoom, FeatureRule, fault_of_feature};
 use super::summary::{LayerSummary, add_field, nothing_told};
 use super::tags::TagNeeds;
-use crate::field_number::FEATURES;
 use crate::read::feature::read_feature_into;
 use crate::read::payload::stretch_of;
 use crate::read::walk::next_whole;
 use mvt_fault::Fault;
 use mvt_wire::Fields;
+use mvt_wire::field_number::FEATURES;
 use std::alloc::AllocError;
 
 /// What one walk over a layer tells.

@@ -1,9 +1,9 @@
 //! What the rules ask of a layer (Mapbox Vector Tile Specification 2.1, section 4.1).
 ghost use Rattle.std.specs.Prelude.{◌+◌, ◌<◌, ◌≤◌, ◌^◌, List, ◌∷◌, [], ◌++◌, length};
 ghost use Rattle.mvt_wire.specs.Field.{Entry, entry_of};
-ghost use Rattle.mvt_wire.specs.Tile.{LayerRecord, IsLayer};
+ghost use Rattle.mvt_wire.specs.Tile.{LayerRecord, IsLayer, FitsRule};
 ghost use Rattle.mvt_wire.specs.declared.schema.Message.TheVariants as messages;
-ghost use Rattle.mvt_tile.specs.Reading.{FitsRule, TellsSummary};
+ghost use Rattle.mvt_tile.specs.Reading.{TellsSummary};
 ghost use Rattle.mvt_tile.specs.RuleFaults.{IsSummary};
 
 #[cfg(test)]
@@ -11,6 +11,7 @@ pub(crate) mod tests;
 
 use crate::read::payload::{bytes_in, number_in};
 use crate::read::walk::next_whole;
+use mvt_wire::field_number::{KEYS, LAYER_NAME, VALUES, VERSION};
 use mvt_wire::{Field, Fields};
 
 /// What the rules ask of a layer: its version, its name, and how many keys and values it has.
@@ -59,10 +60,10 @@ pub(crate) fn add_field<'a>(summary: &mut LayerSummary<'a>, field: Field<'a>)
         → TellsSummary (entries ++ entry_of field.entry ∷ []) summary.new }
 {
     match field.number {
-        1 => summary.name = bytes_in(field.body),
-        3 => summary.keys += 1,
-        4 => summary.values += 1,
-        15 => summary.version = number_in(field.body) as u32,
+        LAYER_NAME => summary.name = bytes_in(field.body),
+        KEYS => summary.keys += 1,
+        VALUES => summary.values += 1,
+        VERSION => summary.version = number_in(field.body) as u32,
         _ => {}
     }
 }

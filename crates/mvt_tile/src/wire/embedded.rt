@@ -1,10 +1,9 @@
 //! What is found first in the messages that the fields of one number hold.
 ghost use Rattle.std.specs.Prelude.{◌≡◌, ℕ, ◌+◌, ◌<◌, ◌≤◌, List, [], ◌∷◌, ◌++◌, length, MatchOption};
 ghost use Rattle.mvt_wire.specs.Field.{Entry, entry_of};
-ghost use Rattle.mvt_wire.specs.Scope.{Span, spans_of};
+ghost use Rattle.mvt_wire.specs.Scope.{Span, spans_of, stretch};
 ghost use Rattle.mvt_tile.specs.Embedded.{HasNone, HasFirst};
 ghost use Rattle.mvt_tile.specs.First.{FindsFirst};
-ghost use Rattle.mvt_tile.specs.LayerFault.{stretch};
 ghost use Rattle.mvt_tile.specs.Placed.{IsPlaced};
 
 use crate::wire::message::message_fault;

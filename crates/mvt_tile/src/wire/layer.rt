@@ -1,14 +1,15 @@
 //! The faults of a layer and of the messages in it.
 ghost use Rattle.std.specs.Prelude.{◌≡◌, ◌≤◌, length};
-ghost use Rattle.mvt_tile.specs.LayerFault.{IsLayerFault, stretch};
+ghost use Rattle.mvt_wire.specs.Scope.{stretch};
+ghost use Rattle.mvt_tile.specs.LayerFault.{IsLayerFault};
 ghost use Rattle.mvt_tile.specs.Least.{FindsLeastFault};
 
-use crate::field_number::{FEATURES, VALUES};
 use crate::wire::embedded::EmbeddedScan;
 use crate::wire::message::defect_or;
 use crate::wire::scan::FieldScan;
-use mvt_fault::Fault;
-use mvt_wire::{Fields, Message, Scope, WireCause};
+use mvt_fault::{Fault, wire_fault_in};
+use mvt_wire::field_number::{FEATURES, VALUES};
+use mvt_wire::{Fields, Message, Scope};
 
 /// The first fault of the layer with an ordinal, which stands in the bytes from one offset up to
 /// another: that of its own fields, or else of its values, or else of its features (Mapbox Vector
@@ -26,34 +27,22 @@ pub(crate) fn layer_fault(bytes: &[u8], layer: usize, from: usize, to: usize) ->
         match item {
             Ok(field) => {
                 if let Some(cause) = own.pass(&field) {
-                    return Some(in_scope(Scope::Layer(layer), defect_or(fields, cause)));
+                    return Some(wire_fault_in(Scope::Layer(layer), defect_or(fields, cause)));
                 }
                 values.note(bytes, &field);
                 features.note(bytes, &field);
             }
-            Err(cause) => return Some(in_scope(Scope::Layer(layer), cause)),
+            Err(cause) => return Some(wire_fault_in(Scope::Layer(layer), cause)),
         }
     }
     if let Some(cause) = own.end_fault(to) {
-        return Some(in_scope(Scope::Layer(layer), cause));
+        return Some(wire_fault_in(Scope::Layer(layer), cause));
     }
     if let Some((value, cause)) = values.first {
-        return Some(in_scope(Scope::Value(layer, value), cause));
+        return Some(wire_fault_in(Scope::Value(layer, value), cause));
     }
     if let Some((feature, cause)) = features.first {
-        return Some(in_scope(Scope::Feature(layer, feature), cause));
+        return Some(wire_fault_in(Scope::Feature(layer, feature), cause));
     }
     None
-}
-
-/// The fault of a message with a cause.
-pub(crate) fn in_scope(scope: Scope, cause: WireCause) -> Fault
-    ensures { result ≡ Fault.Wire cause.code scope cause.at cause.field }
-{
-    Fault::Wire {
-        code: cause.code,
-        scope,
-        at: cause.at,
-        field: cause.field,
-    }
 }

@@ -1,4 +1,4 @@
-//! The laws of one message and of its fields, for whoever walks it.
+//! The laws of one message and of its fields, for code that walks over it.
 
 ghost use Rattle.std.specs.Prelude.{◌≡◌, ℕ, ◌≤◌, ◌⊎◌, List, length};
 ghost use Rattle.mvt_wire.specs.Field.{Entry, IsField};
@@ -8,7 +8,7 @@ ghost use Rattle.mvt_wire.specs.WireFault.{MessageFault};
 ghost use Rattle.mvt_wire.specs.declared.cause.WireCause.{WireCause};
 ghost use Rattle.mvt_wire.specs.declared.schema.Message.{Message};
 
-/// At a place stands at most one field, which ends at one place (Protocol Buffers encoding, "Message
+/// At a place begins at most one field, which ends at one place (Protocol Buffers encoding, "Message
 /// Structure").
 pub fn one_field_a_place()
     ensures { (bytes : List ℕ) (to end : ℕ) (entry other : Entry) → entry.at ≡ other.at → IsField bytes to entry → IsField bytes end other →

@@ -1,7 +1,7 @@
 use Rattle.std.proofs.Common.{◌≡◌, subst, arith}
-use Rattle.mvt_confirm.specs.Corners.{EndsCorners}
 use Rattle.mvt_confirm.specs.Rings.{GivesRing}
-use Rattle.mvt_confirm.proofs.RingCounts.{HavePassed, none_passed, next_passed, all_passed, where_some, where_none}
+use Rattle.mvt_wire.proofs.NothingFound.{IfNone-held}
+use Rattle.mvt_confirm.proofs.RingCounts.{HavePassed, none_passed, next_passed, all_passed, where_some}
 use Rattle.mvt_confirm.proofs.ring_faults.pass_rings.Goals as goal
 
 pub rings-init : goal.rings-init
@@ -14,7 +14,7 @@ rings-preserved c = λ rings left.
 
 pub returns-then-is_none-clause-fewer : goal.returns-then-is_none-clause-fewer
 returns-then-is_none-clause-fewer c = λ fails rings left.
-    let ends = where_none c.next_ring.result (EndsCorners c.rings.corners) c.if-is_none.ensures c.next_ring.ensures.end in
+    let ends = IfNone-held c.next_ring.result c.if-is_none.ensures c.next_ring.ensures.end in
     let size = all_passed rings c.rings.corners c.rings.counter (c.rings.invariant rings left) ends in
     let before = c.rings-test.true in
     omega arith

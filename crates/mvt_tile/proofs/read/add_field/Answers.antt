@@ -10,12 +10,12 @@ use Rattle.mvt_tile.proofs.read.add_field.Goals as goal
 
 pub stretch_of-from-requires-clause-own : goal.stretch_of-from-requires-clause-own
 stretch_of-from-requires-clause-own c =
-    own_type _ (content_of c.args.field.body) 2 (fits_at messages.Tile (entry_of c.args.field) 3 _ c.requires.fits c.if-field-eq3.true refl) (λ t. refl)
+    own_type _ (content_of c.args.field.body) 2 (fits_at messages.Tile (entry_of c.args.field) 3 _ c.requires.fits c.if-field-eq-LAYERS.true refl) (λ t. refl)
 
 pub returns-in_ok-push : goal.returns-in_ok-push
 returns-in_ok-push c = λ entries tells.
     let read = c.in_ok-read_layer in
     Each-picked (IsLayer c.args.bytes.now) 3 entries (entry_of c.args.field) (map layer_of c.args.layers.now.items) (map layer_of c.push.new.self.items)
     (record { from = c.stretch_of-from.result.0; to = c.stretch_of-from.result.1 }) (layer_of read.field-0)
-    c.if-field-eq3.true c.stretch_of-from.ensures read.ensures
+    c.if-field-eq-LAYERS.true c.stretch_of-from.ensures read.ensures
     (ap (map layer_of) c.in_ok-push.ensures.items ∙ map_push layer_of c.args.layers.now.items read.field-0) tells

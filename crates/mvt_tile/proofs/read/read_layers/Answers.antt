@@ -1,8 +1,8 @@
 use Rattle.std.proofs.Common.{List, map, subst}
 use Rattle.mvt_wire.specs.Field.{Entry}
-use Rattle.mvt_wire.specs.Tile.{IsLayer}
+use Rattle.mvt_wire.specs.Tile.{IsLayer, FitsRule}
 use Rattle.mvt_wire.specs.declared.schema.Message.TheVariants as messages
-use Rattle.mvt_tile.specs.Reading.{FitsRule, TellsTile}
+use Rattle.mvt_tile.specs.Reading.{TellsTile}
 use Rattle.mvt_tile.specs.View.{layer_of}
 use Rattle.mvt_tile.proofs.Stretches.{Embeds-given, LiesIn-given}
 use Rattle.mvt_tile.proofs.ReadingWalk.{IsWalking-defectless, IsWalking-over, All-given}

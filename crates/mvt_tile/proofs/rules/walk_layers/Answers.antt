@@ -1,16 +1,15 @@
 use Rattle.std.proofs.Common.{Option, ◌+◌, refl, sym, subst, arith}
 use Rattle.std.proofs.lemmas.Option.{IfSome_then}
 use Rattle.mvt_wire.specs.Field.{content_of, entry_of}
-use Rattle.mvt_wire.specs.Tile.{IsLayer, TileRecord, IsTile}
+use Rattle.mvt_wire.specs.Tile.{IsLayer, TileRecord, IsTile, FitsRule}
 use Rattle.mvt_wire.specs.declared.schema.Message.TheVariants as messages
 use Rattle.mvt_fault.specs.declared.fault.Fault.{Fault}
-use Rattle.mvt_tile.specs.LayerFault.{stretch}
+use Rattle.mvt_wire.specs.Scope.{stretch}
 use Rattle.mvt_tile.specs.PassedLayers.{EndsLayers}
-use Rattle.mvt_tile.specs.Reading.{FitsRule}
 use Rattle.mvt_tile.specs.declared.rules.summary.LayerSummary.{LayerSummary}
 use Rattle.mvt_tile.proofs.CleanWalk.{CleanWalk-nothing, CleanWalk-other, CleanWalk-more, CleanWalk-over}
 use Rattle.mvt_tile.proofs.FeatureFaults.{good_tile}
-use Rattle.mvt_tile.proofs.Found.{IfNone_then, IfNone-held, IfNone-any, IfSome-any}
+use Rattle.mvt_wire.proofs.NothingFound.{IfNone_then, IfNone-held, IfNone-any, IfSome-any}
 use Rattle.mvt_tile.proofs.ReadingRules.{fits_at, own_type}
 use Rattle.mvt_tile.proofs.ReadingWalk.{IsWalking-defectless, All-given}
 use Rattle.mvt_tile.proofs.Stretches.{Embeds-given, LiesIn-given}

@@ -36,19 +36,19 @@ walk-preserved c =
 
 pub returns-in-Some-pass-clause-least : goal.returns-in-Some-pass-clause-least
 returns-in-Some-pass-clause-least c =
-    subst (IsLeast (IsWireFault c.args.bytes.now)) (sym c.in_scope.ensures)
+    subst (IsLeast (IsWireFault c.args.bytes.now)) (sym c.wire_fault_in.ensures)
     (TileWalk-fault c.args.bytes.now c.walk.fields c.next_field.new.self c.walk.own c.walk.layers c.walk.invariant
     (entry_of c.in-Ok.field) (IfOk-at_ok _ c.in-Ok.is c.in-Some.ensures.field) c.in-Some-pass.cause c.defect_or.result c.in-Some-pass.ensures.fault c.defect_or.ensures)
 
 pub returns-in-Err-clause-least : goal.returns-in-Err-clause-least
 returns-in-Err-clause-least c =
-    subst (IsLeast (IsWireFault c.args.bytes.now)) (sym c.in_scope-in-Err.ensures)
+    subst (IsLeast (IsWireFault c.args.bytes.now)) (sym c.wire_fault_in-in-Err.ensures)
     (TileWalk-defect c.args.bytes.now c.walk.fields c.next_field.new.self c.walk.own c.walk.layers c.walk.invariant
     c.in-Err.cause (IfErr-at_err _ c.in-Err.is c.in-Some.ensures.defect))
 
 pub returns-in-Some-end_fault-clause-least : goal.returns-in-Some-end_fault-clause-least
 returns-in-Some-end_fault-clause-least c =
-    subst (IsLeast (IsWireFault c.args.bytes.now)) (sym c.in_scope-in-Some-end_fault.ensures)
+    subst (IsLeast (IsWireFault c.args.bytes.now)) (sym c.wire_fault_in-in-Some-end_fault.ensures)
     (TileWalk-own c.args.bytes.now c.walk.fields c.next_field.new.self c.walk.own c.walk.layers c.walk.invariant
     c.in_default.ensures.over c.in-Some-end_fault.cause c.in-Some-end_fault.ensures)
 

@@ -1,7 +1,6 @@
 use Rattle.std.proofs.Common.{◌+◌, ◌^◌, ◌<◌, length, ap, arith}
 use Rattle.mvt_wire.specs.Field.{content_of}
-use Rattle.mvt_wire.specs.Scope.{span_of}
-use Rattle.mvt_confirm.specs.Walking.{stretch}
+use Rattle.mvt_wire.specs.Scope.{span_of, stretch}
 use Rattle.mvt_confirm.proofs.tile.parts.part_of.Goals as goal
 
 pub overflow_add-result : goal.overflow_add-result

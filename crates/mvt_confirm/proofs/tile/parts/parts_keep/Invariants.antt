@@ -1,6 +1,6 @@
 use Rattle.std.proofs.Common.{◌↔◌, ◌-◌, ◌≤◌, All, length}
-use Rattle.mvt_wire.specs.Scope.{spans_of}
-use Rattle.mvt_confirm.specs.Walking.{HoldsMessage, HoldsParts, stretch}
+use Rattle.mvt_wire.specs.Scope.{spans_of, stretch}
+use Rattle.mvt_confirm.specs.Walking.{HoldsMessage, HoldsParts}
 use Rattle.mvt_confirm.proofs.FieldWalks.{HasLeft}
 use Rattle.mvt_confirm.proofs.tile.parts.parts_keep.Given as goal
 

@@ -1,7 +1,8 @@
 use Rattle.std.proofs.Common.{List, subst}
 use Rattle.mvt_wire.specs.Field.{Entry}
 use Rattle.mvt_wire.specs.declared.schema.Message.TheVariants as messages
-use Rattle.mvt_tile.specs.Reading.{FitsRule, TellsFeature}
+use Rattle.mvt_wire.specs.Tile.{FitsRule}
+use Rattle.mvt_tile.specs.Reading.{TellsFeature}
 use Rattle.mvt_tile.specs.View.{feature_of}
 use Rattle.mvt_tile.proofs.FeatureReading.{told_is}
 use Rattle.mvt_tile.proofs.ReadingWalk.{IsWalking-defectless, IsWalking-over, All-given}

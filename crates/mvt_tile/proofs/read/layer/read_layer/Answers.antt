@@ -1,8 +1,8 @@
 use Rattle.std.proofs.Common.{List, subst}
 use Rattle.mvt_wire.specs.Field.{Entry}
-use Rattle.mvt_wire.specs.Tile.{IsFeature, IsValue}
+use Rattle.mvt_wire.specs.Tile.{IsFeature, IsValue, FitsRule}
 use Rattle.mvt_wire.specs.declared.schema.Message.TheVariants as messages
-use Rattle.mvt_tile.specs.Reading.{FitsRule, TellsLayer}
+use Rattle.mvt_tile.specs.Reading.{TellsLayer}
 use Rattle.mvt_tile.specs.View.{layer_of}
 use Rattle.mvt_tile.proofs.LayerReading.{IsLayer-from_told}
 use Rattle.mvt_tile.proofs.Stretches.{Embeds-given, LiesIn-given}

@@ -1,6 +1,6 @@
 use Rattle.mvt_wire.specs.Field.{entry_of}
 use Rattle.mvt_wire.specs.declared.schema.Message.TheVariants as messages
-use Rattle.mvt_tile.specs.Reading.{FitsRule}
+use Rattle.mvt_wire.specs.Tile.{FitsRule}
 use Rattle.mvt_tile.proofs.ValueReading.{IsValue-from_known, none_known-more, none_known-over}
 use Rattle.mvt_tile.proofs.ReadingWalk.{IsWalking-front, IsWalking-defectless, IsWalking-over, All-given}
 use Rattle.mvt_tile.proofs.read.value.read_value.Goals as goal

@@ -1,8 +1,7 @@
 use Rattle.std.proofs.Common.{refl, arith}
 use Rattle.mvt_wire.specs.Field.{content_of, entry_of}
-use Rattle.mvt_wire.specs.Tile.{IsFeature}
+use Rattle.mvt_wire.specs.Tile.{IsFeature, FitsRule}
 use Rattle.mvt_wire.specs.declared.schema.Message.TheVariants as messages
-use Rattle.mvt_tile.specs.Reading.{FitsRule}
 use Rattle.mvt_tile.specs.RuleFaults.{IsSummary}
 use Rattle.mvt_tile.specs.View.{feature_of}
 use Rattle.mvt_tile.proofs.CleanWalk.{CleanWalk-nothing, CleanWalk-other, CleanWalk-more, CleanWalk-next, CleanWalk-over}

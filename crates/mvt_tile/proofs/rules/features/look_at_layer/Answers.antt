@@ -1,6 +1,6 @@
 use Rattle.std.proofs.lemmas.Option.{IfSome_then}
 use Rattle.mvt_tile.proofs.FeatureScan.{enough_counted}
-use Rattle.mvt_tile.proofs.Found.{IfNone_then}
+use Rattle.mvt_wire.proofs.NothingFound.{IfNone_then}
 use Rattle.mvt_tile.proofs.rules.features.look_at_layer.Goals as goal
 
 pub returns-then-scan-summary-2-clause-none : goal.returns-then-scan-summary-2-clause-none

@@ -1,7 +1,7 @@
 use Rattle.std.proofs.lemmas.Option.{IfSome_then}
 use Rattle.std.proofs.lemmas.Result.{IfOk-weaker}
 use Rattle.mvt_tile.proofs.FeatureFaults.{HasSameTagFaults-enough}
-use Rattle.mvt_tile.proofs.Found.{IfNone_then}
+use Rattle.mvt_wire.proofs.NothingFound.{IfNone_then}
 use Rattle.mvt_tile.proofs.rules.layer_scan.fault_so_far.Goals as goal
 
 pub returns-clause-none : goal.returns-clause-none

@@ -1,12 +1,12 @@
 use Rattle.std.proofs.Common.{List, [], subst, refl, arith}
 use Rattle.mvt_wire.specs.Field.{Entry, content_of, entry_of}
-use Rattle.mvt_wire.specs.Tile.{IsFeature}
+use Rattle.mvt_wire.specs.Tile.{IsFeature, FitsRule}
 use Rattle.mvt_wire.specs.declared.schema.Message.TheVariants as messages
-use Rattle.mvt_tile.specs.Reading.{FitsRule, TellsSummary}
+use Rattle.mvt_tile.specs.Reading.{TellsSummary}
 use Rattle.mvt_tile.specs.View.{feature_of}
 use Rattle.mvt_tile.proofs.CleanWalk.{CleanWalk-nothing}
 use Rattle.mvt_tile.proofs.FeatureScan.{IsScanned-other, IsScanned-found, IsScanned-large, IsScanned-more, IsScanned-sound, IsScanned-least}
-use Rattle.mvt_tile.proofs.Found.{IfNone-held}
+use Rattle.mvt_wire.proofs.NothingFound.{IfNone-held}
 use Rattle.mvt_tile.proofs.ReadingRules.{fits_at, own_type}
 use Rattle.mvt_tile.proofs.ReadingWalk.{IsWalking-none, IsWalking-defectless, IsWalking-over, All-given}
 use Rattle.mvt_tile.proofs.Stretches.{Embeds-given, LiesIn-given}

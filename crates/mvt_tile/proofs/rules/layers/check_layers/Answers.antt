@@ -7,7 +7,7 @@ use Rattle.mvt_tile.specs.View.{layer_of, tile_of}
 use Rattle.mvt_tile.specs.declared.record.Layer.{Layer}
 use Rattle.mvt_tile.specs.declared.record.Tile.{Tile}
 use Rattle.mvt_tile.specs.declared.rules.layer_rules.LayerRules.{LayerRules}
-use Rattle.mvt_tile.proofs.Found.{IfNone_then}
+use Rattle.mvt_wire.proofs.NothingFound.{IfNone_then}
 use Rattle.mvt_tile.proofs.LayerNames.{EndsLayers-all}
 use Rattle.mvt_tile.proofs.rules.layers.check_layers.Goals.{else-loop-layer-test, then-loop-layer-test+in_ok-note+then-not-branch}
 use Rattle.mvt_tile.proofs.rules.layers.check_layers.Goals as goal

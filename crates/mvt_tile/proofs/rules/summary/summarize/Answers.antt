@@ -1,7 +1,8 @@
 use Rattle.std.proofs.Common.{List, subst, arith}
 use Rattle.mvt_wire.specs.Field.{Entry}
 use Rattle.mvt_wire.specs.declared.schema.Message.TheVariants as messages
-use Rattle.mvt_tile.specs.Reading.{FitsRule, TellsSummary}
+use Rattle.mvt_wire.specs.Tile.{FitsRule}
+use Rattle.mvt_tile.specs.Reading.{TellsSummary}
 use Rattle.mvt_tile.proofs.ReadingWalk.{IsWalking-defectless, IsWalking-over, All-given}
 use Rattle.mvt_tile.proofs.SummaryReading.{few_counted, IsSummary-from_told}
 use Rattle.mvt_tile.proofs.rules.summary.summarize.Goals as goal

@@ -3,7 +3,8 @@ use Rattle.std.proofs.lemmas.Result.{IfErr-at_err, IfOk-at_ok}
 use Rattle.mvt_wire.specs.Field.{entry_of}
 use Rattle.mvt_wire.specs.declared.schema.Message.TheVariants.{Layer}
 use Rattle.mvt_fault.specs.Place.{IsLeast}
-use Rattle.mvt_tile.specs.LayerFault.{IsLayerFault, stretch}
+use Rattle.mvt_wire.specs.Scope.{stretch}
+use Rattle.mvt_tile.specs.LayerFault.{IsLayerFault}
 use Rattle.mvt_tile.proofs.LayerWalk.{LayerWalk-placed, LayerWalk-more, LayerWalk-fault, LayerWalk-defect, LayerWalk-own, LayerWalk-value, LayerWalk-feature, LayerWalk-none}
 use Rattle.mvt_tile.proofs.Walking.{IsScanning-nothing}
 use Rattle.mvt_tile.proofs.wire.layer.layer_fault.Goals as goal
@@ -50,31 +51,31 @@ walk-preserved c =
 
 pub returns-in-Some-pass : goal.returns-in-Some-pass
 returns-in-Some-pass c =
-    subst (IsLeast (IsLayerFault c.args.bytes.now (stretch c.args.from c.args.to) c.args.layer)) (sym c.in_scope.ensures)
+    subst (IsLeast (IsLayerFault c.args.bytes.now (stretch c.args.from c.args.to) c.args.layer)) (sym c.wire_fault_in.ensures)
     (LayerWalk-fault c.args.bytes.now c.args.from c.args.to c.walk.fields c.next_field.new.self c.walk.own c.walk.values c.walk.features c.requires.within c.walk.invariant
     (entry_of c.in-Ok.field) (IfOk-at_ok _ c.in-Ok.is c.in-Some.ensures.field) c.args.layer c.in-Some-pass.cause c.defect_or.result c.in-Some-pass.ensures.fault c.defect_or.ensures)
 
 pub returns-in-Err : goal.returns-in-Err
 returns-in-Err c =
-    subst (IsLeast (IsLayerFault c.args.bytes.now (stretch c.args.from c.args.to) c.args.layer)) (sym c.in_scope-in-Err.ensures)
+    subst (IsLeast (IsLayerFault c.args.bytes.now (stretch c.args.from c.args.to) c.args.layer)) (sym c.wire_fault_in-in-Err.ensures)
     (LayerWalk-defect c.args.bytes.now c.args.from c.args.to c.walk.fields c.next_field.new.self c.walk.own c.walk.values c.walk.features c.requires.within c.walk.invariant
     c.args.layer c.in-Err.cause (IfErr-at_err _ c.in-Err.is c.in-Some.ensures.defect))
 
 pub returns-in-Some-end_fault : goal.returns-in-Some-end_fault
 returns-in-Some-end_fault c =
-    subst (IsLeast (IsLayerFault c.args.bytes.now (stretch c.args.from c.args.to) c.args.layer)) (sym c.in_scope-in-Some-end_fault.ensures)
+    subst (IsLeast (IsLayerFault c.args.bytes.now (stretch c.args.from c.args.to) c.args.layer)) (sym c.wire_fault_in-in-Some-end_fault.ensures)
     (LayerWalk-own c.args.bytes.now c.args.from c.args.to c.walk.fields c.next_field.new.self c.walk.own c.walk.values c.walk.features c.requires.within c.walk.invariant
     c.in_default.ensures.over c.args.layer c.in-Some-end_fault.cause c.in-Some-end_fault.ensures)
 
 pub returns-in-Some-first : goal.returns-in-Some-first
 returns-in-Some-first c =
-    subst (IsLeast (IsLayerFault c.args.bytes.now (stretch c.args.from c.args.to) c.args.layer)) (sym c.in_scope-in-Some-first.ensures)
+    subst (IsLeast (IsLayerFault c.args.bytes.now (stretch c.args.from c.args.to) c.args.layer)) (sym c.wire_fault_in-in-Some-first.ensures)
     (LayerWalk-value c.args.bytes.now c.args.from c.args.to c.walk.fields c.next_field.new.self c.walk.own c.walk.values c.walk.features c.requires.within c.walk.invariant
     c.in_default.ensures.over c.in_default-end_fault.ensures c.args.layer c.in-Some-first.value c.in-Some-first.cause c.in-Some-first.is)
 
 pub returns-in-Some-first-2 : goal.returns-in-Some-first-2
 returns-in-Some-first-2 c =
-    subst (IsLeast (IsLayerFault c.args.bytes.now (stretch c.args.from c.args.to) c.args.layer)) (sym c.in_scope-in-Some-first-2.ensures)
+    subst (IsLeast (IsLayerFault c.args.bytes.now (stretch c.args.from c.args.to) c.args.layer)) (sym c.wire_fault_in-in-Some-first-2.ensures)
     (LayerWalk-feature c.args.bytes.now c.args.from c.args.to c.walk.fields c.next_field.new.self c.walk.own c.walk.values c.walk.features c.requires.within c.walk.invariant
     c.in_default.ensures.over c.in_default-end_fault.ensures c.args.layer c.in-Some-first-2.feature c.in-Some-first-2.cause c.in_default-first.is c.in-Some-first-2.is)
 

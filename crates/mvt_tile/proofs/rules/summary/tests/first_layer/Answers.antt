@@ -1,8 +1,7 @@
 use Rattle.std.proofs.Common.{refl}
 use Rattle.mvt_wire.specs.Field.{entry_of}
-use Rattle.mvt_wire.specs.Tile.{IsLayer}
+use Rattle.mvt_wire.specs.Tile.{IsLayer, FitsRule}
 use Rattle.mvt_wire.specs.declared.schema.Message.TheVariants as messages
-use Rattle.mvt_tile.specs.Reading.{FitsRule}
 use Rattle.mvt_tile.proofs.ReadingRules.{fits_at, own_type}
 use Rattle.mvt_tile.proofs.ReadingWalk.{IsWalking-none, IsWalking-defectless, All-given}
 use Rattle.mvt_tile.proofs.Stretches.{Embeds-given, LiesIn-given}

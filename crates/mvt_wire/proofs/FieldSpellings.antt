@@ -67,7 +67,7 @@ joined_from front pieces entries p = absurd p
 pub joined : (pieces : List (List ℕ)) (entries : List Entry) → AreSpellings 0 pieces entries → IsMessage (concat pieces) 0 entries
 joined pieces entries p = joined_from [] pieces entries p
 
--- a place behind others, told from there
+-- a place behind others, counted from there
 told_from : (by k : ℕ) → by ≤ k → k ≡ by + (k - by)
 told_from by k h = omega arith
 
@@ -100,7 +100,7 @@ IsPayload-behind front bytes from to content p =
     let place : to ≡ length front + (to - length front) = told_from (length front) to (omega arith) in
     (content, refl, (omega arith, omega arith, p.2 ∙ ap (λ (k : ℕ). slice_range (front ++ bytes) (length front + from) k) place ∙ slice_range-prepend front bytes from (to - length front)))
 
--- a field behind a front of the list is a field of the rest, with its places told from there
+-- a field behind a front of the list is a field of the rest, with its places counted from there
 IsField-behind : (front bytes : List ℕ) (to : ℕ) (e : Entry) → length front ≤ e.at → IsField (front ++ bytes) to e → (u : Entry) × (e ≡ moved (length front) u) × IsField bytes (to - length front) u
 IsField-behind front bytes to e behind field =
     let k = field.key in

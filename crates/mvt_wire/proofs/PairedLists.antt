@@ -1,8 +1,8 @@
--- Two lists whose members belong together in order.
+-- Two lists that have a relation member by member, in order.
 use Rattle.std.proofs.Common.{◌≡◌, ℕ, zero, suc, List, [], ◌∷◌, length, slice_get, Some, refl, subst, arith}
 use Rattle.mvt_wire.specs.Tile.{Each}
 
--- what belongs to a member of the first list stands at the same place of the second
+-- what belongs to a member of the first list is at the same place of the second
 pub each_there : {A B : Type 0} (R : A → B → Type 0) (xs : List A) (ys : List B) (i : ℕ) (x : A) → Each R xs ys → slice_get xs i ≡ Some x → (y : B) × (slice_get ys i ≡ Some y) × R x y
 each_there R [] [] i x each here = absurd (cc)
 each_there R (first ∷ xs) (y ∷ ys) zero x each here = let same : first ≡ x = cc in (y, refl, subst (λ (member : _). R member y) same each.0)

@@ -1,4 +1,4 @@
--- What follows from what is said of the case that nothing was found.
+-- Facts of the case that a search found nothing.
 use Rattle.std.proofs.Common.{◌≡◌, true, false, is_some, Option, Some, None, IfSome, IfNone}
 
 pub IfNone_then : {X P Q : Type 0} (found : Option X) → IfNone found P → (P → Q) → IfNone found Q
@@ -10,7 +10,7 @@ pub IfNone-held : {X P : Type 0} (found : Option X) → is_some found ≡ false 
 IfNone-held None is held = held
 IfNone-held (Some x) is held = absurd (cc)
 
--- nothing is said where something was found
+-- the fact holds of itself where something was found
 pub IfNone-found : {X : Type 0} (P : Type 0) (found : Option X) → is_some found ≡ true → IfNone found P
 IfNone-found P None is = absurd (cc)
 IfNone-found P (Some x) is = tt
