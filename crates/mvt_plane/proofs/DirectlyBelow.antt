@@ -21,7 +21,7 @@ use Rattle.mvt_plane.proofs.GapPoints.{no_gap_is_common}
 use Rattle.mvt_plane.proofs.Gaps.{same_key, gap_by_orientation, reach_positive}
 use Rattle.mvt_plane.proofs.InsideEdges.{point_over, over_on_edge}
 use Rattle.mvt_plane.proofs.MixedPoints.{AreClear}
-use Rattle.mvt_plane.proofs.OneVertex.{points_together}
+use Rattle.mvt_plane.proofs.InsideAsAWhole.{points_together}
 use Rattle.mvt_plane.proofs.Order.{zs, sign_cases, mul_pos, factor_pos}
 use Rattle.mvt_plane.proofs.PointsUnder.{above}
 use Rattle.mvt_plane.proofs.Polynomials.{constant, negated, once, ◌⊕◌, ◌⊖◌, ◌⊗◌, identity}

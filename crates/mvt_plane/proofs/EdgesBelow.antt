@@ -111,7 +111,7 @@ lies_rightward p a b begun ended none =
 abbrev IsEither : Type 0 → Type 0 → Type 0
 IsEither One Other = (One → ¬ Other) × (¬ Other → One)
 
--- where the first is told by a number that is positive and the second by one that is negative, and it isn't 0
+-- where the first holds if a number is positive, the second if it is negative, and the number isn't 0
 either_by_sign : {One Other : Type 0} (z : ℤ) → (pos 0 <ℤ z) ↔ One → (z <ℤ pos 0) ↔ Other → ¬ (z ≡ pos 0) → IsEither One Other
 either_by_sign {One} {Other} z one other apart = (λ it its. clash (one.1 it) (other.1 its), λ none. by_sign none (sign_cases z))
   where
@@ -123,7 +123,7 @@ either_by_sign {One} {Other} z one other apart = (λ it its. clash (one.1 it) (o
     by_sign none (inr (inl zero)) = absurd (apart zero)
     by_sign none (inr (inr more)) = one.0 more
 
--- where the first doesn't hold, and the second is told by a number that is negative
+-- where the first doesn't hold, and the second holds if a number is negative
 either_by_other : {One Other : Type 0} (z : ℤ) → ¬ One → (z <ℤ pos 0) ↔ Other → ¬ (z ≡ pos 0) → z ≤ℤ pos 0 → IsEither One Other
 either_by_other {One} {Other} z none other apart most =
     (λ it. absurd (none it), λ without. absurd (without (other.0 (strict (sign_cases z)))))

@@ -11,7 +11,7 @@ use Rattle.mvt_plane.specs.Ring.{edges_through, edges}
 use Rattle.mvt_plane.specs.declared.edge.Edge.{Edge}
 use Rattle.mvt_plane.proofs.Order.{zs}
 use Rattle.mvt_plane.proofs.Polynomials.{constant, negated, once, ◌⊕◌, ◌⊗◌, consequence, given}
-use Rattle.mvt_plane.proofs.Weights.{Weights, weights_of, lies_by_weights}
+use Rattle.mvt_plane.proofs.PointWeights.{Weights, weights_of, lies_by_weights}
 
 -- where a position goes
 abbrev pub slant : Position → Position

@@ -6,7 +6,7 @@ use Rattle.mvt_plane.specs.Position.{Position, origin, IsCoordinate, IsPosition}
 use Rattle.mvt_plane.specs.Figure.{GeometryType, point, line_string, polygon, move_to, line_to, close_path, command_integer, IsParameter, IsCount}
 use Rattle.mvt_plane.specs.CommandFault.{Part, command, x_of_step, y_of_step, Word, Applies}
 
--- the signed number that a parameter stands for
+-- the signed number that a parameter encodes
 abbrev pub unzigzag : ℕ → ℤ
 unzigzag n = cond (n % 2 == 0) (pos (n / 2)) (negsuc (n / 2))
 

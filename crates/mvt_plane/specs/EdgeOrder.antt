@@ -35,7 +35,7 @@ IsRising edge_segment = key_of edge_segment.low <ℤ key_of edge_segment.high
 abbrev pub IsEndOf : Position → Segment → Type 0
 IsEndOf position edge_segment = (position ≡ edge_segment.low) ⊎ (position ≡ edge_segment.high)
 
--- Where they are at a key. A key is a fraction: t stands for t / w.
+-- Where they are at a key. A key is a fraction: t means t / w.
 
 -- the key of a rational point, times its w
 abbrev pub key_at : RationalPoint → ℤ

@@ -1,5 +1,5 @@
--- The polygons that the rings of a feature are (Mapbox Vector Tile Specification 2.1, section 4.3.4.4). They are told apart
--- only where the rings have no fault of their own (`ArePolygonRings`).
+-- The polygons that the rings of a feature are (Mapbox Vector Tile Specification 2.1, section 4.3.4.4). They are
+-- distinguished only where the rings have no fault of their own (`ArePolygonRings`).
 use Rattle.std.specs.Prelude.{◌≡◌, ℕ, zero, suc, ◌<◌, ◌≤◌, ◌⊎◌, List, length, slice_get, Some, pos, ◌<ℤ◌}
 use Rattle.mvt_plane.specs.Position.{Position}
 use Rattle.mvt_plane.specs.Ring.{doubled_area}

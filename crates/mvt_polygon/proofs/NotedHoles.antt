@@ -8,7 +8,7 @@ use Rattle.mvt_plane.specs.Below.{HasOddBelow}
 use Rattle.mvt_plane.specs.Inside.{IsInside}
 use Rattle.mvt_plane.specs.Position.{Position}
 use Rattle.mvt_plane.proofs.EdgesBelow.{inside_by_edges_below}
-use Rattle.mvt_plane.proofs.OneVertex.{one_vertex_decides}
+use Rattle.mvt_plane.proofs.InsideAsAWhole.{one_vertex_decides}
 use Rattle.mvt_polygon.specs.Corners.{IsNumbered, vertex_count}
 use Rattle.mvt_polygon.specs.Meeting.{NoMeeting}
 use Rattle.mvt_polygon.specs.Nesting.{IsNestFault, outside, in_hole, IsFirstNestFault, IsOfHole, IsOfVertex, IsFirstOf}

@@ -47,7 +47,7 @@ module _ (plan : Plan) (key : ℤ) (vertex : Position) (first second : ℕ) (fro
   slabs : Ordered (IsSlab plan key vertex) (front ++ (gone ++ back))
   slabs = slab_of_all plan key vertex first second (front ++ (gone ++ back)) ready.plan_holds ready.swept ready.event
 
-  -- none stands twice
+  -- none occurs twice
   differ : Ordered (λ (one other : ℕ). one ≢ other) (front ++ (gone ++ back))
   differ = swept_differ plan key (front ++ (gone ++ back)) ready.plan_holds ready.swept
 

@@ -51,7 +51,7 @@ pub record AreOfRings (corners : List Corner) : Type 0 where
 
 -- Corners by themselves
 
--- what stands for a corner that isn't there
+-- in place of a corner that isn't there
 abbrev pub no_corner : Corner
 no_corner = record { position = origin; far_end = 0 }
 
@@ -113,8 +113,8 @@ pub record IsMeetingAt (corners : List Corner) (pair : Pair) : Type 0 where
   pub named : IsNamed (shared_at corners pair.first pair.second) (edge_at corners pair.first) (edge_at corners pair.second) (Some pair.point)
   pub bounded : IsBounded pair.point
 
--- the meeting is this one, told by ring and ordinal
-pub record IsTold (rings : List (List Position)) (pair : Pair) (meeting : Meeting) : Type 0 where
+-- the meeting is that of this pair of edges, which are named by ring and ordinal
+pub record IsNamedMeeting (rings : List (List Position)) (pair : Pair) (meeting : Meeting) : Type 0 where
   pub first : IsNumbered rings pair.first (first_of meeting)
   pub second : IsNumbered rings pair.second (second_of meeting)
   pub point : meeting.point ≡ pair.point

@@ -12,7 +12,7 @@ use Rattle.mvt_polygon.proofs.NumbersInOrder.{number_there, with_keys_size}
 use Rattle.mvt_polygon.proofs.RingsSwept.{AreRingsSwept, rings_to_first, rings_to_begun, rings_to_entered, rings_below, rings_to_last, work_noted, work_gone}
 use Rattle.mvt_polygon.proofs.StatusCounts.{no_work}
 use Rattle.mvt_polygon.proofs.sweep.rings.sweep_rings.Goals as goal
-use Rattle.mvt_polygon.proofs.sweep.rings.sweep_rings.Goals.{in-Begins, in-Goes}
+use Rattle.mvt_polygon.proofs.sweep.rings.sweep_rings.Goals.{in-Begins, in-Ends}
 
 pub loop-at-init : goal.loop-at-init
 loop-at-init g c = record {
@@ -88,8 +88,8 @@ loop-at-preserved g c =
                 (work_noted corners number after c.loop-at.count c.go_over.new.count w.note_ring.new.count c.requires.linked c.requires.in_range step.0 c.go_over.ensures.counted
                 w.note_ring.ensures.counted));
           }
-      | in-Goes w ↦
-          let step = subst (IsStep corners number before after) w.in-Goes.is c.in_ok-pair.ensures.step in
+      | in-Ends w ↦
+          let step = subst (IsStep corners number before after) w.in-Ends.is c.in_ok-pair.ensures.step in
           record {
             swept = subst (AreRingsSwept rings corners order (at + 1) after) (sym w.notes-is)
                 (rings_to_entered rings corners order at key number before after c.loop-at.notes c.requires.proper c.requires.corners c.requires.linked c.requires.order c.requires.strict

@@ -7,11 +7,11 @@ use Rattle.mvt_plane.proofs.Gaps.{same_key}
 use Rattle.mvt_plane.proofs.Order.{le_or_lt, antisym_ℤ}
 use Rattle.mvt_polygon.specs.CornerOrder.{IsSweptOver}
 use Rattle.mvt_polygon.specs.Corners.{AreInRange, AreLinked, IsMeetingAt, next_at, position_at, previous_at}
-use Rattle.mvt_polygon.specs.Steps.{gone, IsEntered, IsStep}
+use Rattle.mvt_polygon.specs.Steps.{after_an_end, IsEntered, IsStep}
 use Rattle.mvt_polygon.specs.declared.sweep.corners.Corner.{Corner}
 use Rattle.mvt_polygon.specs.declared.sweep.corners.Pair.{Pair}
 use Rattle.mvt_polygon.specs.declared.sweep.step.Step.{Step}
-use Rattle.mvt_polygon.specs.declared.sweep.step.Step.TheVariants.{Meets, Begins, Goes}
+use Rattle.mvt_polygon.specs.declared.sweep.step.Step.TheVariants.{Meets, Begins, Ends}
 
 -- a test that is passed
 less_by_test : (a b : ℤ) → lt_z a b ≡ true → a <ℤ b
@@ -51,7 +51,7 @@ entered_from_behind corners number linked in_range within test =
 
 -- so the step goes on, or comes to a meeting
 pub step_gone : (corners : List Corner) (number : ℕ) (before after : List ℕ) (answer : Option Pair) → IfNone answer (IsSweptOver corners number after) → IfSome answer (IsMeetingAt corners)
-    → IsEntered corners number → IsStep corners number before after (gone answer)
+    → IsEntered corners number → IsStep corners number before after (after_an_end answer)
 step_gone corners number before after None none some entered = (none, entered)
 step_gone corners number before after (Some pair) none some entered = some
 
@@ -60,4 +60,4 @@ pub step_over : (corners : List Corner) (number : ℕ) (before after : List ℕ)
     → IsSweptOver corners number after
 step_over corners number before after (Meets pair) is none = absurd (none pair refl)
 step_over corners number before after (Begins place) is none = is.0
-step_over corners number before after Goes is none = is.0
+step_over corners number before after Ends is none = is.0
