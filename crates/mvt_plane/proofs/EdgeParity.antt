@@ -1,5 +1,6 @@
--- The parity of the edges of a ring for which something holds, as tests. Where two tests of each edge differ just as marks of
--- its ends do, an odd number of edges meet the one where an odd number meet the other, since marks cancel going round.
+-- The parity of the edges of a ring for which something holds, as tests. Where two tests of each edge differ just as
+-- marks of its ends do, an odd number of edges meet the one where an odd number meet the other, since marks cancel
+-- going round.
 use Rattle.std.proofs.Common.{◌≡◌, inl, inr, ◌↔◌, ℕ, suc, Bool, true, false, IsTrue, List, [], ◌∷◌, slice_get, Some, refl, sym, ◌∙◌, ap, ap₂}
 use Rattle.mvt_plane.specs.Inside.{Differ, HoldsOfOdd}
 use Rattle.mvt_plane.specs.Position.{Position}

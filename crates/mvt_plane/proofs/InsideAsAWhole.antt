@@ -1,4 +1,5 @@
--- What has nothing in common with a ring is inside it as a whole, or not at all: so one vertex decides where another ring is.
+-- What has nothing in common with a ring is inside it as a whole, or not at all: so one vertex decides where another
+-- ring is.
 use Rattle.std.proofs.Common.{◌≡◌, ◌⊎◌, inl, inr, ◌↔◌, ℕ, zero, suc, IsTrue, List, [], ◌∷◌, slice_get, Some, pos, ◌*ℤ◌, ◌≤ℤ◌, ◌<ℤ◌, refl, sym, subst, arith}
 use Rattle.std.proofs.lemmas.Option.{same_Some}
 use Rattle.mvt_plane.specs.Apart.{IsClearOf, HaveNothingInCommon}

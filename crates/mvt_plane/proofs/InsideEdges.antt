@@ -1,5 +1,5 @@
--- Which edges pass over a position: two rectangles say it, that from the edge's first end to the x of its second one and the
--- y of the position, and that to the x of the position and the y of the second end.
+-- Which edges pass over a position: two rectangles say it, that from the edge's first end to the x of its second one
+-- and the y of the position, and that to the x of the position and the y of the second end.
 use Rattle.std.proofs.Common.{◌≡◌, inl, inr, ◌↔◌, [], ◌∷◌, ℤ, pos, ◌+ℤ◌, ◌-ℤ◌, ◌*ℤ◌, ◌≤ℤ◌, ◌<ℤ◌, refl, arith}
 use Rattle.mvt_plane.specs.Position.{Position}
 use Rattle.mvt_plane.specs.RationalPoint.{RationalPoint, LiesOn, IsBetween}

@@ -1,4 +1,5 @@
--- What is so of numbers that are read on: each one that is allowed leads further, and the first that isn't is the fault.
+-- What is so of numbers that are read on: each one that is allowed leads further, and the first that isn't is the
+-- fault.
 use Rattle.std.proofs.Common.{◌≡◌, ◌≢◌, ℕ, zero, suc, ◌+◌, ◌-◌, ◌/◌, ◌%◌, ◌^◌, ◌<◌, ◌≤◌, Bool, true, false, List, [], ◌∷◌, length, get_or, ℤ, pos, negsuc, ◌+ℤ◌, Some, refl, sym, ◌∙◌, ap, subst, arith, add-one}
 use Rattle.std.proofs.lemmas.Int.{ints}
 use Rattle.mvt_plane.proofs.FirstCodes.{other_command_first, other_count_first, greatest_x_first, greatest_y_first, x_outside_first, y_outside_first, no_step_first}

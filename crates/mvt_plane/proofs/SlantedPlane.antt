@@ -1,5 +1,5 @@
--- The plane slanted so that the keys of positions are columns: a position goes to its key and its negated y. Points stay on
--- their edges, and edges that have nothing in common have nothing in common there either.
+-- The plane slanted so that the keys of positions are columns: a position goes to its key and its negated y. Points
+-- stay on their edges, and edges that have nothing in common have nothing in common there either.
 use Rattle.std.proofs.Common.{◌≡◌, ◌^◌, ℕ, List, [], ◌∷◌, map, slice_get, Option, Some, None, option_map, pos, neg_ℤ, ◌+ℤ◌, ◌*ℤ◌, refl, sym, ◌∙◌, ap, subst, arith}
 use Rattle.std.proofs.lemmas.Option.{slice_get-map}
 use borrow.Author.Differences.{product_is}

@@ -1,5 +1,5 @@
--- Numbers begin the spelling of a figure exactly where they can be drawn, and what is due behind them is what is due where
--- they lead.
+-- Numbers begin the spelling of a figure exactly where they can be drawn, and what is due behind them is what is due
+-- where they lead.
 use Rattle.std.proofs.Common.{◌≡◌, ℕ, List, [], ◌∷◌, ◌++◌, append-nil, Some, refl, sym, ◌∙◌, ap, subst}
 use Rattle.std.proofs.lemmas.List.{map-append}
 use Rattle.mvt_plane.specs.Figure.{GeometryType, Figure, type_of, HasSpelling, Spells, move_to, line_to, close_path}

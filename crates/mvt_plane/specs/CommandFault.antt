@@ -1,5 +1,5 @@
--- What keeps numbers from being the spelling of a figure (Mapbox Vector Tile Specification 2.1, section 4.3): where they
--- leave all spellings, and what was due there. Nothing here speaks of a reader.
+-- What keeps numbers from being the spelling of a figure (Mapbox Vector Tile Specification 2.1, section 4.3): where
+-- they leave all spellings, and what was due there. Nothing here speaks of a reader.
 use Rattle.std.specs.Prelude.{◌≡◌, ◌≢◌, ℕ, ◌%◌, ◌<◌, ◌≤◌, List, [], ◌∷◌, ◌++◌, length, map, take, slice_get, Some, ℤ, ◌+ℤ◌, ◌-ℤ◌}
 use Rattle.mvt_plane.specs.Figure.{GeometryType, Figure, points, lines, rings, type_of, zigzag, move_to, line_to, close_path, command_integer, cursor, spelling, HasSpelling, Spells}
 use Rattle.mvt_plane.specs.Position.{Position, origin, IsCoordinate}
@@ -103,8 +103,8 @@ pub data IsCause (geometry_type : GeometryType) (numbers : List ℕ) (index code
       → Applies part number code → ((other : ℕ) → Applies part number other → code ≤ other)
       → IsCause geometry_type numbers index code
 
--- The numbers are no spelling of a figure of the geometry type: they follow one up to an index and no further, and there
--- the code says what is wrong
+-- The numbers are no spelling of a figure of the geometry type: they follow one up to an index and no further, and
+-- there the code says what is wrong
 pub record HasCommandFault (geometry_type : GeometryType) (numbers : List ℕ) (code index : ℕ) : Type 0 where
   pub unspelled : (figure : Figure) → ¬ Spells geometry_type figure numbers
   pub within : index ≤ length numbers

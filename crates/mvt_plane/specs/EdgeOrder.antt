@@ -1,6 +1,6 @@
--- The order of edges along a line that goes over the plane. All positions of one key, with rational ones, are such a line:
--- the key is 2^32 times x, plus y. Coordinates are from -2^30 to 2^30, so no edge lies along one of these lines, and an edge
--- meets a line in one point at most.
+-- The order of edges along a line that goes over the plane. All positions of one key, with rational ones, are such a
+-- line: the key is 2^32 times x, plus y. Coordinates are from -2^30 to 2^30, so no edge lies along one of these lines,
+-- and an edge meets a line in one point at most.
 use Rattle.std.specs.Prelude.{◌≡◌, ◌^◌, ◌⊎◌, cond, ℤ, pos, ◌+ℤ◌, ◌-ℤ◌, ◌*ℤ◌, ◌<ℤ◌, ◌≤ℤ◌, Option, Some}
 use Rattle.std.specs.Int.Signed.{lt_z}
 use Rattle.mvt_plane.specs.Measure.{key_of}

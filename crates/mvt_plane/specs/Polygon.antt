@@ -20,7 +20,8 @@ pub data IsExteriorOf (rings : List (List Position)) : ℕ → ℕ → Type 0 wh
   next : (polygon before exterior : ℕ) → IsExteriorOf rings polygon before → before < exterior → IsExterior rings exterior
       → NoExterior rings (suc before) exterior → IsExteriorOf rings (suc polygon) exterior
 
--- the rings of a polygon by their numbers in the feature: its exterior, and its holes up to the ring behind the last one
+-- the rings of a polygon by their numbers in the feature: its exterior, and its holes up to the ring behind the last
+-- one
 pub record PolygonRings : Type 0 where
   pub exterior : ℕ
   pub after : ℕ

@@ -21,7 +21,8 @@ StandsAt geometry_type numbers index state = Leads geometry_type (start geometry
 abbrev pub IsWhole : GeometryType → List ℕ → Type 0
 IsWhole geometry_type numbers = Passes geometry_type (start geometry_type) numbers × MayEnd (state_behind geometry_type (start geometry_type) numbers)
 
--- at this index is the first number that isn't allowed, or they end there where they may not; the code is to blame for it
+-- at this index is the first number that isn't allowed, or they end there where they may not; the code is to blame for
+-- it
 abbrev pub IsFaulty : GeometryType → List ℕ → ℕ → ℕ → Type 0
 IsFaulty geometry_type numbers code index = FaultFrom geometry_type (start geometry_type) numbers code index
 

@@ -1,4 +1,5 @@
--- The parity of numbers that meet a test: of a list of them, of those in a row, and of the edges of rings that have them.
+-- The parity of numbers that meet a test: of a list of them, of those in a row, and of the edges of rings that have
+-- them.
 use Rattle.std.proofs.Common.{◌≡◌, ◌≢◌, ℕ, zero, suc, ◌+◌, ◌<◌, ◌≤◌, ◌==◌, ◌⊎◌, inl, inr, Bool, true, false, not, List, [], ◌∷◌, length, slice_get, Some, take, refl, sym, ◌∙◌, ap, ap₂, arith}
 use Rattle.std.proofs.lemmas.Bool.{cases_order, eq-eqb, ne_eqb}
 use Rattle.mvt_plane.specs.Meeting.{EdgeNumber, IsEdgeOf}

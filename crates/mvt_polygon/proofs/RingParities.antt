@@ -70,7 +70,8 @@ same_rings : (one two : List Position → Bool) (rings : List (List Position))
 same_rings one two [] same = refl
 same_rings one two (ring ∷ rest) same = ap₂ apart (same 0 ring refl) (same_rings one two rest (λ number other there. same (suc number) other there))
 
--- where they are the same of each ring but one, of which the second test fails, the parities differ where the first test holds of that
+-- where they are the same of each ring but one, of which the second test fails, the parities differ where the first
+-- test holds of that
 pub all_but_one : (one two : List Position → Bool) (rings : List (List Position)) (at : ℕ) (ring : List Position) → slice_get rings at ≡ Some ring → two ring ≡ false
     → ((number : ℕ) (other : List Position) → number ≢ at → slice_get rings number ≡ Some other → one other ≡ two other)
     → odd_rings one rings ≡ apart (one ring) (odd_rings two rings)

@@ -1,5 +1,5 @@
--- The rings around one whose first vertex is directly above an edge of another ring: those around the other ring, and that ring
--- itself where an odd number of its edges pass below the vertex.
+-- The rings around one whose first vertex is directly above an edge of another ring: those around the other ring, and
+-- that ring itself where an odd number of its edges pass below the vertex.
 use Rattle.std.proofs.Common.{◌≡◌, ◌≢◌, ◌<◌, inl, inr, ◌↔◌, ℕ, zero, suc, Bool, true, false, IsTrue, cond, List, [], ◌∷◌, length, get_or, slice_get, Some, ◌<ℤ◌, ◌≤ℤ◌, refl, sym, ◌∙◌, ap, subst, arith}
 use Rattle.std.proofs.lemmas.Bool.{cases_eq}
 use Rattle.std.proofs.lemmas.Option.{same_Some, slice_get_within, slice_get-get_or}
@@ -228,7 +228,8 @@ vertex_off ring other nothing number vertex here another edge there =
     let lies : LiesOn (whole vertex) its.0 = subst (λ (it : Position). LiesOn (whole it) its.0) its.2 (begin_lies_on its.0) in
     nothing number another its.0 edge (whole vertex) its.1 there lies
 
--- of the vertices of a ring that has nothing in common with another, one is above an odd number of the other's edges where any is
+-- of the vertices of a ring that has nothing in common with another, one is above an odd number of the other's edges
+-- where any is
 vertices_alike : (ring other : List Position) → HaveNothingInCommon ring other → ((number : ℕ) (vertex : Position) → slice_get ring number ≡ Some vertex → IsPosition vertex)
     → ((number : ℕ) (vertex : Position) → slice_get other number ≡ Some vertex → IsPosition vertex) → (one two : ℕ) (vertex another : Position)
     → slice_get ring one ≡ Some vertex → slice_get ring two ≡ Some another → HasOddBelow vertex other → HasOddBelow another other
@@ -278,7 +279,8 @@ upper_not_below rings ring below position other it =
     omega (arith, zs) in
     no_odd_of_ring other it.first.vertices comes_first
 
--- of another ring than these two an odd number of edges pass below the one where it is so of the end of the edge below it
+-- of another ring than these two an odd number of edges pass below the one where it is so of the end of the edge below
+-- it
 odd_as_below : (rings : List (List Position)) (ring below : ℕ) (position other : Position) (it : IsAbove rings ring below position other) (number : ℕ) (third : List Position)
     → number ≢ ring → number ≢ below → slice_get rings number ≡ Some third → HasOddBelow position third ↔ HasOddBelow it.under.edge.a third
 odd_as_below rings ring below position other it number third not_ring not_below there =

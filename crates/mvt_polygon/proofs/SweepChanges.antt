@@ -1,5 +1,5 @@
--- One list of edges for the other, where the line goes over a vertex: the edges that end in it go out, and those that begin there
--- come in at the same place.
+-- One list of edges for the other, where the line goes over a vertex: the edges that end in it go out, and those that
+-- begin there come in at the same place.
 use Rattle.std.proofs.Common.{◌≡◌, ◌≢◌, ℕ, ◌<◌, ◌⊎◌, inl, inr, List, [], ◌∷◌, ◌++◌, ℤ, pos, ◌<ℤ◌, refl, sym, ap, arith}
 use Rattle.mvt_plane.specs.EdgeOrder.{IsEndOf, gap, reach}
 use Rattle.mvt_plane.specs.Measure.{key_of, orientation}

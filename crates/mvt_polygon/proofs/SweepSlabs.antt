@@ -420,7 +420,8 @@ shared_there plan key vertex first second one other is_plan event known_one know
     by_cases (inr one_is) (inl other_is) = ap₂ plan.shared one_is other_is ∙ (event_back plan key vertex first second is_plan event).meet
     by_cases (inr one_is) (inr other_is) = absurd (apart (one_is ∙ sym other_is))
 
--- No two edges met wrongly up to the vertex, where those that pass through it have it for an end, and those that begin there were tested
+-- No two edges met wrongly up to the vertex, where those that pass through it have it for an end, and those that begin
+-- there were tested
 pub past_vertex : (plan : Plan) (key : ℤ) (vertex : Position) (first second : ℕ) (edges : List ℕ) → IsPlan plan → IsSwept plan key edges → IsEvent plan key vertex first second
     → ((edge : ℕ) → Has edges edge → orientation (plan.segment edge).low (plan.segment edge).high vertex ≡ pos 0 → IsEndOf vertex (plan.segment edge)) → IsPast plan (key_of vertex)
 past_vertex plan key vertex first second edges is_plan swept event through one other point known_one known_other apart wrong =

@@ -21,13 +21,13 @@ abbrev pub Chain : (ℕ → ℕ → Type 0) → List ℕ → Type 0
 Chain R [] = ⊤
 Chain R (first ∷ rest) = Head R first rest × Chain R rest
 
--- the last of the one list does to the first of the other, if there are both
+-- the relation holds between the last of the one list and the first of the other, if neither list is empty
 abbrev pub Joined : (ℕ → ℕ → Type 0) → List ℕ → List ℕ → Type 0
 Joined R [] back = ⊤
 Joined R (last ∷ []) back = Head R last back
 Joined R (first ∷ next ∷ rest) back = Joined R (next ∷ rest) back
 
--- each does to all behind it
+-- the relation holds between each and all behind it
 abbrev pub Ordered : (ℕ → ℕ → Type 0) → List ℕ → Type 0
 Ordered R [] = ⊤
 Ordered R (first ∷ rest) = Each (R first) rest × Ordered R rest

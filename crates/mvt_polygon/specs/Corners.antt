@@ -18,13 +18,15 @@ use Rattle.mvt_polygon.specs.declared.sweep.corners.Pair.{Pair}
 abbrev pub vertex_count : List (List Position) → ℕ
 vertex_count rings = sum (map length rings)
 
--- in a list of so many the number of the last one for the first, of the first for the last, and for the others their own
+-- in a ring of so many corners: the number of the last corner for the first one, that of the first for the last one,
+-- and its own for every other corner
 abbrev pub far_end_of : ℕ → ℕ → ℕ
 far_end_of count number = cond (number == 0) (count - 1) (cond (number + 1 == count) 0 number)
 
 -- Corners of rings
 
--- Of all vertices, numbered ring by ring, the one of this number is the vertex of the second number in the ring of the first
+-- The vertices of all rings are numbered ring by ring. This number is that of the vertex at this place: the ring, and
+-- the number of the vertex (and of the edge that begins in it) in the ring
 pub record IsNumbered (rings : List (List Position)) (number : ℕ) (place : EdgeNumber) : Type 0 where
   pub ring : List Position
   pub there : slice_get rings place.ring ≡ Some ring

@@ -16,7 +16,7 @@ use std::alloc::AllocError;
 pub(crate) enum Step {
     /// These two edges meet wrongly.
     Meets(Pair),
-    /// Both edges of the corner began in it, behind so many edges of the status.
+    /// Both edges of the corner began in it, above so many edges of the status.
     Begins(usize),
     /// An edge of the corner ended in it.
     Ends,
