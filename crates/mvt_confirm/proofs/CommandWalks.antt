@@ -3,7 +3,7 @@ use Rattle.std.proofs.Common.{◌≡◌, ◌↔◌, ℕ, zero, suc, ◌+◌, ◌
 use Rattle.mvt_confirm.specs.Commands.{IsNext, Goes, Faults, IsAhead}
 use Rattle.mvt_fault.specs.Code.{command_code}
 use Rattle.mvt_fault.specs.declared.command.CommandCode.{CommandCode}
-use Rattle.mvt_plane.proofs.Beginnings.{passes_spells}
+use Rattle.mvt_plane.proofs.SpellingPrefixes.{passes_spells}
 use Rattle.mvt_plane.proofs.CommandFaults.{has_command_fault, one_command_fault}
 use Rattle.mvt_plane.proofs.Readers.{unfinished_there, whole_there}
 use Rattle.mvt_plane.specs.CommandFault.{HasCommandFault}

@@ -8,7 +8,7 @@ use Rattle.mvt_plane.specs.Position.{Position}
 use Rattle.mvt_plane.specs.RationalPoint.{RationalPoint, LiesOn, IsAt, IsBounded}
 use Rattle.mvt_plane.specs.Ring.{next_round, edges}
 use Rattle.mvt_plane.specs.declared.edge.Edge.{Edge}
-use Rattle.mvt_plane.proofs.RingEdges.{ends_of_edge}
+use Rattle.mvt_plane.proofs.RingEdges.{ends_of_edge, one_edge}
 use Rattle.mvt_confirm.specs.EdgeTests.{AreEdgesOf, IsApartBehind}
 use Rattle.mvt_confirm.specs.PolygonFault.{number_of}
 use Rattle.mvt_confirm.specs.declared.edge_tests.NumberedEdge.{NumberedEdge}
@@ -22,12 +22,6 @@ pub record AreApartAt (first second : NumberedEdge) (vertex_count : ℕ) (point 
   pub behind_second : IsApartBehind second first vertex_count point
 
 -- ---- edges by their numbers
-
--- one number has one edge
-one_edge : (rings : List (List Position)) (number : EdgeNumber) (it its : Edge) → IsEdgeOf rings number it → IsEdgeOf rings number its → it ≡ its
-one_edge rings number it its first second =
-    let ring : first.ring ≡ second.ring = same_Some first.ring second.ring (sym first.there ∙ second.there) in
-    same_Some it its (sym first.here ∙ ap (λ (vertices : List Position). slice_get (edges vertices) number.edge) ring ∙ second.here)
 
 -- an edge begins at the vertex of its number
 begins_at : (rings : List (List Position)) (number : EdgeNumber) (it : Edge) (ring : List Position) → IsEdgeOf rings number it → slice_get rings number.ring ≡ Some ring → slice_get ring number.edge ≡ Some it.a

@@ -2,9 +2,8 @@
 use Rattle.std.proofs.Common.{rules, ◌≡◌, ℕ, suc, ◌<◌, ◌≤◌, ◌⊎◌, inl, inr, List, [], ◌∷◌, length, pos, ◌<ℤ◌, refl, subst, arith}
 use Rattle.std.proofs.lemmas.Bool.{cases_lt}
 use Rattle.std.proofs.lemmas.Int.{ints}
-use Rattle.std.proofs.lemmas.Option.{slice_get_within}
 use Rattle.mvt_plane.proofs.ExampleRings.{polygon_with_two_holes}
-use Rattle.mvt_plane.proofs.SamePolygons.{one_polygon}
+use Rattle.mvt_plane.proofs.SamePolygons.{one_polygon, polygon_begins_within}
 use Rattle.mvt_plane.specs.Examples.{rings_from, square, crossed, triangle, touching_hole, hole_beside, hole_in_hole}
 use Rattle.mvt_plane.specs.Polygon.{IsExterior, NoExterior, IsExteriorOf, first, next, PolygonRings, IsPolygon, IsRingOf}
 use Rattle.mvt_plane.specs.Position.{Position}
@@ -37,12 +36,7 @@ second_to_last before exterior holes sound one other none =
 
 -- Other polygons
 
--- the exterior of a polygon is one of the rings
-exterior_within : (rings : List (List Position)) (polygon exterior : ℕ) → IsExteriorOf rings polygon exterior → exterior < length rings
-exterior_within rings _ _ (first exterior it none) = slice_get_within rings exterior it.ring it.there
-exterior_within rings _ _ (next polygon before exterior begins further it none) = slice_get_within rings exterior it.ring it.there
-
--- at least as many rings stand before it as polygons
+-- at least as many rings come before the exterior of a polygon as polygons
 pub exterior_behind : (rings : List (List Position)) (polygon exterior : ℕ) → IsExteriorOf rings polygon exterior → polygon ≤ exterior
 exterior_behind rings _ _ (first exterior it none) = omega arith
 exterior_behind rings _ _ (next polygon before exterior begins further it none) = omega (arith, exterior_behind rings polygon before begins)
@@ -50,7 +44,7 @@ exterior_behind rings _ _ (next polygon before exterior begins further it none) 
 -- behind a first polygon of all rings there is no other
 pub no_other_polygon : (rings : List (List Position)) (polygon : ℕ) (it : PolygonRings) → IsPolygon rings 0 (rings_from 0 (length rings)) → IsPolygon rings polygon it → (polygon ≡ 0) × (it ≡ rings_from 0 (length rings))
 no_other_polygon rings polygon it whole other =
-    let within : it.exterior < length rings = exterior_within rings polygon it.exterior other.begins in
+    let within : it.exterior < length rings = polygon_begins_within rings polygon it.exterior other.begins in
     one_polygon rings it.exterior polygon 0 it (rings_from 0 (length rings)) other
     (record { from = omega arith; before = other.further }) whole (record { from = omega arith; before = within })
 
@@ -63,7 +57,7 @@ one_of_two rings middle polygon it before behind other = elim (cases_lt it.exter
 ]
   where
     within : it.exterior < length rings
-    within = exterior_within rings polygon it.exterior other.begins
+    within = polygon_begins_within rings polygon it.exterior other.begins
 
     same : (number : ℕ) (its : PolygonRings) → IsPolygon rings number its → IsRingOf its it.exterior → it ≡ its
     same number its there has =

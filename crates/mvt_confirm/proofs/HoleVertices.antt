@@ -7,15 +7,10 @@ use Rattle.mvt_plane.specs.Nesting.{IsVertexOf}
 use Rattle.mvt_plane.specs.Polygon.{PolygonRings, IsPolygon, IsHoleOf}
 use Rattle.mvt_plane.specs.Position.{Position}
 use Rattle.mvt_plane.specs.Ring.{ArePolygonRings}
+use Rattle.mvt_plane.proofs.RingEdges.{one_position}
 use Rattle.mvt_plane.proofs.SamePolygons.{same_polygon}
 use Rattle.mvt_confirm.specs.PolygonFault.{IsVertexOutside, IsVertexInHole}
 use Rattle.mvt_confirm.proofs.PolygonMembers.{IsHole, exterior_in, hole_in, vertices_there}
-
--- the vertex of a number has one position
-one_position : (rings : List (List Position)) (ring vertex : ℕ) (one other : Position) → IsVertexOf rings ring vertex one → IsVertexOf rings ring vertex other → one ≡ other
-one_position rings ring vertex one other is_one is_other =
-    let vertices : is_one.vertices ≡ is_other.vertices = same_Some is_one.vertices is_other.vertices (sym is_one.there ∙ is_other.there) in
-    same_Some one other (sym is_one.here ∙ ap (λ (vertices : List Position). slice_get vertices vertex) vertices ∙ is_other.here)
 
 -- what tests tell of the position of a vertex
 abbrev TellsInside : List (List Position) → ℕ → Position → Bool → Type 0

@@ -12,7 +12,7 @@ use Rattle.mvt_confirm.proofs.RingCounts.{HavePassed, IsToldOf, next_passed, sam
 use Rattle.mvt_plane.specs.Polygon.{IsExterior, NoExterior, IsExteriorOf, first, next}
 use Rattle.mvt_plane.specs.Position.{Position}
 use Rattle.mvt_plane.specs.Ring.{doubled_area, ArePolygonRings}
-use Rattle.mvt_plane.proofs.PolygonNumbers.{none_to_next, none_in_nothing, polygon_of_ring}
+use Rattle.mvt_plane.proofs.PolygonNumbers.{none_to_next, none_in_nothing, one_more_hole, polygon_of_ring}
 use Rattle.mvt_plane.proofs.SamePolygons.{exterior_of_polygon}
 
 -- Exteriors that were passed
@@ -58,13 +58,7 @@ pub exterior_counted : (rings : List (List Position)) (number exteriors last : �
 exterior_counted rings number exteriors last counted exterior =
     some_passed exteriors refl (begins_next rings number exteriors last counted exterior) (omega arith) (λ other behind before. absurd (omega arith))
 
--- one more ring is a hole
-one_more_hole : (rings : List (List Position)) (from number : ℕ) → NoExterior rings from number → ¬ IsExterior rings number → NoExterior rings from (number + 1)
-one_more_hole rings from number none hole =
-    let next : suc number ≡ number + 1 = omega arith in
-    subst (NoExterior rings from) next (none_to_next rings from number none hole)
-
--- it isn't counted
+-- a hole isn't counted
 pub hole_counted : (rings : List (List Position)) (number exteriors last : ℕ) → IsCounted rings number exteriors last → ¬ IsExterior rings number → IsCounted rings (number + 1) exteriors last
 hole_counted rings number exteriors last (none_yet is none) hole = none_yet is (one_more_hole rings 0 number none hole)
 hole_counted rings number exteriors last (some_passed polygon is begins less none) hole =

@@ -4,9 +4,8 @@ use Rattle.std.proofs.lemmas.Bool.{cases_lt}
 use Rattle.std.proofs.lemmas.Option.{slice_get_within}
 use Rattle.mvt_confirm.specs.PolygonFault.{IsPolygonOf}
 use Rattle.mvt_confirm.specs.Valid.{IsValidPolygon, AreValidRings}
-use Rattle.mvt_plane.proofs.PolygonNumbers.{polygon_of_ring}
-use Rattle.mvt_plane.proofs.SamePolygons.{exterior_of_polygon, same_polygon, one_polygon}
-use Rattle.mvt_plane.specs.Polygon.{IsExterior, NoExterior, IsExteriorOf, first, next, PolygonRings, IsPolygon}
+use Rattle.mvt_plane.proofs.SamePolygons.{exterior_of_polygon, first_begins, same_polygon, one_polygon}
+use Rattle.mvt_plane.specs.Polygon.{IsExterior, NoExterior, IsExteriorOf, next, PolygonRings, IsPolygon}
 use Rattle.mvt_plane.specs.Position.{Position}
 use Rattle.mvt_plane.specs.Ring.{ArePolygonRings}
 use Rattle.mvt_gate.specs.Polygons.{AreValidBefore}
@@ -20,21 +19,13 @@ pub record HasPassed (rings : List (List Position)) (polygon exterior : ℕ) : T
   pub here : exterior < length rings → IsExteriorOf rings polygon exterior
   pub all : (earlier : ℕ) (it : PolygonRings) → IsPolygon rings earlier it → it.exterior < exterior → earlier < polygon
 
--- the ring of number 0, where there is one, begins the polygon of number 0
-first_exterior : (parts : List (List Position)) → ArePolygonRings parts → 0 < length parts → IsExteriorOf parts 0 0
-first_exterior parts sound some =
-    let its = polygon_of_ring parts 0 sound some in
-    let from : its.1.exterior ≤ 0 = its.3.from in
-    let zeroth : its.1.exterior ≡ 0 = omega arith in
-    first 0 (subst (IsExterior parts) zeroth (exterior_of_polygon parts its.0 its.1.exterior its.2.begins)) (λ number behind before exterior. omega arith)
-
 -- no polygon was passed at the first ring
 pub none_passed : (parts : List (List Position)) → ArePolygonRings parts → HasPassed parts 0 0
 none_passed parts sound = record {
   count = omega arith;
   within = omega arith;
   valid = λ earlier it less there. absurd (omega arith);
-  here = first_exterior parts sound;
+  here = first_begins parts sound;
   all = λ earlier it there less. absurd (omega arith);
 }
 

@@ -1,5 +1,6 @@
--- In the slanted plane, where keys are columns and what is below is over: an edge passes below a position where it passes there
--- over the position's place, or over another point of the same column that is on the same side of the edge.
+-- In the slanted plane, where keys are columns and what is below is over: an edge passes below a position where it
+-- passes there over the position's place, or over another point of the same column that is on the same side of the
+-- edge.
 use Rattle.std.proofs.Common.{◌≡◌, ◌^◌, ◌⊎◌, inl, inr, ◌↔◌, ℕ, suc, List, [], ◌∷◌, map, slice_get, Some, ℤ, pos, ◌*ℤ◌, ◌≤ℤ◌, ◌<ℤ◌, refl, sym, subst, arith}
 use borrow.Author.Differences.{product_is}
 use Rattle.mvt_plane.specs.Below.{PassesBelow, HasOddBelow}
@@ -146,7 +147,8 @@ own_alike position a b begun ended = by_scale _ (orientation a b position) (abov
     by_scale : (up z : ℤ) → up ≡ pos (2 ^ 32) *ℤ z → (pos 0 <ℤ z) ↔ (pos 0 <ℤ up)
     by_scale up z same = let product = product_is (pos (2 ^ 32)) z in (λ sign. omega (arith, zs), λ sign. omega (arith, zs))
 
--- so an odd number of a ring's edges pass below a position on none of them where its own place is inside the slanted ring
+-- so an odd number of a ring's edges pass below a position on none of them where its own place is inside the slanted
+-- ring
 pub odd_at_own_place : (position : Position) (ring : List Position)
     → ((number : ℕ) (edge : Edge) → slice_get (edges ring) number ≡ Some edge → HasOtherKeys (key_of position) edge)
     → HasOddBelow position ring ↔ IsPointInside (whole (slant position)) (map slant ring)

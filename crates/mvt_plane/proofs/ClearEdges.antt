@@ -1,5 +1,6 @@
--- Two points of an edge, and another edge that has no point in common with that. Just where one of its ends is between the
--- two points in x and above the first edge, and the other one isn't, it passes over one of the two points and not over the other.
+-- Two points of an edge, and another edge that has no point in common with that. Just where one of its ends is between
+-- the two points in x and above the first edge, and the other one isn't, it passes over one of the two points and not
+-- over the other.
 use Rattle.std.proofs.Common.{◌≡◌, ◌⊎◌, inl, inr, Bool, false, [], ◌∷◌, ℤ, pos, ◌*ℤ◌, ◌≤ℤ◌, ◌<ℤ◌, sym, ◌∙◌, ap, ap₂, arith}
 use Rattle.std.proofs.Math.Decide.{map_dec}
 use Rattle.mvt_plane.specs.Position.{Position}

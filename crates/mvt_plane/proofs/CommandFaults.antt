@@ -6,9 +6,9 @@ use Rattle.std.proofs.lemmas.Option.{slice_get_within}
 use Rattle.std.specs.Prelude.{All}
 use Rattle.mvt_plane.specs.Figure.{GeometryType, Figure, Spells}
 use Rattle.mvt_plane.specs.CommandFault.{Part, Word, words, IsDue, Applies, IsCause, ends, nothing_due, due, HasCommandFault}
-use Rattle.mvt_plane.proofs.Words.{numbers_of, words_spell}
+use Rattle.mvt_plane.proofs.CommandWords.{numbers_of, words_spell}
 use Rattle.mvt_plane.specs.Drawing.{State, path_command, all_drawn, start, MayEnd, next, Passes, state_behind, Draws, IsBlamed, not_due, not_allowed, FaultFrom}
-use Rattle.mvt_plane.proofs.Beginnings.{draws_words, begins_passes, passes_begins, due_there, is_due, passes_spells}
+use Rattle.mvt_plane.proofs.SpellingPrefixes.{draws_words, begins_passes, passes_begins, due_there, is_due, passes_spells}
 use Rattle.mvt_plane.proofs.AllowedNumbers.{allowed, blamed, verdict}
 
 -- the index is within the numbers

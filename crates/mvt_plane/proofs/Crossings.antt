@@ -1,4 +1,4 @@
--- How two edges cross, told by the sides of one edge on which the ends of the other are.
+-- How two edges cross, by the sides of one edge on which the ends of the other are.
 use Rattle.std.proofs.Common.{◌≡◌, List, [], ◌∷◌, ℤ, pos, ◌+ℤ◌, ◌-ℤ◌, ◌*ℤ◌, neg_ℤ, ◌≤ℤ◌, ◌<ℤ◌, arith}
 use Rattle.mvt_plane.specs.Position.{Position}
 use Rattle.mvt_plane.specs.RationalPoint.{RationalPoint, LiesOn}
@@ -7,7 +7,7 @@ use Rattle.mvt_plane.specs.Measure.{orientation}
 use Rattle.mvt_plane.specs.declared.edge.Edge.{Edge}
 use Rattle.mvt_plane.proofs.Polynomials.{Polynomial, constant, negated, once, ◌⊕◌, ◌⊖◌, ◌⊗◌, identity, consequence, given}
 use Rattle.mvt_plane.proofs.Order.{zs, mul_nonneg, cancel_zero}
-use Rattle.mvt_plane.proofs.Weights.{Weights, weights_of}
+use Rattle.mvt_plane.proofs.PointWeights.{Weights, weights_of}
 
 -- on which side of an edge a position is: twice the area of the triangle of the edge and the position
 abbrev pub side : Edge → Position → ℤ

@@ -1,5 +1,6 @@
--- Where an edge is directly below a position, an odd number of a ring's edges pass below the position where they do below an end
--- of the edge: in the slanted plane both the edge's point in the position's column and the end are inside the ring, or neither is.
+-- Where an edge is directly below a position, an odd number of a ring's edges pass below the position where they do
+-- below an end of the edge: in the slanted plane both the edge's point in the position's column and the end are inside
+-- the ring, or neither is.
 use Rattle.std.proofs.Common.{◌≡◌, ◌^◌, ◌⊎◌, inl, inr, ◌↔◌, ℕ, true, false, List, [], ◌∷◌, map, slice_get, Some, ℤ, pos, ◌-ℤ◌, ◌*ℤ◌, ◌≤ℤ◌, ◌<ℤ◌, refl, sym, ◌∙◌, ap, subst, arith}
 use Rattle.std.proofs.lemmas.Bool.{cond-true, cond-false}
 use Rattle.std.proofs.lemmas.Int.{ints, by_lt_z}
@@ -21,7 +22,7 @@ use Rattle.mvt_plane.proofs.GapPoints.{no_gap_is_common}
 use Rattle.mvt_plane.proofs.Gaps.{same_key, gap_by_orientation, reach_positive}
 use Rattle.mvt_plane.proofs.InsideEdges.{point_over, over_on_edge}
 use Rattle.mvt_plane.proofs.MixedPoints.{AreClear}
-use Rattle.mvt_plane.proofs.OneVertex.{points_together}
+use Rattle.mvt_plane.proofs.InsideAsAWhole.{points_together}
 use Rattle.mvt_plane.proofs.Order.{zs, sign_cases, mul_pos, factor_pos}
 use Rattle.mvt_plane.proofs.PointsUnder.{above}
 use Rattle.mvt_plane.proofs.Polynomials.{constant, negated, once, ◌⊕◌, ◌⊖◌, ◌⊗◌, identity}
@@ -210,7 +211,8 @@ odd_at_the_end edge ring from in_range clear = odd_at_own_place edge.a ring each
         let ends = ends_of_edge ring number other there in
         other_keys edge.a other from (in_range _ other.a ends.0) (in_range _ other.b ends.1) (λ lies. clear number other (whole edge.a) there (begin_lies_on edge) lies)
 
--- where an edge is directly below a position, an odd number of a ring's edges pass below it where they do below an end of the edge
+-- where an edge is directly below a position, an odd number of a ring's edges pass below it where they do below an end
+-- of the edge
 pub odd_as_below_the_edge : (position : Position) (edge : Edge) (ring : List Position) → IsPosition position → IsPosition edge.a → IsPosition edge.b
     → ((number : ℕ) (vertex : Position) → slice_get ring number ≡ Some vertex → IsPosition vertex)
     → ((number : ℕ) (other : Edge) → slice_get (edges ring) number ≡ Some other → ¬ LiesOn (whole position) other)

@@ -4,8 +4,8 @@ use Rattle.mvt_plane.specs.Position.{Position, origin}
 use Rattle.mvt_plane.specs.Figure.{GeometryType, point, line_string, polygon, Figure, points, lines, rings, type_of, move_to, line_to, close_path, command_integer, cursor, IsCount, AreSteps, AreApart, IsPath, ArePaths, HasSpelling}
 use Rattle.mvt_plane.specs.CommandFault.{command, Word, word, step_words, path_words, words_of_paths, words}
 use Rattle.mvt_plane.specs.Drawing.{to_first, path_command, line_command, start, least, IsCommand, behind_path, Draws}
-use Rattle.mvt_plane.proofs.Figures.{ending, positive}
-use Rattle.mvt_plane.proofs.Residues.{same_word, step_residue, line_residue, points_residue}
+use Rattle.mvt_plane.proofs.Figures.{ending, one_behind}
+use Rattle.mvt_plane.proofs.WordsLeft.{same_word, step_residue, line_residue, points_residue}
 
 -- a command integer from its id and its count
 command_number : (id fewest n : ℕ) → IsCommand id fewest n → n ≡ command_integer id (n / 8)
@@ -26,7 +26,7 @@ further_residue : (geometry_type : GeometryType) (from : Position) (all : List W
 further_residue geometry_type from [] draws = absurd draws
 further_residue geometry_type from (first ∷ rest) draws =
     let fits = draws.1 in
-    let some = positive geometry_type in
+    let some = one_behind geometry_type in
     let more = line_residue geometry_type (first.number / 8 - 1) from rest draws.2 in
     let size = more.size in
     let counts : first.number / 8 ≡ length more.positions = omega arith in

@@ -1,5 +1,6 @@
--- The parity of the edges of a ring for which something holds, as tests. Where two tests of each edge differ just as marks of
--- its ends do, an odd number of edges meet the one where an odd number meet the other, since marks cancel going round.
+-- The parity of the edges of a ring for which something holds, as tests. Where two tests of each edge differ just as
+-- marks of its ends do, an odd number of edges meet the one where an odd number meet the other, since marks cancel
+-- going round.
 use Rattle.std.proofs.Common.{◌≡◌, inl, inr, ◌↔◌, ℕ, suc, Bool, true, false, IsTrue, List, [], ◌∷◌, slice_get, Some, refl, sym, ◌∙◌, ap, ap₂}
 use Rattle.mvt_plane.specs.Inside.{Differ, HoldsOfOdd}
 use Rattle.mvt_plane.specs.Position.{Position}
@@ -14,7 +15,7 @@ abbrev pub test : {Fact : Type 0} → Dec Fact → Bool
 test (yes it) = true
 test (no apart) = false
 
--- it tells
+-- the test says whether it holds
 pub test_tells : {Fact : Type 0} (decided : Dec Fact) → IsTrue (test decided) ↔ Fact
 test_tells (yes it) = (λ _. it, λ _. refl)
 test_tells (no apart) = (λ impossible. absurd (no_truth impossible), λ it. absurd (apart it))
@@ -53,7 +54,7 @@ same_unless_apart false true none = absurd (cc)
 same_unless_apart false false none = refl
 
 -- of four tests the middle ones may change places
-middle_swapped : (x y z t : Bool) → apart (apart x y) (apart z t) ≡ apart (apart x z) (apart y t)
+pub middle_swapped : (x y z t : Bool) → apart (apart x y) (apart z t) ≡ apart (apart x z) (apart y t)
 middle_swapped x y z t =
     apart_assoc x y (apart z t)
     ∙ ap (apart x) (sym (apart_assoc y z t) ∙ ap (λ (s : Bool). apart s t) (apart_either_way y z) ∙ apart_assoc z y t)
@@ -70,7 +71,7 @@ abbrev pub odd : (Edge → Bool) → List Edge → Bool
 odd meets [] = false
 odd meets (edge ∷ rest) = apart (meets edge) (odd meets rest)
 
--- where the test tells what holds of an edge, the parity tells of how many it holds
+-- where the test says whether something holds of an edge, the parity says whether it holds of an odd number of them
 pub odd_tells : (Holds : Edge → Type 0) (meets : Edge → Bool) → ((edge : Edge) → IsTrue (meets edge) ↔ Holds edge)
     → (all : List Edge) → IsTrue (odd meets all) ↔ HoldsOfOdd Holds all
 odd_tells Holds meets tells [] = (no_truth, λ impossible. absurd impossible)

@@ -14,7 +14,7 @@ use Rattle.mvt_plane.proofs.InsideEdges.{rectangle, differ_back, not_differ, pas
 use Rattle.mvt_plane.proofs.InsideParity.{apart, apart_assoc, parts_differ}
 use Rattle.mvt_plane.proofs.Order.{zs, le_or_lt, lt_decide}
 
--- ---- the orientation tells
+-- ---- by the orientation
 
 -- it is what the rectangles differ by
 by_rectangles : (a b position : Position) → orientation a b position ≡ rectangle a b position -ℤ rectangle a position b

@@ -1,5 +1,5 @@
--- A position on no edge of a ring is inside it where an odd number of the ring's edges pass below it. Of the edges that go by
--- its x each passes either over it or below it, and the others do neither.
+-- A position on no edge of a ring is inside it where an odd number of the ring's edges pass below it. Of the edges that
+-- go by its x each passes either over it or below it, and the others do neither.
 use Rattle.std.proofs.Common.{◌≡◌, ◌^◌, ◌⊎◌, inl, inr, ◌↔◌, ℕ, Bool, true, false, IsTrue, List, [], ◌∷◌, slice_get, Some, ℤ, pos, ◌-ℤ◌, ◌*ℤ◌, ◌≤ℤ◌, ◌<ℤ◌, sym, ◌∙◌, ap, ap₂, subst, refl, arith}
 use Rattle.std.proofs.Math.IntN.{*ℤ-zero}
 use borrow.Author.Differences.{product_is}
@@ -111,7 +111,7 @@ lies_rightward p a b begun ended none =
 abbrev IsEither : Type 0 → Type 0 → Type 0
 IsEither One Other = (One → ¬ Other) × (¬ Other → One)
 
--- where the first is told by a number that is positive and the second by one that is negative, and it isn't 0
+-- where the first holds if a number is positive, the second if it is negative, and the number isn't 0
 either_by_sign : {One Other : Type 0} (z : ℤ) → (pos 0 <ℤ z) ↔ One → (z <ℤ pos 0) ↔ Other → ¬ (z ≡ pos 0) → IsEither One Other
 either_by_sign {One} {Other} z one other apart = (λ it its. clash (one.1 it) (other.1 its), λ none. by_sign none (sign_cases z))
   where
@@ -123,7 +123,7 @@ either_by_sign {One} {Other} z one other apart = (λ it its. clash (one.1 it) (o
     by_sign none (inr (inl zero)) = absurd (apart zero)
     by_sign none (inr (inr more)) = one.0 more
 
--- where the first doesn't hold, and the second is told by a number that is negative
+-- where the first doesn't hold, and the second holds if a number is negative
 either_by_other : {One Other : Type 0} (z : ℤ) → ¬ One → (z <ℤ pos 0) ↔ Other → ¬ (z ≡ pos 0) → z ≤ℤ pos 0 → IsEither One Other
 either_by_other {One} {Other} z none other apart most =
     (λ it. absurd (none it), λ without. absurd (without (other.0 (strict (sign_cases z)))))
@@ -214,7 +214,8 @@ both_apart (yes it) (yes its) one other = refl
 both_apart (no none) other_test one other = absurd (none one)
 both_apart (yes it) (no without) one other = absurd (without other)
 
--- an edge passes below the position, and not over it or the other way round, where its ends are on two sides of the position's x
+-- an edge passes below the position, and not over it or the other way round, where its ends are on two sides of the
+-- position's x
 differ_by_side : (p a b : Position) → IsPosition p → IsPosition a → IsPosition b → ¬ LiesOn (whole p) (record { a = a; b = b })
     → apart (test (below_or_not p a b)) (test (passes_over_decide p (record { a = a; b = b }))) ≡ apart (test (le_decide a.x p.x)) (test (le_decide b.x p.x))
 differ_by_side p a b here from to off = by_ends (le_or_lt a.x p.x) (le_or_lt b.x p.x)

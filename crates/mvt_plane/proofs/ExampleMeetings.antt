@@ -7,7 +7,7 @@ use Rattle.mvt_plane.specs.Ring.{edges}
 use Rattle.mvt_plane.specs.declared.edge.Edge.{Edge}
 use Rattle.mvt_plane.specs.Examples.{fraction, edge_number, square, crossed, spike, touched, pinched, touching_hole}
 
--- two edges of rings, by what is asked of them
+-- two edges of rings meet wrongly, by what that requires
 meets : {rings : List (List Position)} {first second : EdgeNumber} {point : RationalPoint} {ring other_ring : List Position} {one other : Edge}
     → slice_get rings first.ring ≡ Some ring → slice_get (edges ring) first.edge ≡ Some one → slice_get rings second.ring ≡ Some other_ring → slice_get (edges other_ring) second.edge ≡ Some other
     → first ≢ second → LiesOn point one → LiesOn point other → ((vertex : Position) → IsShared rings first second vertex → ¬ IsAt point vertex) → MeetsWrongly rings first second point

@@ -29,7 +29,7 @@ stays from to none =
     let difference : to -ℤ from ≡ pos 0 = zigzag_injective (to -ℤ from) (pos 0) none in
     omega (arith, ints)
 
--- the two positions are apart, where that is asked of a step
+-- the two positions are apart, where a step requires that
 abbrev pub AreApartOn : Leg → Position → Position → Type 0
 AreApartOn (to_point left) from to = Unit {0}
 AreApartOn to_first from to = Unit {0}
@@ -75,17 +75,17 @@ is_command id count fewest small enough counted =
     let whole : (8 * count + id) / 8 ≡ count = omega arith in
     record { fits = omega arith; enough = omega arith; counted = omega arith }
 
--- a line or ring has a second position
-pub positive : (geometry_type : GeometryType) → 1 ≤ least geometry_type
-positive point = omega arith
-positive line_string = omega arith
-positive polygon = omega arith
+-- a line or ring has a further position at least
+pub one_behind : (geometry_type : GeometryType) → 1 ≤ least geometry_type
+one_behind point = omega arith
+one_behind line_string = omega arith
+one_behind polygon = omega arith
 
 -- a line, or a ring without its end
 draws_path : (geometry_type : GeometryType) (drawn : Bool) (from : Position) (part : List Position) (after : List Word) → IsPath (least geometry_type) from part → Draws geometry_type (behind_path geometry_type (cursor from part)) after → Draws geometry_type (path_command drawn from) (path_words from part ++ after)
 draws_path geometry_type drawn from [] after able draws = absurd able
 draws_path geometry_type drawn from (first ∷ rest) after able draws =
-    let some = positive geometry_type in
+    let some = one_behind geometry_type in
     let enough = able.3 in (
       refl,
       refl,

@@ -1,5 +1,5 @@
--- Where two edges have no gap they have a point in common, and the other way round. So edges that meet only at a vertex that
--- they share keep their order up to it.
+-- Where two edges have no gap they have a point in common, and the other way round. So edges that meet only at a vertex
+-- that they share keep their order up to it.
 use Rattle.std.proofs.Common.{◌≡◌, ◌^◌, inl, inr, [], ◌∷◌, ℤ, pos, neg_ℤ, ◌+ℤ◌, ◌-ℤ◌, ◌*ℤ◌, ◌<ℤ◌, ◌≤ℤ◌, Option, Some, sym, ◌∙◌, ap, refl, arith}
 use Rattle.std.proofs.Math.IntN.{*ℤ_comm}
 use Rattle.std.proofs.lemmas.Int.{ints, by_lt_z}
@@ -283,7 +283,8 @@ vertex_between left right key w t positive same beyond before apart =
     let high = cancel_lt w key right (omega (arith, zs)) (omega (arith, zs, *ℤ_comm w right, *ℤ_comm w key)) in
     omega (arith, zs, apart low, high)
 
--- right after a key the one is below the other; so it is up to the next key, if the shared vertex isn't strictly between
+-- right after a key the one is below the other; so it is up to the next key, if the shared vertex isn't strictly
+-- between
 pub below_up_to : (shared : Option Position) (first second : Segment) (left right : ℤ) → IsRising first → IsRising second → left <ℤ right → Reaches left (pos 1) first
     → Reaches left (pos 1) second → Reaches right (pos 1) first → Reaches right (pos 1) second → MeetOnlyAt shared first second
     → ((vertex : Position) → shared ≡ Some vertex → left <ℤ key_of vertex → right ≤ℤ key_of vertex) → IsAfter left first second → IsBelow left right first second

@@ -1,5 +1,5 @@
--- The gap between two edges, as a sum of products: how it goes with the key, and how gaps join. Nothing here asks where an
--- edge begins or ends.
+-- The gap between two edges, as a sum of products: how it goes with the key, and how gaps join. It doesn't matter here
+-- where an edge begins or ends.
 use Rattle.std.proofs.Common.{◌≡◌, ◌^◌, ◌⊎◌, inl, inr, List, [], ◌∷◌, ℤ, pos, neg_ℤ, ◌+ℤ◌, ◌-ℤ◌, ◌*ℤ◌, ◌<ℤ◌, ◌≤ℤ◌, ◌∙◌, ap₂, arith}
 use Rattle.std.proofs.Math.IntN.{*ℤ_comm, *ℤ-zero}
 use borrow.Author.Differences.{product_is}
@@ -83,7 +83,7 @@ weighted_pos m n a b m_sign n_sign a_sign b_sign some =
       | inr above ↦ omega (arith, zs, mul_pos m_sign above, mul_nonneg n_some b_sign)
     ]
 
--- so is what stands between two such numbers
+-- so is what is between two such numbers
 positive_between : (left right t w at_left at_right between : ℤ) → pos 1 ≤ℤ w → (left *ℤ w) <ℤ t → t <ℤ (right *ℤ w) → pos 0 ≤ℤ at_left → pos 0 ≤ℤ at_right → pos 0 <ℤ (at_left +ℤ at_right)
     → (right -ℤ left) *ℤ between ≡ (right *ℤ w -ℤ t) *ℤ at_left +ℤ (t -ℤ left *ℤ w) *ℤ at_right → pos 0 <ℤ between
 positive_between left right t w at_left at_right between positive later earlier left_sign right_sign some sum =
@@ -263,7 +263,7 @@ begun_together low one other = no_gap low.y (key_of low) (reach (segment low one
         identity (y ∷ k ∷ r ∷ u ∷ s ∷ v ∷ [])
         (λ Y K R U S V. (height_over Y K S V K once ⊗ R ⊖ height_over Y K R U K once ⊗ S, constant (pos 0))) tt
 
--- so the orientation tells their order after it
+-- so the orientation says what their order after it is
 pub after_by_orientation : (low one other : Position) → pos 0 <ℤ orientation low one other → IsAfter (key_of low) (segment low one) (segment low other)
 after_by_orientation low one other sign =
     inr (begun_together low one other, rises (slope (segment low one) (segment low other)) (orientation low one other) (slope_by_orientation low one other) sign)
@@ -271,7 +271,7 @@ after_by_orientation low one other sign =
     rises : (a b : ℤ) → a ≡ pos (2 ^ 32) *ℤ b → pos 0 <ℤ b → pos 0 <ℤ a
     rises a b same sign = let product = product_is (pos (2 ^ 32)) b in omega (arith, zs)
 
--- and the order tells the sign of the orientation
+-- and the order says what the sign of the orientation is
 pub orientation_by_after : (low one other : Position) → IsAfter (key_of low) (segment low one) (segment low other) → pos 0 <ℤ orientation low one other
 orientation_by_after low one other after =
     sign (gap (segment low one) (segment low other) (key_of low) (pos 1)) (slope (segment low one) (segment low other)) (orientation low one other)

@@ -1,6 +1,6 @@
 -- The geometry of a feature, by the number of its type: its figure, or its command fault.
 use Rattle.std.proofs.Common.{◌≡◌, ℕ, List, refl, sym, ◌∙◌, subst, arith}
-use Rattle.mvt_plane.proofs.Beginnings.{passes_spells}
+use Rattle.mvt_plane.proofs.SpellingPrefixes.{passes_spells}
 use Rattle.mvt_plane.specs.Figure.{GeometryType, point, line_string, polygon, Figure, Spells}
 use Rattle.mvt_plane.specs.Geometry.{type_number, HasFigure, BreaksCommands}
 use Rattle.mvt_plane.specs.Reading.{IsWhole}

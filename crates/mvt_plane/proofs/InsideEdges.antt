@@ -1,5 +1,5 @@
--- Which edges pass over a position: two rectangles tell it, that from the edge's first end to the x of its second one and the
--- y of the position, and that to the x of the position and the y of the second end.
+-- Which edges pass over a position: two rectangles say it, that from the edge's first end to the x of its second one
+-- and the y of the position, and that to the x of the position and the y of the second end.
 use Rattle.std.proofs.Common.{◌≡◌, inl, inr, ◌↔◌, [], ◌∷◌, ℤ, pos, ◌+ℤ◌, ◌-ℤ◌, ◌*ℤ◌, ◌≤ℤ◌, ◌<ℤ◌, refl, arith}
 use Rattle.mvt_plane.specs.Position.{Position}
 use Rattle.mvt_plane.specs.RationalPoint.{RationalPoint, LiesOn, IsBetween}
@@ -16,7 +16,7 @@ rectangle corner across along = (across.x -ℤ corner.x) *ℤ (along.y -ℤ corn
 
 -- ---- the point of an edge over a position
 
--- between two numbers times w stands the first one times w, and a part of the way to the second
+-- the first number times w, and a part of the way to the second, is between both times w
 sum_between : (m n part w : ℤ) → pos 0 ≤ℤ part → part ≤ℤ w → IsBetween (m *ℤ w) (n *ℤ w) (m *ℤ w +ℤ (n -ℤ m) *ℤ part)
 sum_between m n part w begun within =
     let whole = sub-mul_ℤ n m w in
@@ -69,7 +69,7 @@ over_greater p a b less =
 
 -- ---- any point of an edge over a position
 
--- by how much the rectangles differ, a point of the edge at the position's x tells
+-- by how much the rectangles differ, by a point of the edge at the position's x
 rectangles_differ : (p a b : Position) (q : RationalPoint) → LiesOn q (record { a = a; b = b }) → q.x ≡ p.x *ℤ q.w →
     q.w *ℤ rectangle a p b +ℤ (b.x -ℤ a.x) *ℤ (p.y *ℤ q.w) ≡ q.w *ℤ rectangle a b p +ℤ (b.x -ℤ a.x) *ℤ q.y
 rectangles_differ p a b q on_edge same_x =

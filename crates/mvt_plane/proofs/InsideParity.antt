@@ -7,7 +7,7 @@ use Rattle.mvt_plane.specs.Ring.{edges_through}
 
 -- ---- tests that differ
 
--- the test that tells whether two others differ, as the code has it
+-- the test whether two others differ, as the code has it
 abbrev pub apart : Bool → Bool → Bool
 apart x y = not (beq x y)
 
@@ -53,7 +53,7 @@ false_apart false = refl
 
 -- ---- the parity so far
 
--- with that of the edges to come, a parity so far tells the whole
+-- with that of the edges to come, a parity so far gives the whole
 abbrev pub Completes : Bool → Type 0 → Type 0 → Type 0
 Completes so_far Rest Whole = (rest : Bool) → (IsTrue rest ↔ Rest) → (IsTrue (apart so_far rest) ↔ Whole)
 

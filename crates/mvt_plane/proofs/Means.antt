@@ -11,7 +11,7 @@ use Rattle.mvt_plane.proofs.Crossings.{side, side_over, coordinates, cross_by_si
 use Rattle.mvt_plane.proofs.NamedPoints.{same_triple, bounded_on_edge}
 use Rattle.mvt_plane.proofs.Order.{zs}
 use Rattle.mvt_plane.proofs.Polynomials.{negated, ◌⊕◌, ◌⊗◌, identity}
-use Rattle.mvt_plane.proofs.Weights.{lies_by_weights}
+use Rattle.mvt_plane.proofs.PointWeights.{lies_by_weights}
 
 -- the mean of an edge's ends with these weights
 abbrev pub mean : Edge → ℤ → ℤ → RationalPoint

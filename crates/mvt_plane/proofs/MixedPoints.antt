@@ -1,5 +1,5 @@
--- Means of two rational points, with whole numbers as weights. An edge has the means of any two of its points. So where one
--- edge is above another at one place and isn't at another place, the two edges have a point in common.
+-- Means of two rational points, with whole numbers as weights. An edge has the means of any two of its points. So where
+-- one edge is above another at one place and isn't at another place, the two edges have a point in common.
 use Rattle.std.proofs.Common.{◌≡◌, inl, inr, [], ◌∷◌, ℤ, pos, ◌+ℤ◌, ◌-ℤ◌, ◌*ℤ◌, ◌≤ℤ◌, ◌<ℤ◌, subst, arith}
 use Rattle.mvt_plane.specs.RationalPoint.{RationalPoint, LiesOn, IsBetween}
 use Rattle.mvt_plane.specs.declared.edge.Edge.{Edge}

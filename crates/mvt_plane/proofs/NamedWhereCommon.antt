@@ -12,7 +12,7 @@ use Rattle.mvt_plane.proofs.Means.{crossing_of, crossing_size, crossing_on_first
 use Rattle.mvt_plane.proofs.Order.{sign_cases}
 use Rattle.mvt_plane.proofs.Overlaps.{end_is_common}
 use Rattle.mvt_plane.proofs.RationalPoints.{is_common_same}
-use Rattle.mvt_plane.proofs.Touching as touching
+use Rattle.mvt_plane.proofs.TouchingLines as touching
 
 -- two numbers that are neither 0 nor of one sign
 opposite_signs : (a b : ℤ) → ¬ (a ≡ pos 0) → ¬ (b ≡ pos 0) → (pos 0 <ℤ a → ¬ (pos 0 <ℤ b)) → (a <ℤ pos 0 → ¬ (b <ℤ pos 0)) → AreOpposite a b

@@ -1,6 +1,6 @@
 -- Order and signs of products of whole numbers
 --
--- No tactic proves an inequality that isn't linear. What stands in is `omega (arith, zs, facts)`:
+-- No tactic proves an inequality that isn't linear. In its place is `omega (arith, zs, facts)`:
 -- it decides linear inequalities over ℤ, where each product is an unknown by itself, and the facts say
 -- what is needed of the products. They are
 --   - an identity by `identity`, which multiplies out, or joins products that are written differently;
@@ -18,7 +18,7 @@
 --
 -- A goal by cases: `elim`, or a helper by clauses, over `le_or_lt`, `compare_ℤ`, `sign_cases`,
 -- `is_zero` or `product_zero`; or list those in `omega`, which takes a sum apart.
--- A factor is dropped by `cancel_..`, and the sign of one is told by `factor_..`: these take the
+-- A factor is dropped by `cancel_..`, and the sign of one follows by `factor_..`: these take the
 -- numbers, factor first. The others find them in their hypotheses.
 -- An operator is put in parentheses beside `≤ℤ` and `<ℤ`, which bind closer.
 use Rattle.std.proofs.Common.{◌≡◌, ◌*◌, ◌<◌, ◌⊎◌, inl, inr, [], ◌∷◌, ℤ, pos, ◌+ℤ◌, ◌-ℤ◌, ◌*ℤ◌, neg_ℤ, ◌≤ℤ◌, ◌<ℤ◌, sym, ◌∙◌, ap, mul-pos, arith}

@@ -11,7 +11,7 @@ use Rattle.mvt_plane.proofs.Lines.{between_follows, turned_line, position_on_lin
 use Rattle.mvt_plane.proofs.Order.{zs, le_or_lt, is_zero, cancel_le, cancel_zero}
 use Rattle.mvt_plane.proofs.Polynomials.{constant, negated, once, ◌⊖◌, ◌⊗◌, consequence, given}
 use Rattle.mvt_plane.proofs.RationalPoints.{IsSame, same_back, same_point, is_at_same, is_common_same, lies_on_reversed, reversed, begin_lies_on, end_lies_on, times_one, both_decide}
-use Rattle.mvt_plane.proofs.Weights.{flipped, flipped_edge, flipped_point, flip_lies}
+use Rattle.mvt_plane.proofs.PointWeights.{flipped, flipped_edge, flipped_point, flip_lies}
 
 -- ---- parallel edges
 

@@ -44,6 +44,12 @@ none_to_next rings from to none here number behind before = elim (cases_lt numbe
   | inr later ↦ λ exterior. here (subst (IsExterior rings) (omega arith) exterior)
 ]
 
+-- the same, with one added to the number
+pub one_more_hole : (rings : List (List Position)) (from ring : ℕ) → NoExterior rings from ring → ¬ IsExterior rings ring → NoExterior rings from (ring + 1)
+one_more_hole rings from ring none hole =
+    let next : suc ring ≡ ring + 1 = omega arith in
+    subst (NoExterior rings from) next (none_to_next rings from ring none hole)
+
 -- none at a number, and none behind it
 pub none_from_next : (rings : List (List Position)) (from to : ℕ) → ¬ IsExterior rings from → NoExterior rings (suc from) to → NoExterior rings from to
 none_from_next rings from to here none number behind before = elim (cases_lt from number) [

@@ -16,7 +16,7 @@
 -- An unknown is any term: `a.x`, `pos n` at a variable n, a product that is to stay whole. Sums and
 -- products of natural numbers go too, as `pos (m + n)` computes to `pos m +ℤ pos n`. A quotation
 -- has to compute to the goal's side, so it follows its shape, and where the goal has an `abbrev` it
--- may be what that unfolds to. A formula that stands several times is best written once more over
+-- may be what that unfolds to. A formula that occurs several times is best written once more over
 -- polynomials:
 --     abbrev crossed : Polynomial → Polynomial → Polynomial → Polynomial → Polynomial
 --     crossed a b c d = a ⊗ d ⊖ b ⊗ c
@@ -30,7 +30,7 @@
 --
 -- What holds under equations is proved by `consequence`: behind the two sides each is listed, as
 -- `given factor p q` for value p ≡ value q, and the checker sees that the difference of the goal's
--- sides is the sum of the differences p ⊖ q times their factors. Their proofs stand in nested pairs,
+-- sides is the sum of the differences p ⊖ q times their factors. Their proofs are in nested pairs,
 -- `(first, (second, tt))`. The factors are yours to find. `ring_from` is the same without names.
 --
 -- How it works: a polynomial in n + 1 unknowns is a list of polynomials in n unknowns, the
@@ -352,27 +352,27 @@ ring_from unknowns p q all hold same = no_difference _ _ (ring unknowns (p ⊖ q
 
 -- ---- the unknowns by names
 
--- what is told of so many polynomials
+-- a function of so many polynomials
 abbrev pub Over : ℕ → Type 0 → Type 0
 Over zero A = A
 Over (suc n) A = Polynomial → Over n A
 
--- told of the unknowns from the i-th on
-abbrev pub told : (A : Type 0) (n i : ℕ) → Over n A → A
-told A zero i it = it
-told A (suc n) i of = told A n (suc i) (of (unknown i))
+-- its value at the unknowns from the i-th on
+abbrev pub at_unknowns : (A : Type 0) (n i : ℕ) → Over n A → A
+at_unknowns A zero i it = it
+at_unknowns A (suc n) i of = at_unknowns A n (suc i) (of (unknown i))
 
 -- the factor 1
 abbrev pub once : Polynomial
 once = constant (pos 1)
 
 -- an identity, of its two sides
-pub identity : (unknowns : List ℤ) (sides : Over (length unknowns) (Polynomial × Polynomial)) → AreSame (length unknowns) (told _ (length unknowns) 0 sides).0 (told _ (length unknowns) 0 sides).1
-    → value unknowns (told _ (length unknowns) 0 sides).0 ≡ value unknowns (told _ (length unknowns) 0 sides).1
+pub identity : (unknowns : List ℤ) (sides : Over (length unknowns) (Polynomial × Polynomial)) → AreSame (length unknowns) (at_unknowns _ (length unknowns) 0 sides).0 (at_unknowns _ (length unknowns) 0 sides).1
+    → value unknowns (at_unknowns _ (length unknowns) 0 sides).0 ≡ value unknowns (at_unknowns _ (length unknowns) 0 sides).1
 identity unknowns sides same = ring unknowns _ _ same
 
 -- an equation, of its two sides and the equations that it follows from
-pub consequence : (unknowns : List ℤ) (claim : Over (length unknowns) (Polynomial × Polynomial × List Given)) → AllHold unknowns (told _ (length unknowns) 0 claim).2
-    → AreSame (length unknowns) ((told _ (length unknowns) 0 claim).0 ⊖ (told _ (length unknowns) 0 claim).1) (combined (told _ (length unknowns) 0 claim).2)
-    → value unknowns (told _ (length unknowns) 0 claim).0 ≡ value unknowns (told _ (length unknowns) 0 claim).1
+pub consequence : (unknowns : List ℤ) (claim : Over (length unknowns) (Polynomial × Polynomial × List Given)) → AllHold unknowns (at_unknowns _ (length unknowns) 0 claim).2
+    → AreSame (length unknowns) ((at_unknowns _ (length unknowns) 0 claim).0 ⊖ (at_unknowns _ (length unknowns) 0 claim).1) (combined (at_unknowns _ (length unknowns) 0 claim).2)
+    → value unknowns (at_unknowns _ (length unknowns) 0 claim).0 ≡ value unknowns (at_unknowns _ (length unknowns) 0 claim).1
 consequence unknowns claim hold same = ring_from unknowns _ _ _ hold same

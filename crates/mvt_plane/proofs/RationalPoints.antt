@@ -1,4 +1,4 @@
--- Rational points on edges: many triples of numbers stand for one point, and an edge is the same from either end
+-- Rational points on edges: many triples of numbers are one point, and an edge is the same from either end
 use Rattle.std.proofs.Common.{◌≡◌, ◌↔◌, ◌⊎◌, inl, inr, [], ◌∷◌, Option, ℤ, pos, ◌-ℤ◌, ◌*ℤ◌, ◌≤ℤ◌, sym, ◌∙◌, ap, arith}
 use Rattle.std.proofs.Math.Decide.{map_dec}
 use Rattle.mvt_plane.specs.CommonPoint.{IsCommon}
@@ -11,7 +11,7 @@ use Rattle.mvt_plane.proofs.Polynomials.{negated, once, ◌⊖◌, ◌⊗◌, id
 
 -- ---- triples of one rational point
 
--- both triples stand for one rational point
+-- both triples are one rational point
 pub record IsSame (point other : RationalPoint) : Type 0 where
   pub x : point.x *ℤ other.w ≡ other.x *ℤ point.w
   pub y : point.y *ℤ other.w ≡ other.y *ℤ point.w
@@ -24,7 +24,7 @@ same_back point other same = record { x = sym same.x; y = sym same.y }
 abbrev pub multiple : ℤ → RationalPoint → RationalPoint
 multiple factor point = record { x = factor *ℤ point.x; y = factor *ℤ point.y; w = factor *ℤ point.w }
 
--- a multiple stands for the same point
+-- a multiple is the same point
 pub same_multiple : (factor : ℤ) (point : RationalPoint) → IsSame point (multiple factor point)
 same_multiple factor point =
     let moved = λ (z : ℤ). identity (factor ∷ z ∷ point.w ∷ []) (λ K Z W. (Z ⊗ (K ⊗ W), (K ⊗ Z) ⊗ W)) tt in

@@ -1,4 +1,5 @@
--- What is so of numbers that are read on: each one that is allowed leads further, and the first that isn't is the fault.
+-- What is so of numbers that are read on: each one that is allowed leads further, and the first that isn't is the
+-- fault.
 use Rattle.std.proofs.Common.{◌≡◌, ◌≢◌, ℕ, zero, suc, ◌+◌, ◌-◌, ◌/◌, ◌%◌, ◌^◌, ◌<◌, ◌≤◌, Bool, true, false, List, [], ◌∷◌, length, get_or, ℤ, pos, negsuc, ◌+ℤ◌, Some, refl, sym, ◌∙◌, ap, subst, arith, add-one}
 use Rattle.std.proofs.lemmas.Int.{ints}
 use Rattle.mvt_plane.proofs.FirstCodes.{other_command_first, other_count_first, greatest_x_first, greatest_y_first, x_outside_first, y_outside_first, no_step_first}
@@ -123,7 +124,7 @@ command_leads geometry_type from numbers index state id fewest most asks leads w
 
 -- Parameters
 
--- all parameters of 32 bits but the greatest stand for a step
+-- all parameters of 32 bits but the greatest encode a step
 parameter_of : (z : ℤ) → zigzag z < greatest_parameter → IsParameter z
 parameter_of (pos k) small = (omega (arith, ints), omega (arith, ints))
 parameter_of (negsuc k) small = (omega (arith, ints), omega (arith, ints))
@@ -150,7 +151,7 @@ stays_inside from n inside leaves =
     let step : unzigzag n ≡ leaves.0 = ap unzigzag (sym leaves.1) ∙ unzigzag-zigzag leaves.0 in
     leaves.2 (subst (λ (d : ℤ). IsCoordinate (from +ℤ d)) step inside)
 
--- where a coordinate is asked for, it is no move
+-- where a coordinate is due, an allowed number is a move
 coordinate_moves : (geometry_type : GeometryType) (state : State) (from : ℤ) (n : ℕ) → AsksCoordinate state from → IsAllowed geometry_type state n → IsMove from n
 coordinate_moves geometry_type _ _ n (of_x leg from) allowed = allowed
 coordinate_moves geometry_type _ _ n (of_y leg from x) allowed = allowed.0
@@ -245,12 +246,6 @@ points_left geometry_type (suc left) some = ap (λ (n : ℕ). step_x (to_point n
 pub line_left : (geometry_type : GeometryType) (from : Position) (count : ℕ) → 1 ≤ count → next geometry_type (line_command from) (command_integer line_to count) ≡ with_left geometry_type true count from
 line_left geometry_type from zero some = absurd (omega arith)
 line_left geometry_type from (suc left) some = ap (λ (n : ℕ). step_x (to_next n) from) (omega arith)
-
--- a line or ring has a further position at least
-pub one_behind : (geometry_type : GeometryType) → 1 ≤ least geometry_type
-one_behind point = omega arith
-one_behind line_string = omega arith
-one_behind polygon = omega arith
 
 -- behind the last position of a line, and of a ring
 pub behind_line : (closed : Bool) (to : Position) → closed ≡ false → behind_path (path_type closed) to ≡ path_command true to

@@ -2,10 +2,12 @@
 use Rattle.std.proofs.Common.{◌≡◌, ◌≢◌, ◌<◌, ℕ, zero, suc, ◌⊎◌, inl, inr, ◌==◌, List, [], ◌∷◌, length, slice_get, Some, refl, sym, ◌∙◌, ap, arith}
 use Rattle.std.proofs.lemmas.Bool.{eq-eqb, ne_eqb, cond-true, cond-false}
 use Rattle.std.proofs.lemmas.Bool.Decides.{nat_tests}
+use Rattle.std.proofs.lemmas.Option.{same_Some}
 use Rattle.mvt_plane.specs.Position.{Position}
 use Rattle.mvt_plane.specs.RationalPoint.{RationalPoint}
 use Rattle.mvt_plane.specs.Ring.{edges_through, edges, next_round}
-use Rattle.mvt_plane.specs.Meeting.{EdgeNumber, IsShared, forward, backward, MeetsWrongly}
+use Rattle.mvt_plane.specs.Meeting.{EdgeNumber, IsEdgeOf, IsShared, forward, backward, MeetsWrongly}
+use Rattle.mvt_plane.specs.Nesting.{IsVertexOf}
 use Rattle.mvt_plane.specs.declared.edge.Edge.{Edge}
 
 -- Numbers
@@ -61,6 +63,20 @@ ends_of_edge [] number edge here = absurd (cc)
 ends_of_edge (first ∷ rest) number edge here =
     let ends = ends_through first first rest number edge here in
     (ends.0, end_in_ring first rest number edge ends.1)
+
+-- Edges and vertices by their numbers
+
+-- a number has one edge
+pub one_edge : (rings : List (List Position)) (number : EdgeNumber) (it other : Edge) → IsEdgeOf rings number it → IsEdgeOf rings number other → it ≡ other
+one_edge rings number it other first second =
+    let ring : first.ring ≡ second.ring = same_Some first.ring second.ring (sym first.there ∙ second.there) in
+    same_Some it other (sym first.here ∙ ap (λ (vertices : List Position). slice_get (edges vertices) number.edge) ring ∙ second.here)
+
+-- a vertex has one position
+pub one_position : (rings : List (List Position)) (ring vertex : ℕ) (one other : Position) → IsVertexOf rings ring vertex one → IsVertexOf rings ring vertex other → one ≡ other
+one_position rings ring vertex one other is_one is_other =
+    let vertices : is_one.vertices ≡ is_other.vertices = same_Some is_one.vertices is_other.vertices (sym is_one.there ∙ is_other.there) in
+    same_Some one other (sym is_one.here ∙ ap (λ (vertices : List Position). slice_get vertices vertex) vertices ∙ is_other.here)
 
 -- Two edges
 

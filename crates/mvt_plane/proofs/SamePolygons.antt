@@ -1,9 +1,10 @@
 -- Polygons of one number, or of one ring, are one polygon.
-use Rattle.std.proofs.Common.{◌≡◌, ℕ, zero, suc, ◌<◌, ◌≤◌, inl, inr, List, refl, sym, ap, ap₂, subst, arith}
+use Rattle.std.proofs.Common.{◌≡◌, ℕ, zero, suc, ◌<◌, ◌≤◌, inl, inr, List, length, refl, sym, ap, ap₂, subst, arith}
 use Rattle.std.proofs.lemmas.Bool.{cases_order}
 use Rattle.mvt_plane.specs.Position.{Position}
 use Rattle.mvt_plane.specs.Polygon.{IsExterior, NoExterior, IsExteriorOf, first, next, PolygonRings, IsPolygon, IsRingOf}
-use Rattle.mvt_plane.proofs.PolygonNumbers.{exterior_within}
+use Rattle.mvt_plane.specs.Ring.{ArePolygonRings}
+use Rattle.mvt_plane.proofs.PolygonNumbers.{exterior_within, polygon_of_ring}
 
 -- numbers of which neither is less are the same
 neither_less : (one other : ℕ) → ¬ (one < other) → ¬ (other < one) → one ≡ other
@@ -23,6 +24,18 @@ same_last rings to one other before_one before_other is_one is_other none_from_o
 pub exterior_of_polygon : (rings : List (List Position)) (polygon exterior : ℕ) → IsExteriorOf rings polygon exterior → IsExterior rings exterior
 exterior_of_polygon rings _ _ (first exterior is_exterior none) = is_exterior
 exterior_of_polygon rings _ _ (next polygon before exterior begins less is_exterior none) = is_exterior
+
+-- so it is one of the rings
+pub polygon_begins_within : (rings : List (List Position)) (polygon exterior : ℕ) → IsExteriorOf rings polygon exterior → exterior < length rings
+polygon_begins_within rings polygon exterior begins = exterior_within rings exterior (exterior_of_polygon rings polygon exterior begins)
+
+-- the first ring, where there is one, is the exterior of the first polygon
+pub first_begins : (rings : List (List Position)) → ArePolygonRings rings → 0 < length rings → IsExteriorOf rings 0 0
+first_begins rings able some =
+    let its = polygon_of_ring rings 0 able some in
+    let from : its.1.exterior ≤ 0 = its.3.from in
+    let same : its.1.exterior ≡ 0 = omega arith in
+    first 0 (subst (IsExterior rings) same (exterior_of_polygon rings its.0 its.1.exterior its.2.begins)) (λ number behind before exterior. omega arith)
 
 -- how an exterior comes to its number
 abbrev Begins : List (List Position) → ℕ → ℕ → Type 0

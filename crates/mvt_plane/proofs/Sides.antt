@@ -1,4 +1,4 @@
--- On which side of a line a position is, told by the sign of a difference.
+-- On which side of a line a position is, by the sign of a difference.
 use Rattle.std.proofs.Common.{◌≡◌, ◌↔◌, Bool, true, false, IsTrue, Option, Some, Ordering, is_eq, ℤ, pos, ◌-ℤ◌, ◌*ℤ◌, ◌<ℤ◌, int_cmp, refl, sym, ◌∙◌, ap₂, arith}
 use Rattle.std.specs.Cmp.{int_cmp_is}
 use Rattle.std.specs.Ordering.{MatchOrdering}

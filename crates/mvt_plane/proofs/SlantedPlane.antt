@@ -1,5 +1,5 @@
--- The plane slanted so that the keys of positions are columns: a position goes to its key and its negated y. Points stay on
--- their edges, and edges that have nothing in common have nothing in common there either.
+-- The plane slanted so that the keys of positions are columns: a position goes to its key and its negated y. Points
+-- stay on their edges, and edges that have nothing in common have nothing in common there either.
 use Rattle.std.proofs.Common.{◌≡◌, ◌^◌, ℕ, List, [], ◌∷◌, map, slice_get, Option, Some, None, option_map, pos, neg_ℤ, ◌+ℤ◌, ◌*ℤ◌, refl, sym, ◌∙◌, ap, subst, arith}
 use Rattle.std.proofs.lemmas.Option.{slice_get-map}
 use borrow.Author.Differences.{product_is}
@@ -11,7 +11,7 @@ use Rattle.mvt_plane.specs.Ring.{edges_through, edges}
 use Rattle.mvt_plane.specs.declared.edge.Edge.{Edge}
 use Rattle.mvt_plane.proofs.Order.{zs}
 use Rattle.mvt_plane.proofs.Polynomials.{constant, negated, once, ◌⊕◌, ◌⊗◌, consequence, given}
-use Rattle.mvt_plane.proofs.Weights.{Weights, weights_of, lies_by_weights}
+use Rattle.mvt_plane.proofs.PointWeights.{Weights, weights_of, lies_by_weights}
 
 -- where a position goes
 abbrev pub slant : Position → Position

@@ -12,8 +12,8 @@ pub record IsAboveRising (position low high : Position) : Type 0 where
   pub rising : key_of low <ℤ key_of high
   pub above : pos 0 <ℤ orientation low high position
 
--- the edge passes below the position: by key just one of its ends comes before the position, and the position is above the
--- edge, as it goes from its end of lesser key on
+-- the edge passes below the position: by key just one of its ends comes before the position, and the position is above
+-- the edge, as it goes from its end of lesser key on
 pub record PassesBelow (position : Position) (edge : Edge) : Type 0 where
   pub parted : Differ (key_of edge.a <ℤ key_of position) (key_of edge.b <ℤ key_of position)
   pub above : IsAboveRising position edge.a edge.b ⊎ IsAboveRising position edge.b edge.a

@@ -1,10 +1,10 @@
--- What keeps numbers from being the spelling of a figure (Mapbox Vector Tile Specification 2.1, section 4.3): where they
--- leave all spellings, and what was due there. Nothing here speaks of a reader.
+-- What keeps numbers from being the spelling of a figure (Mapbox Vector Tile Specification 2.1, section 4.3): where
+-- they leave all spellings, and what was due there. Nothing here speaks of a reader.
 use Rattle.std.specs.Prelude.{◌≡◌, ◌≢◌, ℕ, ◌%◌, ◌<◌, ◌≤◌, List, [], ◌∷◌, ◌++◌, length, map, take, slice_get, Some, ℤ, ◌+ℤ◌, ◌-ℤ◌}
 use Rattle.mvt_plane.specs.Figure.{GeometryType, Figure, points, lines, rings, type_of, zigzag, move_to, line_to, close_path, command_integer, cursor, spelling, HasSpelling, Spells}
 use Rattle.mvt_plane.specs.Position.{Position, origin, IsCoordinate}
 
--- What stands at a place of a spelling
+-- What is at a place of a spelling
 
 -- a command with its id; the x of a step, from a coordinate; the y of a step of this command, from a coordinate, behind
 -- this x
@@ -70,7 +70,7 @@ pub record IsDue (geometry_type : GeometryType) (numbers : List ℕ) (part : Par
 
 -- What is wrong with a number where no spelling goes on with it, by what is due there
 
--- the greatest parameter, which stands for -2^31 (section 4.3.2)
+-- the greatest parameter, which encodes -2^31 (section 4.3.2)
 abbrev pub greatest_parameter : ℕ
 greatest_parameter = 4294967295
 
@@ -98,13 +98,13 @@ pub data IsCause (geometry_type : GeometryType) (numbers : List ℕ) (index code
   -- no spelling goes on there
   nothing_due : index < length numbers → ((part : Part) → ¬ IsDue geometry_type (take index numbers) part) → code ≡ 401
       → IsCause geometry_type numbers index code
-  -- another number stands there than what is due
+  -- another number is there than what is due
   due : (part : Part) (number : ℕ) → slice_get numbers index ≡ Some number → IsDue geometry_type (take index numbers) part
       → Applies part number code → ((other : ℕ) → Applies part number other → code ≤ other)
       → IsCause geometry_type numbers index code
 
--- The numbers are no spelling of a figure of the geometry type: they follow one up to an index and no further, and there
--- the code says what is wrong
+-- The numbers are no spelling of a figure of the geometry type: they follow one up to an index and no further, and
+-- there the code says what is wrong
 pub record HasCommandFault (geometry_type : GeometryType) (numbers : List ℕ) (code index : ℕ) : Type 0 where
   pub unspelled : (figure : Figure) → ¬ Spells geometry_type figure numbers
   pub within : index ≤ length numbers

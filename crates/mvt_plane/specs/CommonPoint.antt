@@ -22,8 +22,8 @@ pub record NoEndIsCommon (shared : Option Position) (first second : Edge) : Type
   pub second_a : ¬ IsCommon shared first second (whole second.a)
   pub second_b : ¬ IsCommon shared first second (whole second.b)
 
--- The one common point that is named, if there is any: the first of the edges' ends that is one; else the crossing of the
--- edges, with the size of the cross product for its w
+-- The one common point that is named, if there is any: the first of the edges' ends that is one; else the crossing of
+-- the edges, with the size of the cross product for its w
 pub data IsNamed (shared : Option Position) (first second : Edge) (answer : Option RationalPoint) : Type 0 where
   none : answer ≡ None → ((point : RationalPoint) → ¬ IsCommon shared first second point) → IsNamed shared first second answer
   first_a : answer ≡ Some (whole first.a) → IsCommon shared first second (whole first.a) → IsNamed shared first second answer

@@ -6,21 +6,22 @@ use Rattle.mvt_plane.specs.Position.{Position, origin, IsCoordinate, IsPosition}
 use Rattle.mvt_plane.specs.Figure.{GeometryType, point, line_string, polygon, move_to, line_to, close_path, command_integer, IsParameter, IsCount}
 use Rattle.mvt_plane.specs.CommandFault.{Part, command, x_of_step, y_of_step, Word, Applies}
 
--- the signed number that a parameter stands for
+-- the signed number that a parameter encodes
 abbrev pub unzigzag : ℕ → ℤ
 unzigzag n = cond (n % 2 == 0) (pos (n / 2)) (negsuc (n / 2))
 
 -- States
 
--- a step that is due: to one of a list of points, with so many to go behind it; to the first position of a line or ring;
--- to a further one, with so many to go behind it
+-- a step that is due: to one of a list of points, with so many to go behind it; to the first position of a line or
+-- ring; to a further one, with so many to go behind it
 pub data Leg : Type 0 where
   to_point : (left : ℕ) → Leg
   to_first : Leg
   to_next : (left : ℕ) → Leg
 
 -- what is due, and the position of the cursor: the MoveTo of points; the MoveTo of a line or ring, where one is drawn
--- already or none; its LineTo; its ClosePath; the x of a step; the y of a step, behind this x; nothing, behind all points
+-- already or none; its LineTo; its ClosePath; the x of a step; the y of a step, behind this x; nothing, behind all
+-- points
 pub data State : Type 0 where
   points_command : State
   path_command : (drawn : Bool) (from : Position) → State
@@ -166,8 +167,8 @@ pub data IsBlamed (state : State) (n code : ℕ) : Type 0 where
   not_due : due state ≡ None → code ≡ 401 → IsBlamed state n code
   not_allowed : (part : Part) → due state ≡ Some part → IsFirst part n code → IsBlamed state n code
 
--- From a state on, the first number that isn't allowed is at this index, and the code is to blame for it; or the numbers
--- end at this index where they may not
+-- From a state on, the first number that isn't allowed is at this index, and the code is to blame for it; or the
+-- numbers end at this index where they may not
 abbrev pub FaultFrom : GeometryType → State → List ℕ → ℕ → ℕ → Type 0
 FaultFrom geometry_type state [] code index = (MayEnd state → ⊥) × (code ≡ 403) × (index ≡ 0)
 FaultFrom geometry_type state (n ∷ rest) code zero = (IsAllowed geometry_type state n → ⊥) × IsBlamed state n code

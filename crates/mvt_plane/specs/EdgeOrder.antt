@@ -1,6 +1,6 @@
--- The order of edges along a line that goes over the plane. All positions of one key, with rational ones, are such a line:
--- the key is 2^32 times x, plus y. Coordinates are from -2^30 to 2^30, so no edge lies along one of these lines, and an edge
--- meets a line in one point at most.
+-- The order of edges along a line that goes over the plane. All positions of one key, with rational ones, are such a
+-- line: the key is 2^32 times x, plus y. Coordinates are from -2^30 to 2^30, so no edge lies along one of these lines,
+-- and an edge meets a line in one point at most.
 use Rattle.std.specs.Prelude.{◌≡◌, ◌^◌, ◌⊎◌, cond, ℤ, pos, ◌+ℤ◌, ◌-ℤ◌, ◌*ℤ◌, ◌<ℤ◌, ◌≤ℤ◌, Option, Some}
 use Rattle.std.specs.Int.Signed.{lt_z}
 use Rattle.mvt_plane.specs.Measure.{key_of}
@@ -35,7 +35,7 @@ IsRising edge_segment = key_of edge_segment.low <ℤ key_of edge_segment.high
 abbrev pub IsEndOf : Position → Segment → Type 0
 IsEndOf position edge_segment = (position ≡ edge_segment.low) ⊎ (position ≡ edge_segment.high)
 
--- Where they are at a key. A key is a fraction: t stands for t / w.
+-- Where they are at a key. A key is a fraction: t means t / w.
 
 -- the key of a rational point, times its w
 abbrev pub key_at : RationalPoint → ℤ

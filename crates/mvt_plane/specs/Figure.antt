@@ -108,8 +108,8 @@ abbrev pub ArePaths : ℕ → Position → List (List Position) → Type 0
 ArePaths least from [] = Unit {0}
 ArePaths least from (part ∷ rest) = IsPath least from part × ArePaths least (cursor from part) rest
 
--- The figure has a spelling: it has points, lines or rings; a line has two positions or more, a ring three; all positions
--- are in range, and all steps and counts fit
+-- The figure has a spelling: it has points, lines or rings; a line has two positions or more, a ring three; all
+-- positions are in range, and all steps and counts fit
 abbrev pub HasSpelling : Figure → Type 0
 HasSpelling (points positions) = AreSteps origin positions × (1 ≤ length positions) × IsCount (length positions)
 HasSpelling (lines parts) = ArePaths 1 origin parts × (1 ≤ length parts)

@@ -1,5 +1,5 @@
--- Which positions are inside a ring, by the parity of the edges that pass over them (Mapbox Vector Tile Specification 2.1,
--- section 4.3.4.4).
+-- Which positions are inside a ring, by the parity of the edges that pass over them (Mapbox Vector Tile Specification
+-- 2.1, section 4.3.4.4).
 use Rattle.std.specs.Prelude.{◌≡◌, ◌⊎◌, List, [], ◌∷◌, ◌*ℤ◌, ◌≤ℤ◌, ◌<ℤ◌}
 use Rattle.mvt_plane.specs.Position.{Position}
 use Rattle.mvt_plane.specs.RationalPoint.{RationalPoint, LiesOn}
@@ -10,8 +10,8 @@ use Rattle.mvt_plane.specs.declared.edge.Edge.{Edge}
 abbrev pub Differ : Type 0 → Type 0 → Type 0
 Differ First Second = (First × ¬ Second) ⊎ (¬ First × Second)
 
--- the edge passes over the position: just one of its ends is at the position's x or on the side of lesser ones, and a point
--- of the edge has the position's x and a greater y
+-- the edge passes over the position: just one of its ends is at the position's x or on the side of lesser ones, and a
+-- point of the edge has the position's x and a greater y
 pub record PassesOver (position : Position) (edge : Edge) : Type 0 where
   pub parted : Differ (edge.a.x ≤ℤ position.x) (edge.b.x ≤ℤ position.x)
   pub point : RationalPoint

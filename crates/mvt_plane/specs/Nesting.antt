@@ -1,5 +1,5 @@
--- Holes that aren't where they should be: each vertex of a hole is inside the exterior of its polygon, and inside no other
--- hole of it (Mapbox Vector Tile Specification 2.1, section 4.3.4.4).
+-- Holes that aren't where they should be: each vertex of a hole is inside the exterior of its polygon, and inside no
+-- other hole of it (Mapbox Vector Tile Specification 2.1, section 4.3.4.4).
 use Rattle.std.specs.Prelude.{◌≡◌, ◌≢◌, ℕ, List, slice_get, Some}
 use Rattle.mvt_plane.specs.Inside.{IsInside}
 use Rattle.mvt_plane.specs.Polygon.{PolygonRings, IsHoleOf}

@@ -1,5 +1,5 @@
--- The polygons that the rings of a feature are (Mapbox Vector Tile Specification 2.1, section 4.3.4.4). They are told apart
--- only where the rings have no fault of their own (`ArePolygonRings`).
+-- The polygons that the rings of a feature are (Mapbox Vector Tile Specification 2.1, section 4.3.4.4). They are
+-- distinguished only where the rings have no fault of their own (`ArePolygonRings`).
 use Rattle.std.specs.Prelude.{◌≡◌, ℕ, zero, suc, ◌<◌, ◌≤◌, ◌⊎◌, List, length, slice_get, Some, pos, ◌<ℤ◌}
 use Rattle.mvt_plane.specs.Position.{Position}
 use Rattle.mvt_plane.specs.Ring.{doubled_area}
@@ -20,7 +20,8 @@ pub data IsExteriorOf (rings : List (List Position)) : ℕ → ℕ → Type 0 wh
   next : (polygon before exterior : ℕ) → IsExteriorOf rings polygon before → before < exterior → IsExterior rings exterior
       → NoExterior rings (suc before) exterior → IsExteriorOf rings (suc polygon) exterior
 
--- the rings of a polygon by their numbers in the feature: its exterior, and its holes up to the ring behind the last one
+-- the rings of a polygon by their numbers in the feature: its exterior, and its holes up to the ring behind the last
+-- one
 pub record PolygonRings : Type 0 where
   pub exterior : ℕ
   pub after : ℕ

@@ -1,4 +1,5 @@
--- Rational points of the plane, and which of them lie on an edge (Mapbox Vector Tile Specification 2.1, section 4.3.4.4).
+-- Rational points of the plane, and which of them lie on an edge (Mapbox Vector Tile Specification 2.1, section
+-- 4.3.4.4).
 use Rattle.std.specs.Prelude.{◌≡◌, ◌^◌, ◌⊎◌, ℤ, pos, neg_ℤ, ◌-ℤ◌, ◌*ℤ◌, ◌≤ℤ◌}
 use Rattle.mvt_plane.specs.Position.{Position}
 use Rattle.mvt_plane.specs.declared.edge.Edge.{Edge}

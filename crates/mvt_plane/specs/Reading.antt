@@ -1,4 +1,4 @@
--- How the numbers of a geometry are read: how far they are allowed, what is asked of the next ones, and where these lead
+-- How the numbers of a geometry are read: how far they are allowed, what the next ones must be, and where these lead
 -- (Mapbox Vector Tile Specification 2.1, section 4.3).
 use Rattle.std.specs.Prelude.{◌≡◌, ℕ, zero, suc, ◌-◌, ◌^◌, Bool, true, false, List, [], ◌∷◌, ℤ}
 use Rattle.mvt_plane.specs.Drawing.{Leg, to_point, to_first, to_next, State, points_command, path_command, line_command, close_command, step_x, step_y, all_drawn, start, least, IsAllowed, next, behind_path, Passes, state_behind, MayEnd, FaultFrom}
@@ -21,11 +21,12 @@ StandsAt geometry_type numbers index state = Leads geometry_type (start geometry
 abbrev pub IsWhole : GeometryType → List ℕ → Type 0
 IsWhole geometry_type numbers = Passes geometry_type (start geometry_type) numbers × MayEnd (state_behind geometry_type (start geometry_type) numbers)
 
--- at this index is the first number that isn't allowed, or they end there where they may not; the code is to blame for it
+-- at this index is the first number that isn't allowed, or they end there where they may not; the code is to blame for
+-- it
 abbrev pub IsFaulty : GeometryType → List ℕ → ℕ → ℕ → Type 0
 IsFaulty geometry_type numbers code index = FaultFrom geometry_type (start geometry_type) numbers code index
 
--- What is asked of the next number
+-- What the next number must be
 
 -- the greatest count of a command (section 4.3.1)
 abbrev pub greatest_count : ℕ

@@ -1,5 +1,5 @@
--- Rings, their edges and their area, and what keeps the rings of a feature from being those of polygons (Mapbox Vector Tile
--- Specification 2.1, section 4.3.4.4).
+-- Rings, their edges and their area, and what keeps the rings of a feature from being those of polygons (Mapbox Vector
+-- Tile Specification 2.1, section 4.3.4.4).
 use Rattle.std.specs.Prelude.{◌≡◌, ℕ, suc, ◌-◌, ◌==◌, cond, List, [], ◌∷◌, length, slice_get, Some, ℤ, pos, ◌+ℤ◌, ◌-ℤ◌, ◌*ℤ◌, ◌<ℤ◌}
 use Rattle.mvt_plane.specs.Position.{Position}
 use Rattle.mvt_plane.specs.declared.edge.Edge.{Edge}

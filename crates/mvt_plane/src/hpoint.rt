@@ -1,6 +1,6 @@
 use std::marker::Model;
 
-/// A rational point in homogeneous coordinates: it stands for (x / w, y / w). `w` is from 1 to 2^63, and
+/// A rational point in homogeneous coordinates: it is (x / w, y / w). `w` is from 1 to 2^63, and
 /// `x` and `y` are from -2^93 to 2^93, which is room enough for the crossing of any two edges.
 #[derive(Clone, Copy, Debug, PartialEq, Eq)]
 pub struct Hpoint {

@@ -59,7 +59,7 @@ pub fn drawing_tells()
         IsSound (state_behind geometry_type (start geometry_type) numbers) }
 {}
 
-/// A parameter and the number that it stands for determine each other.
+/// A parameter and the number that it encodes determine each other.
 pub fn zigzag_and_back()
     ensures there { (number : ℕ) → zigzag (unzigzag number) ≡ number }
     ensures back { (step : ℤ) → unzigzag (zigzag step) ≡ step }

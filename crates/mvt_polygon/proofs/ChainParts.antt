@@ -49,7 +49,7 @@ has_place (first ∷ rest) (suc at) within = inr (has_place rest at (omega arith
 
 -- Places
 
--- what stands in a list that is one longer
+-- what is in a list that is one longer
 pub in_longer : {X : Type 0} (xs : List X) (y : X) (i : ℕ) (z : X) → slice_get (xs ++ y ∷ []) i ≡ Some z → (slice_get xs i ≡ Some z) ⊎ ((i ≡ length xs) × (y ≡ z))
 in_longer [] y zero z here = inr (refl, same_Some y z here)
 in_longer [] y (suc i) z here = absurd (none-some z here)
@@ -142,7 +142,7 @@ ordered_map R Q (first ∷ rest) each ordered = (
   ordered_map R Q rest (λ one other is_one is_other. each one other (inr is_one) (inr is_other)) ordered.1,
 )
 
--- a chain of two that stand together in both
+-- a chain of two that are neighbours in both
 pub chain_both : (R Q : ℕ → ℕ → Type 0) (xs : List ℕ) → Chain R xs → Chain Q xs → Chain (λ (one other : ℕ). R one other × Q one other) xs
 chain_both R Q [] one other = tt
 chain_both R Q (first ∷ []) one other = (tt, tt)
@@ -154,7 +154,7 @@ chain_both R Q (first ∷ next ∷ rest) one other = ((one.0, other.0), chain_bo
 pub take_drop : (xs : List ℕ) (at : ℕ) → xs ≡ take at xs ++ drop at xs
 take_drop xs at = sym (take-append-drop at xs)
 
--- what is put in at the place stands between them
+-- what is put in at the place is between them
 pub insert_between : (xs : List ℕ) (at it : ℕ) → at ≤ length xs → insert xs at it ≡ take at xs ++ it ∷ drop at xs
 insert_between xs at it within = refl
 

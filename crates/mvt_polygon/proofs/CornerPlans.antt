@@ -1,4 +1,4 @@
--- The corners of rings as a plan of a sweep, and what the sweep tells of them as told of the rings.
+-- The corners of rings as a plan of a sweep, and what follows for the rings from what the sweep finds of the corners.
 use Rattle.std.proofs.Common.{◌≡◌, ◌≢◌, ℕ, ◌+◌, ◌<◌, ◌⊎◌, ◌==◌, inl, inr, List, length, take, slice_get, Option, Some, None, IfNone, refl, sym, ◌∙◌, ap, ap₂, subst, arith}
 use Rattle.std.proofs.lemmas.Bool.{cases_order, cond-true, cond-false, eq-eqb, ne_eqb}
 use Rattle.std.proofs.lemmas.Option.{same_Some, none-some, get_or_from_slice_get}
@@ -11,8 +11,9 @@ use Rattle.mvt_plane.specs.Ring.{next_round}
 use Rattle.mvt_plane.specs.declared.edge.Edge.{Edge}
 use Rattle.mvt_plane.proofs.CommonPoints.{only_at_the_shared_vertex}
 use Rattle.mvt_plane.proofs.RationalPoints.{lies_on_reversed, begin_lies_on}
+use Rattle.mvt_plane.proofs.RingEdges.{one_edge}
 use Rattle.mvt_polygon.specs.CornerOrder.{AreTogether}
-use Rattle.mvt_polygon.specs.Corners.{AreCorners, AreLinked, AreInRange, IsNumbered, IsTold, position_at, edge_at, next_at, plan_of, previous_at, shared_at, vertex_count, IsMeetingAt, NoneWrong}
+use Rattle.mvt_polygon.specs.Corners.{AreCorners, AreLinked, AreInRange, IsNumbered, IsNamedMeeting, position_at, edge_at, next_at, plan_of, previous_at, shared_at, vertex_count, IsMeetingAt, NoneWrong}
 use Rattle.mvt_polygon.specs.Meeting.{IsMeetingOf, first_of, second_of}
 use Rattle.mvt_polygon.specs.Rings.{AreProperRings}
 use Rattle.mvt_polygon.specs.Sweep.{IsPlan, Tested}
@@ -20,7 +21,7 @@ use Rattle.mvt_polygon.specs.declared.meeting.Meeting.{Meeting}
 use Rattle.mvt_polygon.specs.declared.sweep.corners.Corner.{Corner}
 use Rattle.mvt_polygon.specs.declared.sweep.corners.Pair.{Pair}
 use Rattle.mvt_polygon.proofs.CornerNumbers.{IsVertex, corner_there, vertex_at, numbered_within, one_place, in_order, next_within, previous_within, previous_round, next_previous, previous_next, next_but_one}
-use Rattle.mvt_polygon.proofs.EdgeNumbers.{edge_read, one_edge, within_ring}
+use Rattle.mvt_polygon.proofs.EdgeNumbers.{edge_read, within_ring}
 use Rattle.mvt_polygon.proofs.SegmentEnds.{up, down, between_them, rising_between, end_first, end_second}
 use Rattle.mvt_polygon.proofs.PairMeetings.{AreSharing, meeting_by_name}
 use Rattle.mvt_polygon.proofs.SharedVertices.{follows_next, only_shared, none_in_two_rings, none_apart, none_is_shared}
@@ -227,13 +228,13 @@ tested_either_way corners first second linked within inside tested point on_seco
     let it = tested point on_first on_second in
     (it.0, sym (shared_alike corners first second linked within inside) ∙ it.1, it.2)
 
--- so it tells of both ways
+-- so it holds both ways
 pub tested_both_ways : (corners : List Corner) (first second : ℕ) (answer : Option Pair) → AreLinked corners → first < length corners → second < length corners
     → IfNone answer (Tested (plan_of corners) first second) → IfNone answer (Tested (plan_of corners) first second × Tested (plan_of corners) second first)
 tested_both_ways corners first second None linked within inside tested = (tested, tested_either_way corners first second linked within inside tested)
 tested_both_ways corners first second (Some pair) linked within inside tested = tt
 
--- the same, told the other way round
+-- the same, the other way round
 pub tested_back_and_forth : (corners : List Corner) (first second : ℕ) (answer : Option Pair) → AreLinked corners → first < length corners → second < length corners
     → IfNone answer (Tested (plan_of corners) second first) → IfNone answer (Tested (plan_of corners) first second × Tested (plan_of corners) second first)
 tested_back_and_forth corners first second None linked within inside tested = (tested_either_way corners second first linked inside within tested, tested)
@@ -319,15 +320,15 @@ sharing rings corners first second one other proper are is its = either (shared_
 -- a meeting of corners is one of the rings
 pub meeting_of_rings : (rings : List (List Position)) (corners : List Corner) (pair : Pair) (meeting : Meeting) → AreProperRings rings → AreCorners rings corners
     → IsMeetingAt corners pair
-    → IsTold rings pair meeting → IsMeetingOf rings meeting
-meeting_of_rings rings corners pair meeting proper are is told =
+    → IsNamedMeeting rings pair meeting → IsMeetingOf rings meeting
+meeting_of_rings rings corners pair meeting proper are is named =
     let one = edge_at corners pair.first in
     let other = edge_at corners pair.second in
     let shared = shared_at corners pair.first pair.second in
-    meeting_by_name rings meeting one other shared (in_order rings pair.first pair.second (first_of meeting) (second_of meeting) told.first told.second is.in_order)
-    (edge_of_corner rings corners pair.first (first_of meeting) proper are told.first) (edge_of_corner rings corners pair.second (second_of meeting) proper are told.second)
-    (sharing rings corners pair.first pair.second (first_of meeting) (second_of meeting) proper are told.first told.second)
-    (subst (λ (point : RationalPoint). IsNamed shared one other (Some point)) (sym told.point) is.named) (subst IsBounded (sym told.point) is.bounded)
+    meeting_by_name rings meeting one other shared (in_order rings pair.first pair.second (first_of meeting) (second_of meeting) named.first named.second is.in_order)
+    (edge_of_corner rings corners pair.first (first_of meeting) proper are named.first) (edge_of_corner rings corners pair.second (second_of meeting) proper are named.second)
+    (sharing rings corners pair.first pair.second (first_of meeting) (second_of meeting) proper are named.first named.second)
+    (subst (λ (point : RationalPoint). IsNamed shared one other (Some point)) (sym named.point) is.named) (subst IsBounded (sym named.point) is.bounded)
 
 -- an edge of rings begins in a corner
 pub record HasCorner (rings : List (List Position)) (corners : List Corner) (number : EdgeNumber) (it : Edge) : Type 0 where

@@ -79,7 +79,7 @@ both_begin corners number linked within comes goes = record {
   second_begins = ap (λ (it : Segment). it.low) (rises_between (here_of corners number) (behind_of corners number) goes);
 }
 
--- the next corner is that of its edges told the other way round
+-- the next corner is that of its edges in the other order
 pub next_back : (corners : List Corner) (number first second : ℕ) (edges : List ℕ) → AreLinked corners → AreInRange corners → IsNextCorner corners number first second edges
     → IsNextCorner corners number second first edges
 next_back corners number first second edges linked in_range next = record {

@@ -1,38 +1,23 @@
 -- Edges by their numbers: which edge a number has.
-use Rattle.std.proofs.Common.{◌≡◌, ◌≢◌, ◌<◌, ℕ, inl, inr, List, length, get_or, slice_get, Some, option_map, Vec, refl, sym, ◌∙◌, ap, ap₂, subst, arith}
-use Rattle.std.specs.declared.alloc.Global.{Global}
-use Rattle.std.proofs.lemmas.Option.{same_Some, slice_get_within, slice_get-get_or, slice_get_read, slice_get-map}
+use Rattle.std.proofs.Common.{◌≡◌, ◌≢◌, ◌<◌, ℕ, inl, inr, List, length, get_or, slice_get, Some, refl, sym, ◌∙◌, ap, ap₂, subst, arith}
+use Rattle.std.proofs.lemmas.Option.{same_Some, slice_get_within, slice_get-get_or, slice_get_read}
 use Rattle.mvt_plane.specs.Meeting.{EdgeNumber, ComesBefore, IsEdgeOf}
 use Rattle.mvt_plane.specs.Position.{Position}
 use Rattle.mvt_plane.specs.Ring.{edges, next_round}
 use Rattle.mvt_plane.specs.declared.edge.Edge.{Edge}
 use Rattle.mvt_plane.proofs.RingEdges.{count_of_edges, ends_of_edge}
-use Rattle.mvt_polygon.specs.Rings.{rings_of}
 
 -- an edge doesn't come before itself
 pub before_apart : (first second : EdgeNumber) → ComesBefore first second → first ≢ second
 before_apart first second (inl ring) same = let rings = ap (λ (it : EdgeNumber). it.ring) same in omega arith
 before_apart first second (inr edge) same = let edges = ap (λ (it : EdgeNumber). it.edge) same in omega arith
 
--- a number has one edge
-pub one_edge : (rings : List (List Position)) (number : EdgeNumber) (it other : Edge) → IsEdgeOf rings number it → IsEdgeOf rings number other → it ≡ other
-one_edge rings number it other is its =
-    let same : its.ring ≡ is.ring = cc in
-    let moved : slice_get (edges is.ring) number.edge ≡ Some other = subst (λ (ring : List Position). slice_get (edges ring) number.edge ≡ Some other) same its.here in
-    cc
-
--- its own number is below that of the ring's vertices
+-- an edge's own number is below that of the ring's vertices
 pub within_ring : (rings : List (List Position)) (number : EdgeNumber) (it : Edge) (ring : List Position) → IsEdgeOf rings number it → slice_get rings number.ring ≡ Some ring → number.edge < length ring
 within_ring rings number it ring is there =
     let same : is.ring ≡ ring = cc in
     let moved : slice_get (edges ring) number.edge ≡ Some it = subst (λ (its : List Position). slice_get (edges its) number.edge ≡ Some it) same is.here in
     subst (λ (count : ℕ). number.edge < count) (count_of_edges ring) (slice_get_within (edges ring) number.edge it moved)
-
--- the ring of a number, as it is read
-pub ring_read : (rings : List (Vec Position Global)) (number : ℕ) (vertices : Vec Position Global) → number < length rings → vertices ≡ get_or rings number vertices → slice_get (rings_of rings) number ≡ Some vertices.items
-ring_read rings number vertices within is =
-    slice_get-map (λ (ring : Vec Position Global). ring.items) rings number
-    ∙ ap (option_map (λ (ring : Vec Position Global). ring.items)) (slice_get_read rings (length rings) number vertices refl within is)
 
 -- the edge between the vertices of a number and the next one
 pub edge_read : (ring : List Position) (number next : ℕ) (a b : Position) → number < length ring → next ≡ next_round (length ring) number → next < length ring

@@ -48,7 +48,7 @@ passing_by_below vertex one other order below = by_parts below.parted below.abov
       under = its.above;
     }
 
--- so it is with an edge whose ends are told in either order
+-- so it is with an edge whose ends are in either order
 below_between : (vertex one other : Position) → IsPassing vertex (segment_between one other) → PassesBelow vertex (record { a = one; b = other })
 below_between vertex one other it =
     elim (between_them one other) [

@@ -1,12 +1,13 @@
--- The parity of numbers that meet a test: of a list of them, of those in a row, and of the edges of rings that have them.
+-- The parity of numbers that meet a test: of a list of them, of those in a row, and of the edges of rings that have
+-- them.
 use Rattle.std.proofs.Common.{◌≡◌, ◌≢◌, ℕ, zero, suc, ◌+◌, ◌<◌, ◌≤◌, ◌==◌, ◌⊎◌, inl, inr, Bool, true, false, not, List, [], ◌∷◌, length, slice_get, Some, take, refl, sym, ◌∙◌, ap, ap₂, arith}
 use Rattle.std.proofs.lemmas.Bool.{cases_order, eq-eqb, ne_eqb}
 use Rattle.mvt_plane.specs.Meeting.{EdgeNumber, IsEdgeOf}
 use Rattle.mvt_plane.specs.Position.{Position}
 use Rattle.mvt_plane.specs.Ring.{edges}
 use Rattle.mvt_plane.specs.declared.edge.Edge.{Edge}
-use Rattle.mvt_plane.proofs.EdgeParity.{odd}
-use Rattle.mvt_plane.proofs.InsideParity.{apart, apart_assoc, no_truth}
+use Rattle.mvt_plane.proofs.EdgeParity.{middle_swapped, odd}
+use Rattle.mvt_plane.proofs.InsideParity.{apart, apart_assoc, false_apart, no_truth}
 use Rattle.mvt_plane.proofs.RingEdges.{count_of_edges}
 use Rattle.mvt_polygon.specs.Chain.{Has, Each, Ordered}
 use Rattle.mvt_polygon.specs.Corners.{vertex_count}
@@ -16,28 +17,10 @@ use Rattle.mvt_polygon.proofs.CornerNumbers.{count_cons, count_take}
 
 -- Tests that differ
 
--- a test differs from one that fails where it holds itself
-false_apart : (x : Bool) → apart false x ≡ x
-false_apart true = refl
-false_apart false = refl
-
--- and from one that holds where it fails
+-- a test differs from one that holds where it fails
 true_apart : (x : Bool) → apart true x ≡ not x
 true_apart true = refl
 true_apart false = refl
-
--- of four tests the middle ones may change places
-swapped : (x y z t : Bool) → apart (apart x y) (apart z t) ≡ apart (apart x z) (apart y t)
-swapped x y z t =
-    apart_assoc x y (apart z t)
-    ∙ ap (apart x) (sym (apart_assoc y z t) ∙ ap (λ (it : Bool). apart it t) (turned y z) ∙ apart_assoc z y t)
-    ∙ sym (apart_assoc x z (apart y t))
-  where
-    turned : (y z : Bool) → apart y z ≡ apart z y
-    turned true true = refl
-    turned true false = refl
-    turned false true = refl
-    turned false false = refl
 
 -- Numbers in a row
 
@@ -59,7 +42,7 @@ pub odd_apart : (meets others : ℕ → Bool) (from many : ℕ)
 odd_apart meets others from zero = refl
 odd_apart meets others from (suc many) =
     ap (apart (apart (meets from) (others from))) (odd_apart meets others (suc from) many)
-    ∙ swapped (meets from) (others from) (odd_from meets (suc from) many) (odd_from others (suc from) many)
+    ∙ middle_swapped (meets from) (others from) (odd_from meets (suc from) many) (odd_from others (suc from) many)
 
 -- of none, if none meets the test
 pub odd_of_none : (from many : ℕ) → odd_from (λ (number : ℕ). false) from many ≡ false

@@ -1,4 +1,4 @@
--- What the edges that pass below a position, by the numbers of their corners, tell of the rings.
+-- What follows for the rings from the edges that pass below a position, by the numbers of their corners.
 use Rattle.std.proofs.Common.{◌≡◌, ℕ, suc, ◌+◌, ◌-◌, ◌<◌, ◌⊎◌, inl, inr, ◌↔◌, Bool, true, false, IsTrue, List, [], ◌∷◌, length, take, slice_index, pos, refl, sym, ◌∙◌, ap, subst, arith}
 use Rattle.std.proofs.lemmas.Option.{same_Some, slice_get_within}
 use Rattle.mvt_plane.specs.Below.{IsNotAbove, PassesBelow}
@@ -117,7 +117,7 @@ same_tests true false there back = absurd (no_truth (there refl))
 same_tests false true there back = absurd (no_truth (back refl))
 same_tests false false there back = refl
 
--- where the test tells which edges pass below the position, its parity tells whether an odd number of all do
+-- where the test says which edges pass below the position, its parity says whether an odd number of all do
 all_tell : (position : Position) (tells : Edge → Bool) → ((edge : Edge) → IsTrue (tells edge) ↔ PassesBelow position edge) → (rings : List (List Position))
     → IsTrue (odd_of_all tells rings) ↔ HaveOddBelow position rings
 all_tell position tells each [] = (no_truth, λ impossible. absurd impossible)

@@ -1,10 +1,10 @@
--- The work of a sweep, step by step, and what it finds, told of the rings.
+-- The work of a sweep, step by step, and what follows for the rings from what it finds.
 use Rattle.std.proofs.Common.{◌≡◌, ℕ, ◌+◌, ◌*◌, ◌<◌, ◌≤◌, List, Option, Some, None, IfNone, IfSome, subst, arith}
 use Rattle.std.proofs.Math.Nat.{mul-le-mul_right}
 use Rattle.mvt_plane.specs.Counted.{Counted}
 use Rattle.mvt_plane.specs.Position.{Position}
 use Rattle.mvt_polygon.specs.CornerOrder.{AddsWork, AreTogether}
-use Rattle.mvt_polygon.specs.Corners.{AreCorners, AreLinked, IsMeetingAt, IsTold, plan_of, vertex_count}
+use Rattle.mvt_polygon.specs.Corners.{AreCorners, AreLinked, IsMeetingAt, IsNamedMeeting, plan_of, vertex_count}
 use Rattle.mvt_polygon.specs.Meeting.{IsMeetingOf}
 use Rattle.mvt_polygon.specs.Rings.{AreProperRings}
 use Rattle.mvt_polygon.specs.Sweep.{Tested}
@@ -41,21 +41,21 @@ pub second_within : (rings : List (List Position)) (corners : List Corner) (foun
 second_within rings corners None are is = is
 second_within rings corners (Some pair) are is = omega (arith, are.count, is.known)
 
--- the meeting that is told is that of two edges
-abbrev pub IsToldOf : List (List Position) → Option Pair → Meeting → Type 0
-IsToldOf rings found meeting = (pair : Pair) × (found ≡ Some pair) × IsTold rings pair meeting
+-- the meeting that is returned is that of the two edges found
+abbrev pub IsNamedMeetingOf : List (List Position) → Option Pair → Meeting → Type 0
+IsNamedMeetingOf rings found meeting = (pair : Pair) × (found ≡ Some pair) × IsNamedMeeting rings pair meeting
 
 -- a meeting of corners' edges is one of the rings
-pub some_told : (rings : List (List Position)) (corners : List Corner) (found : Option Pair) (result : Option Meeting) → AreProperRings rings → AreCorners rings corners
-    → IfSome found (IsMeetingAt corners) → IfSome result (IsToldOf rings found) → IfSome result (IsMeetingOf rings)
-some_told rings corners found None proper are is told = told
-some_told rings corners found (Some meeting) proper are is (pair, same, told) =
-    meeting_of_rings rings corners pair meeting proper are (subst (λ (it : Option Pair). IfSome it (IsMeetingAt corners)) same is) told
+pub some_named : (rings : List (List Position)) (corners : List Corner) (found : Option Pair) (result : Option Meeting) → AreProperRings rings → AreCorners rings corners
+    → IfSome found (IsMeetingAt corners) → IfSome result (IsNamedMeetingOf rings found) → IfSome result (IsMeetingOf rings)
+some_named rings corners found None proper are is named = named
+some_named rings corners found (Some meeting) proper are is (pair, same, named) =
+    meeting_of_rings rings corners pair meeting proper are (subst (λ (it : Option Pair). IfSome it (IsMeetingAt corners)) same is) named
 
--- where none is told, none was found
-pub none_told : (found : Option Pair) (result : Option Meeting) (P : Type 0) → IfNone result (found ≡ None) → IfNone found P → IfNone result P
-none_told found None P same is = subst (λ (it : Option Pair). IfNone it P) same is
-none_told found (Some meeting) P same is = same
+-- where none is returned, none was found
+pub none_named : (found : Option Pair) (result : Option Meeting) (P : Type 0) → IfNone result (found ≡ None) → IfNone found P → IfNone result P
+none_named found None P same is = subst (λ (it : Option Pair). IfNone it P) same is
+none_named found (Some meeting) P same is = same
 
 -- of two corners at one position the edges meet, so that a meeting is found
 pub together_found : (corners : List Corner) (first second : ℕ) (found : Option Pair) (P : Type 0) → AreLinked corners → AreTogether corners first second

@@ -6,6 +6,7 @@ use Rattle.mvt_fault.specs.Place.{ComesFirst}
 use Rattle.mvt_plane.specs.Inside.{IsInside}
 use Rattle.mvt_plane.specs.Nesting.{IsVertexOf, IsOutside, IsInHole}
 use Rattle.mvt_plane.specs.Position.{Position}
+use Rattle.mvt_plane.proofs.RingEdges.{one_position}
 use Rattle.mvt_polygon.specs.Nesting.{one_polygon, IsNestFault, outside, in_hole, nest_place, IsFirstNestFault, IsFirstOf, IsOfHole, IsOfVertex, IsHoleAround, IsFirstHoleAround}
 use Rattle.mvt_polygon.specs.declared.nesting.NestFault.{NestFault}
 use Rattle.mvt_polygon.specs.declared.nesting.NestFault.TheVariants.{Outside, InHole}
@@ -120,18 +121,10 @@ first_vertex rings hole vertex fault none found =
 
 -- Of one vertex
 
--- it has one position
-same_position : (rings : List (List Position)) (ring vertex : ℕ) (one other : Position) → IsVertexOf rings ring vertex one → IsVertexOf rings ring vertex other → one ≡ other
-same_position rings ring vertex one other is_one is_other =
-    let both : Some is_one.vertices ≡ Some is_other.vertices = sym is_one.there ∙ is_other.there in
-    let vertices : is_one.vertices ≡ is_other.vertices = cc both in
-    let positions : Some one ≡ Some other = sym is_one.here ∙ ap (λ (vertices : List Position). slice_get vertices vertex) vertices ∙ is_other.here in
-    cc positions
-
--- also by numbers that are the same
+-- it has one position, also by numbers that are the same
 position_again : (rings : List (List Position)) (hole vertex ring number : ℕ) (position other : Position) → IsVertexOf rings hole vertex position → (ring ≡ hole) × (number ≡ vertex) → IsVertexOf rings ring number other → position ≡ other
 position_again rings hole vertex ring number position other here same there =
-    same_position rings hole vertex position other here (subst (λ (number : ℕ). IsVertexOf rings hole number other) same.1 (subst (λ (ring : ℕ). IsVertexOf rings ring number other) same.0 there))
+    one_position rings hole vertex position other here (subst (λ (number : ℕ). IsVertexOf rings hole number other) same.1 (subst (λ (ring : ℕ). IsVertexOf rings ring number other) same.0 there))
 
 -- inside the exterior it isn't outside
 not_outside : (rings : List (List Position)) (hole vertex ring number : ℕ) (position : Position) (exterior : List Position) → IsVertexOf rings hole vertex position → slice_get rings 0 ≡ Some exterior → IsInside position exterior → (ring ≡ hole) × (number ≡ vertex) → ¬ IsOutside rings (one_polygon rings) ring number
@@ -187,7 +180,7 @@ up_to hole vertex other ring number another is first = elim (cases_lt other anot
   | inr same ↦ inr (sym is.0, inr (sym is.1, inr (refl, inr (omega arith, tt))))
 ]
 
--- the first hole around it is told, where it is inside the exterior
+-- the first hole around it is answered, where it is inside the exterior
 around_first : (rings : List (List Position)) (hole vertex other : ℕ) (position : Position) (exterior : List Position) → IsVertexOf rings hole vertex position → slice_get rings 0 ≡ Some exterior → IsInside position exterior → IsFirstHoleAround rings hole position other → (fault : NestFault) → IsOfVertex hole vertex fault → IsNestFault rings fault → ComesFirst (nest_place (InHole hole vertex other)) (nest_place fault)
 around_first rings hole vertex other position exterior here there inside found _ is (outside ring number it) = absurd (not_outside rings hole vertex ring number position exterior here there inside is it)
 around_first rings hole vertex other position exterior here there inside found _ is (in_hole ring number another it) = up_to hole vertex other ring number another is (found.first another (is_around rings hole vertex ring number another position here is it))

@@ -1,14 +1,14 @@
--- Faults of a polygon's holes where no two edges meet wrongly: a hole's first vertex tells them all.
+-- Faults of a polygon's holes where no two edges meet wrongly: a hole's first vertex shows them all.
 use Rattle.std.proofs.Common.{◌≡◌, ◌≢◌, ℕ, ◌+◌, ◌-◌, ◌*◌, ◌<◌, ◌≤◌, inl, inr, List, length, get_or, slice_get, take, Some, refl, sym, ap, arith}
 use Rattle.std.proofs.lemmas.Bool.{cases_order}
 use Rattle.std.proofs.lemmas.Option.{slice_get_within, slice_get-get_or}
 use Rattle.mvt_plane.specs.Counted.{Counted}
 use Rattle.mvt_plane.specs.Inside.{IsInside}
-use Rattle.mvt_plane.specs.Meeting.{EdgeNumber, IsShared, forward, backward}
+use Rattle.mvt_plane.specs.Meeting.{EdgeNumber}
 use Rattle.mvt_plane.specs.Nesting.{IsOutside, IsInHole}
 use Rattle.mvt_plane.specs.Position.{Position}
 use Rattle.mvt_plane.specs.Apart.{HaveNothingInCommon}
-use Rattle.mvt_plane.proofs.OneVertex.{one_vertex_decides}
+use Rattle.mvt_plane.proofs.InsideAsAWhole.{one_vertex_decides}
 use Rattle.mvt_polygon.specs.CornerOrder.{AddsWork}
 use Rattle.mvt_polygon.specs.Corners.{vertex_count}
 use Rattle.mvt_polygon.specs.Meeting.{NoMeeting}
@@ -17,14 +17,10 @@ use Rattle.mvt_polygon.specs.declared.nesting.NestFault.{NestFault}
 use Rattle.mvt_polygon.specs.declared.nesting.NestFault.TheVariants.{Outside, InHole}
 use Rattle.mvt_polygon.proofs.CornerNumbers.{count_another, count_up}
 use Rattle.mvt_polygon.proofs.NestFaults.{first_vertex}
+use Rattle.mvt_polygon.proofs.SharedVertices.{none_in_two_rings}
 use Rattle.mvt_polygon.proofs.StatusCounts.{work_then, work_within}
 
 -- Rings without a wrong meeting
-
--- edges of two rings share no vertex as neighbours
-none_shared : (rings : List (List Position)) (first second : EdgeNumber) (vertex : Position) → first.ring ≢ second.ring → ¬ IsShared rings first second vertex
-none_shared rings first second vertex differ (forward follows) = differ (sym follows.same)
-none_shared rings first second vertex differ (backward follows) = differ follows.same
 
 -- two of them have nothing in common
 pub nothing_in_common : (rings : List (List Position)) → NoMeeting rings → (number another : ℕ) (ring other : List Position) → number ≢ another → slice_get rings number ≡ Some ring
@@ -40,7 +36,7 @@ nothing_in_common rings none number another ring other differ there its_there = 
       other_there = record { ring = other; there = its_there; here = its_here };
       on_one = on_one;
       on_other = on_two;
-      forbidden = λ vertex shared. absurd (none_shared rings first second vertex differ shared);
+      forbidden = λ vertex shared. absurd (none_in_two_rings rings first second differ vertex shared);
     })
 
 -- The first vertex of a hole

@@ -1,5 +1,5 @@
--- Holes by what is noted of them: one around whose first vertex, by key, the exterior is alone has no fault, and any other has
--- one of its first vertex, by number.
+-- Holes by what is noted of them: one around whose first vertex, by key, the exterior is alone has no fault, and any
+-- other has one of its first vertex, by number.
 use Rattle.std.proofs.Common.{◌≡◌, ◌≢◌, ◌+◌, ◌-◌, ◌↔◌, inl, inr, ℕ, suc, ◌<◌, List, [], length, get_or, take, slice_get, Option, Some, None, IfSome, IfNone, refl, sym, ◌∙◌, ap, subst, arith}
 use Rattle.std.proofs.lemmas.Bool.{cases_order}
 use Rattle.std.proofs.lemmas.Option.{same_Some, slice_get_within, slice_get-get_or}
@@ -8,7 +8,7 @@ use Rattle.mvt_plane.specs.Below.{HasOddBelow}
 use Rattle.mvt_plane.specs.Inside.{IsInside}
 use Rattle.mvt_plane.specs.Position.{Position}
 use Rattle.mvt_plane.proofs.EdgesBelow.{inside_by_edges_below}
-use Rattle.mvt_plane.proofs.OneVertex.{one_vertex_decides}
+use Rattle.mvt_plane.proofs.InsideAsAWhole.{one_vertex_decides}
 use Rattle.mvt_polygon.specs.Corners.{IsNumbered, vertex_count}
 use Rattle.mvt_polygon.specs.Meeting.{NoMeeting}
 use Rattle.mvt_polygon.specs.Nesting.{IsNestFault, outside, in_hole, IsFirstNestFault, IsOfHole, IsOfVertex, IsFirstOf}

@@ -39,7 +39,7 @@ pub strict_kept : (corners : List Corner) (order : List (ℤ × ℕ)) (numbers :
     → IsStrict order → IsStrict (with_keys corners numbers)
 strict_kept corners order numbers is same strict = subst IsStrict (sym (order_again corners order numbers is same)) strict
 
--- what stands at a place
+-- what is at a place
 pub number_there : (corners : List Corner) (numbers : List ℕ) (at : ℕ) → at < length numbers
     → slice_get (with_keys corners numbers) at ≡ Some (key_of (position_at corners (get_or numbers at 0)), get_or numbers at 0)
 number_there corners numbers at within =

@@ -1,4 +1,4 @@
--- What `common` tells of two edges, said of their wrong meetings.
+-- What `common` returns for two edges, said of their wrong meetings.
 use Rattle.std.proofs.Common.{◌≡◌, ◌↔◌, List, Option, Some}
 use Rattle.mvt_plane.specs.CommonPoint.{IsNamed}
 use Rattle.mvt_plane.specs.Meeting.{EdgeNumber, ComesBefore, IsEdgeOf, IsShared}

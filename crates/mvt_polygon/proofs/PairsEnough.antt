@@ -142,7 +142,7 @@ enough_with_pair corners pairs number last enough in_order known room = record {
       one_more corners number last both.1 (enough.rest both.0);
 }
 
--- What is told of all edges
+-- What holds of all edges
 
 -- where all pairs are tested that are to be, no edges meet wrongly
 pub none_by_pairs : (corners : List Corner) (pairs : List (ℕ × ℕ)) → AreLinked corners → AreEnoughForAll corners pairs → All (λ (pair : ℕ × ℕ). Tested (plan_of corners) pair.0 pair.1) pairs

@@ -29,14 +29,14 @@ swept_meets rings corners notes None swept = tt
 swept_meets rings corners notes (Some pair) swept = swept
 
 -- where it found none, no edges do, and all rings are noted
-pub swept_clear : (rings : List (List Position)) (corners : List Corner) (notes : List (Option Around)) (found : Option Pair) (told : Option MeetingOf)
-    → IsSweptWithNotes rings corners notes found → told ≡ None → IfNone told (found ≡ None) → NoMeeting rings × AreAllNoted rings notes
-swept_clear rings corners notes found told swept none as_found =
+pub swept_clear : (rings : List (List Position)) (corners : List Corner) (notes : List (Option Around)) (found : Option Pair) (named : Option MeetingOf)
+    → IsSweptWithNotes rings corners notes found → named ≡ None → IfNone named (found ≡ None) → NoMeeting rings × AreAllNoted rings notes
+swept_clear rings corners notes found named swept none as_found =
     let nothing : found ≡ None = subst (λ (it : Option MeetingOf). IfNone it (found ≡ None)) none as_found in
     let whole = subst (IsSweptWithNotes rings corners notes) nothing swept in
     (whole.1, whole.2)
 
--- notes that the sweep wrote where the earlier ones stood, so many of so many
+-- notes that the sweep wrote over the earlier ones, so many of so many
 pub written_back : (size : ℕ) (after before : List (Option Around)) → length after ≡ length before → size ≡ length before → take size (after ++ drop (length after) before) ≡ after
 written_back size after before same whole =
     let fewer : length before ≤ length after = omega arith in
@@ -46,15 +46,15 @@ written_back size after before same whole =
 -- The answer
 
 -- where two corners are at one position
-pub met_answer : (rings : List (List Position)) (told : Option MeetingOf) (result : Option PolygonFault) → result ≡ option_map Meeting told → IfNone told ⊥ → IfSome told (IsMeetingOf rings)
+pub met_answer : (rings : List (List Position)) (named : Option MeetingOf) (result : Option PolygonFault) → result ≡ option_map Meeting named → IfNone named ⊥ → IfSome named (IsMeetingOf rings)
     → IsPolygonAnswer rings result
 met_answer rings None result same none is = absurd none
 met_answer rings (Some meeting) result same none is = subst (IsPolygonAnswer rings) (sym same) is
 
 -- where the sweep found a meeting
-pub told_answer : (rings : List (List Position)) (told : Option MeetingOf) (meeting : MeetingOf) (result : Option PolygonFault) → told ≡ Some meeting → result ≡ Some (Meeting meeting)
-    → IfSome told (IsMeetingOf rings) → IsPolygonAnswer rings result
-told_answer rings told meeting result one same is = subst (IsPolygonAnswer rings) (sym same) (subst (λ (it : Option MeetingOf). IfSome it (IsMeetingOf rings)) one is)
+pub named_answer : (rings : List (List Position)) (named : Option MeetingOf) (meeting : MeetingOf) (result : Option PolygonFault) → named ≡ Some meeting → result ≡ Some (Meeting meeting)
+    → IfSome named (IsMeetingOf rings) → IsPolygonAnswer rings result
+named_answer rings named meeting result one same is = subst (IsPolygonAnswer rings) (sym same) (subst (λ (it : Option MeetingOf). IfSome it (IsMeetingOf rings)) one is)
 
 -- where it found none
 pub nesting_answer : (rings : List (List Position)) (found : Option NestFault) (result : Option PolygonFault) → result ≡ option_map Nesting found → NoMeeting rings

@@ -2,18 +2,16 @@
 use Rattle.std.proofs.Common.{◌≡◌, ℕ, zero, suc, ◌+◌, ◌<◌, ◌≤◌, ◌⊎◌, ◌↔◌, inl, inr, List, [], ◌∷◌, ◌++◌, length, slice_get, Some, pos, ◌<ℤ◌, refl, sym, ◌∙◌, ap, subst, arith}
 use Rattle.std.proofs.lemmas.Bool.{cases_lt}
 use Rattle.std.proofs.lemmas.List.{length_push}
-use Rattle.std.proofs.lemmas.Option.{slice_get_within}
 use Rattle.mvt_plane.specs.Position.{Position}
 use Rattle.mvt_plane.specs.Ring.{doubled_area, ArePolygonRings}
-use Rattle.mvt_plane.specs.Polygon.{IsExterior, NoExterior, IsExteriorOf, first, next, PolygonRings, IsPolygon}
-use Rattle.mvt_plane.proofs.PolygonNumbers.{polygon_of_ring}
-use Rattle.mvt_plane.proofs.SamePolygons.{one_polygon, exterior_of_polygon}
+use Rattle.mvt_plane.specs.Polygon.{IsExterior, NoExterior, IsExteriorOf, next, PolygonRings, IsPolygon}
+use Rattle.mvt_plane.proofs.SamePolygons.{first_begins, one_polygon, polygon_begins_within}
 use Rattle.mvt_polygon.specs.Polygons.{ArePolygons}
 use Rattle.mvt_polygon.proofs.ChainParts.{in_longer}
 
 -- Lists
 
--- what stood there stays
+-- what was there stays
 stays : {X : Type 0} (xs : List X) (y : X) (i : ℕ) (z : X) → slice_get xs i ≡ Some z → slice_get (xs ++ y ∷ []) i ≡ Some z
 stays [] y i z here = absurd (cc)
 stays (x ∷ xs) y zero z here = here
@@ -26,12 +24,6 @@ is_last (x ∷ xs) y = is_last xs y
 
 -- Exteriors
 
--- and one of the rings
-exterior_there : (rings : List (List Position)) (polygon exterior : ℕ) → IsExteriorOf rings polygon exterior → exterior < length rings
-exterior_there rings polygon exterior begins =
-    let is_exterior = exterior_of_polygon rings polygon exterior begins in
-    slice_get_within rings exterior is_exterior.ring is_exterior.there
-
 -- a ring of positive area is one, and no other
 pub is_exterior : (rings : List (List Position)) (ring : ℕ) (vertices : List Position) → slice_get rings ring ≡ Some vertices → pos 0 <ℤ doubled_area vertices ↔ IsExterior rings ring
 is_exterior rings ring vertices there = (
@@ -41,22 +33,6 @@ is_exterior rings ring vertices there = (
       let same : vertices ≡ exterior.ring = cc both in
       subst (λ (ring : List Position). pos 0 <ℤ doubled_area ring) (sym same) exterior.positive,
 )
-
--- one more ring is a hole
-pub one_more_hole : (rings : List (List Position)) (from ring : ℕ) → NoExterior rings from ring → ¬ IsExterior rings ring → NoExterior rings from (ring + 1)
-one_more_hole rings from ring none here number behind before = elim (cases_lt number ring) [
-  | inl earlier ↦ none number behind earlier
-  | inr later ↦ λ exterior. here (subst (IsExterior rings) (omega arith) exterior)
-]
-
--- the first ring is that of the first polygon, where there are rings
-first_begins : (rings : List (List Position)) → ArePolygonRings rings → 0 < length rings → IsExteriorOf rings 0 0
-first_begins rings able some =
-    let home = polygon_of_ring rings 0 able some in
-    let it = home.1 in
-    let from : it.exterior ≤ 0 = home.3.from in
-    let same : it.exterior ≡ 0 = omega arith in
-    first 0 (subst (IsExterior rings) same (exterior_of_polygon rings home.0 it.exterior home.2.begins)) (λ number behind before exterior. omega arith)
 
 -- the next exterior is that of the next polygon
 next_begins : (rings : List (List Position)) (polygon exterior after : ℕ) → IsPolygon rings polygon (record { exterior = exterior; after = after }) → (after ≡ length rings) ⊎ IsExteriorOf rings (suc polygon) after
@@ -142,7 +118,7 @@ of_listed rings polygons to polygon it listed is_it home =
 pub all_listed : (rings : List (List Position)) (polygons : List (ℕ × ℕ)) (to : ℕ) → AreListed rings polygons to → length rings ≤ to → ArePolygons rings polygons
 all_listed rings polygons to listed past = record {
   all = λ polygon it is_it.
-      let there : it.exterior < length rings = exterior_there rings polygon it.exterior is_it.begins in
+      let there : it.exterior < length rings = polygon_begins_within rings polygon it.exterior is_it.begins in
       of_listed rings polygons to polygon it listed is_it (listed.all it.exterior (omega arith));
   only = listed.only;
 }

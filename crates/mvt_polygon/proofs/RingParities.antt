@@ -7,7 +7,7 @@ use Rattle.mvt_plane.specs.Ring.{edges}
 use Rattle.mvt_plane.specs.declared.edge.Edge.{Edge}
 use Rattle.mvt_plane.proofs.EdgeParity.{test, test_tells, odd, odd_tells, apart_either_way}
 use Rattle.mvt_plane.proofs.EdgesBelow.{below_or_not}
-use Rattle.mvt_plane.proofs.InsideParity.{apart, apart_assoc, no_truth, parts_differ}
+use Rattle.mvt_plane.proofs.InsideParity.{apart, apart_assoc, false_apart, no_truth, parts_differ}
 use Rattle.mvt_polygon.specs.RingsBelow.{HaveOddBelow}
 
 -- ---- one ring
@@ -16,7 +16,7 @@ use Rattle.mvt_polygon.specs.RingsBelow.{HaveOddBelow}
 abbrev pub odd_below : Position → List Position → Bool
 odd_below position ring = odd (λ (edge : Edge). test (below_or_not position edge.a edge.b)) (edges ring)
 
--- it tells
+-- the test says whether it is so
 pub odd_below_tells : (position : Position) (ring : List Position) → IsTrue (odd_below position ring) ↔ HasOddBelow position ring
 odd_below_tells position ring =
     let below : Edge → Bool = λ (edge : Edge). test (below_or_not position edge.a edge.b) in
@@ -44,11 +44,6 @@ alike_tests one other tells its same = one_test one other tells (λ it. same.1 (
 first_swapped : (x y z : Bool) → apart x (apart y z) ≡ apart y (apart x z)
 first_swapped x y z = sym (apart_assoc x y z) ∙ ap (λ (it : Bool). apart it z) (apart_either_way x y) ∙ apart_assoc y x z
 
--- a test differs from one that fails where it holds itself
-pub false_first : (x : Bool) → apart false x ≡ x
-false_first true = refl
-false_first false = refl
-
 -- ---- all rings
 
 -- whether an odd number of rings meet the test
@@ -56,7 +51,7 @@ abbrev pub odd_rings : (List Position → Bool) → List (List Position) → Boo
 odd_rings meets [] = false
 odd_rings meets (ring ∷ rest) = apart (meets ring) (odd_rings meets rest)
 
--- it tells whether an odd number of all the rings' edges pass below the position
+-- it says whether an odd number of all the rings' edges pass below the position
 pub odd_rings_tell : (position : Position) (rings : List (List Position)) → IsTrue (odd_rings (odd_below position) rings) ↔ HaveOddBelow position rings
 odd_rings_tell position [] = (no_truth, λ impossible. absurd impossible)
 odd_rings_tell position (ring ∷ rest) =
@@ -75,7 +70,8 @@ same_rings : (one two : List Position → Bool) (rings : List (List Position))
 same_rings one two [] same = refl
 same_rings one two (ring ∷ rest) same = ap₂ apart (same 0 ring refl) (same_rings one two rest (λ number other there. same (suc number) other there))
 
--- where they are the same of each ring but one, of which the second test fails, the parities differ where the first test holds of that
+-- where they are the same of each ring but one, of which the second test fails, the parities differ where the first
+-- test holds of that
 pub all_but_one : (one two : List Position → Bool) (rings : List (List Position)) (at : ℕ) (ring : List Position) → slice_get rings at ≡ Some ring → two ring ≡ false
     → ((number : ℕ) (other : List Position) → number ≢ at → slice_get rings number ≡ Some other → one other ≡ two other)
     → odd_rings one rings ≡ apart (one ring) (odd_rings two rings)
@@ -84,7 +80,7 @@ all_but_one one two (first ∷ rest) zero ring here fails same =
     let is : first ≡ ring = same_Some first ring here in
     let further : odd_rings one rest ≡ odd_rings two rest = same_rings one two rest (λ number other there. same (suc number) other (λ none. omega arith) there) in
     let off : two first ≡ false = ap two is ∙ fails in
-    let whole : odd_rings two (first ∷ rest) ≡ odd_rings two rest = ap (λ (it : Bool). apart it (odd_rings two rest)) off ∙ false_first (odd_rings two rest) in
+    let whole : odd_rings two (first ∷ rest) ≡ odd_rings two rest = ap (λ (it : Bool). apart it (odd_rings two rest)) off ∙ false_apart (odd_rings two rest) in
     ap₂ apart (ap one is) (further ∙ sym whole)
 all_but_one one two (first ∷ rest) (suc at) ring here fails same =
     let further : odd_rings one rest ≡ apart (one ring) (odd_rings two rest) =

@@ -1,5 +1,5 @@
--- The rings around one whose first vertex is directly above an edge of another ring: those around the other ring, and that ring
--- itself where an odd number of its edges pass below the vertex.
+-- The rings around one whose first vertex is directly above an edge of another ring: those around the other ring, and
+-- that ring itself where an odd number of its edges pass below the vertex.
 use Rattle.std.proofs.Common.{◌≡◌, ◌≢◌, ◌<◌, inl, inr, ◌↔◌, ℕ, zero, suc, Bool, true, false, IsTrue, cond, List, [], ◌∷◌, length, get_or, slice_get, Some, ◌<ℤ◌, ◌≤ℤ◌, refl, sym, ◌∙◌, ap, subst, arith}
 use Rattle.std.proofs.lemmas.Bool.{cases_eq}
 use Rattle.std.proofs.lemmas.Option.{same_Some, slice_get_within, slice_get-get_or}
@@ -13,8 +13,8 @@ use Rattle.mvt_plane.specs.Ring.{edges}
 use Rattle.mvt_plane.specs.declared.edge.Edge.{Edge}
 use Rattle.mvt_plane.proofs.DirectlyBelow.{odd_as_below_the_edge}
 use Rattle.mvt_plane.proofs.EdgesBelow.{inside_by_edges_below}
-use Rattle.mvt_plane.proofs.InsideParity.{apart, no_truth}
-use Rattle.mvt_plane.proofs.OneVertex.{one_vertex_decides}
+use Rattle.mvt_plane.proofs.InsideParity.{apart, false_apart, no_truth}
+use Rattle.mvt_plane.proofs.InsideAsAWhole.{one_vertex_decides}
 use Rattle.mvt_plane.proofs.Order.{zs}
 use Rattle.mvt_plane.proofs.RationalPoints.{begin_lies_on}
 use Rattle.mvt_plane.proofs.RingEdges.{count_of_edges, ends_of_edge}
@@ -24,7 +24,7 @@ use Rattle.mvt_polygon.specs.RingsBelow.{AreRingsInRange, HaveOddBelow, HaveNone
 use Rattle.mvt_polygon.specs.declared.nesting.around.Around.{Around}
 use Rattle.mvt_polygon.specs.declared.nesting.around.Around.TheVariants.{Nothing, Exterior, Others}
 use Rattle.mvt_polygon.proofs.NestOnce.{nothing_in_common}
-use Rattle.mvt_polygon.proofs.RingParities.{odd_below, odd_below_tells, false_first, one_test, no_test, alike_tests, odd_rings, odd_rings_tell, none_has_odd, all_but_one}
+use Rattle.mvt_polygon.proofs.RingParities.{odd_below, odd_below_tells, one_test, no_test, alike_tests, odd_rings, odd_rings_tell, none_has_odd, all_but_one}
 
 -- ---- a first vertex
 
@@ -189,7 +189,7 @@ record AreNoted (rings : List (List Position)) (position : Position) (odd : Bool
   parity : is_odd around ≡ odd
   are : AreAround rings position around
 
--- the test tells whether that ring is around the one: so what is noted of the other goes over to the one
+-- the test says whether that ring is around the one: so what is noted of the other goes over to the one
 goes_over : (rings : List (List Position)) (position other : Position) (below : ℕ) (around : Around) (odd has : Bool) → AreAlikeBut rings position other below
     → IsTrue has ↔ IsRingAround rings position below → odd ≡ apart has (is_odd around) → AreAround rings other around → AreNoted rings position odd (around_above around below odd)
 goes_over rings position other below around odd true alike tells parity are =
@@ -200,7 +200,7 @@ goes_over rings position other below around odd true alike tells parity are =
     } in
     subst (λ (it : Around). AreNoted rings position odd it) (sym chosen) noted
 goes_over rings position other below around odd false alike tells parity are =
-    let same : odd ≡ is_odd around = parity ∙ false_first (is_odd around) in
+    let same : odd ≡ is_odd around = parity ∙ false_apart (is_odd around) in
     let chosen : around_above around below odd ≡ around = chosen_same odd (is_odd around) around (with_ring around below odd) same in
     let noted : AreNoted rings position odd around = record {
       parity = sym same;
@@ -228,7 +228,8 @@ vertex_off ring other nothing number vertex here another edge there =
     let lies : LiesOn (whole vertex) its.0 = subst (λ (it : Position). LiesOn (whole it) its.0) its.2 (begin_lies_on its.0) in
     nothing number another its.0 edge (whole vertex) its.1 there lies
 
--- of the vertices of a ring that has nothing in common with another, one is above an odd number of the other's edges where any is
+-- of the vertices of a ring that has nothing in common with another, one is above an odd number of the other's edges
+-- where any is
 vertices_alike : (ring other : List Position) → HaveNothingInCommon ring other → ((number : ℕ) (vertex : Position) → slice_get ring number ≡ Some vertex → IsPosition vertex)
     → ((number : ℕ) (vertex : Position) → slice_get other number ≡ Some vertex → IsPosition vertex) → (one two : ℕ) (vertex another : Position)
     → slice_get ring one ≡ Some vertex → slice_get ring two ≡ Some another → HasOddBelow vertex other → HasOddBelow another other
@@ -278,7 +279,8 @@ upper_not_below rings ring below position other it =
     omega (arith, zs) in
     no_odd_of_ring other it.first.vertices comes_first
 
--- of another ring than these two an odd number of edges pass below the one where it is so of the end of the edge below it
+-- of another ring than these two an odd number of edges pass below the one where it is so of the end of the edge below
+-- it
 odd_as_below : (rings : List (List Position)) (ring below : ℕ) (position other : Position) (it : IsAbove rings ring below position other) (number : ℕ) (third : List Position)
     → number ≢ ring → number ≢ below → slice_get rings number ≡ Some third → HasOddBelow position third ↔ HasOddBelow it.under.edge.a third
 odd_as_below rings ring below position other it number third not_ring not_below there =
@@ -361,7 +363,7 @@ parities rings ring below position other it =
     (λ number third differ there. alike_tests (odd_below position third) (odd_below other third) (odd_below_tells position third) (odd_below_tells other third)
     (alike_but_below rings ring below position other it number third differ there))
 
--- the test of a ring tells whether it is around the position
+-- the test of a ring says whether it is around the position
 ring_tells : (rings : List (List Position)) (position : Position) (number : ℕ) (ring : List Position) → slice_get rings number ≡ Some ring
     → IsTrue (odd_below position ring) ↔ IsRingAround rings position number
 ring_tells rings position number ring there = (

@@ -16,7 +16,7 @@ use Rattle.mvt_polygon.specs.Meeting.{NoMeeting}
 use Rattle.mvt_polygon.specs.RingNotes.{AreAroundRing, around_above, is_odd_number, IsNotedOf, IsNoting, IsNoted, known, nothing_below, above}
 use Rattle.mvt_polygon.specs.Rings.{AreProperRings}
 use Rattle.mvt_polygon.specs.RingsBelow.{HaveOddBelow, IsLeastVertex}
-use Rattle.mvt_polygon.specs.Steps.{IsBegun, IsEntered}
+use Rattle.mvt_polygon.specs.Steps.{IsBegun, EndsAnEdge}
 use Rattle.mvt_polygon.specs.Sweep.{IsSwept}
 use Rattle.mvt_polygon.specs.declared.nesting.around.Around.{Around}
 use Rattle.mvt_polygon.specs.declared.nesting.around.Around.TheVariants.{Nothing}
@@ -29,7 +29,8 @@ use Rattle.mvt_polygon.proofs.FrontRings.{odd_of_front, none_of_front, ring_of_f
 use Rattle.mvt_polygon.proofs.RingsAround.{nothing_around, around_directly_above}
 use Rattle.mvt_polygon.proofs.SegmentEnds.{low_is}
 
--- The line is behind this key: of each ring that it came to something is noted, the same of all its vertices, and what is noted is right
+-- The line is behind this key: of each ring that it came to something is noted, the same of all its vertices, and what
+-- is noted is right
 pub record IsNotedTo (rings : List (List Position)) (corners : List Corner) (key : ℤ) (notes : List (Option Around)) : Type 0 where
   pub size : length notes ≡ length corners
   pub alike : (one other : ℕ) (at its : EdgeNumber) → IsNumbered rings one at → IsNumbered rings other its → at.ring ≡ its.ring → slice_get notes one ≡ slice_get notes other
@@ -185,18 +186,18 @@ noted_begins rings corners key notes more number place before after proper are l
 -- A corner in which an edge ended
 
 -- its ring was come to before
-entered_noted : (rings : List (List Position)) (corners : List Corner) (key : ℤ) (notes : List (Option Around)) (number : ℕ) → AreProperRings rings → AreCorners rings corners → AreLinked corners
-    → number < length corners → IsAhead corners key number → IsNotedTo rings corners key notes → IsEntered corners number → IsNotedOf notes number
-entered_noted rings corners key notes number proper are linked within ahead noted entered =
+an_end_noted : (rings : List (List Position)) (corners : List Corner) (key : ℤ) (notes : List (Option Around)) (number : ℕ) → AreProperRings rings → AreCorners rings corners → AreLinked corners
+    → number < length corners → IsAhead corners key number → IsNotedTo rings corners key notes → EndsAnEdge corners number → IsNotedOf notes number
+an_end_noted rings corners key notes number proper are linked within ahead noted an_end =
     let corner = corner_there rings corners number are within in
-    let less = entered.before in
-    let passed : (neighbour : ℕ) → entered.neighbour ≡ neighbour → neighbour < length corners → IsNotedOf notes neighbour = λ neighbour same inside.
+    let less = an_end.before in
+    let passed : (neighbour : ℕ) → an_end.neighbour ≡ neighbour → neighbour < length corners → IsNotedOf notes neighbour = λ neighbour same inside.
     let keys = ap (λ (n : ℕ). key_of (position_at corners n)) same in
     elim (ahead neighbour inside (omega (arith, ints, keys, less))) [
       | inl old ↦ noted.there neighbour inside old
       | inr own ↦ let alike = ap (λ (n : ℕ). key_of (position_at corners n)) own in absurd (omega (arith, ints, keys, alike, less))
     ] in
-    elim entered.is [
+    elim an_end.is [
       | inl next ↦ noted_alike noted corner.is (next_numbered rings corners number corner.place proper are corner.is) refl (passed (next_at corners number) next (linked.next_known number within))
       | inr previous ↦
           noted_alike noted corner.is (previous_numbered rings corners number corner.place proper are corner.is) refl
@@ -204,8 +205,8 @@ entered_noted rings corners key notes number proper are linked within ahead note
     ]
 
 -- so nothing new is to be noted
-pub noted_goes : (rings : List (List Position)) (corners : List Corner) (key : ℤ) (notes : List (Option Around)) (number : ℕ) → AreProperRings rings → AreCorners rings corners → AreLinked corners
-    → number < length corners → IsAhead corners key number → IsNotedTo rings corners key notes → IsEntered corners number
+pub noted_after_an_end : (rings : List (List Position)) (corners : List Corner) (key : ℤ) (notes : List (Option Around)) (number : ℕ) → AreProperRings rings → AreCorners rings corners → AreLinked corners
+    → number < length corners → IsAhead corners key number → IsNotedTo rings corners key notes → EndsAnEdge corners number
     → IsNotedTo rings corners (key_of (position_at corners number)) notes
-noted_goes rings corners key notes number proper are linked within ahead noted entered =
-    noted_on rings corners key notes number noted ahead (entered_noted rings corners key notes number proper are linked within ahead noted entered)
+noted_after_an_end rings corners key notes number proper are linked within ahead noted an_end =
+    noted_on rings corners key notes number noted ahead (an_end_noted rings corners key notes number proper are linked within ahead noted an_end)

@@ -14,16 +14,17 @@ use Rattle.mvt_polygon.specs.Corners.{AreCorners, AreInRange, AreLinked, IsNumbe
 use Rattle.mvt_polygon.specs.Meeting.{NoMeeting}
 use Rattle.mvt_polygon.specs.RingNotes.{AreAllNoted, IsNotedOf, IsNothingNoted, IsNoting}
 use Rattle.mvt_polygon.specs.Rings.{AreProperRings}
-use Rattle.mvt_polygon.specs.Steps.{IsBegun, IsEntered, IsSweptWithNotes}
+use Rattle.mvt_polygon.specs.Steps.{IsBegun, EndsAnEdge, IsSweptWithNotes}
 use Rattle.mvt_polygon.specs.declared.nesting.around.Around.{Around}
 use Rattle.mvt_polygon.specs.declared.sweep.corners.Corner.{Corner}
 use Rattle.mvt_polygon.proofs.CornerNumbers.{numbered_within}
 use Rattle.mvt_polygon.proofs.CornerPlans.{none_of_rings, plan_of_corners}
 use Rattle.mvt_polygon.proofs.CornerSweeps.{swept_to_first, next_corner, next_key, swept_to_next, swept_to_last}
-use Rattle.mvt_polygon.proofs.RingsNoted.{IsAhead, IsNotedTo, below_noted, noted_begins, noted_goes}
+use Rattle.mvt_polygon.proofs.RingsNoted.{IsAhead, IsNotedTo, below_noted, noted_begins, noted_after_an_end}
 use Rattle.mvt_polygon.proofs.StatusCounts.{few_swept, work_then, work_within}
 
--- the line went over the corners before this place of the order, and it is noted what is around the rings that it came to
+-- the line went over the corners before this place of the order, and it is noted what is around the rings that it came
+-- to
 pub record AreRingsSwept (rings : List (List Position)) (corners : List Corner) (order : List (ℤ × ℕ)) (at : ℕ) (edges : List ℕ) (notes : List (Option Around)) : Type 0 where
   pub swept : IsSweptTo corners order at edges
   pub noted : IsNotedTo rings corners swept.key notes
@@ -77,15 +78,15 @@ rings_to_begun rings corners order at its number place before after notes more p
 }
 
 -- over one in which an edge ended
-pub rings_to_entered : (rings : List (List Position)) (corners : List Corner) (order : List (ℤ × ℕ)) (at : ℕ) (its : ℤ) (number : ℕ) (before after : List ℕ) (notes : List (Option Around))
+pub rings_to_an_end : (rings : List (List Position)) (corners : List Corner) (order : List (ℤ × ℕ)) (at : ℕ) (its : ℤ) (number : ℕ) (before after : List ℕ) (notes : List (Option Around))
     → AreProperRings rings → AreCorners rings corners → AreLinked corners → IsOrder corners order → IsStrict order
-    → slice_get order at ≡ Some (its, number) → AreRingsSwept rings corners order at before notes → IsSweptOver corners number after → IsEntered corners number
+    → slice_get order at ≡ Some (its, number) → AreRingsSwept rings corners order at before notes → IsSweptOver corners number after → EndsAnEdge corners number
     → AreRingsSwept rings corners order (at + 1) after notes
-rings_to_entered rings corners order at its number before after notes proper are linked in_order strict there so_far over entered = record {
+rings_to_an_end rings corners order at its number before after notes proper are linked in_order strict there so_far over an_end = record {
   swept = swept_to_next corners order at its number after in_order strict there over;
   noted = subst (λ (key : ℤ). IsNotedTo rings corners key notes) (sym (next_key corners order at its number after in_order strict there over))
-      (noted_goes rings corners so_far.swept.key notes number proper are linked (in_order.known at its number there)
-      (next_ahead corners order at its number before in_order strict so_far.swept there) so_far.noted entered);
+      (noted_after_an_end rings corners so_far.swept.key notes number proper are linked (in_order.known at its number there)
+      (next_ahead corners order at its number before in_order strict so_far.swept there) so_far.noted an_end);
 }
 
 -- of the ring of the edge below something is noted

@@ -1,4 +1,4 @@
--- The places of a status before and behind an edit, and what stands beside them.
+-- The places of a status before and behind an edit, and what is next to them.
 use Rattle.std.proofs.Common.{◌≡◌, ◌≢◌, ℕ, zero, suc, ◌+◌, ◌<◌, ◌≤◌, ◌⊎◌, inl, inr, IfSome, List, [], ◌∷◌, ◌++◌, Option, Some, None, drop, insert, slice_get, length, remove, slice_index, take, ℤ, ◌<ℤ◌, ◌≤ℤ◌, refl, sym, ap, subst, ◌∙◌, arith}
 use Rattle.std.proofs.lemmas.Int.{ints}
 use Rattle.std.proofs.Math.Seq.{drop-append_seam, drop-cons, take-append_seam}
@@ -213,7 +213,7 @@ begin_in_order plan key vertex first second pair place edges more most is_plan s
     ] in
     begin_over plan key vertex pair.0 pair.1 place edges more most is_plan swept told.0 begins within cut told.1 below above one other
 
--- two edges that end, in the order in which they stand
+-- two edges that end, in the order in which they occur
 record EndsInOrder (plan : Plan) (key : ℤ) (vertex : Position) (rest : List ℕ) : Type 0 where
   one : ℕ
   other : ℕ

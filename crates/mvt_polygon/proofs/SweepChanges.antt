@@ -1,5 +1,5 @@
--- One list of edges for the other, where the line goes over a vertex: the edges that end in it go out, and those that begin there
--- come in at the same place.
+-- One list of edges for the other, where the line goes over a vertex: the edges that end in it go out, and those that
+-- begin there come in at the same place.
 use Rattle.std.proofs.Common.{◌≡◌, ◌≢◌, ℕ, ◌<◌, ◌⊎◌, inl, inr, List, [], ◌∷◌, ◌++◌, ℤ, pos, ◌<ℤ◌, refl, sym, ap, arith}
 use Rattle.mvt_plane.specs.EdgeOrder.{IsEndOf, gap, reach}
 use Rattle.mvt_plane.specs.Measure.{key_of, orientation}
@@ -47,7 +47,7 @@ module _ (plan : Plan) (key : ℤ) (vertex : Position) (first second : ℕ) (fro
   slabs : Ordered (IsSlab plan key vertex) (front ++ (gone ++ back))
   slabs = slab_of_all plan key vertex first second (front ++ (gone ++ back)) ready.plan_holds ready.swept ready.event
 
-  -- none stands twice
+  -- none occurs twice
   differ : Ordered (λ (one other : ℕ). one ≢ other) (front ++ (gone ++ back))
   differ = swept_differ plan key (front ++ (gone ++ back)) ready.plan_holds ready.swept
 

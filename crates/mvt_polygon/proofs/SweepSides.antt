@@ -143,7 +143,8 @@ end_in_rest plan key vertex first second edge front rest is_plan swept event bel
 is_other : (one other : ℤ) → one ≡ other *ℤ pos 1 → other ≡ one
 is_other one other same = omega (arith, zs, times_one other)
 
--- an edge that passes through the vertex, and was tested against one that ends or begins there, ends or begins there too
+-- an edge that passes through the vertex, and was tested against one that ends or begins there, ends or begins there
+-- too
 touching_ends : (plan : Plan) (vertex : Position) (touch edge : ℕ) → IsPlan plan → touch < plan.count → edge < plan.count → IsEndOf vertex (plan.segment touch)
     → Tested plan touch edge → Reaches (key_of vertex) (pos 1) (plan.segment edge) → orientation (plan.segment edge).low (plan.segment edge).high vertex ≡ pos 0
     → (at : Position) × IsEndOf at (plan.segment edge) × (key_of at ≡ key_of vertex)
@@ -173,7 +174,8 @@ passes_by plan key vertex touch edge is_plan later touch_known at_touch tested b
       | inr high ↦ let alike = ap key_of high in absurd (omega (arith, zs))
     ]
 
--- the first of those that aren't below the vertex and go on is above it, if it was tested against an edge of the vertex; so are all
+-- the first of those that aren't below the vertex and go on is above it, if it was tested against an edge of the
+-- vertex; so are all
 pub above : (plan : Plan) (key : ℤ) (vertex : Position) (touch : ℕ) (back : List ℕ) → IsPlan plan → key <ℤ key_of vertex → touch < plan.count → IsEndOf vertex (plan.segment touch)
     → Head (Tested plan) touch back → Each (λ (edge : ℕ). ¬ IsUnder plan vertex edge) back → Ordered (IsSlab plan key vertex) back
     → ((edge : ℕ) → Has back edge → IsActive plan key edge) → ((edge : ℕ) → Has back edge → IsActive plan (key_of vertex) edge)

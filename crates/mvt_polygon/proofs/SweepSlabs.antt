@@ -38,12 +38,12 @@ not_zero some none = omega (arith, zs)
 no_more : {a b : ℤ} → a ≡ b → a ≤ℤ b
 no_more same = omega (arith, zs)
 
--- two cases may be told the other way round
+-- two cases may be in the other order
 either_back : {A B : Type 0} → A ⊎ B → B ⊎ A
 either_back (inl one) = inr one
 either_back (inr other) = inl other
 
--- the edges of a vertex may be told in either order
+-- the edges of a vertex may be in either order
 pub event_back : (plan : Plan) (key : ℤ) (vertex : Position) (first second : ℕ) → IsPlan plan → IsEvent plan key vertex first second → IsEvent plan key vertex second first
 event_back plan key vertex first second is_plan event = record {
   later = event.later;
@@ -155,7 +155,7 @@ slab_of_all plan key vertex first second edges is_plan swept event =
     slab_of_neighbours plan key vertex first second lower upper is_plan event (swept.active lower is_lower) (swept.active upper is_upper) both.0 both.1)
     (chain_both (Tested plan) (After plan key) edges swept.tested swept.after))
 
--- no edge of it stands twice
+-- no edge of it occurs twice
 pub swept_differ : (plan : Plan) (key : ℤ) (edges : List ℕ) → IsPlan plan → IsSwept plan key edges → Ordered (λ (one other : ℕ). one ≢ other) edges
 swept_differ plan key edges is_plan swept =
     ordered_map (After plan key) (λ (one other : ℕ). one ≢ other) edges
@@ -420,7 +420,8 @@ shared_there plan key vertex first second one other is_plan event known_one know
     by_cases (inr one_is) (inl other_is) = ap₂ plan.shared one_is other_is ∙ (event_back plan key vertex first second is_plan event).meet
     by_cases (inr one_is) (inr other_is) = absurd (apart (one_is ∙ sym other_is))
 
--- No two edges met wrongly up to the vertex, where those that pass through it have it for an end, and those that begin there were tested
+-- No two edges met wrongly up to the vertex, where those that pass through it have it for an end, and those that begin
+-- there were tested
 pub past_vertex : (plan : Plan) (key : ℤ) (vertex : Position) (first second : ℕ) (edges : List ℕ) → IsPlan plan → IsSwept plan key edges → IsEvent plan key vertex first second
     → ((edge : ℕ) → Has edges edge → orientation (plan.segment edge).low (plan.segment edge).high vertex ≡ pos 0 → IsEndOf vertex (plan.segment edge)) → IsPast plan (key_of vertex)
 past_vertex plan key vertex first second edges is_plan swept event through one other point known_one known_other apart wrong =

@@ -18,13 +18,15 @@ use Rattle.mvt_polygon.specs.declared.sweep.corners.Pair.{Pair}
 abbrev pub vertex_count : List (List Position) → ℕ
 vertex_count rings = sum (map length rings)
 
--- in a list of so many the number of the last one for the first, of the first for the last, and for the others their own
+-- in a ring of so many corners: the number of the last corner for the first one, that of the first for the last one,
+-- and its own for every other corner
 abbrev pub far_end_of : ℕ → ℕ → ℕ
 far_end_of count number = cond (number == 0) (count - 1) (cond (number + 1 == count) 0 number)
 
 -- Corners of rings
 
--- Of all vertices, numbered ring by ring, the one of this number is the vertex of the second number in the ring of the first
+-- The vertices of all rings are numbered ring by ring. This number is that of the vertex at this place: the ring, and
+-- the number of the vertex (and of the edge that begins in it) in the ring
 pub record IsNumbered (rings : List (List Position)) (number : ℕ) (place : EdgeNumber) : Type 0 where
   pub ring : List Position
   pub there : slice_get rings place.ring ≡ Some ring
@@ -51,7 +53,7 @@ pub record AreOfRings (corners : List Corner) : Type 0 where
 
 -- Corners by themselves
 
--- what stands for a corner that isn't there
+-- in place of a corner that isn't there
 abbrev pub no_corner : Corner
 no_corner = record { position = origin; far_end = 0 }
 
@@ -113,8 +115,8 @@ pub record IsMeetingAt (corners : List Corner) (pair : Pair) : Type 0 where
   pub named : IsNamed (shared_at corners pair.first pair.second) (edge_at corners pair.first) (edge_at corners pair.second) (Some pair.point)
   pub bounded : IsBounded pair.point
 
--- the meeting is this one, told by ring and ordinal
-pub record IsTold (rings : List (List Position)) (pair : Pair) (meeting : Meeting) : Type 0 where
+-- the meeting is that of this pair of edges, which are named by ring and ordinal
+pub record IsNamedMeeting (rings : List (List Position)) (pair : Pair) (meeting : Meeting) : Type 0 where
   pub first : IsNumbered rings pair.first (first_of meeting)
   pub second : IsNumbered rings pair.second (second_of meeting)
   pub point : meeting.point ≡ pair.point

@@ -1,5 +1,4 @@
--- The meeting of two edges that is answered of those that rings have (Mapbox Vector Tile Specification 2.1, section
--- 4.3.4.4).
+-- The wrong meeting of two edges that is returned for rings (Mapbox Vector Tile Specification 2.1, section 4.3.4.4).
 use Rattle.std.specs.Prelude.{◌≡◌, ◌↔◌, List, Option, Some}
 use Rattle.mvt_plane.specs.CommonPoint.{IsNamed}
 use Rattle.mvt_plane.specs.Meeting.{EdgeNumber, ComesBefore, IsEdgeOf, IsShared, MeetsWrongly}
@@ -16,8 +15,8 @@ first_of meeting = record { ring = meeting.first_ring; edge = meeting.first_edge
 abbrev pub second_of : Meeting → EdgeNumber
 second_of meeting = record { ring = meeting.second_ring; edge = meeting.second_edge }
 
--- Two edges, in order, meet wrongly at the point that is named of those that they have in common but the vertex that they
--- share, if they share one. Its numbers are in range.
+-- Two edges, in order, meet wrongly at this point. Of the points that they have in common, other than the vertex that
+-- they share as neighbours, it is the one that `IsNamed` names. Its numbers are in range.
 pub record IsMeetingOf (rings : List (List Position)) (meeting : Meeting) : Type 0 where
   pub in_order : ComesBefore (first_of meeting) (second_of meeting)
   pub meets : MeetsWrongly rings (first_of meeting) (second_of meeting) meeting.point

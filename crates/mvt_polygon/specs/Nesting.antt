@@ -1,4 +1,5 @@
--- Which hole is answered of those that aren't where they should be (Mapbox Vector Tile Specification 2.1, section 4.3.4.4).
+-- Which fault is returned where holes aren't where they should be (Mapbox Vector Tile Specification 2.1, section
+-- 4.3.4.4).
 use Rattle.std.specs.Prelude.{◌≡◌, ◌≢◌, ℕ, ◌<◌, ◌≤◌, List, [], ◌∷◌, length, slice_get, Some}
 use Rattle.mvt_fault.specs.Place.{ComesFirst}
 use Rattle.mvt_plane.specs.Inside.{IsInside}
@@ -22,7 +23,7 @@ abbrev pub nest_place : NestFault → List ℕ
 nest_place (Outside ring vertex) = ring ∷ vertex ∷ 505 ∷ 0 ∷ []
 nest_place (InHole ring vertex other) = ring ∷ vertex ∷ 506 ∷ other ∷ []
 
--- of all faults of the polygon the first
+-- the first of all faults of the polygon
 pub record IsFirstNestFault (rings : List (List Position)) (fault : NestFault) : Type 0 where
   pub holds : IsNestFault rings fault
   pub first : (other : NestFault) → IsNestFault rings other → ComesFirst (nest_place fault) (nest_place other)
@@ -39,7 +40,7 @@ abbrev pub IsOfVertex : ℕ → ℕ → NestFault → Type 0
 IsOfVertex hole number (Outside ring vertex) = (ring ≡ hole) × (vertex ≡ number)
 IsOfVertex hole number (InHole ring vertex other) = (ring ≡ hole) × (vertex ≡ number)
 
--- of the faults of a kind that the polygon has the first
+-- the first of the polygon's faults of a kind
 pub record IsFirstOf (rings : List (List Position)) (Is : NestFault → Type 0) (fault : NestFault) : Type 0 where
   pub is : Is fault
   pub holds : IsNestFault rings fault
@@ -53,7 +54,7 @@ pub record IsHoleAround (rings : List (List Position)) (ring : ℕ) (position : 
   pub there : slice_get rings other ≡ Some around
   pub inside : IsInside position around
 
--- and is the first one around it
+-- this other hole is the first one that the position is inside
 pub record IsFirstHoleAround (rings : List (List Position)) (ring : ℕ) (position : Position) (other : ℕ) : Type 0 where
   pub around : IsHoleAround rings ring position other
   pub first : (another : ℕ) → IsHoleAround rings ring position another → other ≤ another

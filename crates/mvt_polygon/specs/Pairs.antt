@@ -10,8 +10,8 @@ pub record IsPair (corners : List Corner) (first second : ℕ) : Type 0 where
   pub in_order : first < second
   pub known : second < length corners
 
--- At most three pairs for each edge. Where these are tested, so are all two edges below this number, and the edge of this number
--- with each one below another number.
+-- At most three pairs for each edge. Where these are tested, so are all two edges below this number, and the edge of
+-- this number with each one below another number.
 pub record AreEnough (corners : List Corner) (pairs : List (ℕ × ℕ)) (number below : ℕ) : Type 0 where
   pub few : length pairs ≤ 3 * length corners
   pub each : All (λ (pair : ℕ × ℕ). IsPair corners pair.0 pair.1) pairs

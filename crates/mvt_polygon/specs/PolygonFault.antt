@@ -7,7 +7,8 @@ use Rattle.mvt_polygon.specs.declared.nesting.NestFault.{NestFault}
 use Rattle.mvt_polygon.specs.declared.polygon.PolygonFault.{PolygonFault}
 use Rattle.mvt_polygon.specs.declared.polygon.PolygonFault.TheVariants.{Meeting, Nesting}
 
--- the answer is a meeting, or where no edges meet wrongly the first fault of a hole, or where there is none either nothing
+-- the answer is a meeting; or, where no edges meet wrongly, the first fault of a hole; or nothing, where there is
+-- neither
 abbrev pub IsPolygonAnswer : List (List Position) → Option PolygonFault → Type 0
 IsPolygonAnswer rings (Some (Meeting meeting)) = IsMeetingOf rings meeting
 IsPolygonAnswer rings (Some (Nesting fault)) = NoMeeting rings × IsFirstNestFault rings fault

@@ -28,8 +28,8 @@ with_ring Nothing (suc ring) odd = Others odd
 with_ring Exterior ring odd = Others odd
 with_ring (Others some) ring odd = Others odd
 
--- Around a ring whose first vertex is directly above an edge of another: the rings that are around the other one, and the other
--- one too where this makes the number of rings odd or even, as it is to be
+-- Around a ring whose first vertex is directly above an edge of another: the rings that are around the other one, and
+-- the other one too where this makes the number of rings odd or even, as it is to be
 abbrev pub around_above : Around → ℕ → Bool → Around
 around_above around below odd = cond odd (cond (is_odd around) around (with_ring around below odd)) (cond (is_odd around) (with_ring around below odd) around)
 
@@ -45,7 +45,7 @@ pub record IsRingAround (rings : List (List Position)) (position : Position) (nu
 abbrev pub IsNothingAround : List (List Position) → Position → Type 0
 IsNothingAround rings position = (number : ℕ) → ¬ IsRingAround rings position number
 
--- the exterior is, and no other ring
+-- the exterior is around the position, and no other ring
 pub record IsExteriorAround (rings : List (List Position)) (position : Position) : Type 0 where
   pub exterior : IsRingAround rings position 0
   pub alone : (number : ℕ) → 0 < number → ¬ IsRingAround rings position number
@@ -84,8 +84,8 @@ pub record IsNoted (rings : List (List Position)) (ring : ℕ) (around : Around)
   pub others : (number : ℕ) (at : EdgeNumber) → IsNumbered rings number at → at.ring ≢ ring → slice_get after number ≡ slice_get before number
   pub count : length after ≡ length before
 
--- The line comes to a corner in which both edges begin, behind so many of the edges that it meets. If nothing is noted of the
--- corner, what is around its ring is noted.
+-- The line comes to a corner in which both edges begin, behind so many of the edges that it meets. If nothing is noted
+-- of the corner, what is around its ring is noted.
 pub data IsNoting (rings : List (List Position)) (edges : List ℕ) (place number : ℕ) (at : EdgeNumber) (before after : List (Option Around)) : Type 0 where
   known : (around : Around) → slice_get before number ≡ Some (Some around) → after ≡ before → IsNoting rings edges place number at before after
   nothing_below : slice_get before number ≡ Some None → place ≡ 0 → IsNoted rings at.ring Nothing before after → IsNoting rings edges place number at before after

@@ -1,5 +1,5 @@
--- The rings that lists of vertices show, and what is answered of faults of their own (Mapbox Vector Tile Specification 2.1,
--- section 4.3.4.4).
+-- The rings that lists of vertices are, and which of the faults that rings have of their own is returned (Mapbox Vector
+-- Tile Specification 2.1, section 4.3.4.4).
 use Rattle.std.specs.Prelude.{◌≡◌, ◌≢◌, ◌-◌, ◌<◌, ◌≤◌, ◌⊎◌, ℕ, List, length, map, slice_get, Some, Vec}
 use Rattle.std.specs.declared.alloc.Global.{Global}
 use Rattle.mvt_fault.specs.Code.{ring_code}
@@ -18,12 +18,12 @@ pub record IsClosed (vertices : List Position) : Type 0 where
   pub first : slice_get vertices 0 ≡ Some position
   pub last : slice_get vertices (length vertices - 1) ≡ Some position
 
--- of all faults that one of the rings has of its own the first, by the code
+-- the first, by the code, of all faults that this ring has of its own
 pub record IsLeastCode (rings : List (List Position)) (ring : ℕ) (code : RingCode) : Type 0 where
   pub broken : BreaksRings rings (ring_code code) ring
   pub least : (other : ℕ) → BreaksRings rings other ring → ring_code code ≤ other
 
--- of all faults that rings have of their own the first: by the ring's number, and then by the code
+-- the first, by the ring's number and then by the code, of all faults that the rings have of their own
 pub record IsFirstRingFault (rings : List (List Position)) (fault : RingFault) : Type 0 where
   pub broken : BreaksRings rings (ring_code fault.code) fault.ring
   pub first : (code ring : ℕ) → BreaksRings rings code ring

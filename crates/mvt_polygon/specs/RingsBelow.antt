@@ -16,11 +16,11 @@ abbrev pub HaveOddBelow : Position → List (List Position) → Type 0
 HaveOddBelow position [] = ⊥
 HaveOddBelow position (ring ∷ rest) = Differ (HasOddBelow position ring) (HaveOddBelow position rest)
 
--- none does
+-- no edge of the rings passes below the position
 abbrev pub HaveNoneBelow : Position → List (List Position) → Type 0
 HaveNoneBelow position rings = (number : EdgeNumber) (edge : Edge) → IsEdgeOf rings number edge → ¬ PassesBelow position edge
 
--- of those that do none is above an edge of this ring
+-- an edge of this ring passes below the position, and no other edge that does is above it
 pub record IsRingBelow (position : Position) (rings : List (List Position)) (ring : ℕ) : Type 0 where
   pub number : EdgeNumber
   pub of_ring : number.ring ≡ ring

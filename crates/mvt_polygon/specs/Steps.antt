@@ -11,9 +11,9 @@ use Rattle.mvt_polygon.specs.declared.nesting.around.Around.{Around}
 use Rattle.mvt_polygon.specs.declared.sweep.corners.Corner.{Corner}
 use Rattle.mvt_polygon.specs.declared.sweep.corners.Pair.{Pair}
 use Rattle.mvt_polygon.specs.declared.sweep.step.Step.{Step}
-use Rattle.mvt_polygon.specs.declared.sweep.step.Step.TheVariants.{Meets, Begins, Goes}
+use Rattle.mvt_polygon.specs.declared.sweep.step.Step.TheVariants.{Meets, Begins, Ends}
 
--- both edges of the corner began in it, behind so many edges, which are those below it
+-- both edges of the corner began in it; the edges below it are so many, and come before them
 pub record IsBegun (corners : List Corner) (number place : ℕ) (before after : List ℕ) : Type 0 where
   pub begin : BeginThere (plan_of corners) (position_at corners number) (previous_at corners number) number
   pub within : place ≤ length before
@@ -21,23 +21,24 @@ pub record IsBegun (corners : List Corner) (number place : ℕ) (before after : 
   pub kept : take place after ≡ take place before
 
 -- an edge of the corner ended in it: a neighbour of it in its ring comes before it
-pub record IsEntered (corners : List Corner) (number : ℕ) : Type 0 where
+pub record EndsAnEdge (corners : List Corner) (number : ℕ) : Type 0 where
   pub neighbour : ℕ
   pub is : (neighbour ≡ next_at corners number) ⊎ (neighbour ≡ previous_at corners number)
   pub before : key_of (position_at corners neighbour) <ℤ key_of (position_at corners number)
 
 -- the step over a corner in which an edge ended
-abbrev pub gone : Option Pair → Step
-gone (Some pair) = Meets pair
-gone None = Goes
+abbrev pub after_an_end : Option Pair → Step
+after_an_end (Some pair) = Meets pair
+after_an_end None = Ends
 
 -- the step over the corner came to this
 abbrev pub IsStep : List Corner → ℕ → List ℕ → List ℕ → Step → Type 0
 IsStep corners number before after (Meets pair) = IsMeetingAt corners pair
 IsStep corners number before after (Begins place) = IsSweptOver corners number after × IsBegun corners number place before after
-IsStep corners number before after Goes = IsSweptOver corners number after × IsEntered corners number
+IsStep corners number before after Ends = IsSweptOver corners number after × EndsAnEdge corners number
 
--- The end of a sweep over rings: a meeting, or no edges of them meet wrongly, and it is noted of each ring what is around it
+-- The end of a sweep over rings: a meeting, or no edges of them meet wrongly, and it is noted of each ring what is
+-- around it
 abbrev pub IsSweptWithNotes : List (List Position) → List Corner → List (Option Around) → Option Pair → Type 0
 IsSweptWithNotes rings corners notes None = NoneWrong corners × NoMeeting rings × AreAllNoted rings notes
 IsSweptWithNotes rings corners notes (Some pair) = IsMeetingAt corners pair

@@ -1,5 +1,5 @@
--- A sweep over edges by their numbers: a line goes over the plane from key to key, and the edges that it meets are kept in
--- their order along it. Neighbours in this order were tested.
+-- A sweep over edges by their numbers: a line goes over the plane from key to key, and the edges that it meets are kept
+-- in their order along it. Neighbours in this order were tested.
 use Rattle.std.specs.Prelude.{◌≡◌, ◌≢◌, ◌⊎◌, ℕ, ◌<◌, List, ◌++◌, Option, Some, ℤ, pos, ◌*ℤ◌, ◌<ℤ◌, ◌≤ℤ◌}
 use Rattle.mvt_plane.specs.CommonPoint.{IsCommon}
 use Rattle.mvt_plane.specs.EdgeOrder.{Segment, edge_along, IsRising, IsEndOf, IsAfter, IsBelow, MeetOnlyAt, gap, key_at}

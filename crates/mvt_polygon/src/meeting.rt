@@ -1,9 +1,7 @@
 //! Edges that meet wrongly.
 ghost use Rattle.std.specs.Prelude.{◌≡◌, ◌+◌, ◌*◌, ◌<◌, IfOk, IfNone, IfSome, None, Some, []};
-ghost use Rattle.mvt_plane.specs.Meeting.{EdgeNumber, MeetsWrongly};
-ghost use Rattle.mvt_plane.specs.RationalPoint.{RationalPoint};
 ghost use Rattle.mvt_polygon.specs.CornerOrder.{AddsWork};
-ghost use Rattle.mvt_polygon.specs.Corners.{AreCorners, IsNumbered, IsTold, vertex_count};
+ghost use Rattle.mvt_polygon.specs.Corners.{AreCorners, IsNumbered, IsNamedMeeting, vertex_count};
 ghost use Rattle.mvt_polygon.specs.Meeting.{IsMeetingOf, NoMeeting};
 ghost use Rattle.mvt_polygon.specs.Rings.{rings_of, AreProperRings};
 ghost use Rattle.mvt_status.specs.Counts.{bits};
@@ -48,14 +46,14 @@ pub fn find_meeting(
     count: &mut Count,
 ) -> Result<Option<Meeting>, AllocError>
     requires { AreProperRings (rings_of rings.now) }
-    ensures none { IfOk result (λ found. IfNone found ((first second : EdgeNumber) (point : RationalPoint) → ¬ MeetsWrongly (rings_of rings.now) first second point)) }
+    ensures none { IfOk result (λ found. IfNone found (NoMeeting (rings_of rings.now))) }
     ensures some { IfOk result (λ found. IfSome found (IsMeetingOf (rings_of rings.now))) }
     ensures counted { let vertices = vertex_count (rings_of rings.now) in AddsWork (3 * vertices) (vertices * (2 * bits vertices + 2)) (vertices * (20 * bits vertices)) count.old count.new }
 {
     let corners = corners_of(alloc, rings)?;
     let mut pairs = Pairs::new();
     if find_pairs(&corners, &mut pairs) {
-        return Ok(told(rings, meeting_among(&corners, &pairs, count)));
+        return Ok(named_meeting(rings, meeting_among(&corners, &pairs, count)));
     }
     meeting_by_sweep(alloc, rings, &corners, &mut TreeStatus::new(alloc), count)
 }
@@ -70,7 +68,7 @@ pub fn find_meeting_with<S: Status>(
 ) -> Result<Option<Meeting>, AllocError>
     requires rings { AreProperRings (rings_of rings.now) }
     requires empty { S.edges status.old ≡ [] }
-    ensures none { IfOk result (λ found. IfNone found ((first second : EdgeNumber) (point : RationalPoint) → ¬ MeetsWrongly (rings_of rings.now) first second point)) }
+    ensures none { IfOk result (λ found. IfNone found (NoMeeting (rings_of rings.now))) }
     ensures some { IfOk result (λ found. IfSome found (IsMeetingOf (rings_of rings.now))) }
     ensures counted { let vertices = vertex_count (rings_of rings.now) in AddsWork (3 * vertices) (vertices * (2 * bits vertices + 2)) (vertices * (20 * bits vertices)) count.old count.new }
 {
@@ -95,19 +93,19 @@ fn meeting_by_sweep<S: Status>(
 {
     let order = order_of(alloc, corners)?;
     if let Some((first, second)) = one_position(corners, &order) {
-        return Ok(told(rings, meeting_at(corners, first, second, count)));
+        return Ok(named_meeting(rings, meeting_at(corners, first, second, count)));
     }
     let order = numbers_of(alloc, order)?;
     let found = sweep(corners, &order, status, count)?;
-    Ok(told(rings, found))
+    Ok(named_meeting(rings, found))
 }
 
 /// The meeting that was found, if any, with its edges named by ring and ordinal.
-pub(crate) fn told(rings: &[Vec<Point>], found: Option<Pair>) -> Option<Meeting>
+pub(crate) fn named_meeting(rings: &[Vec<Point>], found: Option<Pair>) -> Option<Meeting>
     requires first { IfSome found (λ pair. pair.first < vertex_count (rings_of rings.now)) }
     requires second { IfSome found (λ pair. pair.second < vertex_count (rings_of rings.now)) }
     ensures none { IfNone result (found ≡ None) }
-    ensures some { IfSome result (λ meeting. (pair : Pair) × (found ≡ Some pair) × IsTold (rings_of rings.now) pair meeting) }
+    ensures some { IfSome result (λ meeting. (pair : Pair) × (found ≡ Some pair) × IsNamedMeeting (rings_of rings.now) pair meeting) }
 {
     let pair = found?;
     let (first_ring, first_edge) = ring_and_ordinal(rings, pair.first);

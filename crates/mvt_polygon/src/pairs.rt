@@ -13,7 +13,7 @@ use mvt_plane::{Count, Edge, orient};
 /// The most edges of which all pairs are looked at. A sweep over so few takes longer.
 const MOST_EDGES: usize = 16;
 
-/// Three pairs for each of so many edges.
+/// Three pairs for each of `MOST_EDGES` edges.
 const MOST_PAIRS: usize = 48;
 
 /// Pairs of edges by their numbers, the lesser one first.

@@ -7,7 +7,7 @@ ghost use Rattle.mvt_polygon.specs.Rings.{rings_of, AreProperRings};
 ghost use Rattle.mvt_polygon.specs.declared.polygon.PolygonFault.TheVariants as faults;
 ghost use Rattle.mvt_status.specs.Counts.{bits};
 
-use crate::meeting::{Meeting, find_meeting, told};
+use crate::meeting::{Meeting, find_meeting, named_meeting};
 use crate::nesting::NestFault;
 use crate::nesting::noted::fault_of_holes;
 use crate::sweep::{
@@ -32,7 +32,7 @@ pub enum PolygonFault {
 /// The first fault of the polygon of these rings: a meeting, as `find_meeting` answers, or else what `check_nesting`
 /// answers, or None where there is neither (Mapbox Vector Tile Specification 2.1, section 4.3.4.4). The first ring is
 /// the exterior, the others are the holes. Each ring is to have three vertices or more, none at the position of the
-/// next one. One sweep decides both: where its line comes to a ring, the edges below tell which rings are around it. So
+/// next one. One sweep decides both: where its line comes to a ring, the edges below say which rings are around it. So
 /// of n vertices it makes at most 3 * n tests of two edges, n * (2 * bits(n) + 3) comparisons of an edge with a vertex
 /// and n * 20 * bits(n) visits of the status's nodes, as `count` has it, also where rings are many. A polygon of one
 /// ring has no holes, so nothing is noted of it. The only error is that memory was refused.
@@ -64,14 +64,14 @@ fn check_with_holes(
     let corners = corners_of(alloc, rings)?;
     let order = order_of(alloc, &corners)?;
     if let Some((first, second)) = one_position(&corners, &order) {
-        let found = told(rings, meeting_at(&corners, first, second, count));
+        let found = named_meeting(rings, meeting_at(&corners, first, second, count));
         return Ok(fault_of_meeting(found));
     }
     let order = numbers_of(alloc, order)?;
     let mut notes = nothing_noted(alloc, &corners)?;
     let mut status = TreeStatus::new(alloc);
     let found = sweep_rings(rings, &corners, &order, &mut notes, &mut status, count)?;
-    Ok(match told(rings, found) {
+    Ok(match named_meeting(rings, found) {
         Some(meeting) => Some(PolygonFault::Meeting(meeting)),
         None => fault_of_nesting(fault_of_holes(rings, &notes, count)),
     })

@@ -24,7 +24,7 @@ pub(crate) use order::{numbers_of, one_position, order_of};
 pub(crate) use rings::sweep_rings;
 use std::alloc::AllocError;
 
-/// Goes over all corners in their order, of which no two are at one position. The status is empty at the call. The
+/// Goes over all corners in their order. No two of them are at one position, and the status is empty at the call. The
 /// only error is that memory was refused.
 pub(crate) fn sweep<S: Status>(
     corners: &[Corner],

@@ -109,7 +109,7 @@ pub fn named_points()
     ensures none { IsNamed (Some (at 10 0)) (record { a = at 0 0; b = at 10 0 }) (record { a = at 10 0; b = at 10 10 }) None }
 {}
 
-/// Nothing is asked of the geometry of an unknown type: any numbers are good, and none are rings.
+/// A geometry of unknown type may have any numbers, and has no rings.
 pub fn unknown_geometry()
     ensures any { (numbers : List ℕ) → HasFigure 0 numbers }
     ensures no_rings { (numbers : List ℕ) (rings : List (List Position)) → ¬ HasRings 0 numbers rings }

@@ -50,7 +50,7 @@ pub fn order_between_keys()
     ensures strict { (left right : ℤ) (edge_segment : Segment) → ¬ IsBelow left right edge_segment edge_segment }
 {}
 
-/// The orientation of an edge's ends and a position tells how far the position is above the edge. Of two edges that
+/// The orientation of an edge's ends and a position says how far the position is above the edge. Of two edges that
 /// begin at one vertex the first is below the second right after it exactly where the orientation of the vertex and
 /// their other ends is positive.
 pub fn order_by_orientation()

@@ -17,7 +17,7 @@ pub fn either_direction()
     ensures { (point : RationalPoint) (a b : Position) → LiesOn point (record { a = a; b = b }) → LiesOn point (record { a = b; b = a }) }
 {}
 
-/// Multiples of the numbers of a rational point stand for the same point.
+/// Multiples of the numbers of a rational point are the same point.
 pub fn one_point_of_many_numbers()
     ensures on_edge { (factor : ℤ) (point : RationalPoint) (edge : Edge) → pos 1 ≤ℤ factor → pos 1 ≤ℤ point.w →
         (LiesOn point edge ↔ LiesOn (record { x = factor *ℤ point.x; y = factor *ℤ point.y; w = factor *ℤ point.w }) edge) }

@@ -1,5 +1,5 @@
 //! The laws of reading the numbers of a geometry one by one (section 4.3), as `Drawing` says: the readers'
-//! places, and what the numbers there tell.
+//! places, and what the numbers there mean.
 
 ghost use Rattle.std.specs.Prelude.{◌≡◌, ◌≢◌, ℕ, ◌+◌, ◌-◌, ◌/◌, ◌%◌, ◌^◌, ◌<◌, ◌≤◌, Bool, true, false, List, length, slice_index, ℤ, ◌+ℤ◌};
 ghost use Rattle.mvt_plane.specs.CommandFault.{greatest_parameter};

@@ -1,11 +1,10 @@
 //! Holes that aren't where they should be, by one vertex of each.
 ghost use Rattle.std.specs.Prelude.{ℕ, ◌↔◌, ◌*◌, ◌-◌, ◌<◌, IsTrue, IfNone, IfSome, length, take};
 ghost use Rattle.mvt_plane.specs.Inside.{IsInside};
-ghost use Rattle.mvt_plane.specs.Meeting.{EdgeNumber, MeetsWrongly};
 ghost use Rattle.mvt_plane.specs.Nesting.{IsVertexOf};
-ghost use Rattle.mvt_plane.specs.RationalPoint.{RationalPoint};
 ghost use Rattle.mvt_polygon.specs.CornerOrder.{AddsWork};
 ghost use Rattle.mvt_polygon.specs.Corners.{vertex_count};
+ghost use Rattle.mvt_polygon.specs.Meeting.{NoMeeting};
 ghost use Rattle.mvt_polygon.specs.Nesting.{IsNestFault, IsFirstNestFault, IsFirstOf, IsOfVertex, IsHoleAround, IsFirstHoleAround};
 ghost use Rattle.mvt_polygon.specs.Rings.{rings_of, AreProperRings};
 ghost use Rattle.mvt_polygon.specs.declared.nesting.NestFault.{NestFault};
@@ -22,7 +21,7 @@ use mvt_plane::{Count, Point, inside};
 /// counts a probe for each of these edges: for r rings of n vertices at most r * n. It takes no memory.
 pub fn check_nesting_once(rings: &[Vec<Point>], count: &mut Count) -> Option<NestFault>
     requires proper { AreProperRings (rings_of rings.now) }
-    requires none_meet { (first second : EdgeNumber) (point : RationalPoint) → ¬ MeetsWrongly (rings_of rings.now) first second point }
+    requires none_meet { NoMeeting (rings_of rings.now) }
     ensures none { IfNone result ((fault : NestFault) → ¬ IsNestFault (rings_of rings.now) fault) }
     ensures least { IfSome result (IsFirstNestFault (rings_of rings.now)) }
     ensures counted { AddsWork 0 (length rings.now * vertex_count (rings_of rings.now)) 0 count.old count.new }

@@ -12,8 +12,8 @@ use std::process::Abort;
 /// The vertices of a ring.
 type Coordinates = &'static [(i32, i32)];
 
-/// What `find_meeting` tells, or else `check_nesting`.
-fn told_by_both(alloc: Global, rings: &[Vec<Point>]) -> Result<Option<PolygonFault>, AllocError>
+/// What `find_meeting` returns, or else `check_nesting`.
+fn returned_by_both(alloc: Global, rings: &[Vec<Point>]) -> Result<Option<PolygonFault>, AllocError>
     requires { AreProperRings (rings_of rings.now) }
 {
     if let Some(meeting) = find_meeting(alloc, rings, &mut Count::new())? {
@@ -25,7 +25,7 @@ fn told_by_both(alloc: Global, rings: &[Vec<Point>]) -> Result<Option<PolygonFau
     })
 }
 
-/// What is told of the polygon of these rings, which is what the two others tell, with at most three tests for each
+/// The fault of the polygon of these rings, which is what the two others return, with at most three tests for each
 /// vertex.
 fn fault_in(
     rt: &impl Abort,
@@ -37,11 +37,11 @@ fn fault_in(
     let fault = check_polygon(alloc, rings, &mut count)?;
     let most = vertices_of(rings).saturating_mul(3) as u64;
     assert!(rt; count.tests() <= most, "{count:?} at {rings:?}");
-    let told = told_by_both(alloc, rings)?;
+    let returned = returned_by_both(alloc, rings)?;
     // (of several meetings each may find another one)
-    let same = match (fault, told) {
+    let same = match (fault, returned) {
         (Some(PolygonFault::Meeting(_)), Some(PolygonFault::Meeting(_))) => true,
-        _ => fault == told,
+        _ => fault == returned,
     };
     assert!(rt; same, "{rings:?}");
     Ok(fault)
@@ -53,11 +53,11 @@ fn fault_at(rt: &impl Abort, alloc: Global, coordinates: &[Coordinates]) -> Opti
     fault_in(rt, alloc, &rings).expect(rt, "memory")
 }
 
-/// That no two edges meet wrongly, and this is told of the holes.
+/// No two edges meet wrongly, and the holes have this fault.
 fn expect(rt: &impl Abort, alloc: Global, coordinates: &[Coordinates], fault: Option<NestFault>) {
     match fault_at(rt, alloc, coordinates) {
         None => assert_eq!(rt; fault, None),
-        Some(PolygonFault::Nesting(told)) => assert_eq!(rt; fault, Some(told)),
+        Some(PolygonFault::Nesting(returned)) => assert_eq!(rt; fault, Some(returned)),
         Some(PolygonFault::Meeting(meeting)) => assert!(rt; false, "{meeting:?}"),
     }
 }

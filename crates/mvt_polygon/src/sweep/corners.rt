@@ -12,8 +12,8 @@ use std::alloc::{AllocError, Global};
 #[derive(Clone, Copy)]
 pub(crate) struct Corner {
     pub(crate) position: Point,
-    /// For the first corner of a ring the number of its last one, for the last one that of the first; for the
-    /// others their own.
+    /// In the first corner of a ring the number of the ring's last corner, and in the last corner that of the first;
+    /// in every other corner its own number.
     pub(crate) far_end: usize,
 }
 
@@ -26,8 +26,8 @@ pub(crate) struct Pair {
     pub(crate) point: Hpoint,
 }
 
-/// The corners of rings, ring by ring. The only error is that memory was refused, or that there are more of
-/// them than numbers.
+/// The corners of rings, ring by ring. The only error is that memory was refused, or that a `usize` is too small
+/// for their number.
 pub(crate) fn corners_of(alloc: Global, rings: &[Vec<Point>]) -> Result<Vec<Corner>, AllocError>
     ensures { IfOk result (λ corners. AreCorners (rings_of rings.now) corners.items) }
 {
@@ -39,7 +39,7 @@ pub(crate) fn corners_of(alloc: Global, rings: &[Vec<Point>]) -> Result<Vec<Corn
     Ok(corners)
 }
 
-/// How many vertices rings have, or None where they are more than numbers.
+/// How many vertices rings have, or None where a `usize` is too small for their number.
 fn count_of(rings: &[Vec<Point>]) -> Option<usize>
     ensures { IfSome result (λ count. count ≡ vertex_count (rings_of rings.now)) }
 {
@@ -72,8 +72,8 @@ fn add_corners(
     Ok(())
 }
 
-/// In a ring of so many corners the number of the last one for the first, of the first for the last, and for the others
-/// their own.
+/// In a ring of so many corners: the number of the last corner for the first one, that of the first for the last one,
+/// and its own for every other corner.
 fn far_end_of(count: usize, number: usize) -> usize
     requires { number < count }
     ensures value { result ≡ far_end_of count number }

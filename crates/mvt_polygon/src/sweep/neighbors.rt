@@ -11,7 +11,7 @@ use crate::sweep::corners::{Corner, Pair, meeting_at};
 use mvt_plane::Count;
 use mvt_status::Status;
 
-/// The wrong meeting of an edge with one beside it, where there is one.
+/// The wrong meeting of an edge with its neighbour, if it has a neighbour and they meet wrongly.
 pub(crate) fn meeting_with(
     corners: &[Corner],
     edge: usize,

@@ -11,7 +11,8 @@ use crate::sweep::corners::{Corner, next_of};
 use mvt_plane::{Count, Point, side, sweep_key};
 use mvt_status::{Split, Status};
 
-/// How many edges of the status are below a corner, which come before the others, and the two edges beside it.
+/// How many edges of the status are below a corner (they come before the others), and the edges directly below and
+/// above it.
 pub(crate) fn place_of<S: Status>(
     corners: &[Corner],
     number: usize,

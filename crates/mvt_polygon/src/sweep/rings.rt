@@ -43,7 +43,7 @@ pub(crate) fn sweep_rings<S: Status>(
             Step::Begins(place) => {
                 note_ring(rings, corners, notes, order[at], place, status, count);
             }
-            Step::Goes => {}
+            Step::Ends => {}
         }
     }
     Ok(None)

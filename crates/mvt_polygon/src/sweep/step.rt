@@ -2,7 +2,7 @@
 ghost use Rattle.std.specs.Prelude.{◌≡◌, ◌<◌, IfOk, length};
 ghost use Rattle.mvt_polygon.specs.CornerOrder.{AddsStep, IsNextCorner};
 ghost use Rattle.mvt_polygon.specs.Corners.{AreInRange, AreLinked, previous_at};
-ghost use Rattle.mvt_polygon.specs.Steps.{gone, IsStep};
+ghost use Rattle.mvt_polygon.specs.Steps.{after_an_end, IsStep};
 
 use crate::sweep::begin::begin;
 use crate::sweep::corners::{Corner, Pair, next_of, previous_of};
@@ -16,10 +16,10 @@ use std::alloc::AllocError;
 pub(crate) enum Step {
     /// These two edges meet wrongly.
     Meets(Pair),
-    /// Both edges of the corner began in it, behind so many edges of the status.
+    /// Both edges of the corner began in it, above so many edges of the status.
     Begins(usize),
     /// An edge of the corner ended in it.
-    Goes,
+    Ends,
 }
 
 /// Goes over a corner, which is the next one that the line comes to.
@@ -44,23 +44,23 @@ pub(crate) fn go_over<S: Status>(
     let goes_on = key < sweep_key(behind);
     if comes_from_before {
         if goes_on {
-            Ok(gone(pass(corners, number, previous, number, status, count)?))
+            Ok(after_an_end(pass(corners, number, previous, number, status, count)?))
         } else {
-            Ok(gone(end(corners, number, status, count)))
+            Ok(after_an_end(end(corners, number, status, count)))
         }
     } else if goes_on {
         begin(corners, number, status, count)
     } else {
-        Ok(gone(pass(corners, number, number, previous, status, count)?))
+        Ok(after_an_end(pass(corners, number, number, previous, status, count)?))
     }
 }
 
 /// The step over a corner in which an edge ended.
-fn gone(found: Option<Pair>) -> Step
-    ensures { result ≡ gone found }
+fn after_an_end(found: Option<Pair>) -> Step
+    ensures { result ≡ after_an_end found }
 {
     match found {
         Some(pair) => Step::Meets(pair),
-        None => Step::Goes,
+        None => Step::Ends,
     }
 }

@@ -4,7 +4,8 @@ use Rattle.mvt_plane.specs.Drawing.{State, path_command, line_command, to_first,
 use Rattle.mvt_plane.specs.Figure.{line_to, command_integer}
 use Rattle.mvt_plane.specs.Reading.{StandsAt, AsksCommand, of_path, of_line, greatest_count, path_type}
 use Rattle.mvt_draw.specs.Cursor.{position_of}
-use Rattle.mvt_plane.proofs.Readers.{one_behind, line_left}
+use Rattle.mvt_plane.proofs.Figures.{one_behind}
+use Rattle.mvt_plane.proofs.Readers.{line_left}
 use Rattle.mvt_draw.proofs.StepsAhead.{path_started}
 use Rattle.mvt_draw.proofs.commands.path_start.Goals as goal
 

@@ -1,10 +1,10 @@
 use Rattle.std.proofs.Common.{Some, ◌∙◌, sym, refl, ap}
 use Rattle.mvt_plane.specs.CommonPoint.{NoEndIsCommon, none, first_a, first_b, second_a, second_b, crossing}
 use Rattle.mvt_plane.proofs.Crossings.{side}
-use Rattle.mvt_plane.proofs.Naming.{apart_by_sides, opposite_by_sides, common_by_first_a, common_by_first_b, common_by_second_a, common_by_second_b, first_not_common, second_not_common, no_end_beside, none_by_shared}
+use Rattle.mvt_plane.proofs.CommonPointChoice.{apart_by_sides, opposite_by_sides, common_by_first_a, common_by_first_b, common_by_second_a, common_by_second_b, first_not_common, second_not_common, no_end_beside, none_by_shared}
 use Rattle.mvt_plane.proofs.Sides.{zero_by_side}
-use Rattle.mvt_plane.proofs.Touching.{IsTouching, none_by_ends}
-use Rattle.mvt_plane.proofs.Touching as touching
+use Rattle.mvt_plane.proofs.TouchingLines.{IsTouching, none_by_ends}
+use Rattle.mvt_plane.proofs.TouchingLines as touching
 use Rattle.mvt_plane.proofs.crossing.common.Goals as goal
 use Rattle.mvt_plane.proofs.crossing.common.Goals.{then-is_eq-via-then-is_eq, then-is_eq-via-else-is_eq+then-is_eq-2, then-is_eq-via-else-is_eq+else-is_eq-2+then-is_eq-3, then-is_eq-via-else-is_eq+else-is_eq-2+else-is_eq-3+then-is_eq-4}
 

@@ -3,7 +3,7 @@ use Rattle.std.proofs.lemmas.Int.{to_z-of_z}
 use Rattle.mvt_plane.specs.RationalPoint.{IsBetween}
 use Rattle.mvt_plane.proofs.crossing.is_in_box.Goals as goal
 
--- what the test tells of numbers that are passed on
+-- what the test says of numbers that are passed on
 passed : (r : Bool) (a b z from to at : ℤ) → FitsSigned w32 a → FitsSigned w32 b → FitsSigned w32 z → a ≡ from → b ≡ to → z ≡ at
     → IsTrue r ↔ IsBetween (to_z w32 (of_z w32 a)) (to_z w32 (of_z w32 b)) (to_z w32 (of_z w32 z)) → IsTrue r ↔ IsBetween from to at
 passed r a b z from to at a_fits b_fits z_fits a_is b_is z_is test =

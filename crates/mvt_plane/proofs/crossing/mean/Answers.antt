@@ -29,12 +29,12 @@ passed x y m n edge m_fits n_fits x_is y_is bounded =
     let w_is : to_z w128 (of_z w128 (to_z w128 (of_z w128 m) +ℤ to_z w128 (of_z w128 n))) ≡ m +ℤ n = simp to_z-of_z in
     same_triple (to_z-of_z w128 x x_fits ∙ x_is) (to_z-of_z w128 y y_fits ∙ y_is) w_is
 
--- what is asked for is in range
+-- what is requested is in range
 some_by_none : (o : Option RationalPoint) (P : Type 0) → IfNone o (¬ P) → P → IsSome o
 some_by_none None P none there = absurd (none there)
 some_by_none (Some point) P none there = refl
 
--- what comes is what was asked for
+-- what comes is what was requested
 same_by_some : (o : Option RationalPoint) (asked point : RationalPoint) → IfSome o (λ found. found ≡ asked) → o ≡ Some point → point ≡ asked
 same_by_some None asked point found there = absurd (none-some point there)
 same_by_some (Some it) asked point found there = sym (same_Some it point there) ∙ found

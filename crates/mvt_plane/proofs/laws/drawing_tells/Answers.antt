@@ -1,4 +1,4 @@
-use Rattle.mvt_plane.proofs.Beginnings.{passes_spells}
+use Rattle.mvt_plane.proofs.SpellingPrefixes.{passes_spells}
 use Rattle.mvt_plane.proofs.CommandFaults.{has_command_fault}
 use Rattle.mvt_plane.proofs.Figures.{draws_figure}
 use Rattle.mvt_plane.proofs.SoundStates.{sound_behind_start}

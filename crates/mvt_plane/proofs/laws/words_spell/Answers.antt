@@ -1,4 +1,4 @@
-use Rattle.mvt_plane.proofs.Words.{words_spell}
+use Rattle.mvt_plane.proofs.CommandWords.{words_spell}
 use Rattle.mvt_plane.proofs.laws.words_spell.Goals as goal
 
 pub returns : goal.returns

@@ -1,4 +1,4 @@
--- The rectangles tell which edges pass over the position, of those that go by its x.
+-- The rectangles say which edges pass over the position, of those that go by its x.
 use Rattle.std.proofs.Common.{◌≤ℤ◌, ◌<ℤ◌, arith}
 use Rattle.std.proofs.lemmas.Int.{ints}
 use Rattle.mvt_plane.proofs.InsideEdges.{passes_rightward, passes_leftward, passes_apart}

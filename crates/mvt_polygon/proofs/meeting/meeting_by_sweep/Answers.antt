@@ -1,11 +1,10 @@
 use Rattle.std.proofs.Common.{◌∙◌, subst}
-use Rattle.mvt_plane.specs.Meeting.{EdgeNumber, MeetsWrongly}
-use Rattle.mvt_plane.specs.RationalPoint.{RationalPoint}
 use Rattle.mvt_polygon.specs.CornerOrder.{IsStrict}
+use Rattle.mvt_polygon.specs.Meeting.{NoMeeting}
 use Rattle.mvt_polygon.specs.Rings.{rings_of}
 use Rattle.mvt_polygon.proofs.CornerPlans.{linked_corners, none_of_rings}
-use Rattle.mvt_polygon.proofs.MeetingsFound.{first_within, second_within, some_told, none_told, together_found}
-use Rattle.mvt_polygon.proofs.MeetingsTold.{none_map}
+use Rattle.mvt_polygon.proofs.MeetingsFound.{first_within, second_within, some_named, none_named, together_found}
+use Rattle.mvt_polygon.proofs.NoMeetings.{none_map}
 use Rattle.mvt_polygon.proofs.NumbersInOrder.{order_kept, strict_kept}
 use Rattle.mvt_polygon.proofs.meeting.meeting_by_sweep.Goals as goal
 
@@ -14,14 +13,14 @@ meeting_at-requires-clause-linked g c =
     let rings = rings_of c.args.rings.now in
     linked_corners rings c.args.corners.now c.requires.rings c.requires.corners
 
-pub told-requires-clause-first : goal.told-requires-clause-first
-told-requires-clause-first g c =
+pub named_meeting-requires-clause-first : goal.named_meeting-requires-clause-first
+named_meeting-requires-clause-first g c =
     let rings = rings_of c.args.rings.now in
     let corners = c.args.corners.now in
     first_within rings corners c.meeting_at.result c.requires.corners c.meeting_at.ensures.some
 
-pub told-requires-clause-second : goal.told-requires-clause-second
-told-requires-clause-second g c =
+pub named_meeting-requires-clause-second : goal.named_meeting-requires-clause-second
+named_meeting-requires-clause-second g c =
     let rings = rings_of c.args.rings.now in
     let corners = c.args.corners.now in
     second_within rings corners c.meeting_at.result c.requires.corners c.meeting_at.ensures.some
@@ -32,29 +31,29 @@ returns-in-Some-clause-none g c =
     let corners = c.args.corners.now in
     let are = c.requires.corners in
     let together = rw c.in-Some.is at c.one_position.ensures.some in
-    let none = (first second : EdgeNumber) (point : RationalPoint) → ¬ MeetsWrongly rings first second point in
-    none_told c.meeting_at.result c.told.result none c.told.ensures.none
+    let none = NoMeeting rings in
+    none_named c.meeting_at.result c.named_meeting.result none c.named_meeting.ensures.none
     (together_found corners c.in-Some.first c.in-Some.second c.meeting_at.result none (linked_corners rings corners c.requires.rings are) together c.meeting_at.ensures.none)
 
 pub returns-in-Some-clause-some : goal.returns-in-Some-clause-some
 returns-in-Some-clause-some g c =
     let rings = rings_of c.args.rings.now in
-    some_told rings c.args.corners.now c.meeting_at.result c.told.result c.requires.rings
+    some_named rings c.args.corners.now c.meeting_at.result c.named_meeting.result c.requires.rings
     c.requires.corners
-    c.meeting_at.ensures.some c.told.ensures.some
+    c.meeting_at.ensures.some c.named_meeting.ensures.some
 
 pub sweep-requires-clause-linked : goal.sweep-requires-clause-linked
 sweep-requires-clause-linked g c =
     let rings = rings_of c.args.rings.now in
     linked_corners rings c.args.corners.now c.requires.rings c.requires.corners
 
-pub told-requires-2-clause-first : goal.told-requires-2-clause-first
-told-requires-2-clause-first g c =
+pub named_meeting-requires-2-clause-first : goal.named_meeting-requires-2-clause-first
+named_meeting-requires-2-clause-first g c =
     let rings = rings_of c.args.rings.now in
     first_within rings c.args.corners.now c.in_ok-found.found c.requires.corners c.in_ok-found.ensures.some
 
-pub told-requires-2-clause-second : goal.told-requires-2-clause-second
-told-requires-2-clause-second g c =
+pub named_meeting-requires-2-clause-second : goal.named_meeting-requires-2-clause-second
+named_meeting-requires-2-clause-second g c =
     let rings = rings_of c.args.rings.now in
     second_within rings c.args.corners.now c.in_ok-found.found c.requires.corners c.in_ok-found.ensures.some
 
@@ -63,14 +62,14 @@ returns-clause-none g c =
     let rings = rings_of c.args.rings.now in
     let corners = c.args.corners.now in
     let are = c.requires.corners in
-    none_told c.in_ok-found.found c.told-2.result ((first second : EdgeNumber) (point : RationalPoint) → ¬ MeetsWrongly rings first second point) c.told-2.ensures.none
+    none_named c.in_ok-found.found c.named_meeting-2.result (NoMeeting rings) c.named_meeting-2.ensures.none
     (none_map c.in_ok-found.found (none_of_rings rings corners c.requires.rings are) c.in_ok-found.ensures.none)
 
 pub returns-clause-some : goal.returns-clause-some
 returns-clause-some g c =
     let rings = rings_of c.args.rings.now in
-    some_told rings c.args.corners.now c.in_ok-found.found c.told-2.result c.requires.rings c.requires.corners
-    c.in_ok-found.ensures.some c.told-2.ensures.some
+    some_named rings c.args.corners.now c.in_ok-found.found c.named_meeting-2.result c.requires.rings c.requires.corners
+    c.in_ok-found.ensures.some c.named_meeting-2.ensures.some
 
 pub sweep-requires-clause-order : goal.sweep-requires-clause-order
 sweep-requires-clause-order g c =

@@ -7,26 +7,26 @@ use Rattle.mvt_polygon.specs.Rings.{rings_of}
 use Rattle.mvt_polygon.specs.declared.sweep.corners.Corner.{Corner}
 use Rattle.mvt_polygon.proofs.CornerPlans.{linked_corners}
 use Rattle.mvt_polygon.proofs.FrontRings.{rings_in_range}
-use Rattle.mvt_polygon.proofs.MeetingsFound.{first_within, second_within, some_told, none_told, together_found}
+use Rattle.mvt_polygon.proofs.MeetingsFound.{first_within, second_within, some_named, none_named, together_found}
 use Rattle.mvt_polygon.proofs.NumbersInOrder.{order_kept, strict_kept}
-use Rattle.mvt_polygon.proofs.PolygonAnswers.{met_answer, nesting_answer, swept_clear, swept_meets, told_answer, whole_work, sweep_work, written_back}
+use Rattle.mvt_polygon.proofs.PolygonAnswers.{met_answer, nesting_answer, swept_clear, swept_meets, named_answer, whole_work, sweep_work, written_back}
 use Rattle.mvt_status.specs.Counts.{bits}
 use Rattle.mvt_polygon.proofs.polygon.check_with_holes.Goals as goal
-use Rattle.mvt_polygon.proofs.polygon.check_with_holes.Goals.{in-Some-told, in-None}
+use Rattle.mvt_polygon.proofs.polygon.check_with_holes.Goals.{in-Some-named_meeting, in-None}
 
 pub meeting_at-requires-clause-linked : goal.meeting_at-requires-clause-linked
 meeting_at-requires-clause-linked c =
     let rings = rings_of c.args.rings.now in
     linked_corners rings c.deref-in-Some.result.now c.requires (subst (AreCorners rings) (sym c.deref-in-Some.ensures.value) c.in_ok-corners.ensures)
 
-pub told-found-requires-clause-first : goal.told-found-requires-clause-first
-told-found-requires-clause-first c =
+pub named_meeting-found-requires-clause-first : goal.named_meeting-found-requires-clause-first
+named_meeting-found-requires-clause-first c =
     let rings = rings_of c.args.rings.now in
     let corners = c.deref-in-Some.result.now in
     first_within rings corners c.meeting_at.result (subst (AreCorners rings) (sym c.deref-in-Some.ensures.value) c.in_ok-corners.ensures) c.meeting_at.ensures.some
 
-pub told-found-requires-clause-second : goal.told-found-requires-clause-second
-told-found-requires-clause-second c =
+pub named_meeting-found-requires-clause-second : goal.named_meeting-found-requires-clause-second
+named_meeting-found-requires-clause-second c =
     let rings = rings_of c.args.rings.now in
     let corners = c.deref-in-Some.result.now in
     second_within rings corners c.meeting_at.result (subst (AreCorners rings) (sym c.deref-in-Some.ensures.value) c.in_ok-corners.ensures) c.meeting_at.ensures.some
@@ -38,10 +38,10 @@ returns-in-Some-clause-answer c =
     let are = subst (AreCorners rings) (sym c.deref-in-Some.ensures.value) c.in_ok-corners.ensures in
     let together = subst (λ (its : List Corner). AreTogether its c.in-Some.first c.in-Some.second) (c.deref-2.ensures.value ∙ sym c.deref-in-Some.ensures.value)
     (rw c.in-Some.is at c.one_position.ensures.some) in
-    let none = none_told c.meeting_at.result c.told-found.result ⊥ c.told-found.ensures.none
+    let none = none_named c.meeting_at.result c.named_meeting-found.result ⊥ c.named_meeting-found.ensures.none
     (together_found corners c.in-Some.first c.in-Some.second c.meeting_at.result ⊥ (linked_corners rings corners c.requires are) together c.meeting_at.ensures.none) in
-    let some = some_told rings corners c.meeting_at.result c.told-found.result c.requires are c.meeting_at.ensures.some c.told-found.ensures.some in
-    met_answer rings c.told-found.result c.fault_of_meeting.result c.fault_of_meeting.ensures none some
+    let some = some_named rings corners c.meeting_at.result c.named_meeting-found.result c.requires are c.meeting_at.ensures.some c.named_meeting-found.ensures.some in
+    met_answer rings c.named_meeting-found.result c.fault_of_meeting.result c.fault_of_meeting.ensures none some
 
 pub sweep_rings-requires-clause-linked : goal.sweep_rings-requires-clause-linked
 sweep_rings-requires-clause-linked c =
@@ -59,15 +59,15 @@ sweep_rings-requires-clause-strict c =
     strict_kept c.deref-5.result.now c.in_ok-order.order.items c.deref-6.result.now order (c.deref-6.ensures.value ∙ c.in_ok-order-2.ensures)
     (subst IsStrict c.deref-3.ensures.value (rw c.in_default.is at c.one_position.ensures.none))
 
-pub told-requires-clause-first : goal.told-requires-clause-first
-told-requires-clause-first c =
+pub named_meeting-requires-clause-first : goal.named_meeting-requires-clause-first
+named_meeting-requires-clause-first c =
     let rings = rings_of c.args.rings.now in
     let corners = c.deref-5.result.now in
     first_within rings corners c.in_ok-found.found (subst (AreCorners rings) (sym c.deref-5.ensures.value) c.in_ok-corners.ensures)
     (swept_meets rings corners c.sweep_rings.new.notes c.in_ok-found.found c.in_ok-found.ensures.swept)
 
-pub told-requires-clause-second : goal.told-requires-clause-second
-told-requires-clause-second c =
+pub named_meeting-requires-clause-second : goal.named_meeting-requires-clause-second
+named_meeting-requires-clause-second c =
     let rings = rings_of c.args.rings.now in
     let corners = c.deref-5.result.now in
     second_within rings corners c.in_ok-found.found (subst (AreCorners rings) (sym c.deref-5.ensures.value) c.in_ok-corners.ensures)
@@ -75,7 +75,7 @@ told-requires-clause-second c =
 
 pub fault_of_holes-requires-clause-none_meet : goal.fault_of_holes-requires-clause-none_meet
 fault_of_holes-requires-clause-none_meet c =
-    (swept_clear (rings_of c.args.rings.now) c.deref-5.result.now c.sweep_rings.new.notes c.in_ok-found.found c.told.result c.in_ok-found.ensures.swept c.in-None.is c.told.ensures.none).0
+    (swept_clear (rings_of c.args.rings.now) c.deref-5.result.now c.sweep_rings.new.notes c.in_ok-found.found c.named_meeting.result c.in_ok-found.ensures.swept c.in-None.is c.named_meeting.ensures.none).0
 
 pub fault_of_holes-requires-clause-size : goal.fault_of_holes-requires-clause-size
 fault_of_holes-requires-clause-size c =
@@ -91,7 +91,7 @@ fault_of_holes-requires-clause-noted c =
     let before : length c.sweep_rings.new.notes ≡ length c.in_ok-notes.notes.items = kept ∙ ap length c.deref_mut.ensures.value in
     let back = written_back c.in_ok-notes.notes.len c.sweep_rings.new.notes c.in_ok-notes.notes.items before c.in_ok-notes.notes.ok.0 in
     subst (AreAllNoted rings) (sym (c.deref-in-None.ensures.value ∙ back))
-    (swept_clear rings c.deref-5.result.now c.sweep_rings.new.notes c.in_ok-found.found c.told.result c.in_ok-found.ensures.swept c.in-None.is c.told.ensures.none).1
+    (swept_clear rings c.deref-5.result.now c.sweep_rings.new.notes c.in_ok-found.found c.named_meeting.result c.in_ok-found.ensures.swept c.in-None.is c.named_meeting.ensures.none).1
 
 pub returns-clause-answer : goal.returns-clause-answer
 returns-clause-answer c =
@@ -99,11 +99,11 @@ returns-clause-answer c =
     let corners = c.deref-5.result.now in
     let are = subst (AreCorners rings) (sym c.deref-5.ensures.value) c.in_ok-corners.ensures in
     let meets = swept_meets rings corners c.sweep_rings.new.notes c.in_ok-found.found c.in_ok-found.ensures.swept in
-    let some = some_told rings corners c.in_ok-found.found c.told.result c.requires are meets c.told.ensures.some in
-    elim c.match-told.branch [
-      | in-Some-told w ↦ told_answer rings c.told.result w.in-Some-told.meeting c.match-told.result w.in-Some-told.is w.result-is some
-      | in-None w ↦ nesting_answer rings w.fault_of_holes.result c.match-told.result (w.result-is ∙ w.fault_of_nesting.ensures)
-          (swept_clear rings corners c.sweep_rings.new.notes c.in_ok-found.found c.told.result c.in_ok-found.ensures.swept w.in-None.is c.told.ensures.none).0
+    let some = some_named rings corners c.in_ok-found.found c.named_meeting.result c.requires are meets c.named_meeting.ensures.some in
+    elim c.match-named_meeting.branch [
+      | in-Some-named_meeting w ↦ named_answer rings c.named_meeting.result w.in-Some-named_meeting.meeting c.match-named_meeting.result w.in-Some-named_meeting.is w.result-is some
+      | in-None w ↦ nesting_answer rings w.fault_of_holes.result c.match-named_meeting.result (w.result-is ∙ w.fault_of_nesting.ensures)
+          (swept_clear rings corners c.sweep_rings.new.notes c.in_ok-found.found c.named_meeting.result c.in_ok-found.ensures.swept w.in-None.is c.named_meeting.ensures.none).0
           w.fault_of_holes.ensures.none w.fault_of_holes.ensures.least
     ]
 
@@ -122,8 +122,8 @@ returns-clause-counted c =
     ∙ ap length (c.deref.ensures.value ∙ sym c.deref-5.ensures.value) ∙ are.count in
     let sweep = subst (λ (n : ℕ). AddsWork (3 * n) (n * (2 * bits (length corners) + 2)) (n * (14 * bits (length corners))) c.args.count.now between) order_size c.sweep_rings.ensures.counted in
     let swept = subst (λ (n : ℕ). AddsWork (3 * vertices) (vertices * (2 * bits n + 2)) (vertices * (14 * bits n)) c.args.count.now between) are.count sweep in
-    elim c.match-told.branch [
-      | in-Some-told w ↦ subst (AddsWork (3 * vertices) (vertices * (2 * bits vertices + 3)) (vertices * (20 * bits vertices)) c.args.count.now) (sym w.count-is)
+    elim c.match-named_meeting.branch [
+      | in-Some-named_meeting w ↦ subst (AddsWork (3 * vertices) (vertices * (2 * bits vertices + 3)) (vertices * (20 * bits vertices)) c.args.count.now) (sym w.count-is)
           (sweep_work vertices (bits vertices) c.args.count.now between swept)
       | in-None w ↦ subst (AddsWork (3 * vertices) (vertices * (2 * bits vertices + 3)) (vertices * (20 * bits vertices)) c.args.count.now) (sym w.count-is)
           (whole_work vertices (bits vertices) c.args.count.now between w.fault_of_holes.new.count swept w.fault_of_holes.ensures.counted)

@@ -7,7 +7,7 @@ use Rattle.mvt_polygon.proofs.CornerSweeps.{swept_to_first, next_corner, swept_t
 use Rattle.mvt_polygon.proofs.MeetingsFound.{another_step, so_many_steps}
 use Rattle.mvt_polygon.proofs.NumbersInOrder.{number_there, with_keys_size}
 use Rattle.mvt_polygon.proofs.StatusCounts.{no_work}
-use Rattle.mvt_polygon.proofs.StepsEntered.{step_over}
+use Rattle.mvt_polygon.proofs.StepsAfterAnEnd.{step_over}
 use Rattle.mvt_polygon.proofs.sweep.sweep.Goals as goal
 
 pub loop-at-init : goal.loop-at-init

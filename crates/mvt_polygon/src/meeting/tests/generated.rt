@@ -141,7 +141,7 @@ fn point_at(edges: &[Placed], first: (usize, usize), second: (usize, usize)) -> 
     point_of(&edge_at(edges, first)?, &edge_at(edges, second)?)
 }
 
-/// Whether two edges meet wrongly as is told, the first before the second.
+/// Whether two edges meet wrongly as this says, the first before the second.
 fn is_one_of(meeting: &Meeting, edges: &[Placed]) -> bool {
     let first = (meeting.first_ring, meeting.first_edge);
     let second = (meeting.second_ring, meeting.second_edge);

@@ -8,7 +8,7 @@ use std::time::{Clock, Duration, Instant};
 
 /// That no edges meet in the ring through these coordinates, that the search takes one to three tests of two edges a
 /// vertex, and no more than two minutes by the clock. (`rt ci` and `rt test` end a test after one minute, which fails
-/// it too, but `rt test` can be told to wait longer.)
+/// it too, but `rt test` has a flag to wait longer.)
 fn expect_none(rt: &(impl Abort + Clock), alloc: Global, ring: &[(i32, i32)]) -> Result<(), Fail> {
     assert_eq!(rt; ring.len(), 999_996);
     let rings = rings_at(rt, alloc, &[ring])?;

@@ -23,7 +23,7 @@ fn are_apart(alloc: Global, rings: &[Vec<Point>]) -> Result<bool, AllocError>
     }
 }
 
-/// What is told of the polygon of these rings, and how many probes were counted. None where two edges meet wrongly.
+/// The fault of the polygon of these rings, and how many probes were counted. None where two edges meet wrongly.
 fn counted_in(
     rt: &impl Abort,
     alloc: Global,
@@ -38,7 +38,7 @@ fn counted_in(
     Ok(None)
 }
 
-/// That no two edges meet wrongly, and this is told, after so many probes.
+/// No two edges meet wrongly, and this is returned, after so many probes.
 fn expect(
     rt: &impl Abort,
     alloc: Global,
@@ -47,8 +47,8 @@ fn expect(
     probes: u64,
 ) {
     let rings = rings_at(rt, alloc, coordinates).expect(rt, "memory");
-    let told = counted_in(rt, alloc, &rings).expect(rt, "memory");
-    assert_eq!(rt; told, Some((fault, probes)));
+    let returned = counted_in(rt, alloc, &rings).expect(rt, "memory");
+    assert_eq!(rt; returned, Some((fault, probes)));
 }
 
 #[test]

@@ -1,7 +1,7 @@
 use Rattle.std.proofs.Common.{◌≡◌, ◌<◌, ◌≤◌, [], ℕ, List, false, true, length, drop, ap, sym, ◌∙◌, subst, refl, arith}
 use Rattle.std.proofs.lemmas.List.{length-drop}
 use Rattle.std.proofs.lemmas.Result.{err_from_is_err_and}
-use Rattle.mvt_plane.proofs.Beginnings.{passes_spells}
+use Rattle.mvt_plane.proofs.SpellingPrefixes.{passes_spells}
 use Rattle.mvt_plane.proofs.FigurePaths.{rings_ahead}
 use Rattle.mvt_plane.proofs.Readers.{whole_there}
 use Rattle.mvt_plane.specs.Course.{course_at}

@@ -1,4 +1,4 @@
-use Rattle.mvt_plane.proofs.OneVertex.{one_vertex_decides, points_together, whole_inside}
+use Rattle.mvt_plane.proofs.InsideAsAWhole.{one_vertex_decides, points_together, whole_inside}
 use Rattle.mvt_plane.proofs.laws.inside.one_vertex_decides.Goals as goal
 
 pub returns-clause-vertices : goal.returns-clause-vertices

@@ -1,4 +1,5 @@
-use Rattle.mvt_plane.proofs.Readers.{one_behind, behind_line, behind_ring}
+use Rattle.mvt_plane.proofs.Figures.{one_behind}
+use Rattle.mvt_plane.proofs.Readers.{behind_line, behind_ring}
 use Rattle.mvt_plane.proofs.laws.reading.behind_last_position.Goals as goal
 
 pub returns-clause-further : goal.returns-clause-further

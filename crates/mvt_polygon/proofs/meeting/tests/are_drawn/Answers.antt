@@ -6,7 +6,7 @@ use Rattle.std.specs.Prelude.{Vec}
 use Rattle.mvt_plane.specs.Position.{Position}
 use Rattle.mvt_plane.specs.Ring.{next_round}
 use Rattle.mvt_polygon.specs.Rings.{rings_of}
-use Rattle.mvt_polygon.proofs.EdgeNumbers.{ring_read}
+use Rattle.mvt_polygon.proofs.RingReads.{ring_there}
 use Rattle.mvt_polygon.proofs.meeting.tests.are_drawn.Goals as goal
 
 -- a ring is that of its number
@@ -25,7 +25,7 @@ pub loop-ring-preserved : goal.loop-ring-preserved
 loop-ring-preserved c =
     let rings = rings_of c.args.rings.now in
     let drawn = c.ring-item.result.items in
-    let there = ring_read c.args.rings.now c.loop-ring.ring-index c.ring-item.result (omega arith) c.ring-item.is in
+    let there = ring_there c.args.rings.now c.loop-ring.ring-index c.ring-item.result (omega arith) c.ring-item.is in
     let several = subst (λ (ring : List Position). 3 ≤ length ring) c.deref.ensures.value (c.if-not-is_drawn.ensures.several refl) in
     let apart = subst IsApart c.deref.ensures.value (c.if-not-is_drawn.ensures.apart refl) in
     record {

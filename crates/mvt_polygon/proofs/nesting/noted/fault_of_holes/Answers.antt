@@ -6,7 +6,7 @@ use Rattle.mvt_polygon.specs.declared.nesting.around.Around.TheVariants.{Exterio
 use Rattle.mvt_polygon.proofs.CornerNumbers.{count_all}
 use Rattle.mvt_polygon.proofs.NestFaults.{no_hole}
 use Rattle.mvt_polygon.proofs.NotedHoles.{next_first, first_within, read_right, none_answered, first_answered}
-use Rattle.mvt_polygon.proofs.RingsThere.{ring_there, count_of_rings, fails}
+use Rattle.mvt_polygon.proofs.RingReads.{ring_there, count_of_rings, fails}
 use Rattle.mvt_polygon.proofs.nesting.noted.fault_of_holes.Goals as goal
 
 pub overflow_add-first : goal.overflow_add-first

@@ -3,7 +3,7 @@ use Rattle.std.proofs.lemmas.Option.{slice_get_read}
 use Rattle.mvt_polygon.specs.Corners.{far_end_of, vertex_count}
 use Rattle.mvt_polygon.specs.Rings.{rings_of}
 use Rattle.mvt_polygon.proofs.CornerNumbers.{AreFirst, first_more, first_of_whole, whole_of_first, count_step, corner_of_ring}
-use Rattle.mvt_polygon.proofs.RingsThere.{ring_there}
+use Rattle.mvt_polygon.proofs.RingReads.{ring_there}
 use Rattle.mvt_polygon.proofs.sweep.corners.add_corners.Goals as goal
 
 pub loop-edge-init : goal.loop-edge-init

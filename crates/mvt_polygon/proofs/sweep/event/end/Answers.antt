@@ -5,7 +5,7 @@ use Rattle.mvt_polygon.specs.Corners.{AreInRange, AreLinked, plan_of, position_a
 use Rattle.mvt_polygon.specs.Sweep.{BothEnd, IsCut}
 use Rattle.mvt_polygon.specs.declared.sweep.corners.Corner.{Corner}
 use Rattle.mvt_polygon.proofs.CornerPlans.{plan_of_corners}
-use Rattle.mvt_polygon.proofs.MeetingsTold.{none_map}
+use Rattle.mvt_polygon.proofs.NoMeetings.{none_map}
 use Rattle.mvt_polygon.proofs.StatusCounts.{few_swept, work_then, work_within, work_of_edits}
 use Rattle.mvt_polygon.proofs.StatusPlaces.{AreOut, all_known, both_out}
 use Rattle.mvt_polygon.proofs.SweepSlabs.{split}

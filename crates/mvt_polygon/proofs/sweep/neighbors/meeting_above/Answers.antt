@@ -1,7 +1,7 @@
 use Rattle.std.proofs.Common.{length, arith}
 use Rattle.mvt_polygon.specs.Corners.{plan_of}
 use Rattle.mvt_polygon.specs.Sweep.{Tested}
-use Rattle.mvt_polygon.proofs.MeetingsTold.{none_map}
+use Rattle.mvt_polygon.proofs.NoMeetings.{none_map}
 use Rattle.mvt_polygon.proofs.StatusCounts.{work_then, work_within, work_of_edits}
 use Rattle.mvt_polygon.proofs.StatusPlaces.{head_at}
 use Rattle.mvt_polygon.proofs.sweep.neighbors.meeting_above.Goals as goal

@@ -2,7 +2,7 @@ use Rattle.std.proofs.Common.{◌≡◌, ◌<◌, ℕ, List, length, get_or, ap,
 use Rattle.std.proofs.lemmas.List.{get_or_default}
 use Rattle.mvt_polygon.specs.Corners.{corner_at, no_corner}
 use Rattle.mvt_polygon.specs.declared.sweep.corners.Corner.{Corner}
-use Rattle.mvt_polygon.proofs.RingNotings.{IsBack, back_first, back_some, back_tells}
+use Rattle.mvt_polygon.proofs.NoteWrites.{IsBack, back_first, back_some, back_tells}
 use Rattle.mvt_polygon.proofs.sweep.notes.first_corner.Goals as goal
 
 pub back-init : goal.back-init

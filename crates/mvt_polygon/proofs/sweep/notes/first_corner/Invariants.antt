@@ -1,4 +1,4 @@
-use Rattle.mvt_polygon.proofs.RingNotings.{IsBack}
+use Rattle.mvt_polygon.proofs.NoteWrites.{IsBack}
 use Rattle.mvt_polygon.proofs.sweep.notes.first_corner.Given as goal
 
 -- the first corner isn't passed

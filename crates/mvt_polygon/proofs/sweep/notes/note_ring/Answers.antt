@@ -2,8 +2,8 @@ use Rattle.std.proofs.Common.{◌≡◌, ◌∙◌, ◌<◌, ◌==◌, length, l
 use Rattle.mvt_polygon.specs.RingNotes.{IsNotedOf}
 use Rattle.mvt_polygon.specs.Rings.{rings_of}
 use Rattle.mvt_polygon.proofs.CornerNumbers.{corner_there}
-use Rattle.mvt_polygon.proofs.RingNotings.{below_noted, noting_known, noting_nothing, noting_above, of_exterior, some_exterior}
-use Rattle.mvt_polygon.proofs.RingsThere.{count_of_rings, ring_there}
+use Rattle.mvt_polygon.proofs.NoteWrites.{below_noted, noting_known, noting_nothing, noting_above, of_exterior, some_exterior}
+use Rattle.mvt_polygon.proofs.RingReads.{count_of_rings, ring_there}
 use Rattle.mvt_polygon.proofs.sweep.notes.note_ring.Goals as goal
 use Rattle.mvt_polygon.proofs.sweep.notes.note_ring.Goals.{then-place-eq0, else-place-eq0+in-Some}
 

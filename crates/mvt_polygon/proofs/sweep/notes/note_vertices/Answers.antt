@@ -2,7 +2,7 @@ use Rattle.std.proofs.Common.{◌≡◌, ◌<◌, ◌≤◌, ◌+◌, ℕ, lengt
 use Rattle.std.proofs.lemmas.List.{get_or_default}
 use Rattle.mvt_polygon.specs.Corners.{corner_at, no_corner}
 use Rattle.mvt_polygon.specs.declared.sweep.corners.Corner.{Corner}
-use Rattle.mvt_polygon.proofs.RingNotings.{AreWritten, far_end_within, none_written, one_written, ring_written}
+use Rattle.mvt_polygon.proofs.NoteWrites.{AreWritten, far_end_within, none_written, one_written, ring_written}
 use Rattle.mvt_polygon.proofs.sweep.notes.note_vertices.Goals as goal
 
 pub loop-corner-init : goal.loop-corner-init

@@ -1,4 +1,4 @@
-use Rattle.mvt_polygon.proofs.RingNotings.{AreWritten}
+use Rattle.mvt_polygon.proofs.NoteWrites.{AreWritten}
 use Rattle.mvt_polygon.proofs.sweep.notes.note_vertices.Given as goal
 
 -- it is noted of the corners so far

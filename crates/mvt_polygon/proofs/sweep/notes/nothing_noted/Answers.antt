@@ -1,7 +1,7 @@
 use Rattle.std.proofs.Common.{◌∙◌, ◌++◌, List, Option, None, length, [], ◌∷◌, ap, arith}
 use Rattle.std.proofs.lemmas.List.{replicate_more}
 use Rattle.mvt_polygon.specs.declared.nesting.around.Around.{Around}
-use Rattle.mvt_polygon.proofs.RingNotings.{none_noted}
+use Rattle.mvt_polygon.proofs.NoteWrites.{none_noted}
 use Rattle.mvt_polygon.proofs.sweep.notes.nothing_noted.Goals as goal
 
 pub loop-corner-init : goal.loop-corner-init

@@ -10,7 +10,7 @@ use Rattle.mvt_polygon.specs.Sweep.{PassesOn}
 use Rattle.mvt_polygon.specs.declared.sweep.corners.Corner.{Corner}
 use Rattle.mvt_polygon.proofs.CornerReads.{position_read, test_of_keys}
 use Rattle.mvt_polygon.proofs.CornerSteps.{passes_on, passes_back, both_end, both_begin, next_back}
-use Rattle.mvt_polygon.proofs.StepsEntered.{entered_from_before, entered_from_behind, step_gone}
+use Rattle.mvt_polygon.proofs.StepsAfterAnEnd.{an_end_from_before, an_end_from_behind, step_after_an_end}
 use Rattle.mvt_polygon.proofs.sweep.step.go_over.Given as given
 use Rattle.mvt_polygon.proofs.sweep.step.go_over.Goals as goal
 use Rattle.mvt_polygon.proofs.sweep.step.go_over.Goals.{After-sweep_key}
@@ -83,23 +83,23 @@ pub returns-in_ok-pass-clause-step : goal.returns-in_ok-pass-clause-step
 returns-in_ok-pass-clause-step g c =
     let edges = g.S.Status.edges c.args.status.now in
     let after = g.S.Status.edges c.pass.new.status in
-    subst (λ (step : Step). IsStep c.args.corners.now c.args.number edges after step) (sym c.gone.ensures)
-    (step_gone c.args.corners.now c.args.number edges after c.in_ok-pass.field-0 c.in_ok-pass.ensures.none c.in_ok-pass.ensures.some
-    (entered_from_before c.args.corners.now c.args.number (comes g (goal.at.returns-in_ok-pass-clause-step g c).After-sweep_key true c.if-comes_from_before.true)))
+    subst (λ (step : Step). IsStep c.args.corners.now c.args.number edges after step) (sym c.after_an_end.ensures)
+    (step_after_an_end c.args.corners.now c.args.number edges after c.in_ok-pass.field-0 c.in_ok-pass.ensures.none c.in_ok-pass.ensures.some
+    (an_end_from_before c.args.corners.now c.args.number (comes g (goal.at.returns-in_ok-pass-clause-step g c).After-sweep_key true c.if-comes_from_before.true)))
 
 pub returns-else-goes_on-clause-step : goal.returns-else-goes_on-clause-step
 returns-else-goes_on-clause-step g c =
     let edges = g.S.Status.edges c.args.status.now in
     let after = g.S.Status.edges c.end.new.status in
-    subst (λ (step : Step). IsStep c.args.corners.now c.args.number edges after step) (sym c.gone-else-goes_on.ensures)
-    (step_gone c.args.corners.now c.args.number edges after c.end.result c.end.ensures.none c.end.ensures.some
-    (entered_from_before c.args.corners.now c.args.number (comes g (goal.at.returns-else-goes_on-clause-step g c).After-sweep_key true c.if-comes_from_before.true)))
+    subst (λ (step : Step). IsStep c.args.corners.now c.args.number edges after step) (sym c.after_an_end-else-goes_on.ensures)
+    (step_after_an_end c.args.corners.now c.args.number edges after c.end.result c.end.ensures.none c.end.ensures.some
+    (an_end_from_before c.args.corners.now c.args.number (comes g (goal.at.returns-else-goes_on-clause-step g c).After-sweep_key true c.if-comes_from_before.true)))
 
 pub returns-in_ok-pass-2-clause-step : goal.returns-in_ok-pass-2-clause-step
 returns-in_ok-pass-2-clause-step g c =
     let edges = g.S.Status.edges c.args.status.now in
     let after = g.S.Status.edges c.pass-else-goes_on-2.new.status in
-    subst (λ (step : Step). IsStep c.args.corners.now c.args.number edges after step) (sym c.gone-else-goes_on-2.ensures)
-    (step_gone c.args.corners.now c.args.number edges after c.in_ok-pass-2.field-0 c.in_ok-pass-2.ensures.none c.in_ok-pass-2.ensures.some
-    (entered_from_behind c.args.corners.now c.args.number c.requires.linked c.requires.in_range c.requires.number
+    subst (λ (step : Step). IsStep c.args.corners.now c.args.number edges after step) (sym c.after_an_end-else-goes_on-2.ensures)
+    (step_after_an_end c.args.corners.now c.args.number edges after c.in_ok-pass-2.field-0 c.in_ok-pass-2.ensures.none c.in_ok-pass-2.ensures.some
+    (an_end_from_behind c.args.corners.now c.args.number c.requires.linked c.requires.in_range c.requires.number
     (goes g (goal.at.returns-in_ok-pass-2-clause-step g c).After-sweep_key c.sweep_key-2.result false (record { sfits = c.sweep_key-2.type_inv }) c.sweep_key-2.ensures.value c.if-goes_on-2.false)))

@@ -1,4 +1,4 @@
--- A point of an edge stands between the edge's ends as a mean of them, with weights that aren't negative. By these weights
+-- A point of an edge is between the edge's ends, as a mean of them, with weights that aren't negative. By these weights
 -- an edge needs no cases of its direction.
 use Rattle.std.proofs.Common.{◌≡◌, ◌⊎◌, inl, inr, [], ◌∷◌, ℤ, pos, ◌+ℤ◌, ◌-ℤ◌, ◌*ℤ◌, ◌≤ℤ◌, ◌<ℤ◌, sym, ap, arith}
 use Rattle.mvt_plane.specs.Position.{Position}

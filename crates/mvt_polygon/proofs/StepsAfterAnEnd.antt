@@ -7,11 +7,11 @@ use Rattle.mvt_plane.proofs.Gaps.{same_key}
 use Rattle.mvt_plane.proofs.Order.{le_or_lt, antisym_ℤ}
 use Rattle.mvt_polygon.specs.CornerOrder.{IsSweptOver}
 use Rattle.mvt_polygon.specs.Corners.{AreInRange, AreLinked, IsMeetingAt, next_at, position_at, previous_at}
-use Rattle.mvt_polygon.specs.Steps.{gone, IsEntered, IsStep}
+use Rattle.mvt_polygon.specs.Steps.{after_an_end, EndsAnEdge, IsStep}
 use Rattle.mvt_polygon.specs.declared.sweep.corners.Corner.{Corner}
 use Rattle.mvt_polygon.specs.declared.sweep.corners.Pair.{Pair}
 use Rattle.mvt_polygon.specs.declared.sweep.step.Step.{Step}
-use Rattle.mvt_polygon.specs.declared.sweep.step.Step.TheVariants.{Meets, Begins, Goes}
+use Rattle.mvt_polygon.specs.declared.sweep.step.Step.TheVariants.{Meets, Begins, Ends}
 
 -- a test that is passed
 less_by_test : (a b : ℤ) → lt_z a b ≡ true → a <ℤ b
@@ -22,18 +22,18 @@ not_less_by_test : (a b : ℤ) → lt_z a b ≡ false → b ≤ℤ a
 not_less_by_test a b test = grind (arith, ints)
 
 -- the edge from the corner before ended
-pub entered_from_before : (corners : List Corner) (number : ℕ) → lt_z (key_of (position_at corners (previous_at corners number))) (key_of (position_at corners number)) ≡ true
-    → IsEntered corners number
-entered_from_before corners number test = record {
+pub an_end_from_before : (corners : List Corner) (number : ℕ) → lt_z (key_of (position_at corners (previous_at corners number))) (key_of (position_at corners number)) ≡ true
+    → EndsAnEdge corners number
+an_end_from_before corners number test = record {
   neighbour = previous_at corners number;
   is = inr refl;
   before = less_by_test (key_of (position_at corners (previous_at corners number))) (key_of (position_at corners number)) test;
 }
 
 -- or the edge to the corner behind
-pub entered_from_behind : (corners : List Corner) (number : ℕ) → AreLinked corners → AreInRange corners → number < length corners
-    → lt_z (key_of (position_at corners number)) (key_of (position_at corners (next_at corners number))) ≡ false → IsEntered corners number
-entered_from_behind corners number linked in_range within test =
+pub an_end_from_behind : (corners : List Corner) (number : ℕ) → AreLinked corners → AreInRange corners → number < length corners
+    → lt_z (key_of (position_at corners number)) (key_of (position_at corners (next_at corners number))) ≡ false → EndsAnEdge corners number
+an_end_from_behind corners number linked in_range within test =
     let next : ℕ = next_at corners number in
     let here : ℤ = key_of (position_at corners number) in
     let there : ℤ = key_of (position_at corners next) in
@@ -50,14 +50,14 @@ entered_from_behind corners number linked in_range within test =
     }
 
 -- so the step goes on, or comes to a meeting
-pub step_gone : (corners : List Corner) (number : ℕ) (before after : List ℕ) (answer : Option Pair) → IfNone answer (IsSweptOver corners number after) → IfSome answer (IsMeetingAt corners)
-    → IsEntered corners number → IsStep corners number before after (gone answer)
-step_gone corners number before after None none some entered = (none, entered)
-step_gone corners number before after (Some pair) none some entered = some
+pub step_after_an_end : (corners : List Corner) (number : ℕ) (before after : List ℕ) (answer : Option Pair) → IfNone answer (IsSweptOver corners number after) → IfSome answer (IsMeetingAt corners)
+    → EndsAnEdge corners number → IsStep corners number before after (after_an_end answer)
+step_after_an_end corners number before after None none some an_end = (none, an_end)
+step_after_an_end corners number before after (Some pair) none some an_end = some
 
 -- where it comes to no meeting, the line went over the corner
 pub step_over : (corners : List Corner) (number : ℕ) (before after : List ℕ) (step : Step) → IsStep corners number before after step → ((pair : Pair) → step ≢ Meets pair)
     → IsSweptOver corners number after
 step_over corners number before after (Meets pair) is none = absurd (none pair refl)
 step_over corners number before after (Begins place) is none = is.0
-step_over corners number before after Goes is none = is.0
+step_over corners number before after Ends is none = is.0

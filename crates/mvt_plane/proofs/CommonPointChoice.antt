@@ -42,7 +42,7 @@ opposite_by_sides x y a b a_is b_is a_off b_off differ = by_case a b (int_ranked
 
 -- ---- ends that are common points
 
--- what a test tells of an end of the one edge: whether it touches the other
+-- what a test says of an end of the one edge: whether it touches the other
 abbrev pub Tells : Bool → Option Position → Position → Edge → Type 0
 Tells found shared end edge = IsTrue found ↔ (LiesOn (whole end) edge × IsApart shared (whole end))
 

@@ -1,4 +1,4 @@
--- What follows where no meeting is told.
+-- What follows where no meeting is returned.
 use Rattle.std.proofs.Common.{IfNone, Option, Some, None}
 
 -- of one thing another one follows

@@ -1,4 +1,5 @@
--- What has nothing in common with a ring is inside it as a whole, or not at all: so one vertex decides where another ring is.
+-- What has nothing in common with a ring is inside it as a whole, or not at all: so one vertex decides where another
+-- ring is.
 use Rattle.std.proofs.Common.{◌≡◌, ◌⊎◌, inl, inr, ◌↔◌, ℕ, zero, suc, IsTrue, List, [], ◌∷◌, slice_get, Some, pos, ◌*ℤ◌, ◌≤ℤ◌, ◌<ℤ◌, refl, sym, subst, arith}
 use Rattle.std.proofs.lemmas.Option.{same_Some}
 use Rattle.mvt_plane.specs.Apart.{IsClearOf, HaveNothingInCommon}
@@ -22,7 +23,7 @@ parity_along edge ring clear p q span =
     same_by_marks (is_over p span.first.positive) (is_over q span.second.positive) (is_marked p q) ring
     (λ number other there. balances edge p q span.first.positive span.second.positive span other (λ point on_edge. clear number other point there on_edge))
 
--- the parity tells whether the point is inside
+-- the parity says whether the point is inside
 parity_tells : (p : RationalPoint) (p_on : pos 1 ≤ℤ p.w) (ring : List Position) → IsTrue (odd (is_over p p_on) (edges ring)) ↔ IsPointInside p ring
 parity_tells p p_on ring = odd_tells (PassesOverPoint p) (is_over p p_on) (λ edge. test_tells (passes_decide p p_on edge)) (edges ring)
 

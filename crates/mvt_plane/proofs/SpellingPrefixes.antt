@@ -1,10 +1,10 @@
--- Numbers begin the spelling of a figure exactly where they can be drawn, and what is due behind them is what is due where
--- they lead.
+-- Numbers begin the spelling of a figure exactly where they can be drawn, and what is due behind them is what is due
+-- where they lead.
 use Rattle.std.proofs.Common.{◌≡◌, ℕ, List, [], ◌∷◌, ◌++◌, append-nil, Some, refl, sym, ◌∙◌, ap, subst}
 use Rattle.std.proofs.lemmas.List.{map-append}
 use Rattle.mvt_plane.specs.Figure.{GeometryType, Figure, type_of, HasSpelling, Spells, move_to, line_to, close_path}
 use Rattle.mvt_plane.specs.CommandFault.{Part, command, x_of_step, y_of_step, Word, word, words, Begins, IsDue}
-use Rattle.mvt_plane.proofs.Words.{numbers_of, words_spell}
+use Rattle.mvt_plane.proofs.CommandWords.{numbers_of, words_spell}
 use Rattle.mvt_plane.specs.Drawing.{State, points_command, path_command, line_command, close_command, step_x, step_y, all_drawn, start, due, id_of, IsAllowed, MayEnd, next, Passes, state_behind, Draws}
 use Rattle.mvt_plane.proofs.Figures.{draws_figure}
 use Rattle.mvt_plane.proofs.DrawnFigures.{drawn_figure}
@@ -56,68 +56,68 @@ due_allowed geometry_type (step_y leg from x) n allowed = (y_of_step (id_of leg)
 due_allowed geometry_type all_drawn n allowed = absurd allowed
 
 -- the words of numbers that pass
-pub record Told (geometry_type : GeometryType) (state : State) (numbers : List ℕ) : Type 0 where
+pub record HasWords (geometry_type : GeometryType) (state : State) (numbers : List ℕ) : Type 0 where
   pub before : List Word
-  pub told : numbers_of before ≡ numbers
+  pub numbered : numbers_of before ≡ numbers
   pub draws : (after : List Word) → Draws geometry_type (state_behind geometry_type state numbers) after → Draws geometry_type state (before ++ after)
 
--- they are told one by one
-pub tell : (geometry_type : GeometryType) (state : State) (numbers : List ℕ) → Passes geometry_type state numbers → Told geometry_type state numbers
-tell geometry_type state [] passes = record { before = []; told = refl; draws = λ after draws. draws }
-tell geometry_type state (n ∷ rest) passes =
+-- their words, one by one
+pub words_of_passed : (geometry_type : GeometryType) (state : State) (numbers : List ℕ) → Passes geometry_type state numbers → HasWords geometry_type state numbers
+words_of_passed geometry_type state [] passes = record { before = []; numbered = refl; draws = λ after draws. draws }
+words_of_passed geometry_type state (n ∷ rest) passes =
     let this = due_allowed geometry_type state n passes.0 in
-    let more = tell geometry_type (next geometry_type state n) rest passes.1 in
+    let more = words_of_passed geometry_type (next geometry_type state n) rest passes.1 in
     record {
       before = word this.0 n ∷ more.before;
-      told = ap (λ (ns : List ℕ). n ∷ ns) more.told;
+      numbered = ap (λ (ns : List ℕ). n ∷ ns) more.numbered;
       draws = λ after draws. (this.1, passes.0, more.draws after draws);
     }
 
 -- numbers that pass begin a spelling
 pub passes_begins : (geometry_type : GeometryType) (numbers : List ℕ) → Passes geometry_type (start geometry_type) numbers → Begins geometry_type numbers
 passes_begins geometry_type numbers passes =
-    let told = tell geometry_type (start geometry_type) numbers passes in
+    let passed = words_of_passed geometry_type (start geometry_type) numbers passes in
     let end = complete geometry_type (state_behind geometry_type (start geometry_type) numbers) (sound_state geometry_type (start geometry_type) numbers (sound_start geometry_type) passes) in
-    let drawn = drawn_figure geometry_type (told.before ++ end.words) (told.draws end.words end.draws) in
+    let drawn = drawn_figure geometry_type (passed.before ++ end.words) (passed.draws end.words end.draws) in
     let number = λ (it : Word). it.number in
     record {
       figure = drawn.figure;
       kind = drawn.kind;
       able = drawn.able;
       rest = numbers_of end.words;
-      spelled = ap (λ (ns : List ℕ). ns ++ numbers_of end.words) (sym told.told) ∙ sym (map-append number told.before end.words) ∙ ap numbers_of drawn.split ∙ words_spell drawn.figure;
+      spelled = ap (λ (ns : List ℕ). ns ++ numbers_of end.words) (sym passed.numbered) ∙ sym (map-append number passed.before end.words) ∙ ap numbers_of drawn.split ∙ words_spell drawn.figure;
     }
 
 -- what is due in the state behind them is due behind them
 pub is_due : (geometry_type : GeometryType) (numbers : List ℕ) (part : Part) → Passes geometry_type (start geometry_type) numbers → due (state_behind geometry_type (start geometry_type) numbers) ≡ Some part → IsDue geometry_type numbers part
 is_due geometry_type numbers part passes there =
-    let told = tell geometry_type (start geometry_type) numbers passes in
+    let passed = words_of_passed geometry_type (start geometry_type) numbers passes in
     let end = continuation geometry_type (state_behind geometry_type (start geometry_type) numbers) part (sound_state geometry_type (start geometry_type) numbers (sound_start geometry_type) passes) there in
-    let drawn = drawn_figure geometry_type (told.before ++ end.first ∷ end.rest) (told.draws (end.first ∷ end.rest) end.draws) in
+    let drawn = drawn_figure geometry_type (passed.before ++ end.first ∷ end.rest) (passed.draws (end.first ∷ end.rest) end.draws) in
     let found : due (state_behind geometry_type (start geometry_type) numbers) ≡ Some end.first.part = end.draws.0 in
     record {
       figure = drawn.figure;
       kind = drawn.kind;
       able = drawn.able;
-      before = told.before;
+      before = passed.before;
       next = end.first;
       after = end.rest;
       split = sym drawn.split;
-      passed = told.told;
+      passed = passed.numbered;
       here = cc (found, there);
     }
 
 -- numbers that pass, and may end where they lead, spell a figure
 pub passes_spells : (geometry_type : GeometryType) (numbers : List ℕ) → Passes geometry_type (start geometry_type) numbers → MayEnd (state_behind geometry_type (start geometry_type) numbers) → (figure : Figure) × Spells geometry_type figure numbers
 passes_spells geometry_type numbers passes end =
-    let told = tell geometry_type (start geometry_type) numbers passes in
-    let drawn = drawn_figure geometry_type (told.before ++ []) (told.draws [] end) in
+    let passed = words_of_passed geometry_type (start geometry_type) numbers passes in
+    let drawn = drawn_figure geometry_type (passed.before ++ []) (passed.draws [] end) in
     let number = λ (it : Word). it.number in
-    let all : numbers_of told.before ++ [] ≡ numbers_of (told.before ++ []) = sym (map-append number told.before []) in (
+    let all : numbers_of passed.before ++ [] ≡ numbers_of (passed.before ++ []) = sym (map-append number passed.before []) in (
       drawn.figure,
       record {
         kind = drawn.kind;
         able = drawn.able;
-        spelled = sym told.told ∙ sym (append-nil (numbers_of told.before)) ∙ all ∙ ap numbers_of drawn.split ∙ words_spell drawn.figure;
+        spelled = sym passed.numbered ∙ sym (append-nil (numbers_of passed.before)) ∙ all ∙ ap numbers_of drawn.split ∙ words_spell drawn.figure;
       },
     )
