@@ -59,7 +59,7 @@ name_of (Layer layer) = codes "layer"
 name_of (Value layer value) = codes "value"
 name_of (Feature layer feature) = codes "feature"
 
--- stands in the object of its faults
+-- is in the object of its faults
 scope_text : (d : Data) (code : WireCode) (scope : Scope) (at field : ℕ) → d ≡ wire_data code scope at field → get (codes "scope") d ≡ Some (string (name_of scope))
 scope_text d code Tile at field is = ap (get (codes "scope")) is
 scope_text d code scope at field is = ap (get (codes "scope")) is
@@ -68,7 +68,7 @@ scope_text d code scope at field is = ap (get (codes "scope")) is
 abbrev pub IsNumberAt : Data → List ℕ → ℕ → Type 0
 IsNumberAt d key n = (m : ℕ) → get key d ≡ Some (whole m) → n ≡ m
 
--- a text tells the scope of wire faults by its first letter
+-- the first letter of a text says the scope of wire faults
 module _ (d : Data) (text : List ℕ) (told : (s : List ℕ) → get (codes "scope") d ≡ Some (string s) → text ≡ s) where
   first_letter : (code : WireCode) (scope : Scope) (at field : ℕ) → d ≡ wire_data code scope at field → get_or text 0 0 ≡ get_or (name_of scope) 0 0
   first_letter code scope at field is = ap (λ t. get_or t 0 0) (told (name_of scope) (scope_text d code scope at field is))
@@ -167,7 +167,7 @@ edge_told d key built ring edge it found is told_ring told_edge =
     let same_edge = told_edge it.edge (ap (get (codes "edge")) same) in
     λ i. record { ring = same_ring i; edge = same_edge i }
 
--- what is told of the parts of a meeting's object
+-- what is known of the parts of a meeting's object
 pub record IsMeetingTold (d : Data) (layer feature polygon : ℕ) (first second : RingEdge) (x y w : List ℕ) : Type 0 where
   pub layer_told : IsNumberAt d (codes "layer") layer
   pub feature_told : IsNumberAt d (codes "feature") feature

@@ -1,4 +1,4 @@
--- A cause is told by its number.
+-- No two causes have one number.
 use Rattle.std.proofs.Common.{◌≡◌, ℕ, ◌-◌, [], ◌∷◌, get_or, refl}
 use Rattle.mvt_wire.specs.Code.{code_of}
 use Rattle.mvt_wire.specs.declared.cause.WireCode.{WireCode}

@@ -1,4 +1,4 @@
--- A fault is told by its object, or by a value that stands for it.
+-- No two faults have one object, and a value stands for one fault at most.
 use Rattle.std.proofs.Common.{◌≡◌, ℕ, ◌≤◌, ℤ, List, [], if◌then◌else◌, nat_lt, is_some, Some, option_and_then, unwrap_or, codes, lit≤, String, Global, string_bytes, false, refl, sym, ap, subst, ◌∙◌}
 use Rattle.std.specs.Fmt.{signed_decimal}
 use Rattle.std.specs.Str.Parse.{signed_digits_value}
@@ -31,7 +31,7 @@ digits_at key d = signed_digits_value 10 (unwrap_or (option_and_then as_str (get
 abbrev edge_at : List ℕ → Data → RingEdge
 edge_at key d = let it = unwrap_or (get key d) null in record { ring = number_at (codes "ring") it; edge = number_at (codes "edge") it }
 
--- the scope that the ordinals tell
+-- the scope with these ordinals
 abbrev scope_in : Data → Scope
 scope_in d =
     let layer = number_at (codes "layer") d in
@@ -88,7 +88,7 @@ fault_in d =
     (if is_some (get (codes "second") d) then Name (number_at (codes "first") d) (number_at (codes "second") d) else
     Version (number_at (codes "layer") d))))))
 
--- the fault can be told from its object
+-- the fault follows from its object
 fault_in-StandsFor : (f : Fault) (d : Data) → StandsFor f d → fault_in d ≡ f
 fault_in-StandsFor (Wire code Tile at field) d stands = ap fault_in stands ∙ ap (λ c. Wire c Tile at field) (wire_code_at-code_of code)
 fault_in-StandsFor (Wire code scope at field) d stands = ap fault_in stands ∙ ap (λ c. Wire c scope at field) (wire_code_at-code_of code)

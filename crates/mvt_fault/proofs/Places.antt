@@ -1,4 +1,5 @@
--- The order of places is total, the comparisons of lists tell it, and a place tells its fault, or of a meeting its polygon.
+-- The order of places is total, and is that of the comparison of lists. A place determines its fault, or a meeting's
+-- polygon.
 use Rattle.std.proofs.Common.{◌≡◌, ◌≢◌, ◌↔◌, ℕ, ◌<◌, ◌⊎◌, inl, inr, IsTrue, ◌==◌, if◌then◌else◌, pos, List, [], ◌∷◌, refl, sym, ◌∙◌, subst, ap, get_or, arith, Some, Ordering, Less, Equal, Greater}
 use Rattle.std.specs.Ordering.{ordering_then, nat_cmp, MatchOrdering, is_le, is_some_and}
 use Rattle.std.specs.Cmp.{ranks}
@@ -47,7 +48,7 @@ tells_by_heads x y xs ys Equal Equal same rest = λ i. same i ∷ rest i
 tells_by_heads x y xs ys Equal Greater same rest = (inr (sym same, rest.0), λ all. rest.1 (cc all))
 tells_by_heads x y xs ys Greater o above rest = (inl above, λ same. let heads : x ≡ y = cc same in omega arith)
 
--- the comparison of lists tells the order
+-- the comparison of lists gives the order
 tells : (xs ys : List ℕ) → Tells (slice_cmp nat_cmp xs ys) xs ys
 tells [] [] = refl
 tells [] (y ∷ ys) = (tt, λ same. cc same)
@@ -95,22 +96,22 @@ up_to_tells xs ys = rw (lists_agrees {C = λ x y. Some (nat_cmp x y)} (λ x y. r
     up_to Equal xs ys h = (λ e. subst (ComesFirst xs) h (ComesFirst-reflexive xs), λ p. refl)
     up_to Greater xs ys h = (λ e. absurd (cc e), λ p. absurd (h.1 (ComesFirst-antisymmetric xs ys p h.0)))
 
--- the scope that the first numbers of a place tell
+-- the scope by the first numbers of a place
 abbrev scope_at : List ℕ → Scope
 scope_at place =
     if get_or place 1 0 == 0 then Tile else
     (if get_or place 3 0 == 0 then Layer (get_or place 2 0) else
     (if get_or place 3 0 == 1 then Value (get_or place 2 0) (get_or place 4 0) else Feature (get_or place 2 0) (get_or place 4 0)))
 
--- the edge that stands where a place tells of no edge
+-- an edge of a meeting, whose place has no numbers of edges
 abbrev no_edge : RingEdge
 no_edge = record { ring = 0; edge = 0 }
 
--- a meeting in a polygon; its place tells no more
+-- a meeting in a polygon; its place says no more
 abbrev some_meeting : ℕ → ℕ → ℕ → Fault
 some_meeting layer feature polygon = Meeting layer feature polygon no_edge no_edge (pos 0) (pos 0) (pos 0)
 
--- the fault of a polygon that a place tells
+-- the fault of a polygon at a place
 abbrev polygon_fault_at : List ℕ → Fault
 polygon_fault_at place =
     let layer = get_or place 1 0 in
@@ -120,7 +121,7 @@ polygon_fault_at place =
     (if get_or place 8 0 == 505 then Outside layer feature polygon (get_or place 6 0) (get_or place 7 0) else
     HoleInHole layer feature polygon (get_or place 6 0) (get_or place 7 0) (get_or place 9 0))
 
--- the fault of a feature that a place tells
+-- the fault of a feature at a place
 abbrev feature_fault_at : List ℕ → Fault
 feature_fault_at place =
     let layer = get_or place 1 0 in
@@ -131,19 +132,19 @@ feature_fault_at place =
     (if get_or place 3 0 == 1 then Command (command_code_at code) layer feature index else
     (if get_or place 3 0 == 2 then Ring (ring_code_at code) layer feature index else polygon_fault_at place))
 
--- the fault that a place tells
+-- the fault at a place
 abbrev fault_at : List ℕ → Fault
 fault_at place =
     if get_or place 0 0 == 0 then Wire (wire_code_at (get_or place 6 0)) (scope_at place) (get_or place 5 0) (get_or place 7 0) else
     (if get_or place 0 0 == 2 then feature_fault_at place else
     (if get_or place 2 0 == 201 then Version (get_or place 1 0) else Name (get_or place 3 0) (get_or place 1 0)))
 
--- the place tells the fault, or of a meeting its polygon
+-- the place determines the fault, or a meeting's polygon
 abbrev IsTold : Fault → Type 0
 IsTold fault = (fault_at (place_of fault) ≡ fault)
     ⊎ ((layer : ℕ) × (feature : ℕ) × (polygon : ℕ) × IsMeetingIn layer feature polygon fault × (fault_at (place_of fault) ≡ some_meeting layer feature polygon))
 
--- every fault is told so by its place
+-- so it is with every fault
 told : (fault : Fault) → IsTold fault
 told (Wire code Tile at field) = inl (ap (λ c. Wire c Tile at field) (wire_code_at-code_of code))
 told (Wire code scope at field) = inl (ap (λ c. Wire c scope at field) (wire_code_at-code_of code))

@@ -154,6 +154,6 @@ pub parsed_decimal_ok : {E : Type 0} (s : List ℕ) (r : Result ℤ E) (o : Opti
 parsed_decimal_ok s r o is form parses =
     subst (λ p. MatchOption p ((z : ℤ) → Writes s z → ¬ HasWidth z) (λ z. Writes s z × HasWidth z)) (sym is) (parsed_decimal s r form parses)
 
--- a number that is written is so too by its bits, as it stands in a fault
+-- a number that is written is so too by its bits, as a fault has it
 pub Writes-bits : (s : List ℕ) (z : ℤ) → Writes s z × HasWidth z → Writes s (to_z w128 (of_z w128 z)) × HasWidth (to_z w128 (of_z w128 z))
 Writes-bits s z written = subst (λ y. Writes s y × HasWidth y) (sym (to_z-of_z w128 z (FitsSigned-HasWidth z written.1))) written

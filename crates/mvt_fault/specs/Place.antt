@@ -27,6 +27,13 @@ place_of (Meeting layer feature polygon first second x y w) = 2 ∷ layer ∷ fe
 place_of (Outside layer feature polygon ring vertex) = 2 ∷ layer ∷ feature ∷ 3 ∷ polygon ∷ 1 ∷ ring ∷ vertex ∷ 505 ∷ 0 ∷ []
 place_of (HoleInHole layer feature polygon ring vertex other) = 2 ∷ layer ∷ feature ∷ 3 ∷ polygon ∷ 1 ∷ ring ∷ vertex ∷ 506 ∷ other ∷ []
 
+-- a fault of a polygon: of its edges, or of its holes
+abbrev pub IsOfPolygon : Fault → Type 0
+IsOfPolygon (Meeting layer feature polygon first second x y w) = Unit {0}
+IsOfPolygon (Outside layer feature polygon ring vertex) = Unit {0}
+IsOfPolygon (HoleInHole layer feature polygon ring vertex other) = Unit {0}
+IsOfPolygon fault = ⊥
+
 -- a meeting of two edges of this polygon
 pub record IsMeetingIn (layer feature polygon : ℕ) (fault : Fault) : Type 0 where
   pub first : RingEdge

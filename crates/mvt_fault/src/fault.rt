@@ -1,6 +1,6 @@
 ghost use Rattle.std.specs.Prelude.{◌≡◌, ◌∷◌, []};
 ghost use Rattle.mvt_fault.specs.Code.{fault_code};
-ghost use Rattle.mvt_fault.specs.Place.{place_of, scope_place};
+ghost use Rattle.mvt_fault.specs.Place.{IsOfPolygon, place_of, scope_place};
 ghost use Rattle.mvt_fault.specs.Truth.{wire_fault_in};
 
 use crate::command::CommandCode;
@@ -32,7 +32,7 @@ pub enum Fault {
     },
     /// Two layers have one name, the same byte for byte (section 4.1).
     Name {
-        /// The ordinal of the layer that stands first, counted from 0.
+        /// The ordinal of the layer that comes first, counted from 0.
         first: usize,
         /// The ordinal of the other, counted from 0.
         second: usize,
@@ -205,32 +205,8 @@ pub fn place(fault: &Fault) -> Place
             feature,
             ring,
         } => feature_numbers(layer, feature, 2, ring, code.code()),
-        Fault::Meeting {
-            layer,
-            feature,
-            polygon,
-            ..
-        } => { [2, layer, feature, 3, polygon, 0, 0, 0, 0, 0] }
-        Fault::Outside {
-            layer,
-            feature,
-            polygon,
-            ring,
-            vertex,
-        } => {
-            let code = usize::from(OUTSIDE_CODE);
-            [2, layer, feature, 3, polygon, 1, ring, vertex, code, 0]
-        }
-        Fault::HoleInHole {
-            layer,
-            feature,
-            polygon,
-            ring,
-            vertex,
-            other,
-        } => {
-            let code = usize::from(HOLE_IN_HOLE_CODE);
-            [2, layer, feature, 3, polygon, 1, ring, vertex, code, other]
+        Fault::Meeting { .. } | Fault::Outside { .. } | Fault::HoleInHole { .. } => {
+            polygon_numbers(fault)
         }
     })
 }
@@ -271,4 +247,43 @@ fn feature_numbers(
         0,
         0,
     ]
+}
+
+// The numbers of a fault of a polygon: 2, since such faults come last; which layer and feature; 3, behind
+// its rings; which polygon; 0 for a meeting of edges, 1 for a hole; the hole, its vertex, the code and
+// the other hole.
+fn polygon_numbers(fault: &Fault) -> [usize; 10]
+    requires { IsOfPolygon fault.now }
+    ensures { result ≡ place_of fault.now }
+{
+    match *fault {
+        Fault::Meeting {
+            layer,
+            feature,
+            polygon,
+            ..
+        } => { [2, layer, feature, 3, polygon, 0, 0, 0, 0, 0] }
+        Fault::Outside {
+            layer,
+            feature,
+            polygon,
+            ring,
+            vertex,
+        } => {
+            let code = usize::from(OUTSIDE_CODE);
+            [2, layer, feature, 3, polygon, 1, ring, vertex, code, 0]
+        }
+        Fault::HoleInHole {
+            layer,
+            feature,
+            polygon,
+            ring,
+            vertex,
+            other,
+        } => {
+            let code = usize::from(HOLE_IN_HOLE_CODE);
+            [2, layer, feature, 3, polygon, 1, ring, vertex, code, other]
+        }
+        _ => unreachable!(),
+    }
 }

@@ -1,6 +1,6 @@
 use std::marker::Model;
 
-/// Where a fault stands in the order of faults: ten numbers, compared one by one from the first on.
+/// A fault's place in the order of faults: ten numbers, compared one by one from the first on.
 /// Of two faults the one with the lesser place is reported.
 #[derive(Clone, Copy, Debug, PartialEq, Eq, PartialOrd, Ord)]
 pub struct Place {

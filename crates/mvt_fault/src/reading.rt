@@ -48,14 +48,14 @@ impl From<AllocError> for FaultTextError {
     }
 }
 
-/// The fault that the bytes are a text of. Members may stand in any order and with any space, as JSON
+/// The fault that the bytes are a text of. Members may come in any order and with any space, as JSON
 /// (RFC 8259) has it, and of members with one key the last counts.
 pub fn fault_from_text(alloc: Global, bytes: &[u8]) -> Result<Fault, FaultTextError>
     ensures ok { IfOk result (λ f. Reads bytes.now f) }
     ensures alone { IfOk result (λ f. (other : Fault) → Reads bytes.now other → other ≡ f) }
     ensures refused { IfErr result (λ e. e ≢ FaultTextError.Memory → (f : Fault) → ¬ Reads bytes.now f) }
 
-    // Where memory isn't refused, each refusal is told exactly where it is due.
+    // Where memory isn't refused, each error comes exactly where it is due.
     ensures json { result ≢ Err FaultTextError.Memory → (result ≡ Err FaultTextError.Json) ↔ IsNoJson bytes.now }
     ensures shape { result ≢ Err FaultTextError.Memory → (result ≡ Err FaultTextError.Shape) ↔ HasOtherShape bytes.now }
     ensures range { result ≢ Err FaultTextError.Memory → (result ≡ Err FaultTextError.Range) ↔ HasOtherRange bytes.now }

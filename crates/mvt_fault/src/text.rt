@@ -7,9 +7,7 @@ pub(crate) mod rules;
 pub(crate) mod wire;
 
 use crate::fault::Fault;
-use polygons::{
-    MeetingPoint, PolygonId, hole_in_hole_object, meeting_object, outside_object, ring_object,
-};
+use polygons::{polygon_object, ring_object};
 use rules::{feature_rule_object, name_object, version_object};
 use serde_json::Value;
 use std::alloc::{AllocError, Global};
@@ -32,8 +30,7 @@ pub fn fault_text(alloc: Global, fault: &Fault) -> Result<String, AllocError>
 fn fault_object(alloc: Global, fault: &Fault) -> Result<Value, AllocError>
     ensures object { IfOk result (λ v. view v ≡ data_of fault.now) }
 
-    // `field` is a u32, and a caller's proof sees that only here, where the fault is taken apart. So
-    // it is with the i128 of a point.
+    // `field` is a u32, and a caller's proof sees that only here, where the fault is taken apart.
     ensures in_range { OnOk result (IsInRange fault.now) }
 {
     match *fault {
@@ -63,51 +60,8 @@ fn fault_object(alloc: Global, fault: &Fault) -> Result<Value, AllocError>
             feature,
             ring,
         } => ring_object(alloc, code.code(), layer, feature, ring),
-        Fault::Meeting {
-            layer,
-            feature,
-            polygon,
-            first,
-            second,
-            x,
-            y,
-            w,
-        } => {
-            let id = PolygonId {
-                layer,
-                feature,
-                polygon,
-            };
-            meeting_object(alloc, id, first, second, MeetingPoint { x, y, w })
-        }
-        Fault::Outside {
-            layer,
-            feature,
-            polygon,
-            ring,
-            vertex,
-        } => {
-            let id = PolygonId {
-                layer,
-                feature,
-                polygon,
-            };
-            outside_object(alloc, id, ring, vertex)
-        }
-        Fault::HoleInHole {
-            layer,
-            feature,
-            polygon,
-            ring,
-            vertex,
-            other,
-        } => {
-            let id = PolygonId {
-                layer,
-                feature,
-                polygon,
-            };
-            hole_in_hole_object(alloc, id, ring, vertex, other)
+        Fault::Meeting { .. } | Fault::Outside { .. } | Fault::HoleInHole { .. } => {
+            polygon_object(alloc, fault)
         }
     }
 }

@@ -1,11 +1,12 @@
 //! The JSON objects of the faults of rings and polygons.
 
-ghost use Rattle.std.specs.Prelude.{◌≡◌, IfOk};
+ghost use Rattle.std.specs.Prelude.{◌≡◌, IfOk, OnOk};
 ghost use Rattle.serde_json.specs.Data.{string};
 ghost use Rattle.serde_json.specs.View.{view};
-ghost use Rattle.mvt_fault.specs.Text.{ring_data, edge_data, meeting_data, meeting_parts, outside_data, hole_in_hole_data};
+ghost use Rattle.mvt_fault.specs.Place.{IsOfPolygon};
+ghost use Rattle.mvt_fault.specs.Text.{data_of, IsInRange, ring_data, edge_data, meeting_data, meeting_parts, outside_data, hole_in_hole_data};
 
-use crate::fault::{HOLE_IN_HOLE_CODE, MEETING_CODE, OUTSIDE_CODE};
+use crate::fault::{Fault, HOLE_IN_HOLE_CODE, MEETING_CODE, OUTSIDE_CODE};
 use crate::ring::RingEdge;
 use serde_json::{Value, json};
 use std::alloc::{AllocError, Global};
@@ -19,12 +20,26 @@ pub(crate) struct PolygonId {
     pub polygon: usize,
 }
 
+impl PolygonId {
+    ghost use Rattle.std.specs.Prelude.{◌≡◌};
+
+    fn new(layer: usize, feature: usize, polygon: usize) -> PolygonId
+        ensures { result ≡ record { layer = layer; feature = feature; polygon = polygon } }
+    {
+        PolygonId {
+            layer,
+            feature,
+            polygon,
+        }
+    }
+}
+
 /// The point (x / w, y / w).
 #[derive(Clone, Copy)]
-pub(crate) struct MeetingPoint {
-    pub x: i128,
-    pub y: i128,
-    pub w: i128,
+struct MeetingPoint {
+    x: i128,
+    y: i128,
+    w: i128,
 }
 
 /// The numbers of such a point, in decimal digits.
@@ -47,7 +62,54 @@ pub(crate) fn ring_object(
     json!(in alloc; {"code": code, "feature": feature, "layer": layer, "ring": ring})
 }
 
-pub(crate) fn meeting_object(
+pub(crate) fn polygon_object(alloc: Global, fault: &Fault) -> Result<Value, AllocError>
+    requires { IsOfPolygon fault.now }
+    ensures object { IfOk result (λ v. view v ≡ data_of fault.now) }
+
+    // The numbers of a point are i128, and a caller's proof sees that only here, where the fault is
+    // taken apart.
+    ensures in_range { OnOk result (IsInRange fault.now) }
+{
+    match *fault {
+        Fault::Meeting {
+            layer,
+            feature,
+            polygon,
+            first,
+            second,
+            x,
+            y,
+            w,
+        } => {
+            let id = PolygonId::new(layer, feature, polygon);
+            meeting_object(alloc, id, first, second, MeetingPoint { x, y, w })
+        }
+        Fault::Outside {
+            layer,
+            feature,
+            polygon,
+            ring,
+            vertex,
+        } => {
+            let id = PolygonId::new(layer, feature, polygon);
+            outside_object(alloc, id, ring, vertex)
+        }
+        Fault::HoleInHole {
+            layer,
+            feature,
+            polygon,
+            ring,
+            vertex,
+            other,
+        } => {
+            let id = PolygonId::new(layer, feature, polygon);
+            hole_in_hole_object(alloc, id, ring, vertex, other)
+        }
+        _ => unreachable!(),
+    }
+}
+
+fn meeting_object(
     alloc: Global,
     id: PolygonId,
     first: RingEdge,
