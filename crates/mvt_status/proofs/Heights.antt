@@ -143,6 +143,11 @@ no_level : (side : Option (Box (List ℕ × ℕ) Global)) → IfSome side (λ _.
 no_level None some none = refl
 no_level (Some node) some none = absurd (omega (arith, some))
 
+-- a side of no edge is none
+pub no_side : (side : Option (Box (List ℕ × ℕ) Global)) → IfSome side (λ _. 0 < height_of side) → fewest (height_of side) ≤ suc (length (edges_of side)) → length (edges_of side) ≡ 0 → side ≡ None
+no_side None some filled empty = refl
+no_side (Some node) some filled empty = absurd (omega (arith, some, at_most_twice node.value.1 0 (omega (arith, filled, empty))))
+
 -- a node of one level has its own edges alone
 pub own_alone : (left right : Option (Box (List ℕ × ℕ) Global)) (own : List ℕ) (size height : ℕ) (edges : List ℕ) → edges_of left ++ (own ++ edges_of right) ≡ edges → IsNode left own right size height
     → height ≡ 1 → IfSome left (λ _. 0 < height_of left) → IfSome right (λ _. 0 < height_of right) → own ≡ edges

@@ -49,6 +49,12 @@ pub found_between : (left own right all : List ℕ) (at before out : ℕ) → le
 found_between left own right all at before out same many behind within is =
     is ∙ sym (get_or-append_right left (own ++ right) before at 0 (sym many) behind ∙ get_or_append_left own right 0 (at - before) (omega arith)) ∙ ap (λ (list : List ℕ). slice_index list at) same
 
+-- the first edge behind the left side
+pub found_first : (left rest all : List ℕ) (at out : ℕ) → left ++ rest ≡ all → at ≡ length left → out ≡ slice_index rest 0 → out ≡ slice_index all at
+found_first left rest all at out same behind is =
+    let first : 0 ≡ at - length left = omega (arith, behind) in
+    is ∙ ap (slice_index rest) first ∙ sym (get_or-append_right left rest (length left) at 0 refl (omega (arith, behind))) ∙ ap (λ (list : List ℕ). slice_index list at) same
+
 -- an edge on the right
 pub found_right : (left own right all : List ℕ) (at behind out : ℕ) → left ++ (own ++ right) ≡ all → behind ≡ length left + length own → behind ≤ at
     → out ≡ slice_index right (at - behind) → out ≡ slice_index all at

@@ -1,6 +1,6 @@
 //! Nodes of a tree: each holds a few edges between those of its two sides, and no side is more than one level higher
 //! than the other.
-ghost use Rattle.std.specs.Prelude.{◌≡◌, ℕ, ◌+◌, ◌^◌, ◌<◌, ◌≤◌, suc, max, IfOk, IfSome, OnOk, Some, ◌∷◌, [], ◌++◌, length};
+ghost use Rattle.std.specs.Prelude.{◌≡◌, ℕ, ◌+◌, ◌^◌, ◌<◌, ◌≤◌, suc, max, IfNone, IfOk, IfSome, None, OnOk, Some, ◌∷◌, [], ◌++◌, length};
 ghost use Rattle.mvt_plane.specs.Counted.{ticked};
 ghost use Rattle.mvt_status.specs.Counts.{AddsAtMost};
 ghost use Rattle.mvt_status.specs.Tree.{DifferByAtMost, IsHeightOfBoth, edges_of, fewest, height_of};
@@ -256,6 +256,30 @@ fn level_over(left: &Side, right: &Side) -> Option<u8>
         return None;
     }
     Some(left_height.max(right_height) + 1)
+}
+
+/// Sets the height of a node whose sides have changed. Where one side is two levels higher than the other, takes both
+/// sides out of the node instead, and answers them.
+#[inline(always)]
+fn settle(left: &mut Side, right: &mut Side, node_height: &mut u8) -> Option<(Side, Side)>
+    requires room { length (edges_of left.old) + length (edges_of right.old) < 2 ^ 64 }
+    ensures kept_left { IfNone result (left.new ≡ left.old) }
+    ensures kept_right { IfNone result (right.new ≡ right.old) }
+    ensures near { IfNone result (DifferByAtMost 1 (height_of left.old) (height_of right.old)) }
+    ensures measured { IfNone result (node_height.new ≡ suc (max (height_of left.old) (height_of right.old))) }
+    ensures filled { IfNone result (fewest node_height.new ≤ length (edges_of left.old) + length (edges_of right.old) + 2) }
+    ensures out_left { IfSome result (λ sides. sides.0 ≡ left.old) }
+    ensures out_right { IfSome result (λ sides. sides.1 ≡ right.old) }
+    ensures no_left { IfSome result (λ _. left.new ≡ None) }
+    ensures no_right { IfSome result (λ _. right.new ≡ None) }
+    ensures low { IfSome result (λ _. node_height.new ≡ 1) }
+{
+    if let Some(level) = level_over(left, right) {
+        *node_height = level;
+        return None;
+    }
+    *node_height = 1;
+    Some((left.take(), right.take()))
 }
 
 /// Puts two sides, of which one may be two levels higher than the other, on both sides of a node that has none.

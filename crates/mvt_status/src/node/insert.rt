@@ -5,7 +5,7 @@ ghost use Rattle.mvt_status.specs.Counts.{AddsAtMost};
 ghost use Rattle.mvt_status.specs.Tree.{edges_of, fewest, height_of};
 
 use super::{
-    Node, Own, ROOM, Side, append, height, is_filled, join_over, level_over, refilled, size, visit,
+    Node, Own, ROOM, Side, append, height, is_filled, join_over, refilled, settle, size, visit,
 };
 use arrayvec::ArrayVec;
 use mvt_plane::Count;
@@ -67,14 +67,10 @@ pub(crate) fn insert_into(
             return;
         }
     }
-    if let Some(level) = level_over(&top.left, &top.right) {
-        top.height = level;
-        return;
+    if let Some((left, right)) = settle(&mut top.left, &mut top.right, &mut top.height) {
+        top.size = top.own.len();
+        join_over(left, side, right);
     }
-    let (left, right) = (top.left.take(), top.right.take());
-    top.size = top.own.len();
-    top.height = 1;
-    join_over(left, side, right);
 }
 
 /// A spare node with other edges.
@@ -167,12 +163,8 @@ fn put_first(side: &mut Side, new: Box<Node>, count: &mut Count)
     if height(&top.left) == level {
         return;
     }
-    if let Some(level) = level_over(&top.left, &top.right) {
-        top.height = level;
-        return;
+    if let Some((left, right)) = settle(&mut top.left, &mut top.right, &mut top.height) {
+        top.size = top.own.len();
+        join_over(left, side, right);
     }
-    let (left, right) = (top.left.take(), top.right.take());
-    top.size = top.own.len();
-    top.height = 1;
-    join_over(left, side, right);
 }

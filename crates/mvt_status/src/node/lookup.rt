@@ -1,5 +1,5 @@
 //! What a tree answers without a change: the edge at a place, and where its edges split.
-ghost use Rattle.std.specs.Prelude.{◌≡◌, ℕ, ◌+◌, ◌-◌, ◌*◌, ◌<◌, ◌≤◌, ◌==◌, suc, All, if◌then◌else◌, IfSome, length, slice_get, slice_index};
+ghost use Rattle.std.specs.Prelude.{◌≡◌, ℕ, ◌+◌, ◌-◌, ◌*◌, ◌<◌, ◌≤◌, ◌==◌, suc, All, if◌then◌else◌, IfSome, Some, length, slice_get, slice_index};
 ghost use Rattle.mvt_plane.specs.Counted.{ticked};
 ghost use Rattle.mvt_status.specs.Counts.{AddsAtMost, bits};
 ghost use Rattle.mvt_status.specs.Split.{AreBeside, IsSplit};
@@ -33,7 +33,7 @@ pub(crate) fn edge_at(side: &Side, at: usize, count: &mut Count) -> usize
     }
 }
 
-/// How many edges of which `below` is true stand at the front, with the edges in front of the split and behind it. It
+/// How many edges of which `below` is true are at the front, with the edges in front of the split and behind it. It
 /// goes down by the first edge of each node, and then looks into the last node whose first edge is below. Ticks a visit
 /// and a probe for each node on the way down, and a probe for each edge that it looks at there.
 #[inline]
@@ -81,15 +81,24 @@ pub(crate) fn split_of<F: Fn(usize) -> bool>(side: &Side, below: &F, count: &mut
     Split {
         point: passed - (own.len() - point),
         front: Some(own[point - 1]),
-        behind: if point < own.len() {
-            Some(own[point])
-        } else {
-            behind
-        },
+        behind: edge_or(own, point, behind),
     }
 }
 
-/// How many edges stand at the front of a list of which `below` is true, where it is true of the first and false of all
+/// The edge at a place in a node, or another one behind them all.
+#[inline(always)]
+fn edge_or(own: &[usize], at: usize, behind: Option<usize>) -> Option<usize>
+    ensures there { at < length own.now → result ≡ Some (slice_index own.now at) }
+    ensures further { length own.now ≤ at → result ≡ behind }
+{
+    if at < own.len() {
+        Some(own[at])
+    } else {
+        behind
+    }
+}
+
+/// How many edges are at the front of a list of which `below` is true, where it is true of the first and false of all
 /// others. Ticks a probe for each edge that it looks at.
 #[inline]
 fn split_behind_first<F: Fn(usize) -> bool>(edges: &[usize], below: &F, count: &mut Count) -> usize

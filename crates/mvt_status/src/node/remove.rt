@@ -4,7 +4,7 @@ ghost use Rattle.mvt_plane.specs.Counted.{ticked};
 ghost use Rattle.mvt_status.specs.Counts.{AddsAtMost};
 ghost use Rattle.mvt_status.specs.Tree.{edges_of, fewest, height_of};
 
-use super::{Node, Own, Side, append, height, is_filled, join_over, level_over, lift, size, visit};
+use super::{Node, Own, Side, append, height, is_filled, join_over, lift, settle, size, visit};
 use arrayvec::ArrayVec;
 use mvt_plane::Count;
 use std::mem::swap;
@@ -30,50 +30,37 @@ pub(crate) fn remove_from(side: &mut Side, at: usize, spare: &mut Side, count: &
     is_filled(&top.left);
     is_filled(&top.right);
     let before = size(&top.left);
-    let many = top.own.len();
-    let behind = before + many;
+    let behind = before + top.own.len();
     let out;
+    top.size -= 1;
     if at < before {
         let level = height(&top.left);
         out = remove_from(&mut top.left, at, spare, count);
-        top.size -= 1;
         if height(&top.left) == level {
             return out;
         }
-    } else if at < behind && 1 < many {
-        out = take_out(&mut top.own, at - before);
-        top.size -= 1;
-        return out;
+    } else if at < behind && 1 < top.own.len() {
+        return take_out(&mut top.own, at - before);
+    } else if top.size == before {
+        let left = top.left.take();
+        top.size = 1;
+        top.height = 1;
+        return lift_edge(side, left, spare);
     } else {
         let level = height(&top.right);
-        if at < behind {
-            out = top.own[0];
-            let Some(right) = &top.right else {
-                let left = top.left.take();
-                top.size = 1;
-                top.height = 1;
-                *spare = Some(lift(side, left));
-                return out;
-            };
-            // (each node has an edge of its own, so there is a first one)
-            prove!(right.size > 0);
-            own_from(&mut top.right, &mut top.own, spare, count);
+        out = if at < behind {
+            own_from(&mut top.right, &mut top.own, spare, count)
         } else {
-            out = remove_from(&mut top.right, at - behind, spare, count);
-        }
-        top.size -= 1;
+            remove_from(&mut top.right, at - behind, spare, count)
+        };
         if height(&top.right) == level {
             return out;
         }
     }
-    if let Some(level) = level_over(&top.left, &top.right) {
-        top.height = level;
-        return out;
+    if let Some((left, right)) = settle(&mut top.left, &mut top.right, &mut top.height) {
+        top.size = top.own.len();
+        join_over(left, side, right);
     }
-    let (left, right) = (top.left.take(), top.right.take());
-    top.size = top.own.len();
-    top.height = 1;
-    join_over(left, side, right);
     out
 }
 
@@ -91,19 +78,41 @@ fn take_out(own: &mut Own, at: usize) -> usize
     out
 }
 
-/// Takes the first node of a side out, and its edges in the place of others. The node is the spare one then.
-fn own_from(side: &mut Side, own: &mut Own, spare: &mut Side, count: &mut Count)
+/// Puts a side in the place of a node that has one edge and nothing on either side. The node is the spare one then, and
+/// the edge is the answer.
+fn lift_edge(side: &mut Side, left: Side, spare: &mut Side) -> usize
+    requires low { height_of side.old ≡ 1 }
+    requires some { 0 < length (edges_of side.old) }
+    ensures rest { side.new ≡ left }
+    ensures out { result ≡ slice_index (edges_of side.old) 0 }
+    ensures spare { height_of spare.new ≤ 1 }
+{
+    let node = lift(side, left);
+    let top: &Node = &node;
+    is_filled(&top.left);
+    is_filled(&top.right);
+    let out = top.own[0];
+    *spare = Some(node);
+    out
+}
+
+/// Takes the first node of a side out, and its edges in the place of others. The node is the spare one then, and the
+/// first of the others is the answer.
+fn own_from(side: &mut Side, own: &mut Own, spare: &mut Side, count: &mut Count) -> usize
     requires within { 0 < length (edges_of side.old) }
     requires some { 0 < length own.old.items }
     ensures edges { edges_of side.old ≡ own.new.items ++ edges_of side.new }
     ensures some { 0 < length own.new.items }
+    ensures out { result ≡ slice_index own.old.items 0 }
     ensures not_higher { height_of side.new ≤ height_of side.old }
     ensures at_most_one_lower { height_of side.old ≤ height_of side.new + 1 }
     ensures spare { height_of spare.new ≤ 1 }
     ensures counted { AddsAtMost 0 (height_of side.old) count.old count.new }
 {
+    let out = own[0];
     let first = take_first(side, count);
     *spare = Some(exchanged(first, own));
+    out
 }
 
 /// Takes the first node out. Ticks a visit for each node on the way there.
@@ -133,14 +142,10 @@ fn take_first(side: &mut Side, count: &mut Count) -> Box<Node>
     if height(&top.left) == level {
         return first;
     }
-    if let Some(level) = level_over(&top.left, &top.right) {
-        top.height = level;
-        return first;
+    if let Some((left, right)) = settle(&mut top.left, &mut top.right, &mut top.height) {
+        top.size = top.own.len();
+        join_over(left, side, right);
     }
-    let (left, right) = (top.left.take(), top.right.take());
-    top.size = top.own.len();
-    top.height = 1;
-    join_over(left, side, right);
     first
 }
 

@@ -94,37 +94,40 @@ put_in_all t c =
           ])
     ]
 
-pub level_over-requires : goal.level_over-requires
-level_over-requires t c =
-    let put = put_in_all t (goal.at.level_over-requires t c).Joined-at-before in
+pub settle-requires : goal.settle-requires
+settle-requires t c =
+    let put = put_in_all t (goal.at.settle-requires t c).Joined-at-before in
     record { room = omega (arith, put.counted, put.more) }
 
-pub invariant_of-top-in-Some-level_over : goal.invariant_of-top-in-Some-level_over
-invariant_of-top-in-Some-level_over t c =
-    let put = put_in_all t (goal.at.invariant_of-top-in-Some-level_over t c).Joined-at-before in
-    record {
+pub invariant_of-top-in_default-settle : goal.invariant_of-top-in_default-settle
+invariant_of-top-in_default-settle t c =
+    let put = put_in_all t (goal.at.invariant_of-top-in_default-settle t c).Joined-at-before in
+    rw (c.in_default-settle.ensures.kept_left, c.in_default-settle.ensures.kept_right)
+    (record {
       some = put.some;
       counted = put.counted;
-      measured = c.in-Some-level_over.ensures.measured;
-      near = c.in-Some-level_over.ensures.near;
-      filled = omega (arith, put.counted, c.in-Some-level_over.ensures.filled);
-    }
+      measured = c.in_default-settle.ensures.measured;
+      near = c.in_default-settle.ensures.near;
+      filled = omega (arith, put.counted, c.in_default-settle.ensures.filled);
+    })
 
-pub returns-in-Some-level_over-clause-edges : goal.returns-in-Some-level_over-clause-edges
-returns-in-Some-level_over-clause-edges t c = (put_in_all t (goal.at.returns-in-Some-level_over-clause-edges t c).Joined-at-before).edges
+pub returns-in_default-settle-clause-edges : goal.returns-in_default-settle-clause-edges
+returns-in_default-settle-clause-edges t c =
+    rw (c.in_default-settle.ensures.kept_left, c.in_default-settle.ensures.kept_right)
+    (put_in_all t (goal.at.returns-in_default-settle-clause-edges t c).Joined-at-before).edges
 
-pub invariant_of-top-2 : goal.invariant_of-top-2
-invariant_of-top-2 t c =
-    subst (λ (size : ℕ). IsNode c.take-left.new.self c.if-at-before.top-inside.own.items c.take-right.new.self size 1) (sym c.len-top-inside.ensures.value)
-    (node_alone _ _ _ c.take-left.ensures.after c.take-right.ensures.after (put_in_all t (goal.at.invariant_of-top-2 t c).Joined-at-before).some)
+pub invariant_of-top-in-Some-settle : goal.invariant_of-top-in-Some-settle
+invariant_of-top-in-Some-settle t c =
+    rw (c.len-top-inside.ensures.value, c.in-Some-settle.ensures.low)
+    (node_alone _ _ _ c.in-Some-settle.ensures.no_left c.in-Some-settle.ensures.no_right (put_in_all t (goal.at.invariant_of-top-in-Some-settle t c).Joined-at-before).some)
 
 pub join_over-requires-clause-room : goal.join_over-requires-clause-room
 join_over-requires-clause-room t c =
     let put = put_in_all t (goal.at.join_over-requires-clause-room t c).Joined-at-before in
-    rw (c.take-left.ensures.value, c.take-left.ensures.after, c.take-right.ensures.value, c.take-right.ensures.after)
+    rw (c.in-Some-settle.ensures.out_left, c.in-Some-settle.ensures.out_right, c.in-Some-settle.ensures.no_left, c.in-Some-settle.ensures.no_right)
     (omega (arith, put.counted, put.more, ap length (append-nil c.if-at-before.top-inside.own.items)))
 
-pub returns-clause-edges : goal.returns-clause-edges
-returns-clause-edges t c =
-    let put = put_in_all t (goal.at.returns-clause-edges t c).Joined-at-before in
-    rw (c.join_over.ensures.edges, c.take-left.ensures.value, c.take-left.ensures.after, c.take-right.ensures.value, c.take-right.ensures.after, append-nil) put.edges
+pub returns-in-Some-settle-clause-edges : goal.returns-in-Some-settle-clause-edges
+returns-in-Some-settle-clause-edges t c =
+    let put = put_in_all t (goal.at.returns-in-Some-settle-clause-edges t c).Joined-at-before in
+    rw (c.join_over.ensures.edges, c.in-Some-settle.ensures.out_left, c.in-Some-settle.ensures.out_right, c.in-Some-settle.ensures.no_left, c.in-Some-settle.ensures.no_right, append-nil) put.edges

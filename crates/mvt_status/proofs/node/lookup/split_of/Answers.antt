@@ -1,4 +1,5 @@
-use Rattle.std.proofs.Common.{◌≡◌, ℕ, ◌+◌, ◌*◌, ◌<◌, ◌≤◌, ◌++◌, ◌∙◌, List, inl, inr, refl, sym, ap, length, length-append, slice_index, of_calls, arith}
+use Rattle.std.proofs.Common.{◌≡◌, ℕ, ◌+◌, ◌*◌, ◌<◌, ◌≤◌, ◌++◌, ◌∙◌, List, [], inl, inr, refl, sym, ap, length, length-append, slice_index, of_calls, arith}
+use Rattle.std.proofs.lemmas.Bool.{cases_lt}
 use Rattle.mvt_status.specs.Counts.{bits}
 use Rattle.mvt_status.specs.Tree.{edges_of, fewest, height_of}
 use Rattle.mvt_status.proofs.Heights.{filled_over_both, found_in_node, height_by_digits, one_more_level}
@@ -113,34 +114,26 @@ split_behind_first-point-requires-clause-splits g c =
     let found = searched_in (goal.F-post g c.args.below.now) _ _ c.in-Some-last.own _ _ _ c.in-Some-last.is c.levels.invariant.searched in
     split_among (goal.F-post g c.args.below.now) _ _ _ _ _ found (ap edges_of c.in_default.is) (of_last (λ own. 0 < length own.now) _ _ c.in-Some-last.is c.levels.invariant.some) c.requires.splits
 
-pub returns-then-point-own-clause-split : goal.returns-then-point-own-clause-split
-returns-then-point-own-clause-split g c =
+pub returns-clause-split : goal.returns-clause-split
+returns-clause-split g c =
     let found = searched_in (goal.F-post g c.args.below.now) _ _ c.in-Some-last.own _ _ _ c.in-Some-last.is c.levels.invariant.searched in
     split_of_all (goal.F-post g c.args.below.now) _ _ _ _ c.split_behind_first-point.result _ _ found (ap edges_of c.in_default.is) (of_last (λ own. 0 < length own.now) _ _ c.in-Some-last.is c.levels.invariant.some) c.requires.splits c.split_behind_first-point.ensures.split refl
 
-pub returns-then-point-own-clause-beside : goal.returns-then-point-own-clause-beside
-returns-then-point-own-clause-beside g c =
+pub returns-clause-beside : goal.returns-clause-beside
+returns-clause-beside g c =
     let found = searched_in (goal.F-post g c.args.below.now) _ _ c.in-Some-last.own _ _ _ c.in-Some-last.is c.levels.invariant.searched in
-    beside_in_node (goal.F-post g c.args.below.now) _ _ _ _ c.split_behind_first-point.result _ _ _ _ found (ap edges_of c.in_default.is) c.split_behind_first-point.ensures.some c.if-point-own.true refl refl refl
+    let none : edges_of c.levels.part.now ≡ [] = ap edges_of c.in_default.is in
+    elim (cases_lt c.split_behind_first-point.result (length c.in-Some-last.own.now)) [
+      | inl within ↦
+          rw (c.edge_or.ensures.there within)
+          (beside_in_node (goal.F-post g c.args.below.now) _ _ _ _ c.split_behind_first-point.result _ _ _ _ found none c.split_behind_first-point.ensures.some within refl refl refl)
+      | inr all ↦
+          rw (c.edge_or.ensures.further all)
+          (beside_node (goal.F-post g c.args.below.now) _ _ _ _ c.split_behind_first-point.result _ _ _ found none c.split_behind_first-point.ensures.some (omega (arith, all, c.split_behind_first-point.ensures.split.within)) refl refl)
+    ]
 
-pub returns-then-point-own-clause-counted : goal.returns-then-point-own-clause-counted
-returns-then-point-own-clause-counted g c =
-    found_in_node _ _ _ _ c.levels.invariant.counted c.split_behind_first-point.ensures.counted c.levels.invariant.left
-    (of_last (λ _. 0 < height_of c.args.side.now) _ _ c.in-Some-last.is c.levels.invariant.high) (of_last (λ own. 0 < length own.now) _ _ c.in-Some-last.is c.levels.invariant.some)
-    (omega (arith, c.levels.invariant.room, ap length (ap edges_in c.in-Some-last.is))) (omega (arith, c.levels.invariant.filled_there, ap length (ap edges_in c.in-Some-last.is)))
-
-pub returns-else-point-own-clause-split : goal.returns-else-point-own-clause-split
-returns-else-point-own-clause-split g c =
-    let found = searched_in (goal.F-post g c.args.below.now) _ _ c.in-Some-last.own _ _ _ c.in-Some-last.is c.levels.invariant.searched in
-    split_of_all (goal.F-post g c.args.below.now) _ _ _ _ c.split_behind_first-point.result _ _ found (ap edges_of c.in_default.is) (of_last (λ own. 0 < length own.now) _ _ c.in-Some-last.is c.levels.invariant.some) c.requires.splits c.split_behind_first-point.ensures.split refl
-
-pub returns-else-point-own-clause-beside : goal.returns-else-point-own-clause-beside
-returns-else-point-own-clause-beside g c =
-    let found = searched_in (goal.F-post g c.args.below.now) _ _ c.in-Some-last.own _ _ _ c.in-Some-last.is c.levels.invariant.searched in
-    beside_node (goal.F-post g c.args.below.now) _ _ _ _ c.split_behind_first-point.result _ _ _ found (ap edges_of c.in_default.is) c.split_behind_first-point.ensures.some (omega (arith, c.if-point-own.false, c.split_behind_first-point.ensures.split.within)) refl refl
-
-pub returns-else-point-own-clause-counted : goal.returns-else-point-own-clause-counted
-returns-else-point-own-clause-counted g c =
+pub returns-clause-counted : goal.returns-clause-counted
+returns-clause-counted g c =
     found_in_node _ _ _ _ c.levels.invariant.counted c.split_behind_first-point.ensures.counted c.levels.invariant.left
     (of_last (λ _. 0 < height_of c.args.side.now) _ _ c.in-Some-last.is c.levels.invariant.high) (of_last (λ own. 0 < length own.now) _ _ c.in-Some-last.is c.levels.invariant.some)
     (omega (arith, c.levels.invariant.room, ap length (ap edges_in c.in-Some-last.is))) (omega (arith, c.levels.invariant.filled_there, ap length (ap edges_in c.in-Some-last.is)))

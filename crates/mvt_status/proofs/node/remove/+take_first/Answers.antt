@@ -17,5 +17,7 @@ invariant_of-top-then-height-level t c =
     (omega (arith, c.top.invariant.counted, c.behind-first.invariant.counted, first, taken))
     refl (omega (arith, c.height.ensures.value, c.height-level.ensures.value, c.if-height-level.true)) refl c.height.ensures.filled c.is_filled.ensures.filled
 
-pub invariant_of-top-2 : goal.invariant_of-top-2
-invariant_of-top-2 t c = rw c.len-top-inside-2.ensures.value (node_alone _ _ _ c.take-left.ensures.after c.take-right-2.ensures.after c.top.invariant.some)
+pub invariant_of-top-in-Some-settle : goal.invariant_of-top-in-Some-settle
+invariant_of-top-in-Some-settle t c =
+    rw (c.len-top-inside-in-Some-settle.ensures.value, c.in-Some-settle.ensures.low)
+    (node_alone _ _ _ c.in-Some-settle.ensures.no_left c.in-Some-settle.ensures.no_right c.top.invariant.some)
