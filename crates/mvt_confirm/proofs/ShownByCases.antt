@@ -1,7 +1,8 @@
 -- What a test tells about the tile that bytes are, or about a feature of it, it tells about a fault of the bytes.
 use Rattle.std.proofs.Common.{◌≡◌, ◌↔◌, ◌⊎◌, inl, inr, ℕ, ℤ, Bool, IsTrue, false, List, refl, sym, subst}
+use Rattle.mvt_fault.specs.Place.{IsOfPolygon}
 use Rattle.mvt_fault.specs.declared.fault.Fault.{Fault}
-use Rattle.mvt_fault.specs.declared.fault.Fault.TheVariants.{Wire, Meeting, Outside, HoleInHole}
+use Rattle.mvt_fault.specs.declared.fault.Fault.TheVariants.{Wire, Version, Name, Tag, Command, Ring, Meeting, Outside, HoleInHole}
 use Rattle.mvt_fault.specs.declared.ring.RingEdge.{RingEdge}
 use Rattle.mvt_wire.proofs.Tiles.{tile_faultless, tile_or_fault}
 use Rattle.mvt_wire.specs.Field.{cause_at}
@@ -11,7 +12,7 @@ use Rattle.mvt_wire.specs.declared.cause.WireCode.{WireCode}
 use Rattle.mvt_wire.specs.declared.scope.Scope.{Scope}
 use Rattle.mvt_confirm.proofs.Shown.{wire_faults_alone}
 use Rattle.mvt_confirm.proofs.TileFeatures.{of_this_tile, feature_of_this_tile}
-use Rattle.mvt_confirm.specs.Shows.{OfTile, OfFeature, IsOfPolygon, Shows, meeting, outside, in_hole}
+use Rattle.mvt_confirm.specs.Shows.{OfTile, OfFeature, Shows}
 
 -- what a test tells of a fault that is one of a polygon
 pub with_polygon : {Found Is Told : Type 0} → Is → (Found ↔ Told) → Found ↔ Is × Told
@@ -30,18 +31,24 @@ IsOneOfPolygon fault =
 
 -- each of them is one of a polygon
 pub any_of_polygon : (fault : Fault) → IsOneOfPolygon fault → IsOfPolygon fault
-any_of_polygon fault (inl is) = subst IsOfPolygon (sym is.8) (meeting _ _ _ _ _ _ _ _)
-any_of_polygon fault (inr (inl is)) = subst IsOfPolygon (sym is.5) (outside _ _ _ _ _)
-any_of_polygon fault (inr (inr is)) = subst IsOfPolygon (sym is.6) (in_hole _ _ _ _ _ _)
+any_of_polygon fault (inl is) = subst IsOfPolygon (sym is.8) tt
+any_of_polygon fault (inr (inl is)) = subst IsOfPolygon (sym is.5) tt
+any_of_polygon fault (inr (inr is)) = subst IsOfPolygon (sym is.6) tt
 
 -- and no others
 pub not_of_polygon : (fault : Fault)
     → ((layer feature polygon : ℕ) (first second : RingEdge) (x y w : ℤ) → fault ≡ Meeting layer feature polygon first second x y w → ⊥)
     → ((layer feature polygon ring vertex : ℕ) → fault ≡ Outside layer feature polygon ring vertex → ⊥)
     → ((layer feature polygon ring vertex other : ℕ) → fault ≡ HoleInHole layer feature polygon ring vertex other → ⊥) → ¬ IsOfPolygon fault
-not_of_polygon fault no_meeting no_outside no_in_hole (meeting layer feature polygon first second x y w) = no_meeting layer feature polygon first second x y w refl
-not_of_polygon fault no_meeting no_outside no_in_hole (outside layer feature polygon ring vertex) = no_outside layer feature polygon ring vertex refl
-not_of_polygon fault no_meeting no_outside no_in_hole (in_hole layer feature polygon ring vertex other) = no_in_hole layer feature polygon ring vertex other refl
+not_of_polygon (Meeting layer feature polygon first second x y w) meeting outside in_hole is = meeting layer feature polygon first second x y w refl
+not_of_polygon (Outside layer feature polygon ring vertex) meeting outside in_hole is = outside layer feature polygon ring vertex refl
+not_of_polygon (HoleInHole layer feature polygon ring vertex other) meeting outside in_hole is = in_hole layer feature polygon ring vertex other refl
+not_of_polygon (Wire code scope at field) meeting outside in_hole is = is
+not_of_polygon (Version layer) meeting outside in_hole is = is
+not_of_polygon (Name first second) meeting outside in_hole is = is
+not_of_polygon (Tag code layer feature index) meeting outside in_hole is = is
+not_of_polygon (Command code layer feature index) meeting outside in_hole is = is
+not_of_polygon (Ring code layer feature ring) meeting outside in_hole is = is
 
 module _ (bytes : List ℕ) (tile : TileRecord) (is : IsTile bytes tile) where
   -- of the tile

@@ -1,12 +1,11 @@
 -- Which faults are true of the bytes of a tile.
-use Rattle.std.specs.Prelude.{ℕ, ℤ, List, length}
+use Rattle.std.specs.Prelude.{ℕ, List, length}
 use Rattle.mvt_confirm.specs.Feature.{IsFeatureIn, OfRings}
 use Rattle.mvt_confirm.specs.PolygonFault.{IsMeeting, IsVertexOutside, IsVertexInHole}
 use Rattle.mvt_fault.specs.Code.{command_code, ring_code}
 use Rattle.mvt_fault.specs.Truth.{TagsBreak}
 use Rattle.mvt_fault.specs.declared.fault.Fault.{Fault}
 use Rattle.mvt_fault.specs.declared.fault.Fault.TheVariants.{Wire, Version, Name, Tag, Command, Ring, Meeting, Outside, HoleInHole}
-use Rattle.mvt_fault.specs.declared.ring.RingEdge.{RingEdge}
 use Rattle.mvt_plane.specs.Geometry.{BreaksCommands}
 use Rattle.mvt_plane.specs.Ring.{BreaksRings}
 use Rattle.mvt_wire.specs.Field.{cause_at}
@@ -39,9 +38,3 @@ Shows bytes (Outside layer feature polygon ring vertex) =
     OfFeature bytes layer feature (λ layer_record feature_record. OfRings feature_record (λ rings. IsVertexOutside rings polygon ring vertex))
 Shows bytes (HoleInHole layer feature polygon ring vertex other) =
     OfFeature bytes layer feature (λ layer_record feature_record. OfRings feature_record (λ rings. IsVertexInHole rings polygon ring vertex other))
-
--- the fault is one of a polygon
-pub data IsOfPolygon : Fault → Type 0 where
-  meeting : (layer feature polygon : ℕ) (first second : RingEdge) (x y w : ℤ) → IsOfPolygon (Meeting layer feature polygon first second x y w)
-  outside : (layer feature polygon ring vertex : ℕ) → IsOfPolygon (Outside layer feature polygon ring vertex)
-  in_hole : (layer feature polygon ring vertex other : ℕ) → IsOfPolygon (HoleInHole layer feature polygon ring vertex other)

@@ -1,8 +1,9 @@
 //! Whether a fault is true of the bytes of a tile (Mapbox Vector Tile Specification 2.1, section 4).
 
 ghost use Rattle.std.specs.Prelude.{◌↔◌, IsTrue};
-ghost use Rattle.mvt_confirm.specs.Shows.{IsOfPolygon, Shows};
+ghost use Rattle.mvt_confirm.specs.Shows.{Shows};
 ghost use Rattle.mvt_confirm.specs.Valid.{Valid};
+ghost use Rattle.mvt_fault.specs.Place.{IsOfPolygon};
 ghost use Rattle.mvt_wire.specs.Tile.{TileRecord, IsTile};
 
 #[cfg(test)]

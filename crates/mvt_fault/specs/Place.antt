@@ -29,10 +29,15 @@ place_of (HoleInHole layer feature polygon ring vertex other) = 2 ∷ layer ∷ 
 
 -- a fault of a polygon: of its edges, or of its holes
 abbrev pub IsOfPolygon : Fault → Type 0
+IsOfPolygon (Wire code scope at field) = ⊥
+IsOfPolygon (Version layer) = ⊥
+IsOfPolygon (Name first second) = ⊥
+IsOfPolygon (Tag code layer feature index) = ⊥
+IsOfPolygon (Command code layer feature index) = ⊥
+IsOfPolygon (Ring code layer feature ring) = ⊥
 IsOfPolygon (Meeting layer feature polygon first second x y w) = Unit {0}
 IsOfPolygon (Outside layer feature polygon ring vertex) = Unit {0}
 IsOfPolygon (HoleInHole layer feature polygon ring vertex other) = Unit {0}
-IsOfPolygon fault = ⊥
 
 -- a meeting of two edges of this polygon
 pub record IsMeetingIn (layer feature polygon : ℕ) (fault : Fault) : Type 0 where

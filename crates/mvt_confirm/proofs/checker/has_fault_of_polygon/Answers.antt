@@ -2,7 +2,6 @@ use Rattle.std.proofs.Common.{rules}
 use mir.Syntax.{w128}
 use Rattle.std.proofs.lemmas.Int.{to_z-of_z}
 use Rattle.mvt_confirm.proofs.ShownByCases.{with_polygon, not_of_polygon}
-use Rattle.mvt_confirm.specs.Shows.{meeting, outside, in_hole}
 use Rattle.mvt_confirm.proofs.checker.has_fault_of_polygon.Goals as goal
 
 pub returns-in-Meeting : goal.returns-in-Meeting
@@ -10,13 +9,13 @@ returns-in-Meeting c = λ tile is.
     let x = to_z-of_z w128 c.in-Meeting.x (search rules) in
     let y = to_z-of_z w128 c.in-Meeting.y (search rules) in
     let w = to_z-of_z w128 c.in-Meeting.w (search rules) in
-    rw c.in-Meeting.is (with_polygon (meeting _ _ _ _ _ _ _ _) (rw (x, y, w) at (c.has_meeting.ensures tile is)))
+    rw c.in-Meeting.is (with_polygon tt (rw (x, y, w) at (c.has_meeting.ensures tile is)))
 
 pub returns-in-Outside : goal.returns-in-Outside
-returns-in-Outside c = λ tile is. rw c.in-Outside.is (with_polygon (outside _ _ _ _ _) (c.has_vertex_outside.ensures tile is))
+returns-in-Outside c = λ tile is. rw c.in-Outside.is (with_polygon tt (c.has_vertex_outside.ensures tile is))
 
 pub returns-in-HoleInHole : goal.returns-in-HoleInHole
-returns-in-HoleInHole c = λ tile is. rw c.in-HoleInHole.is (with_polygon (in_hole _ _ _ _ _ _) (c.has_vertex_in_hole.ensures tile is))
+returns-in-HoleInHole c = λ tile is. rw c.in-HoleInHole.is (with_polygon tt (c.has_vertex_in_hole.ensures tile is))
 
 pub returns-in_default : goal.returns-in_default
 returns-in_default c = λ tile is. (λ holds. absurd (cc holds), λ shown. absurd (not_of_polygon c.args.fault.now c.in_default.not-Meeting c.in_default.not-Outside c.in_default.not-HoleInHole shown.0))
