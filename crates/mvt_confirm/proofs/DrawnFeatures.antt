@@ -1,4 +1,4 @@
--- What a test tells of the bytes of a feature, or of the rings that it draws, it tells of the feature with these ordinals.
+-- A test of the bytes of a feature, or of the rings that it draws, is one of the feature with these ordinals.
 use Rattle.std.proofs.Common.{◌≡◌, ◌↔◌, ℕ, Bool, IsTrue, false, List, subst}
 use Rattle.mvt_plane.specs.Geometry.{HasRings}
 use Rattle.mvt_plane.specs.Position.{Position}

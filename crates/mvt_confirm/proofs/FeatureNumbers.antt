@@ -1,4 +1,4 @@
--- The numbers of the fields of a feature that stands in the bytes: its geometry type, and its geometry.
+-- The numbers of the fields of a feature in the bytes: its geometry type, and its geometry.
 use Rattle.std.proofs.Common.{◌≡◌, ◌↔◌, ◌<◌, ◌==◌, ℕ, Bool, IsTrue, true, false, List, [], ◌∷◌, take, Option, Some, None, refl, sym, ◌∙◌, ap, subst, arith}
 use Rattle.std.proofs.lemmas.Bool.{eq-eqb, eqb-true, leb-false}
 use Rattle.std.specs.Option.{option_eq}

@@ -9,12 +9,12 @@ use Rattle.mvt_wire.specs.declared.cause.WireCode.TheVariants.{OtherType, Again,
 use Rattle.mvt_wire.specs.declared.schema.FieldRule.{FieldRule}
 use Rattle.mvt_wire.specs.declared.schema.Shape.TheVariants.{Text, Numbers}
 
-module _ (rule : FieldRule) (stood : Bool) (entry : Entry) (cause : WireCause) where
+module _ (rule : FieldRule) (occurred : Bool) (entry : Entry) (cause : WireCause) where
   abbrev pub IsOtherType : Type 0
   IsOtherType = (is_own rule.shape (wire_type_of entry.content) ≡ false) × (cause ≡ cause_at OtherType entry.at entry.number)
 
   abbrev pub IsAgain : Type 0
-  IsAgain = (is_singular rule.occurrence ≡ true) × (stood ≡ true) × (cause ≡ cause_at Again entry.at entry.number)
+  IsAgain = (is_singular rule.occurrence ≡ true) × (occurred ≡ true) × (cause ≡ cause_at Again entry.at entry.number)
 
   abbrev pub IsNoText : Type 0
   IsNoText = (from : ℕ) × (part : List ℕ) × (rule.shape ≡ Text) × (entry.content ≡ delimited from part) × (¬ IsUtf8 part) × (cause ≡ cause_at NotUtf8 entry.at entry.number)
@@ -29,21 +29,21 @@ module _ (rule : FieldRule) (stood : Bool) (entry : Entry) (cause : WireCause) w
   abbrev pub HasForm : Type 0
   HasForm = (((IsOtherType ⊎ IsAgain) ⊎ IsNoText) ⊎ IsOutOfRange) ⊎ IsInPackedList
 
-  form_of : EntryFault rule stood entry cause → HasForm
+  form_of : EntryFault rule occurred entry cause → HasForm
   form_of (other_type other is) = inl (inl (inl (inl (other, is))))
   form_of (again singular stands is) = inl (inl (inl (inr (singular, stands, is))))
   form_of (no_text from part shape content not is) = inl (inl (inr (from, part, shape, content, not, is)))
   form_of (out_of_range value at content over is) = inl (inr (value, at, content, over, is))
   form_of (packed from part shape content fault) = inr (from, part, shape, content, fault)
 
-  of_form : HasForm → EntryFault rule stood entry cause
+  of_form : HasForm → EntryFault rule occurred entry cause
   of_form (inl (inl (inl (inl f)))) = other_type f.0 f.1
   of_form (inl (inl (inl (inr f)))) = again f.0 f.1 f.2
   of_form (inl (inl (inr f))) = no_text f.0 f.1 f.2 f.3 f.4 f.5
   of_form (inl (inr f)) = out_of_range f.0 f.1 f.2 f.3 f.4
   of_form (inr f) = packed f.0 f.1 f.2 f.3 f.4
 
-  pub fault_by_form : (found : Bool) → (IsTrue found ↔ HasForm) → IsTrue found ↔ EntryFault rule stood entry cause
+  pub fault_by_form : (found : Bool) → (IsTrue found ↔ HasForm) → IsTrue found ↔ EntryFault rule occurred entry cause
   fault_by_form found tells = (λ here. of_form (tells.0 here), λ fault. tells.1 (form_of fault))
 
   -- a payload that is a text

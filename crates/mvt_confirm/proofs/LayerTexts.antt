@@ -1,4 +1,4 @@
--- The name, the version, the keys and the values of a layer, as they stand in its message.
+-- The name, the version, the keys and the values of a layer, as they are in its message.
 use Rattle.std.proofs.Common.{◌≡◌, ℕ, ◌+◌, ◌-◌, ◌≤◌, ◌==◌, inl, inr, List, [], ◌∷◌, length, take, drop, slice_get, slice_range, filter_map, ◌↔◌, Bool, true, false, not, IsTrue, is_some, Option, Some, None, IfSome, IfNone, refl, sym, ◌∙◌, ap, subst, arith, take-append-drop}
 use Rattle.std.proofs.lemmas.Bool.{cases_Bool}
 use Rattle.std.proofs.lemmas.List.Edits.{length-between}

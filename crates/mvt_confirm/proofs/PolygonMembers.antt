@@ -1,4 +1,4 @@
--- The polygon that a ring belongs to, by the place that a walk tells of the ring.
+-- The polygon that a ring belongs to, by the place that a walk finds for the ring.
 use Rattle.std.proofs.Common.{◌≡◌, ◌≢◌, ◌↔◌, ◌<◌, ◌≤◌, ◌==◌, ℕ, inl, inr, Bool, false, IsTrue, List, [], length, get_or, slice_get, Some, ap, subst, arith}
 use Rattle.std.proofs.lemmas.Bool.Decides.{Decides-eqb}
 use Rattle.std.proofs.lemmas.Option.{slice_get-get_or}

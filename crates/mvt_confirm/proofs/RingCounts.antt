@@ -151,7 +151,3 @@ negative_by_bits area fits = subst (λ it. IsTrue (lt_z (to_z w128 (of_z w128 ar
 -- with that of an exterior
 pub positive_by_bits : (area : ℤ) → FitsSigned w128 area → IsTrue (lt_z (pos 0) (to_z w128 (of_z w128 area))) ↔ (pos 0 <ℤ area)
 positive_by_bits area fits = subst (λ it. IsTrue (lt_z (pos 0) (to_z w128 (of_z w128 area))) ↔ (pos 0 <ℤ it)) (to_z-of_z w128 area fits) (less_by_test (pos 0) (to_z w128 (of_z w128 area)))
-
--- one test tells what another does
-pub told_by : {A B C : Type 0} → A ↔ B → B ↔ C → A ↔ C
-told_by first second = (λ it. second.0 (first.0 it), λ it. first.1 (second.1 it))

@@ -8,7 +8,8 @@ use Rattle.mvt_confirm.specs.Corners.{CornerWalk}
 use Rattle.mvt_confirm.specs.Polygons.{IsPlaceOf}
 use Rattle.mvt_confirm.specs.Rings.{GivesRing}
 use Rattle.mvt_confirm.specs.declared.rings.Measure.{Measure}
-use Rattle.mvt_confirm.proofs.RingCounts.{HavePassed, IsToldOf, next_passed, same_ring, positive_by_bits, told_by}
+use Rattle.mvt_confirm.proofs.RingCounts.{HavePassed, IsToldOf, next_passed, same_ring, positive_by_bits}
+use Rattle.mvt_confirm.proofs.FieldWalks.{one_with}
 use Rattle.mvt_plane.specs.Polygon.{IsExterior, NoExterior, IsExteriorOf, first, next}
 use Rattle.mvt_plane.specs.Position.{Position}
 use Rattle.mvt_plane.specs.Ring.{doubled_area, ArePolygonRings}
@@ -40,7 +41,7 @@ exterior_told rings number measure is = (
 pub exterior_by_bits : (rings : List (List Position)) (old new : CornerWalk) (number : ℕ) (measure : Measure) → HavePassed rings old number → GivesRing old new measure
     → FitsSigned w128 measure.twice_area → IsTrue (lt_z (pos 0) (to_z w128 (of_z w128 measure.twice_area))) ↔ IsExterior rings number
 exterior_by_bits rings old new number measure so_far given fits =
-    told_by (positive_by_bits measure.twice_area fits) (exterior_told rings number measure (next_passed rings old new number measure so_far given).0)
+    one_with (positive_by_bits measure.twice_area fits) (exterior_told rings number measure (next_passed rings old new number measure so_far given).0)
 
 -- then it is one of the rings
 pub given_within : (rings : List (List Position)) (old new : CornerWalk) (number : ℕ) (measure : Measure) → HavePassed rings old number → GivesRing old new measure → number < length rings

@@ -1,4 +1,4 @@
--- What one more field changes of what a rule asks of the fields behind it.
+-- What one more field changes of what a rule requires of the fields behind it.
 use Rattle.std.proofs.Common.{◌≡◌, ◌≢◌, ◌↔◌, ℕ, suc, ◌+◌, ◌≤◌, ◌==◌, Bool, true, false, List, [], ◌∷◌, length, refl, sym, ap, subst, arith}
 use Rattle.std.proofs.lemmas.Bool.{eq-eqb, ne_eqb, cond-true, cond-false}
 use Rattle.std.proofs.lemmas.List.Elements.{All-nil, All-cons, All-head, All-tail}
@@ -8,7 +8,7 @@ use Rattle.mvt_wire.specs.Scope.{fields_of}
 use Rattle.mvt_wire.specs.Tile.{Fits}
 use Rattle.mvt_wire.specs.WireFault.{count_of}
 use Rattle.mvt_wire.specs.declared.schema.FieldRule.{FieldRule}
-use Rattle.mvt_confirm.specs.Walking.{KeepsRule, KeepsRuleAfter, stood_count}
+use Rattle.mvt_confirm.specs.Walking.{KeepsRule, KeepsRuleAfter, count_before}
 
 -- a field of the number counts, and no other
 count_own : (field_number : ℕ) (entry : Entry) (rest : List Entry) → entry.number ≡ field_number → count_of field_number (entry ∷ rest) ≡ suc (count_of field_number rest)
@@ -24,8 +24,8 @@ abbrev FitsOwn : FieldRule → Entry → Type 0
 FitsOwn rule entry = entry.number ≡ rule.number → Fits rule entry.content
 
 -- a field of another number changes nothing
-pub other_passed : (rule : FieldRule) (stood : Bool) (entry : Entry) → entry.number ≢ rule.number → (rest : List Entry) → KeepsRuleAfter rule stood rest ↔ KeepsRuleAfter rule stood (entry ∷ rest)
-other_passed rule stood entry other rest =
+pub other_passed : (rule : FieldRule) (occurred : Bool) (entry : Entry) → entry.number ≢ rule.number → (rest : List Entry) → KeepsRuleAfter rule occurred rest ↔ KeepsRuleAfter rule occurred (entry ∷ rest)
+other_passed rule occurred entry other rest =
     let same = count_other rule.number entry rest other in (
       λ kept. record {
         fits = All-cons (FitsOwn rule) entry rest (λ own. absurd (other own)) kept.fits;
@@ -39,46 +39,46 @@ other_passed rule stood entry other rest =
       },
     )
 
--- before another field of a number that may stand once, none stood
-few_before : (stood : Bool) (count : ℕ) → stood ≡ false → count ≤ 0 → stood_count stood + suc count ≤ 1
+-- before another field of a number that may stand once, none occurred
+few_before : (occurred : Bool) (count : ℕ) → occurred ≡ false → count ≤ 0 → count_before occurred + suc count ≤ 1
 few_before true count none few = absurd (cc)
 few_before false count none few = omega arith
 
-few_behind : (stood : Bool) (count : ℕ) → stood_count stood + suc count ≤ 1 → (stood ≡ false) × (1 + count ≤ 1)
+few_behind : (occurred : Bool) (count : ℕ) → count_before occurred + suc count ≤ 1 → (occurred ≡ false) × (1 + count ≤ 1)
 few_behind true count few = absurd (omega arith)
 few_behind false count few = (refl, omega arith)
 
--- a field of the number that may stand here has stood for those behind it
-pub own_passed : (rule : FieldRule) (stood : Bool) (entry : Entry) → entry.number ≡ rule.number → Fits rule entry.content → (is_singular rule.occurrence ≡ true → stood ≡ false)
-    → (rest : List Entry) → KeepsRuleAfter rule true rest ↔ KeepsRuleAfter rule stood (entry ∷ rest)
-own_passed rule stood entry own fits alone rest =
+-- a field of the number that may stand here has occurred for those behind it
+pub own_passed : (rule : FieldRule) (occurred : Bool) (entry : Entry) → entry.number ≡ rule.number → Fits rule entry.content → (is_singular rule.occurrence ≡ true → occurred ≡ false)
+    → (rest : List Entry) → KeepsRuleAfter rule true rest ↔ KeepsRuleAfter rule occurred (entry ∷ rest)
+own_passed rule occurred entry own fits alone rest =
     let more = count_own rule.number entry rest own in (
       λ kept. record {
         fits = All-cons (FitsOwn rule) entry rest (λ own. fits) kept.fits;
         at_most = λ singular.
             let few = kept.at_most singular in
-            subst (λ (n : ℕ). stood_count stood + n ≤ 1) (sym more) (few_before stood (count_of rule.number rest) (alone singular) (omega arith));
+            subst (λ (n : ℕ). count_before occurred + n ≤ 1) (sym more) (few_before occurred (count_of rule.number rest) (alone singular) (omega arith));
         at_least = λ required. omega arith;
       },
       λ kept. record {
         fits = All-tail (FitsOwn rule) entry rest kept.fits;
-        at_most = λ singular. (few_behind stood (count_of rule.number rest) (subst (λ (n : ℕ). stood_count stood + n ≤ 1) more (kept.at_most singular))).1;
+        at_most = λ singular. (few_behind occurred (count_of rule.number rest) (subst (λ (n : ℕ). count_before occurred + n ≤ 1) more (kept.at_most singular))).1;
         at_least = λ required. omega arith;
       },
     )
 
 -- one that may not stand here is in no list that keeps the rule
-pub own_refused : (rule : FieldRule) (stood : Bool) (entry : Entry) → entry.number ≡ rule.number → ¬ (Fits rule entry.content × (is_singular rule.occurrence ≡ true → stood ≡ false))
-    → (rest : List Entry) → ¬ KeepsRuleAfter rule stood (entry ∷ rest)
-own_refused rule stood entry own not rest kept =
+pub own_refused : (rule : FieldRule) (occurred : Bool) (entry : Entry) → entry.number ≡ rule.number → ¬ (Fits rule entry.content × (is_singular rule.occurrence ≡ true → occurred ≡ false))
+    → (rest : List Entry) → ¬ KeepsRuleAfter rule occurred (entry ∷ rest)
+own_refused rule occurred entry own not rest kept =
     let more = count_own rule.number entry rest own in
     not (
       All-head (FitsOwn rule) entry rest kept.fits own,
-      λ singular. (few_behind stood (count_of rule.number rest) (subst (λ (n : ℕ). stood_count stood + n ≤ 1) more (kept.at_most singular))).0,
+      λ singular. (few_behind occurred (count_of rule.number rest) (subst (λ (n : ℕ). count_before occurred + n ≤ 1) more (kept.at_most singular))).0,
     )
 
 -- at the end a number that has to stand did
-pub kept_at_end : (rule : FieldRule) (stood : Bool) → KeepsRuleAfter rule stood [] ↔ (is_required rule.occurrence ≡ true → stood ≡ true)
+pub kept_at_end : (rule : FieldRule) (occurred : Bool) → KeepsRuleAfter rule occurred [] ↔ (is_required rule.occurrence ≡ true → occurred ≡ true)
 kept_at_end rule true = (
   λ kept required. refl,
   λ stands. record { fits = All-nil (FitsOwn rule); at_most = λ singular. omega arith; at_least = λ required. omega arith },
@@ -88,7 +88,7 @@ kept_at_end rule false = (
   λ stands. record { fits = All-nil (FitsOwn rule); at_most = λ singular. omega arith; at_least = λ required. let bad = stands required in absurd (cc) },
 )
 
--- where none stood before, the rule is kept
+-- where none occurred before, the rule is kept
 pub kept_from_none : (rule : FieldRule) (entries : List Entry) → KeepsRuleAfter rule false entries ↔ KeepsRule rule entries
 kept_from_none rule entries = (
   λ kept. record {

@@ -1,4 +1,4 @@
--- What a test tells about the tile that bytes are, or about a feature of it, it tells about a fault of the bytes.
+-- A test of the tile that bytes are, or of a feature of it, is a test of a fault of the bytes.
 use Rattle.std.proofs.Common.{◌≡◌, ◌↔◌, ◌⊎◌, inl, inr, ℕ, ℤ, Bool, IsTrue, false, List, refl, sym, subst}
 use Rattle.mvt_fault.specs.Place.{IsOfPolygon}
 use Rattle.mvt_fault.specs.declared.fault.Fault.{Fault}
@@ -10,7 +10,7 @@ use Rattle.mvt_wire.specs.Rules.{IsFeatureOf}
 use Rattle.mvt_wire.specs.Tile.{FeatureRecord, LayerRecord, TileRecord, IsTile}
 use Rattle.mvt_wire.specs.declared.cause.WireCode.{WireCode}
 use Rattle.mvt_wire.specs.declared.scope.Scope.{Scope}
-use Rattle.mvt_confirm.proofs.Shown.{wire_faults_alone}
+use Rattle.mvt_confirm.proofs.TrueFaults.{wire_faults_alone}
 use Rattle.mvt_confirm.proofs.TileFeatures.{of_this_tile, feature_of_this_tile}
 use Rattle.mvt_confirm.specs.Shows.{OfTile, OfFeature, Shows}
 

@@ -1,4 +1,4 @@
--- A number that stands at most once in a message is all that the fields of its number state.
+-- A number that occurs at most once in a message is all that the fields of its number state.
 use Rattle.std.proofs.Common.{◌≡◌, ℕ, ◌≤◌, ◌<◌, ◌^◌, List, [], ◌∷◌, length, filter_map, All, Option, Some, None, true, false, refl, sym, subst, arith}
 use Rattle.std.proofs.lemmas.List.{length-map}
 use Rattle.std.proofs.lemmas.List.Elements.{All-nil, All-cons, All-head}

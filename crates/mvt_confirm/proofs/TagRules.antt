@@ -1,4 +1,4 @@
--- What tests of a feature's tags tell about the rules that the tags break.
+-- Which rules a feature's tags break, by tests of the tags.
 use Rattle.std.proofs.Common.{◌≡◌, ◌↔◌, ℕ, ◌+◌, ◌*◌, ◌/◌, ◌%◌, ◌≤◌, ◌<◌, Bool, IsTrue, List, length, slice_get, Option, Some, inl, inr, refl, sym, ◌∙◌, ap, subst, arith}
 use Rattle.std.proofs.lemmas.Bool.{cases_eq}
 use Rattle.mvt_wire.specs.Rules.{OddTags, IsKeyAt, IsValueAt, NoSuchKey, NoSuchValue, KeyAgain}

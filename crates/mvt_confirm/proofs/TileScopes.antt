@@ -1,4 +1,4 @@
--- The records of a tile's layers and features stand in the messages of their scopes.
+-- The records of a tile's layers and features are those of the messages of their scopes.
 use Rattle.std.proofs.Common.{◌≡◌, ◌↔◌, ℕ, Bool, IsTrue, List, slice_get, Some, subst}
 use Rattle.mvt_wire.specs.Rules.{IsFeatureOf}
 use Rattle.mvt_wire.specs.Scope.{Span, spans_of, whole_span, IsScope}

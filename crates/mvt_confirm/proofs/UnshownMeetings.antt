@@ -1,4 +1,4 @@
--- Where two edges of a polygon meet wrongly, at whatever rational point, there is a meeting that a fault can tell.
+-- Where two edges of a polygon meet wrongly, at whatever rational point, there is a meeting that a fault can name.
 use Rattle.std.proofs.Common.{◌≡◌, ◌≢◌, ℕ, ◌<◌, ◌⊎◌, inl, inr, List, length, Option, Some, None, sym, ap, ap₂, subst}
 use Rattle.std.proofs.lemmas.Bool.{cases_order}
 use Rattle.std.proofs.lemmas.Option.{none-some, same_Some}

@@ -28,7 +28,7 @@ rules_kept tile fault valid (inr broken) =
     (valid.features broken.layer broken.feature broken.layer_record broken.feature_record broken.there) broken.broken
 
 -- a valid geometry has none
-geometry_kept : (it : FeatureRecord) (layer feature : ℕ) (fault : Fault) → IsValidGeometry it → ¬ IsFaultOfGeometry it layer feature fault
+pub geometry_kept : (it : FeatureRecord) (layer feature : ℕ) (fault : Fault) → IsValidGeometry it → ¬ IsFaultOfGeometry it layer feature fault
 geometry_kept it layer feature fault valid (command code index broken) = let drawn = valid.figure broken.0 broken.1 in broken.2.unspelled drawn.0 drawn.1
 geometry_kept it layer feature fault valid (ring code number (rings, has, broken)) = ring_is_invalid rings (ring_code code) number broken (valid.polygons rings has)
 geometry_kept it layer feature fault valid (meeting polygon first second x y w (rings, has, broken)) =

@@ -31,7 +31,7 @@ plane_leg (ToPoint left) = plane.to_point left
 plane_leg ToFirst = plane.to_first
 plane_leg (ToNext left) = plane.to_next left
 
--- where the cursor is, of which this x led beside it
+-- where the cursor is, before this x of a step led to the given position
 abbrev pub before_x : Position → ℕ → Position
 before_x beside x = record { x = beside.x -ℤ unzigzag x; y = beside.y }
 

@@ -1,4 +1,4 @@
--- Edges with their numbers, and what is told of edges that come one behind another (Mapbox Vector Tile Specification 2.1,
+-- Edges with their numbers, and tests of edges that come one behind another (Mapbox Vector Tile Specification 2.1,
 -- section 4.3.4.4).
 use Rattle.std.specs.Prelude.{◌≡◌, ◌↔◌, ℕ, IsTrue, List, length, slice_get, Some}
 use Rattle.mvt_confirm.specs.PolygonFault.{number_of}

@@ -5,16 +5,16 @@ use Rattle.mvt_plane.specs.Position.{Position}
 use Rattle.mvt_wire.specs.Scope.{Span}
 use Rattle.mvt_wire.specs.Tile.{FeatureRecord, IsFeature}
 
--- all the bytes, and where in them a feature stands
+-- all the bytes, and where in them a feature lies
 pub record FeaturePlace : Type 0 where
   pub bytes : List ℕ
   pub span : Span
 
--- the feature that stands there
+-- the feature that is there
 abbrev pub IsFeatureAt : FeaturePlace → FeatureRecord → Type 0
 IsFeatureAt place feature_record = IsFeature place.bytes place.span feature_record
 
--- a feature stands there whose geometry is the spelling of these rings
+-- a feature is there whose geometry is the spelling of these rings
 pub record DrawsRings (place : FeaturePlace) (rings : List (List Position)) : Type 0 where
   pub feature_record : FeatureRecord
   pub is : IsFeatureAt place feature_record

@@ -1,5 +1,5 @@
--- The faults of the geometry of one feature, as a judge looks for them (Mapbox Vector Tile Specification 2.1, section 4.3).
--- That they tell the same as `Shows` is a law.
+-- The faults of the geometry of one feature, as a judge looks for them (Mapbox Vector Tile Specification 2.1, section
+-- 4.3). That they are the same as those of `Shows` is a law.
 use Rattle.std.specs.Prelude.{ℕ, ℤ}
 use Rattle.mvt_confirm.specs.Feature.{OfRings}
 use Rattle.mvt_confirm.specs.PolygonFault.{IsMeeting, IsVertexOutside, IsVertexInHole}

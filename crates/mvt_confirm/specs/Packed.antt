@@ -4,7 +4,7 @@ use Rattle.mvt_wire.specs.Varint.{SpellsVarint, VarintDefect}
 use Rattle.mvt_wire.specs.declared.cause.WireCode.{WireCode}
 use Rattle.mvt_wire.specs.declared.cause.WireCode.TheVariants.{OutOfRange}
 
--- bytes are left, and no varint stands there, or one of more than 32 bits; with the code that says so
+-- bytes are left, and no varint is there, or one of more than 32 bits; with the code that says so
 abbrev pub IsBadAt : List ℕ → ℕ → WireCode → Type 0
 IsBadAt part at code =
     ((at < length part) × VarintDefect code (drop at part))

@@ -1,5 +1,5 @@
 -- What is wrong with the polygons of a feature, by the numbers that faults name (Mapbox Vector Tile Specification 2.1,
--- section 4.3.4.4). Faults of polygons stand only where no ring has a fault of its own.
+-- section 4.3.4.4). Faults of polygons occur only where no ring has a fault of its own.
 use Rattle.std.specs.Prelude.{ℕ, List}
 use Rattle.mvt_fault.specs.declared.ring.RingEdge.{RingEdge}
 use Rattle.mvt_plane.specs.Meeting.{EdgeNumber, ComesBefore, MeetsWrongly}

@@ -1,4 +1,4 @@
--- Which polygon a ring belongs to, as a walk over the rings tells it (Mapbox Vector Tile Specification 2.1, section 4.3.4.4).
+-- Which polygon a ring belongs to, by a walk over the rings (Mapbox Vector Tile Specification 2.1, section 4.3.4.4).
 use Rattle.std.specs.Prelude.{◌≡◌, ℕ, List}
 use Rattle.mvt_confirm.specs.declared.polygons.RingPlace.{RingPlace}
 use Rattle.mvt_plane.specs.Polygon.{PolygonRings, IsPolygon, IsRingOf}

@@ -1,4 +1,4 @@
--- Rings as wholes, as a walk over their vertices tells of them (Mapbox Vector Tile Specification 2.1, section 4.3.4.4).
+-- The areas of rings, by a walk over their vertices (Mapbox Vector Tile Specification 2.1, section 4.3.4.4).
 use Rattle.std.specs.Prelude.{◌≡◌, ◌-◌, ◌↔◌, List, ◌∷◌, length, slice_get, Some, IsTrue}
 use Rattle.mvt_confirm.specs.Corners.{CornerWalk, RingsLeft}
 use Rattle.mvt_confirm.specs.declared.rings.Measure.{Measure}
@@ -11,12 +11,12 @@ pub record IsClosed (ring : List Position) : Type 0 where
   pub first : slice_get ring 0 ≡ Some position
   pub last : slice_get ring (length ring - 1) ≡ Some position
 
--- what is told of a ring is so
+-- this is the ring's doubled area, and whether it is closed
 pub record IsMeasured (ring : List Position) (measure : Measure) : Type 0 where
   pub area : measure.twice_area ≡ doubled_area ring
   pub closed : IsTrue measure.is_closed ↔ IsClosed ring
 
--- whichever rings were left, it is told of the first of them, and the others are left
+-- whichever rings were left, this is measured of the first of them, and the others are left
 abbrev pub GivesRing : CornerWalk → CornerWalk → Measure → Type 0
 GivesRing old new measure = (rings : List (List Position)) → RingsLeft old rings
     → (ring : List Position) × (rest : List (List Position)) × (rings ≡ ring ∷ rest) × IsMeasured ring measure × RingsLeft new rest

@@ -44,23 +44,23 @@ IsInRange shape (eight_bytes part) = Unit {0}
 IsInRange shape (delimited from part) = (shape ≡ Text → IsUtf8 part) × (shape ≡ Numbers → AreSmallFrom part 0)
 IsInRange shape (four_bytes part) = Unit {0}
 
--- the fields of a rule's number fit it, and stand as often as they may
+-- the fields of a rule's number fit it, and occur as often as allowed
 pub record KeepsRule (rule : FieldRule) (entries : List Entry) : Type 0 where
   pub fits : All (λ entry. entry.number ≡ rule.number → Fits rule entry.content) entries
   pub at_most : is_singular rule.occurrence ≡ true → count_of rule.number entries ≤ 1
   pub at_least : is_required rule.occurrence ≡ true → 1 ≤ count_of rule.number entries
 
--- what a walk counts of the fields before it, of which none or at least one stood
-abbrev pub stood_count : Bool → ℕ
-stood_count true = 1
-stood_count false = 0
+-- what a walk counts of the fields before it, of which none or at least one occurred
+abbrev pub count_before : Bool → ℕ
+count_before true = 1
+count_before false = 0
 
--- the fields that are left keep a rule, where fields of its number stood before them or not
-pub record KeepsRuleAfter (rule : FieldRule) (stood : Bool) (entries : List Entry) : Type 0 where
+-- the fields that are left keep a rule, where fields of its number occurred before them or not
+pub record KeepsRuleAfter (rule : FieldRule) (occurred : Bool) (entries : List Entry) : Type 0 where
   pub fits : All (λ entry. entry.number ≡ rule.number → Fits rule entry.content) entries
-  pub at_most : is_singular rule.occurrence ≡ true → stood_count stood + count_of rule.number entries ≤ 1
-  pub at_least : is_required rule.occurrence ≡ true → 1 ≤ stood_count stood + count_of rule.number entries
+  pub at_most : is_singular rule.occurrence ≡ true → count_before occurred + count_of rule.number entries ≤ 1
+  pub at_least : is_required rule.occurrence ≡ true → 1 ≤ count_before occurred + count_of rule.number entries
 
--- the fields that are left have the one field that a value knows, or it stood before them
+-- the fields that are left have the one field that a value knows, or it occurred before them
 abbrev pub HasOneKnownAfter : Bool → List Entry → Type 0
-HasOneKnownAfter known entries = stood_count known + count_known Value entries ≡ 1
+HasOneKnownAfter known entries = count_before known + count_known Value entries ≡ 1

@@ -74,8 +74,7 @@ pub(crate) fn draws_rings(mut numbers: Numbers) -> bool
     state.may_end()
 }
 
-/// Whether the fault that was found has this code, and was found at the index that was asked about (`before`
-/// is 0).
+/// Whether the fault that was found has this code, and was found at the given index (`before` is 0).
 fn is_this(before: Option<usize>, fault: CommandCode, code: CommandCode) -> bool
     ensures { IsTrue result ↔ ((before ≡ Some 0) × (command_code fault ≡ command_code code)) }
 {

@@ -1,5 +1,5 @@
-//! The bytes of one feature, over whose numbers a walk may begin as often as one is wanted (Mapbox Vector Tile
-//! Specification 2.1, section 4.2).
+//! Where a feature lies in the bytes of a tile, so that a walk over its numbers can begin again (Mapbox Vector
+//! Tile Specification 2.1, section 4.2).
 
 ghost use Rattle.std.specs.Prelude.{◌≡◌, ◌↔◌, ◌≤◌, IsTrue, List, length, Some, None, IfNone, IfSome};
 ghost use Rattle.mvt_confirm.specs.Corners.{RingsLeft};
@@ -26,7 +26,7 @@ use std::marker::Model;
 // The number of the geometry type of polygons.
 const POLYGON: u32 = 3;
 
-/// Where a feature stands in the bytes of a tile.
+/// Where a feature lies in the bytes of a tile.
 #[derive(Drop)]
 pub(crate) struct FeatureBytes<'a> {
     bytes: &'a [u8],

@@ -36,7 +36,7 @@ fn version_of(bytes: &[u8], layer: Stretch) -> Option<u32>
     }
 }
 
-/// Of bytes that are a tile: there are layers with these ordinals, the first of them stands first,
+/// Of bytes that are a tile: there are layers with these ordinals, the first of them comes first,
 /// and their names are the same byte for byte (section 4.1).
 pub(crate) fn has_same_name(bytes: &[u8], first: usize, second: usize) -> bool
     ensures { (tile : TileRecord) → IsTile bytes.now tile → (IsTrue result ↔ SameName tile first second) }

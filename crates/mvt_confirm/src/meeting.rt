@@ -16,7 +16,7 @@ use crate::polygons::{are_polygon_rings, place_of_ring};
 use crate::ring_edges::{edge_at, edges_of_ring};
 use mvt_fault::RingEdge;
 
-/// A point by the numbers that a fault gives for it: it stands for (x / w, y / w), if they are in range.
+/// A point by the numbers that a fault gives for it: it is (x / w, y / w), if they are in range.
 #[derive(Clone, Copy)]
 pub(crate) struct PointNumbers {
     pub(crate) x: i128,

@@ -11,7 +11,7 @@ use mvt_fault::CommandCode;
 use mvt_plane::Point;
 use mvt_wire::unzigzag32;
 
-/// The parameter that stands for -2^31, which isn't allowed.
+/// The parameter that means -2^31, which isn't allowed.
 const GREATEST_PARAMETER: u32 = 4294967295;
 
 /// The position to which a parameter leads along the x axis.

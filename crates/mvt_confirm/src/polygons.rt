@@ -39,7 +39,7 @@ pub(crate) fn are_polygon_rings(mut corners: Corners) -> bool
 }
 
 /// Where the ring with this ordinal belongs, of rings that have no fault of their own; None where there are
-/// not so many rings.
+/// fewer rings.
 pub(crate) fn place_of_ring(mut corners: Corners, ring: usize) -> Option<RingPlace>
     ensures there { IfSome result (λ place. (rings : List (List Position)) → RingsLeft corners.entry rings → ArePolygonRings rings
         → IsPlaceOf rings ring place) }

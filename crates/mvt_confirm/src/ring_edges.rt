@@ -35,7 +35,7 @@ impl<'a> Model for RingEdges<'a> {
     ghost view = { λ walk. record { corners = walk.corners; first = walk.first; from = walk.from; is_closed = walk.is_closed } };
 }
 
-/// The edges of the ring with this ordinal; None where there are not so many rings.
+/// The edges of the ring with this ordinal; None where there are fewer rings.
 pub(crate) fn edges_of_ring(mut corners: Corners, ring: usize) -> Option<RingEdges>
     ensures there { IfSome result (λ walk. (rings : List (List Position)) → RingsLeft corners.entry rings
         → (vertices : List Position) × (slice_get rings ring ≡ Some vertices) × EdgesLeft walk (edges vertices)) }
@@ -86,7 +86,7 @@ impl<'a> RingEdges<'a> {
     }
 }
 
-/// The edge with this ordinal, of those that are left; None where there are not so many.
+/// The edge with this ordinal, of those that are left; None where there are fewer.
 pub(crate) fn edge_at(mut walk: RingEdges, edge: usize) -> Option<Edge>
     ensures there { IfSome result (λ found. (left : List Edge) → EdgesLeft walk.entry left → slice_get left edge ≡ Some found) }
     ensures none { IfNone result ((left : List Edge) → EdgesLeft walk.entry left → length left ≤ edge) }

@@ -28,7 +28,7 @@ pub(crate) fn pass_rings(corners: &mut Corners, count: usize) -> bool
     true
 }
 
-/// What is told of the ring with this ordinal; None where there are not so many.
+/// The doubled area of the ring with this ordinal, and whether it is closed; None where there are fewer rings.
 pub(crate) fn ring_at(mut corners: Corners, ring: usize) -> Option<Measure>
     ensures there { IfSome result (λ measure. (rings : List (List Position)) → RingsLeft corners.entry rings
         → (vertices : List Position) × (slice_get rings ring ≡ Some vertices) × IsMeasured vertices measure) }

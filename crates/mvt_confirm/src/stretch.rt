@@ -65,7 +65,7 @@ fn layer_of(bytes: &[u8], layer: usize) -> Option<Stretch>
 }
 
 /// Where the payload with an ordinal lies, among those of wire type 2 of the fields of a number in
-/// a message; or None where there are not so many, or the message isn't whole.
+/// a message; or None where there are fewer, or the message isn't whole.
 pub(crate) fn payload_of(
     bytes: &[u8],
     outer: Stretch,

@@ -51,7 +51,7 @@ fn end_odd(bytes: &[u8], feature: Stretch, index: usize) -> bool
     !is_even(index) && end_at(bytes, feature, index)
 }
 
-/// In a list of pairs, the index of a key stands there that is at or above the number of the
+/// In a list of pairs, the number there is the index of a key, and at or above the number of the
 /// layer's keys.
 fn lack_key(bytes: &[u8], layer: Stretch, feature: Stretch, index: usize) -> bool
     requires layer_forward { layer.from ≤ layer.to }
@@ -67,7 +67,7 @@ fn lack_key(bytes: &[u8], layer: Stretch, feature: Stretch, index: usize) -> boo
     }
 }
 
-/// In a list of pairs, the index of a value stands there that is at or above the number of the
+/// In a list of pairs, the number there is the index of a value, and at or above the number of the
 /// layer's values.
 fn lack_value(bytes: &[u8], layer: Stretch, feature: Stretch, index: usize) -> bool
     requires layer_forward { layer.from ≤ layer.to }
@@ -83,14 +83,14 @@ fn lack_value(bytes: &[u8], layer: Stretch, feature: Stretch, index: usize) -> b
     }
 }
 
-/// In a list of pairs, the index of a key stands there that an earlier pair has too.
+/// In a list of pairs, the number there is the index of a key, and an earlier pair has the same key.
 fn repeat_key(bytes: &[u8], feature: Stretch, index: usize) -> bool
     requires forward { feature.from ≤ feature.to }
     requires within { feature.to ≤ length bytes.now }
     ensures { (feature_record : FeatureRecord) → IsFeature bytes.now (as_span feature) feature_record → (IsTrue result ↔ KeyAgain feature_record.tags index) }
 {
     match key_at(bytes, feature, index) {
-        Some(key) => stands_earlier(bytes, feature, key, index),
+        Some(key) => occurs_earlier(bytes, feature, key, index),
         None => false,
     }
 }
@@ -162,8 +162,8 @@ fn end_at(bytes: &[u8], feature: Stretch, index: usize) -> bool
     }
 }
 
-/// The number stands at an even place before the index.
-fn stands_earlier(bytes: &[u8], feature: Stretch, key: u32, index: usize) -> bool
+/// The number occurs at an even place before the index.
+fn occurs_earlier(bytes: &[u8], feature: Stretch, key: u32, index: usize) -> bool
     requires forward { feature.from ≤ feature.to }
     requires within { feature.to ≤ length bytes.now }
     ensures { (feature_record : FeatureRecord) → IsFeature bytes.now (as_span feature) feature_record →
@@ -181,7 +181,7 @@ fn stands_earlier(bytes: &[u8], feature: Stretch, key: u32, index: usize) -> boo
     false
 }
 
-/// A walk over the tags that stands at the index, or None where there are not so many.
+/// A walk over the tags from the index on, or None where there are fewer.
 fn tags_from(bytes: &[u8], feature: Stretch, index: usize) -> Option<Numbers<'_>>
     requires forward { feature.from ≤ feature.to }
     requires within { feature.to ≤ length bytes.now }

@@ -4,3 +4,4 @@ pub mod Decoding
 pub mod FaultTexts
 pub mod Places
 pub mod SignedDecimals
+pub mod Swaps

@@ -9,7 +9,8 @@ use Rattle.mvt_gate.specs.Dump.{IsDumpAnswer, dump_text}
 use Rattle.mvt_gate.specs.FaultLine.{fault_line}
 use Rattle.mvt_gate.specs.declared.engine.Outcome.{Outcome}
 use Rattle.mvt_gate.specs.declared.engine.Outcome.TheVariants.{Yes, No}
-use Rattle.mvt_gate.proofs.Verdicts.{no_fault_of_tile, least_of_wire, one_least}
+use Rattle.mvt_confirm.proofs.TrueFaults.{no_fault_of_tile}
+use Rattle.mvt_gate.proofs.Verdicts.{least_of_wire, one_least}
 
 -- a wire fault is no meeting of edges
 no_meeting : (bytes : List ℕ) (fault : Fault) (layer feature polygon : ℕ) → IsWireFault bytes fault → ¬ IsMeetingIn layer feature polygon fault

@@ -1,7 +1,8 @@
 -- The geometry of a feature's record, by the numbers that its readers were given.
 use Rattle.std.proofs.Common.{◌≡◌, ℕ, List, Option, Result, IfOk, IfNone, sym, ap, subst}
 use Rattle.std.proofs.lemmas.Result.{IfOk-weaker}
-use Rattle.mvt_confirm.proofs.Searching.{IfNone-weaker}
+use Rattle.mvt_confirm.proofs.PayloadSearch.{IfNone-weaker}
+use Rattle.mvt_confirm.proofs.ValidParts.{geometry_kept}
 use Rattle.mvt_confirm.specs.Geometry.{IsFaultOfGeometry}
 use Rattle.mvt_confirm.specs.Valid.{AreValidRings, IsValidGeometry}
 use Rattle.mvt_draw.specs.Geometry.{IsCommandFault}
@@ -15,7 +16,7 @@ use Rattle.mvt_tile.specs.View.{feature_of, kind_number}
 use Rattle.mvt_tile.specs.declared.record.Feature.{Feature}
 use Rattle.mvt_tile.specs.declared.record.Kind.TheVariants.{Polygon}
 use Rattle.mvt_gate.proofs.FirstFaults.{command_is_least}
-use Rattle.mvt_gate.proofs.ValidGeometries.{valid_of_rings, no_fault_of_valid}
+use Rattle.mvt_gate.proofs.ValidGeometries.{valid_of_rings}
 
 -- what is known where nothing is found
 abbrev WhereNone : {E : Type 0} → Result (Option Fault) E → Type 0 → Type 0
@@ -43,7 +44,7 @@ pub faultless_by_valid : {E : Type 0} (found : Result (Option Fault) E) (feature
     → WhereNone found ((fault : Fault) → ¬ IsFaultOfGeometry (feature_of feature) layer ordinal fault)
 faultless_by_valid found feature layer ordinal =
     where_none (IsValidGeometry (feature_of feature)) ((fault : Fault) → ¬ IsFaultOfGeometry (feature_of feature) layer ordinal fault) found
-    (λ valid fault. no_fault_of_valid (feature_of feature) layer ordinal fault valid)
+    (λ valid fault. geometry_kept (feature_of feature) layer ordinal fault valid)
 
 -- a fault of the commands is the first of the feature's geometry
 pub least_by_commands : (feature : Feature) (kind : ℕ) (numbers : List ℕ) (code : CommandCode) (index layer ordinal : ℕ) → kind ≡ kind_number feature.kind → numbers ≡ feature.geometry.items → IsCommandFault kind numbers code index

@@ -1,13 +1,12 @@
--- Features with a valid geometry: none has a fault of it.
+-- Features with a valid geometry, by their rings; and the places of the faults of a geometry.
 use Rattle.std.proofs.Common.{◌≡◌, ℕ, List, [], ◌∷◌, refl, sym, ◌∙◌, subst, arith}
-use Rattle.mvt_confirm.proofs.InvalidRings.{ring_is_invalid, meeting_is_invalid, outside_is_invalid, in_hole_is_invalid}
 use Rattle.mvt_confirm.proofs.TileFeatures.{one_list_of_rings}
 use Rattle.mvt_confirm.specs.Geometry.{IsFaultOfGeometry, command, ring, meeting, outside, hole_in_hole}
 use Rattle.mvt_confirm.specs.Valid.{AreValidRings, IsValidGeometry}
 use Rattle.mvt_fault.specs.Code.{command_code, ring_code}
 use Rattle.mvt_fault.specs.Place.{place_of}
 use Rattle.mvt_fault.specs.declared.fault.Fault.{Fault}
-use Rattle.mvt_plane.proofs.Geometries.{figure_faultless, one_type}
+use Rattle.mvt_plane.proofs.Geometries.{one_type}
 use Rattle.mvt_plane.specs.Figure.{GeometryType, polygon, rings, Spells}
 use Rattle.mvt_plane.specs.Geometry.{HasRings}
 use Rattle.mvt_plane.specs.Position.{Position}
@@ -23,15 +22,7 @@ valid_of_rings it parts has valid = record {
   polygons = λ other its. subst AreValidRings (one_list_of_rings it parts other has its) valid;
 }
 
--- a valid geometry has no fault
-pub no_fault_of_valid : (it : FeatureRecord) (layer feature : ℕ) (fault : Fault) → IsValidGeometry it → ¬ IsFaultOfGeometry it layer feature fault
-no_fault_of_valid it layer feature fault valid (command code index bad) = figure_faultless it.kind it.geometry valid.figure (command_code code) index bad
-no_fault_of_valid it layer feature fault valid (ring code number of) = ring_is_invalid of.0 (ring_code code) number of.2 (valid.polygons of.0 of.1)
-no_fault_of_valid it layer feature fault valid (meeting number first second x y w of) = meeting_is_invalid of.0 number first second (record { x = x; y = y; w = w }) of.2 (valid.polygons of.0 of.1)
-no_fault_of_valid it layer feature fault valid (outside number hole vertex of) = outside_is_invalid of.0 number hole vertex of.2 (valid.polygons of.0 of.1)
-no_fault_of_valid it layer feature fault valid (hole_in_hole number hole vertex other of) = in_hole_is_invalid of.0 number hole vertex other of.2 (valid.polygons of.0 of.1)
-
--- faults of a feature's geometry stand behind those of its tags
+-- faults of a feature's geometry come behind those of its tags
 pub behind_tags : (it : FeatureRecord) (layer feature : ℕ) (fault : Fault) → IsFaultOfGeometry it layer feature fault → IsBehindTags layer feature (place_of fault)
 behind_tags it layer feature fault (command code index bad) = (1, index ∷ command_code code ∷ 0 ∷ 0 ∷ 0 ∷ 0 ∷ [], omega arith, refl)
 behind_tags it layer feature fault (ring code number of) = (2, number ∷ ring_code code ∷ 0 ∷ 0 ∷ 0 ∷ 0 ∷ [], omega arith, refl)

@@ -1,19 +1,19 @@
 -- Verdicts by the parts of a tile. No bytes have two, and no input has two answers of `check`, but for two meetings in one
 -- polygon.
 use Rattle.std.proofs.Common.{◌≡◌, ℕ, List, ◌⊎◌, inl, inr, refl, sym, ◌∙◌, ap, subst}
-use Rattle.mvt_confirm.proofs.Shown.{shown_is_invalid}
 use Rattle.mvt_confirm.proofs.ShownParts.{shown_by_parts}
+use Rattle.mvt_confirm.proofs.TrueFaults.{no_fault_of_tile, shown_is_invalid}
 use Rattle.mvt_confirm.proofs.ValidParts.{valid_by_parts}
 use Rattle.mvt_confirm.specs.Geometry.{IsFaultOfGeometry}
 use Rattle.mvt_confirm.specs.Shows.{Shows}
 use Rattle.mvt_confirm.specs.Valid.{IsValidGeometry, Valid}
 use Rattle.mvt_fault.proofs.Places.{ComesFirst-antisymmetric, same_place_or_meetings}
 use Rattle.mvt_fault.specs.Place.{AreMeetingsInOne, IsLeast, place_of}
-use Rattle.mvt_fault.specs.Truth.{IsWireFault, wire}
+use Rattle.mvt_fault.specs.Truth.{IsWireFault}
 use Rattle.mvt_fault.specs.declared.fault.Fault.{Fault}
+use Rattle.mvt_tile.proofs.Tiles.{is_tile}
 use Rattle.mvt_tile.specs.RuleFaults.{BreaksAnyRule, KeepsRules}
-use Rattle.mvt_wire.proofs.Tiles.{one_tile, tile_faultless, tile_or_fault}
-use Rattle.mvt_wire.specs.Field.{cause_at}
+use Rattle.mvt_wire.proofs.Tiles.{one_tile}
 use Rattle.mvt_wire.specs.Tile.{IsTile, TileRecord}
 use Rattle.mvt_wire.specs.WireFault.{WireFault}
 use Rattle.mvt_wire.specs.declared.cause.WireCause.{WireCause}
@@ -28,23 +28,12 @@ use Rattle.mvt_gate.specs.declared.verdict.Verdict.TheVariants.{Yes, No}
 
 -- The verdict of each kind of bytes
 
--- where no wire fault is true of the bytes, they are a tile
-pub tile_without_fault : (bytes : List ℕ) → ((scope : Scope) (cause : WireCause) → ¬ WireFault bytes scope cause) → (tile : TileRecord) × IsTile bytes tile
-tile_without_fault bytes none = elim (tile_or_fault bytes) [
-  | inl tile ↦ tile
-  | inr bad ↦ absurd (none bad.0 bad.1 bad.2)
-]
-
--- where they keep the rules as a tile too, they are valid
+-- where no wire fault is true of the bytes, and they keep the rules as a tile, they are valid
 pub valid_without_fault : (bytes : List ℕ) → ((scope : Scope) (cause : WireCause) → ¬ WireFault bytes scope cause) → ((tile : TileRecord) → IsTile bytes tile → KeepsRules IsValidGeometry tile) → Valid bytes
 valid_without_fault bytes none keeps =
-    let tile = tile_without_fault bytes none in
+    let tile = is_tile bytes none in
     let kept = keeps tile.0 tile.1 in
     (valid_by_parts bytes).1 (tile.0, tile.1, kept.parts, kept.features)
-
--- no wire fault is true of a tile
-pub no_fault_of_tile : (bytes : List ℕ) (tile : TileRecord) (fault : Fault) → IsTile bytes tile → ¬ IsWireFault bytes fault
-no_fault_of_tile bytes tile fault whole (wire code scope at field holds) = tile_faultless bytes tile scope (cause_at code at field) whole holds
 
 -- the first wire fault is the first of all faults of the bytes
 pub least_of_wire : (bytes : List ℕ) (fault : Fault) → IsLeast (IsWireFault bytes) fault → IsLeast (Shows bytes) fault
@@ -60,7 +49,7 @@ least_of_wire bytes fault least = record {
 pub least_of_tile : (bytes : List ℕ) (fault : Fault) → ((scope : Scope) (cause : WireCause) → ¬ WireFault bytes scope cause)
     → ((tile : TileRecord) → IsTile bytes tile → IsLeast (BreaksAnyRule IsFaultOfGeometry tile) fault) → IsLeast (Shows bytes) fault
 least_of_tile bytes fault none first =
-    let tile = tile_without_fault bytes none in
+    let tile = is_tile bytes none in
     let least = first tile.0 tile.1 in
     record {
       holds = (shown_by_parts bytes fault).1 (inr (tile.0, tile.1, least.holds));

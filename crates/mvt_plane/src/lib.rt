@@ -20,6 +20,6 @@ pub use count::Count;
 pub use crossing::common;
 pub use edge::{Edge, on_edge};
 pub use hpoint::Hpoint;
-pub use measure::{orient, side, sweep_key, twice_area};
+pub use measure::{area_part, orient, side, sweep_key, twice_area};
 pub use parity::inside;
 pub use point::{GREATEST_COORDINATE, Point};

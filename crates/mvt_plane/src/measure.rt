@@ -52,8 +52,9 @@ pub fn twice_area(ring: &[Point]) -> i128
     area + i128::from(area_part(from, first))
 }
 
-/// The part of an edge in the doubled area of its ring, from -2^61 to 2^61.
-fn area_part(a: Point, b: Point) -> i64
+/// The part of the edge from `a` to `b` in the doubled area of its ring, by the surveyor's formula, in square
+/// units of the tile's coordinates; from -2^61 to 2^61 (section 4.3.4.4).
+pub fn area_part(a: Point, b: Point) -> i64
     ensures value { result ≡ edge_area (record { a = a; b = b }) }
     ensures bound { IsWithin (2 ^ 61) result }
 {

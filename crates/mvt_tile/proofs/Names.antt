@@ -1,5 +1,5 @@
--- Names of layers, sorted so that those that are the same stand together.
-use Rattle.std.proofs.Common.{◌≡◌, ◌≢◌, ◌∙◌, sym, ap, subst, refl, true≢false, ℕ, zero, suc, ◌+◌, ◌-◌, ◌<◌, ◌≤◌, ◌==◌, cond, false, List, [], ◌∷◌, ◌++◌, length, get_or, slice_get, map, Option, Some, None, IfSome, IfNone, ◌⊎◌, inl, inr, arith}
+-- Names of layers, sorted so that those that are the same come together.
+use Rattle.std.proofs.Common.{◌≡◌, ◌≢◌, ◌∙◌, sym, ap, subst, refl, true≢false, ℕ, zero, suc, ◌+◌, ◌-◌, ◌<◌, ◌≤◌, false, List, [], ◌∷◌, ◌++◌, length, get_or, slice_get, map, Option, Some, None, IfSome, IfNone, ◌⊎◌, inl, inr, arith}
 use Rattle.std.specs.Cmp.{IsTotalOrder, nat_cmp_is}
 use Rattle.std.specs.Cmp.Lexicographic.{slice_cmp}
 use Rattle.std.specs.List.{swap}
@@ -9,47 +9,13 @@ use Rattle.std.specs.Ordering.{nat_cmp, ordering_then, ordering_reverse, is_lt}
 use Rattle.std.specs.declared.cmp.Ordering.{Ordering}
 use Rattle.std.specs.declared.cmp.Ordering.TheVariants.{Less, Equal, Greater}
 use Rattle.std.proofs.lemmas.Bool.{cases_lt, cases_eq}
-use Rattle.std.proofs.lemmas.Bool.Decides.{nat_tests}
 use Rattle.std.proofs.lemmas.Cmp.{nat_list_cmp_total, nat_cmp_total, on_total, then_total}
 use Rattle.std.proofs.lemmas.List.{map-append, length-map}
-use Rattle.std.proofs.lemmas.List.Sorted.{IsPermutation-keeps, IsPermutation-swap, length_permutation, ranks_by, sorted_far}
-use Rattle.std.proofs.lemmas.List.Edits.{swapped_from_swap}
-use Rattle.std.proofs.lemmas.Option.{slice_get_within, slice_get_past, slice_get-get_or, same_Some, get_or_from_slice_get, slice_get_cases, slice_get_read, slice_get-map}
+use Rattle.std.proofs.lemmas.List.Sorted.{IsPermutation-keeps, ranks_by, sorted_far}
+use Rattle.std.proofs.lemmas.Option.{slice_get_within, slice_get-get_or, same_Some, get_or_from_slice_get, slice_get_cases, slice_get_read, slice_get-map}
 use Rattle.mvt_fault.proofs.Places.{equal_tells}
+use Rattle.mvt_fault.proofs.Swaps.{place_before, place_twice, swap_get}
 use Rattle.mvt_tile.specs.Names.{AreNumbered, IsRepeated, IsFirstRepeated}
-
--- where an element stood before two changed their places
-abbrev place_before : ℕ → ℕ → ℕ → ℕ
-place_before one other at = cond (at == one) other (cond (at == other) one at)
-
-place_twice : (one other at : ℕ) → place_before one other (place_before one other at) ≡ at
-place_twice one other at = grind (arith, nat_tests)
-
-place_is : (one other at : ℕ) → ((at ≡ one) × (place_before one other at ≡ other))
-    ⊎ (((at ≡ other) × (place_before one other at ≡ one)) ⊎ ((at ≢ one) × (at ≢ other) × (place_before one other at ≡ at)))
-place_is one other at = grind (arith, nat_tests)
-
-module _ {X : Type 0} (xs ys : List X) (size : length ys ≡ length xs) (d : X) where
-  same_reads : (at place : ℕ) → at < length xs → place < length xs → get_or ys at d ≡ get_or xs place d → slice_get ys at ≡ slice_get xs place
-  same_reads at place below within same = slice_get-get_or ys at d (omega (arith, size)) ∙ ap Some same ∙ sym (slice_get-get_or xs place d within)
-
-  same_place : (at : ℕ) → get_or ys at d ≡ get_or xs at d → slice_get ys at ≡ slice_get xs at
-  same_place at same = elim (cases_lt at (length xs)) [
-    | inl below ↦ same_reads at at below below same
-    | inr past ↦ slice_get_past ys at (omega (arith, size)) ∙ sym (slice_get_past xs at (omega arith))
-  ]
-
--- what stands at a place where two elements changed theirs
-swap_get : {X : Type 0} (xs : List X) (d : X) (one other at : ℕ) → one < length xs → other < length xs → slice_get (swap xs one other) at ≡ slice_get xs (place_before one other at)
-swap_get xs d one other at first second =
-    let ys = swap xs one other in
-    let size = length_permutation xs ys (IsPermutation-swap xs ys one other first second refl) in
-    let reads = swapped_from_swap xs ys one other d first second refl in
-    elim (place_is one other at) [
-      | inl is ↦ ap (slice_get ys) is.0 ∙ same_reads xs ys size d one other first second reads.0 ∙ ap (slice_get xs) (sym is.1)
-      | inr (inl is) ↦ ap (slice_get ys) is.0 ∙ same_reads xs ys size d other one second first reads.1 ∙ ap (slice_get xs) (sym is.1)
-      | inr (inr is) ↦ same_place xs ys size d at (reads.2 at is.0 is.1) ∙ ap (slice_get xs) (sym is.2)
-    ]
 
 -- names are compared byte by byte, and those that are the same by their ordinals
 abbrev pub compare_named : {X : Type 0} → (X → List ℕ) → (X → ℕ) → X → X → Ordering

@@ -59,7 +59,7 @@ pub(crate) enum State {
     CloseCommand { from: Point },
     /// The x of a step.
     StepX { leg: Leg, from: Point },
-    /// The y of a step, behind this x, which leads beside the cursor.
+    /// The y of a step behind this x, which leads to an x that isn't the cursor's.
     StepY { leg: Leg, beside: Point, x: u32 },
     /// Nothing, behind all points.
     AllDrawn,
@@ -197,7 +197,7 @@ fn behind_x(leg: Leg, from: Point, x: u32) -> Result<State, CommandCode>
     Ok(State::StepY { leg, beside, x })
 }
 
-/// Behind the y of a step, whose x led beside the cursor.
+/// Behind the y of a step whose x isn't the cursor's.
 fn behind_y(
     geometry_type: GeometryType,
     leg: Leg,

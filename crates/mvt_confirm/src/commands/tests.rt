@@ -19,7 +19,7 @@ fn code(number: u16) -> CommandCode {
     }
 }
 
-// Each has this one fault: it is told of no other code, and of no other index.
+// Each has this one fault: none with another code, and none at another index.
 #[test]
 fn one_fault(rt: HostRuntime) {
     let cases: [(u64, &[u8], u16, usize); 13] = [

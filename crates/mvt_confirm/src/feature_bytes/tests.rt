@@ -3,7 +3,7 @@ use mvt_fault::CommandCode;
 
 // Two layers. The features of the first have the numbers of a triangle, of the type of polygons, of that of
 // lines and of an unknown one, and those of a triangle that isn't closed. The second has a point, and a square
-// whose numbers stand in two fields round its type, behind an id of 3 and tags that spell a point.
+// whose numbers are in two fields round its type, behind an id of 3 and tags that spell a point.
 const TILE: &[u8] =
     b"\x1a\x40\x78\x02\x0a\x01a\x12\x0d\x18\x03\x22\x09\x09\x06\x0c\x12\x0a\x0c\x18\x2c\x0f\
     \x12\x0d\x18\x02\x22\x09\x09\x06\x0c\x12\x0a\x0c\x18\x2c\x0f\

@@ -8,7 +8,7 @@ const CODES: [TagCode; 4] = [
     TagCode::Repeated,
 ];
 
-// Tiles of one layer with one key and two values; its feature has these tags in turn: 0 0 0 1 in one
+// Tiles of one layer with one key and two values; its feature has these tags: 0 0 0 1 in one
 // list, and in two lists and single numbers; 0 0; 0; 1 0; 0 2; none.
 #[test]
 fn tags_of_one_feature(rt: HostRuntime) {

@@ -28,7 +28,7 @@ fn is_in_range(shape: Shape, body: Body<'_>) -> bool
     }
 }
 
-/// Whether the bytes behind a length are what the shape asks for: a text is UTF-8, and a packed list
+/// Whether the bytes behind a length are what the shape requires: a text is UTF-8, and a packed list
 /// has numbers of 32 bits.
 fn bytes_fit(shape: Shape, slice: &[u8]) -> bool
     ensures { IsTrue result ↔ ((shape ≡ shapes.Text → IsUtf8 slice.now) × (shape ≡ shapes.Numbers → AreSmallFrom slice.now 0)) }
@@ -55,7 +55,7 @@ fn are_small(part: &[u8]) -> bool
     true
 }
 
-/// The offset behind the number of 32 bits that stands at an offset, or None where none does.
+/// The offset behind the number of 32 bits at an offset, or None where none is there.
 fn behind_small(part: &[u8], at: usize) -> Option<usize>
     requires { at < length part.now }
     ensures further { IfSome result (λ next. at < next) }

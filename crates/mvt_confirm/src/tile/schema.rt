@@ -56,17 +56,17 @@ fn has_one_known(bytes: &[u8], from: usize, to: usize) -> bool
         let Ok(field) = item else {
             return false;
         };
-        let Some(stood) = pass(known, &field) else {
+        let Some(occurred) = pass(known, &field) else {
             return false;
         };
-        known = stood;
+        known = occurred;
     }
     known
 }
 
-/// Whether a known field has stood once the next field is passed, or None where that is the second.
+/// Whether a known field has occurred once the next field is passed, or None where that is the second.
 fn pass(known: bool, field: &Field<'_>) -> Option<bool>
-    ensures kept { IfSome result (λ stood. (rest : List Entry) → HasOneKnownAfter stood rest ↔ HasOneKnownAfter known (entry_of field.now ∷ rest)) }
+    ensures kept { IfSome result (λ occurred. (rest : List Entry) → HasOneKnownAfter occurred rest ↔ HasOneKnownAfter known (entry_of field.now ∷ rest)) }
     ensures broken { IfNone result ((rest : List Entry) → ¬ HasOneKnownAfter known (entry_of field.now ∷ rest)) }
 {
     if Message::Value.rule(field.number).is_none() {

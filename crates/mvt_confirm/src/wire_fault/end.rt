@@ -79,7 +79,7 @@ fn is_fault_of(message: Message, counts: FieldCounts, cause: WireCause) -> bool
     }
 }
 
-/// Whether a message asks for a field of a number.
+/// Whether a message requires a field of a number.
 fn is_required(message: Message, field_number: u32) -> bool
     ensures { IsTrue result ↔ ((rule : FieldRule) × (rule_of message field_number ≡ Some rule) × (is_required rule.occurrence ≡ true)) }
 {

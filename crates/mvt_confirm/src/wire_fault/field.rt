@@ -29,27 +29,27 @@ pub(crate) fn has_field_fault(
         return false;
     };
     let mut fields = Fields::new(bytes, stretch.from, stretch.to);
-    let mut stood = false;
+    let mut occurred = false;
     let mut found = false;
     'walk: while let Some(item) = fields.next_field() {
         let Ok(field) = item else {
             return false;
         };
         if field.number == cause.field {
-            found = found || is_fault_of(rule, stood, &field, cause);
-            stood = true;
+            found = found || is_fault_of(rule, occurred, &field, cause);
+            occurred = true;
         }
     }
     found
 }
 
-/// Whether a field has this fault by the rule for its number. `stood` says whether a field of that
-/// number stands before it.
-fn is_fault_of(rule: FieldRule, stood: bool, field: &Field<'_>, cause: WireCause) -> bool
-    ensures { IsTrue result ↔ EntryFault rule stood (entry_of field.now) cause }
+/// Whether a field has this fault by the rule for its number. `occurred` says whether a field of that
+/// number comes before it.
+fn is_fault_of(rule: FieldRule, occurred: bool, field: &Field<'_>, cause: WireCause) -> bool
+    ensures { IsTrue result ↔ EntryFault rule occurred (entry_of field.now) cause }
 {
     is_other_type(rule, field, cause)
-        || is_again(rule, stood, field, cause)
+        || is_again(rule, occurred, field, cause)
         || is_no_text(rule, field, cause)
         || is_out_of_range(rule, field, cause)
         || is_in_packed_list(rule, field, cause)
@@ -63,12 +63,12 @@ fn is_other_type(rule: FieldRule, field: &Field<'_>, cause: WireCause) -> bool
     cause == at_key(field, WireCode::OtherType) && !rule.shape.is_own(field.body.wire_type())
 }
 
-/// Whether it is code 107: a further field of a number that may stand once.
-fn is_again(rule: FieldRule, stood: bool, field: &Field<'_>, cause: WireCause) -> bool
-    ensures { IsTrue result ↔ (is_singular rule.occurrence ≡ true) × (stood ≡ true)
+/// Whether it is code 107: a further field of a number that may occur once.
+fn is_again(rule: FieldRule, occurred: bool, field: &Field<'_>, cause: WireCause) -> bool
+    ensures { IsTrue result ↔ (is_singular rule.occurrence ≡ true) × (occurred ≡ true)
         × (cause ≡ cause_at Again field.now.at field.now.number) }
 {
-    cause == at_key(field, WireCode::Again) && stood && rule.occurrence.is_singular()
+    cause == at_key(field, WireCode::Again) && occurred && rule.occurrence.is_singular()
 }
 
 /// Whether it is code 110: a text that isn't UTF-8.

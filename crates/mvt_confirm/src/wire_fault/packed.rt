@@ -25,7 +25,7 @@ pub(crate) fn has_packed_fault(part: &[u8], from: usize, number: u32, cause: Wir
     at == place && is_bad_at(part, at, cause.code)
 }
 
-/// Whether a number that isn't whole, or has more than 32 bits, stands at a place of a list.
+/// Whether a number that isn't whole, or has more than 32 bits, is at a place of a list.
 fn is_bad_at(part: &[u8], at: usize, code: WireCode) -> bool
     requires { at ≤ length part.now }
     ensures { IsTrue result ↔ IsBadAt part.now at code }

@@ -1,6 +1,6 @@
 use Rattle.mvt_fault.specs.declared.fault.Fault.TheVariants.{Wire}
 use Rattle.mvt_wire.specs.Tile.{TileRecord, IsTile}
-use Rattle.mvt_confirm.proofs.Shown.{shown_is_invalid}
+use Rattle.mvt_confirm.proofs.TrueFaults.{shown_is_invalid}
 use Rattle.mvt_confirm.proofs.ShownByCases.{no_tile}
 use Rattle.mvt_confirm.proofs.checker.confirm.Goals as goal
 

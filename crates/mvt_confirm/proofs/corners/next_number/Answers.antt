@@ -1,4 +1,4 @@
-use Rattle.mvt_confirm.proofs.TakenNumbers.{none_taken, number_taken}
+use Rattle.mvt_confirm.proofs.CornerSteps.{none_taken, number_taken}
 use Rattle.mvt_confirm.proofs.corners.next_number.Goals as goal
 
 pub returns-in_err-next_number-clause-there : goal.returns-in_err-next_number-clause-there

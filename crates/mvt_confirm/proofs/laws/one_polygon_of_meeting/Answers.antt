@@ -1,4 +1,4 @@
-use Rattle.mvt_confirm.proofs.Shown.{one_polygon_of_ring}
+use Rattle.mvt_confirm.proofs.TrueFaults.{one_polygon_of_ring}
 use Rattle.mvt_confirm.proofs.laws.one_polygon_of_meeting.Goals as goal
 
 pub returns-clause-by_first : goal.returns-clause-by_first

@@ -3,7 +3,7 @@ use Rattle.std.specs.Int.{w128}
 use Rattle.mvt_confirm.specs.Polygons.{IsPlaceOf}
 use Rattle.mvt_confirm.proofs.RingCounts.{none_passed, next_passed, all_passed}
 use Rattle.mvt_confirm.proofs.RingPlaces.{none_counted, exterior_by_bits, given_within, exterior_counted, hole_counted, counted_as, exterior_place, hole_place, hole_behind_none}
-use Rattle.mvt_confirm.proofs.Searching.{IfNone-anyway}
+use Rattle.mvt_confirm.proofs.PayloadSearch.{IfNone-anyway}
 use Rattle.mvt_confirm.proofs.polygons.place_of_ring.Goals.{then-branch-gt0, else-branch-gt0}
 use Rattle.mvt_confirm.proofs.polygons.place_of_ring.Goals as goal
 

@@ -1,7 +1,7 @@
 use Rattle.std.proofs.Common.{refl, sym, true≢false, arith}
 use Rattle.std.proofs.lemmas.Option.{IfSome_then}
 use Rattle.mvt_confirm.proofs.RingCounts.{next_passed, all_passed}
-use Rattle.mvt_confirm.proofs.Searching.{IfNone-weaker}
+use Rattle.mvt_confirm.proofs.PayloadSearch.{IfNone-weaker}
 use Rattle.mvt_confirm.proofs.ring_faults.ring_at.Goals as goal
 
 pub returns-then-pass_rings-clause-there : goal.returns-then-pass_rings-clause-there

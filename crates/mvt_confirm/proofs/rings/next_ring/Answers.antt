@@ -28,7 +28,7 @@ pub overflow_add-area : goal.overflow_add-area
 overflow_add-area c =
     let few = c.vertices.invariant.few in
     let bound = c.vertices.invariant.bound in
-    let edge = c.edge_area.ensures.bound in
+    let edge = c.area_part.ensures.bound in
     omega (arith, fitting)
 
 pub vertices-smaller : goal.vertices-smaller
@@ -44,7 +44,7 @@ vertices-preserved c =
     let less = given.counts.less some in
     let few = c.vertices.invariant.few in
     let bound = c.vertices.invariant.bound in
-    let edge = c.edge_area.ensures.bound in
+    let edge = c.area_part.ensures.bound in
     let first = c.in_ok-corner.corner.point in
     let at = c.in_ok-corner-2.corner.point in
     let area = to_z w128 c.vertices.area-bits in
@@ -65,7 +65,7 @@ pub overflow_add-result : goal.overflow_add-result
 overflow_add-result c =
     let few = c.vertices.invariant.few in
     let bound = c.vertices.invariant.bound in
-    let edge = c.edge_area-2.ensures.bound in
+    let edge = c.area_part-2.ensures.bound in
     omega (arith, fitting)
 
 pub returns-clause-ring : goal.returns-clause-ring
@@ -74,6 +74,6 @@ returns-clause-ring c = λ rings left.
     let area = to_z w128 c.vertices.area-bits in
     let few = c.vertices.invariant.few in
     let bound = c.vertices.invariant.bound in
-    let edge = c.edge_area-2.ensures.bound in
+    let edge = c.area_part-2.ensures.bound in
     let amid = subst (λ (over : Bool). IsAmidRing rings c.vertices.corners first c.vertices.last over area) c.vertices-test.false (c.vertices.invariant.amid rings left) in
     ring_told rings c.vertices.corners first c.vertices.last area _ c.is_same.result amid (omega (arith, fitting)) c.is_same.ensures

@@ -1,5 +1,5 @@
 use Rattle.mvt_confirm.specs.Stretch.{as_span}
-use Rattle.mvt_confirm.proofs.Searching.{IfNone-anyway, IfNone-weaker, one_layer}
+use Rattle.mvt_confirm.proofs.PayloadSearch.{IfNone-anyway, IfNone-weaker, one_layer}
 use Rattle.mvt_confirm.proofs.stretch.part_of_layer.Goals as goal
 
 pub returns-in_err-layer-clause-none : goal.returns-in_err-layer-clause-none

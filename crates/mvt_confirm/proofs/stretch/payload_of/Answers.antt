@@ -3,7 +3,7 @@ use Rattle.std.proofs.lemmas.Result.{IfErr-at_err, IfOk-at_ok}
 use Rattle.mvt_wire.specs.Field.{entry_of}
 use Rattle.mvt_confirm.specs.Stretch.{as_span}
 use Rattle.mvt_confirm.specs.declared.stretch.Stretch.{Stretch}
-use Rattle.mvt_confirm.proofs.Searching.{IsSearching, IsSearching-more, IsSearching-found, IsSearching-other, IsSearching-defect, IsSearching-over}
+use Rattle.mvt_confirm.proofs.PayloadSearch.{IsSearching, IsSearching-more, IsSearching-found, IsSearching-other, IsSearching-defect, IsSearching-over}
 use Rattle.mvt_confirm.proofs.stretch.payload_of.Goals as goal
 use Rattle.mvt_confirm.proofs.stretch.payload_of.Goals.{then-passed-ordinal, else-passed-ordinal}
 

@@ -1,6 +1,6 @@
 use Rattle.std.proofs.Common.{◌-◌, length, option_map}
 use Rattle.mvt_confirm.specs.Stretch.{as_span}
-use Rattle.mvt_confirm.proofs.Searching.{IsSearching}
+use Rattle.mvt_confirm.proofs.PayloadSearch.{IsSearching}
 use Rattle.mvt_confirm.proofs.stretch.payload_of.Given as goal
 
 abbrev pub invariant-walk : goal.invariant-walk

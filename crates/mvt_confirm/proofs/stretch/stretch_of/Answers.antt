@@ -1,7 +1,7 @@
 use Rattle.std.proofs.Common.{sym, subst}
 use Rattle.mvt_wire.specs.Scope.{Span, IsScope}
 use Rattle.mvt_wire.specs.declared.scope.Scope.{Scope}
-use Rattle.mvt_confirm.proofs.Searching.{IfNone-weaker}
+use Rattle.mvt_confirm.proofs.PayloadSearch.{IfNone-weaker}
 use Rattle.mvt_confirm.proofs.stretch.stretch_of.Goals as goal
 
 pub returns-in-Value-clause-none : goal.returns-in-Value-clause-none

@@ -3,7 +3,7 @@ use Rattle.mvt_confirm.proofs.tags.repeat_key.Goals as goal
 
 pub returns-in-Some : goal.returns-in-Some
 returns-in-Some c = λ feature_record is.
-    again_tells feature_record.tags c.args.index c.in-Some.key c.stands_earlier.result (λ key. c.in-Some.ensures feature_record key is) (c.stands_earlier.ensures feature_record is)
+    again_tells feature_record.tags c.args.index c.in-Some.key c.occurs_earlier.result (λ key. c.in-Some.ensures feature_record key is) (c.occurs_earlier.ensures feature_record is)
 
 pub returns-in-None : goal.returns-in-None
 returns-in-None c = λ feature_record is.

@@ -1,6 +1,7 @@
 use Rattle.std.proofs.lemmas.Option.{MatchOption-at_none, MatchOption-at_some}
 use Rattle.mvt_gate.proofs.ValidGeometries.{behind_tags}
-use Rattle.mvt_gate.proofs.Verdicts.{tile_without_fault, valid_without_fault, least_of_wire, least_of_tile, fault_of_invalid}
+use Rattle.mvt_tile.proofs.Tiles.{is_tile}
+use Rattle.mvt_gate.proofs.Verdicts.{valid_without_fault, least_of_wire, least_of_tile, fault_of_invalid}
 use Rattle.mvt_gate.specs.declared.verdict.Verdict.TheVariants.{Yes, No}
 use Rattle.mvt_gate.proofs.verdict.judge.Goals as goal
 
@@ -11,7 +12,7 @@ pub returns-in-Some-clause-invalid : goal.returns-in-Some-clause-invalid
 returns-in-Some-clause-invalid c = fault_of_invalid c.args.bytes.now (No c.in-Some.fault) (returns-in-Some-clause-verdict c)
 
 pub rule_fault-requires-clause-tile : goal.rule_fault-requires-clause-tile
-rule_fault-requires-clause-tile c = tile_without_fault c.args.bytes.now c.in_default.ensures.none
+rule_fault-requires-clause-tile c = is_tile c.args.bytes.now c.in_default.ensures.none
 
 pub rule_fault-requires-clause-behind_tags : goal.rule_fault-requires-clause-behind_tags
 rule_fault-requires-clause-behind_tags c = behind_tags

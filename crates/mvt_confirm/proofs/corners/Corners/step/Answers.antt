@@ -1,6 +1,6 @@
 use Rattle.std.proofs.Common.{Some, None, subst}
 use Rattle.mvt_confirm.specs.Corners.{CornerWalk, TakesStep}
-use Rattle.mvt_confirm.proofs.TakenNumbers.{no_step_taken, no_x_taken, no_y_taken, step_taken}
+use Rattle.mvt_confirm.proofs.CornerSteps.{no_step_taken, no_x_taken, no_y_taken, step_taken}
 use Rattle.mvt_confirm.proofs.corners.Corners.step.Goals as goal
 
 pub returns-in_err-x-clause-there : goal.returns-in_err-x-clause-there

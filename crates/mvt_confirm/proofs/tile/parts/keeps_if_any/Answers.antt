@@ -2,7 +2,7 @@ use Rattle.mvt_wire.specs.Field.{entry_of}
 use Rattle.mvt_wire.specs.Scope.{stretch}
 use Rattle.mvt_confirm.specs.Walking.{HoldsMessage}
 use Rattle.mvt_confirm.proofs.FieldWalks.{one_with}
-use Rattle.mvt_confirm.proofs.PartWalks.{embeds_one}
+use Rattle.mvt_confirm.proofs.EmbeddedMessages.{embeds_one}
 use Rattle.mvt_confirm.proofs.tile.parts.keeps_if_any.Goals as goal
 
 pub returns-in-Some : goal.returns-in-Some

@@ -5,7 +5,7 @@ use Rattle.mvt_wire.specs.Field.{Entry, entry_of}
 use Rattle.mvt_wire.specs.Scope.{spans_of}
 use Rattle.mvt_confirm.specs.Walking.{HoldsMessage}
 use Rattle.mvt_confirm.proofs.FieldWalks.{passed, refused, defective, answered_no, one_with}
-use Rattle.mvt_confirm.proofs.PartWalks.{part_passed, part_refused, lies_within}
+use Rattle.mvt_confirm.proofs.EmbeddedMessages.{part_passed, part_refused, lies_within}
 use Rattle.mvt_confirm.proofs.tile.parts.parts_keep.Goals as goal
 
 pub returns-in_default-item : goal.returns-in_default-item

@@ -12,22 +12,22 @@ walk-init c = all_left c.new-fields.result _ c.args.from (KeepsRuleAfter c.args.
 pub returns-in_default-item : goal.returns-in_default-item
 returns-in_default-item c =
     answered_no c.walk.invariant
-    (defective c.walk.fields c.next_field.new.self c.in_default-item.field-0 (KeepsRuleAfter c.args.rule c.walk.stood) (IfErr-at_err _ c.in_default-item.is c.in-Some.ensures.defect))
+    (defective c.walk.fields c.next_field.new.self c.in_default-item.field-0 (KeepsRuleAfter c.args.rule c.walk.occurred) (IfErr-at_err _ c.in_default-item.is c.in-Some.ensures.defect))
 
 pub returns-in_default-pass : goal.returns-in_default-pass
 returns-in_default-pass c =
     answered_no c.walk.invariant
-    (refused c.walk.fields c.next_field.new.self (entry_of c.in-Ok.field) (IfOk-at_ok _ c.in-Ok.is c.in-Some.ensures.field) (KeepsRuleAfter c.args.rule c.walk.stood) c.in_default-pass.ensures.broken)
+    (refused c.walk.fields c.next_field.new.self (entry_of c.in-Ok.field) (IfOk-at_ok _ c.in-Ok.is c.in-Some.ensures.field) (KeepsRuleAfter c.args.rule c.walk.occurred) c.in_default-pass.ensures.broken)
 
 pub walk-preserved : goal.walk-preserved
 walk-preserved c =
     one_with
-    (passed c.walk.fields c.next_field.new.self (entry_of c.in-Ok.field) (IfOk-at_ok _ c.in-Ok.is c.in-Some.ensures.field) (KeepsRuleAfter c.args.rule c.walk.stood)
-    (KeepsRuleAfter c.args.rule c.in-Some-pass.stands) c.in-Some-pass.ensures.kept)
+    (passed c.walk.fields c.next_field.new.self (entry_of c.in-Ok.field) (IfOk-at_ok _ c.in-Ok.is c.in-Some.ensures.field) (KeepsRuleAfter c.args.rule c.walk.occurred)
+    (KeepsRuleAfter c.args.rule c.in-Some-pass.occurs) c.in-Some-pass.ensures.kept)
     c.walk.invariant
 
 pub returns : goal.returns
 returns c =
     one_with c.is_enough.ensures
-    (one_with (other_way (kept_at_end c.args.rule c.walk.stood))
-    (one_with (other_way (none_left c.walk.fields c.next_field.new.self (KeepsRuleAfter c.args.rule c.walk.stood) c.in_default.ensures.over)) c.walk.invariant))
+    (one_with (other_way (kept_at_end c.args.rule c.walk.occurred))
+    (one_with (other_way (none_left c.walk.fields c.next_field.new.self (KeepsRuleAfter c.args.rule c.walk.occurred) c.in_default.ensures.over)) c.walk.invariant))

@@ -5,7 +5,7 @@ use Rattle.mvt_confirm.proofs.tile.rule.keeps_rule.Given as goal
 
 -- the fields that are left decide
 abbrev pub invariant-walk : goal.invariant-walk
-invariant-walk l = HasLeft l.fields (KeepsRuleAfter l.rule l.stood) ↔ HoldsFields (take l.to l.bytes) l.from (KeepsRule l.rule)
+invariant-walk l = HasLeft l.fields (KeepsRuleAfter l.rule l.occurred) ↔ HoldsFields (take l.to l.bytes) l.from (KeepsRule l.rule)
 
 abbrev pub decreases-walk : goal.decreases-walk
 decreases-walk l = length l.fields.bytes - l.fields.at

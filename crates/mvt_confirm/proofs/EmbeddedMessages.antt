@@ -1,4 +1,4 @@
--- What one more field changes of what is asked of the messages that a message embeds, and where these lie.
+-- What one more field changes of what is required of the messages that a message embeds, and where these lie.
 use Rattle.std.proofs.Common.{◌≡◌, ◌↔◌, ℕ, ◌≤◌, ◌==◌, inl, inr, List, ◌∷◌, length, map, filter_map, All, Option, Some, None, refl, sym, ap, subst, arith}
 use Rattle.std.specs.List.{cons_option}
 use Rattle.std.proofs.lemmas.Bool.{cases_eq, eq-eqb, ne_eqb, cond-true, cond-false}

@@ -1,7 +1,7 @@
 use Rattle.std.proofs.Common.{◌≡◌, arith, subst, refl}
 use Rattle.mvt_confirm.specs.Stretch.{as_span}
 use Rattle.mvt_confirm.proofs.TagWalks.{HasPassed-begin, next_given, all_passed, NoEarlierKey, NoEarlierKey-more, none_behind, key_here}
-use Rattle.mvt_confirm.proofs.tags.stands_earlier.Goals as goal
+use Rattle.mvt_confirm.proofs.tags.occurs_earlier.Goals as goal
 
 pub walk-init : goal.walk-init
 walk-init c = λ feature_record is. (

@@ -27,14 +27,14 @@ use Rattle.mvt_confirm.specs.Valid.{Valid}
 
 -- No fault of a valid tile
 
--- none of the wire is true of a tile
-no_wire : (bytes : List ℕ) (tile : TileRecord) (fault : Fault) → IsTile bytes tile → ¬ IsWireFault bytes fault
-no_wire bytes tile fault is (wire code scope at field broken) = tile_faultless bytes tile scope (cause_at code at field) is broken
+-- no wire fault is true of a tile
+pub no_fault_of_tile : (bytes : List ℕ) (tile : TileRecord) (fault : Fault) → IsTile bytes tile → ¬ IsWireFault bytes fault
+no_fault_of_tile bytes tile fault is (wire code scope at field broken) = tile_faultless bytes tile scope (cause_at code at field) is broken
 
 -- so no fault is true of them
 pub shown_is_invalid : (bytes : List ℕ) (fault : Fault) → Shows bytes fault → ¬ Valid bytes
 shown_is_invalid bytes fault shown valid = elim ((shown_by_parts bytes fault).0 shown) [
-  | inl own ↦ no_wire bytes valid.tile fault valid.is own
+  | inl own ↦ no_fault_of_tile bytes valid.tile fault valid.is own
   | inr part ↦ parts_kept valid.tile fault valid.valid (of_this_tile bytes valid.tile (λ tile. BreaksOne tile fault) valid.is part)
 ]
 
