@@ -1,4 +1,4 @@
--- What a geometry that was read tells: its command fault.
+-- The command fault of a geometry that was read.
 use Rattle.std.proofs.Common.{refl, ℕ, List}
 use Rattle.mvt_fault.specs.Code.{command_code}
 use Rattle.mvt_plane.specs.Figure.{polygon}

@@ -5,7 +5,7 @@ use Rattle.mvt_plane.specs.Figure as plane
 use Rattle.mvt_draw.specs.Geometry.{IsSpelled, figure_of}
 use Rattle.mvt_draw.specs.declared.figure.Figure.{Figure}
 
--- nothing stood before the spelling of what the figure shows
+-- nothing was before the spelling of what the figure shows
 pub spelled_alone : (figure : Figure) (shape : plane.Figure) (before numbers : List ℕ) → figure_of figure ≡ Some shape → HasSpelling shape × (numbers ≡ before ++ spelling shape) → before ≡ []
     → IsSpelled figure numbers
 spelled_alone figure shape before numbers shows spelled none = record {

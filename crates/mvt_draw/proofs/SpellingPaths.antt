@@ -14,7 +14,7 @@ pub record ArePathsTo (least : ℕ) (ending before : List ℕ) (from : Position)
 pub ArePathsTo-begun : (least : ℕ) (ending before : List ℕ) (from : Position) (all : List (List Position)) → ArePathsTo least ending before from all before from all
 ArePathsTo-begun least ending before from all = record { spelled = refl; able = λ parts. parts; left = λ parts. parts }
 
--- the next one is that which stands at the place
+-- the next one is that which is at the place
 pub ArePathsTo-at : {Part : Type 0} (positions : Part → List Position) (least : ℕ) (ending before : List ℕ) (from : Position) (all : List Part) (numbers : List ℕ) (last : Position) (part : Part) (place : ℕ)
     → ArePathsTo least ending before from (map positions all) numbers last (map positions (drop place all)) → place < length all → part ≡ get_or all place part
     → ArePathsTo least ending before from (map positions all) numbers last (positions part ∷ map positions (drop (place + 1) all))

@@ -4,7 +4,7 @@ use Rattle.std.proofs.lemmas.List.{drop_more}
 use Rattle.mvt_plane.specs.Figure.{AreApart, AreSteps, IsParameter, IsStep, cursor, steps, zigzag}
 use Rattle.mvt_plane.specs.Position.{Position, IsPosition}
 
--- what is left from a place on begins with what stands there
+-- what is left from a place on begins with what is there
 pub drop_from : {X : Type 0} (all : List X) (place : ℕ) (here : X) → place < length all → here ≡ get_or all place here → drop place all ≡ here ∷ drop (place + 1) all
 drop_from all place here within is = drop_more all place here within ∙ ap (λ it. it ∷ drop (place + 1) all) (sym is)
 
@@ -30,7 +30,7 @@ pub record AreStepsTo (before : List ℕ) (from : Position) (all : List Position
 pub AreStepsTo-begun : (before : List ℕ) (from : Position) (all : List Position) → AreStepsTo before from all before from all
 AreStepsTo-begun before from all = record { spelled = refl; able = λ steps. steps; left = λ steps. steps; behind = refl }
 
--- the next position is the one that stands at the place
+-- the next position is the one that is at the place
 pub AreStepsTo-at : (before : List ℕ) (from : Position) (all : List Position) (numbers : List ℕ) (last to : Position) (place : ℕ)
     → AreStepsTo before from all numbers last (drop place all) → place < length all → to ≡ get_or all place to → AreStepsTo before from all numbers last (to ∷ drop (place + 1) all)
 AreStepsTo-at before from all numbers last to place so_far within is = subst (λ (rest : List Position). AreStepsTo before from all numbers last rest) (drop_from all place to within is) so_far

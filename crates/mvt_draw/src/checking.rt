@@ -52,7 +52,7 @@ fn read_paths(numbers: &[u32], closed: bool) -> Result<(), DrawFault>
     ensures fault { IfErr result (IsStopAhead ⊥ (path_type closed) numbers.now) }
 {
     let sink = &mut Nothing;
-    let (mut at, mut cursor) = read_path(sink, numbers, 0, Cursor { x: 0, y: 0 }, closed)?;
+    let (mut at, mut cursor) = read_path(sink, numbers, 0, Cursor::ORIGIN, closed)?;
     'paths: while at < numbers.len() {
         (at, cursor) = read_path(sink, numbers, at, cursor, closed)?;
     }

@@ -23,6 +23,11 @@ pub(crate) struct Cursor {
     pub(crate) y: i32,
 }
 
+impl Cursor {
+    /// Where a geometry begins.
+    pub(crate) const ORIGIN: Cursor = Cursor { x: 0, y: 0 };
+}
+
 /// The count of the command at a place, which is to have this id and a count from `fewest` to `most`.
 pub(crate) fn command(
     numbers: &[u32],

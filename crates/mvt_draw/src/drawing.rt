@@ -111,7 +111,7 @@ fn draw_paths(alloc: Global, numbers: &[u32], closed: bool) -> Result<Vec<Vec<Po
 {
     let mut parts = Vec::new(alloc);
     let mut at = 0;
-    let mut cursor = Cursor { x: 0, y: 0 };
+    let mut cursor = Cursor::ORIGIN;
     'paths: while at < numbers.len() {
         let mut points = Vec::new(alloc);
         (at, cursor) = read_path(&mut points, numbers, at, cursor, closed)?;

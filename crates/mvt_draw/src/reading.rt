@@ -23,7 +23,7 @@ pub(crate) fn read_points<S: PositionSink>(sink: &mut S, numbers: &[u32]) -> Res
     ensures fault { IfErr result (IsStopAhead S.Keeps point numbers.now) }
 {
     let count = command(numbers, 0, MOVE_TO, 1, GREATEST_COUNT)?;
-    read_steps(sink, numbers, 1, count, Cursor { x: 0, y: 0 }, false)?;
+    read_steps(sink, numbers, 1, count, Cursor::ORIGIN, false)?;
     let end = 1 + 2 * count as usize;
     if end < numbers.len() {
         return Err(DrawFault::Command {

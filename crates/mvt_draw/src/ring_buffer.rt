@@ -65,7 +65,7 @@ impl RingBuffer {
         ensures fault { IfErr result (IsDrawFault 3 numbers.now) }
     {
         self.count = 0;
-        let (mut at, mut cursor) = self.draw_ring(alloc, numbers, 0, Cursor { x: 0, y: 0 })?;
+        let (mut at, mut cursor) = self.draw_ring(alloc, numbers, 0, Cursor::ORIGIN)?;
         'rings: while at < numbers.len() {
             (at, cursor) = self.draw_ring(alloc, numbers, at, cursor)?;
         }

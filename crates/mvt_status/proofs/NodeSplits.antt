@@ -89,7 +89,7 @@ edges_in None = []
 edges_in (Some own) = own.now
 
 -- the edges of the last node whose first edge is in front of the split, the part of the tree where the split is looked
--- for, how many edges stand in front of that part, and the first edge behind it
+-- for, how many edges are in front of that part, and the first edge behind it
 pub record IsSearched (answers : ℕ → Bool → Type 0) (edges own part : List ℕ) (passed : ℕ) (behind : Option ℕ) : Type 0 where
   pub front : List ℕ
   pub back : List ℕ

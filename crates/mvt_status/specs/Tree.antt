@@ -31,7 +31,7 @@ pub record IsNode (left : Option (Box (List ℕ × ℕ) Global)) (own : List ℕ
   pub near : DifferByAtMost 1 (height_of left) (height_of right)
   pub filled : fewest height + length own ≤ size + 2
 
--- the height of two sides and what stands between them, put together
+-- the height of two sides and what is between them, put together
 pub record IsHeightOfBoth (left right height : ℕ) : Type 0 where
   pub not_lower : max left right ≤ height
   pub at_most_one_higher : height ≤ suc (max left right)

@@ -6,7 +6,7 @@ ghost use Rattle.mvt_status.specs.Split.{IsSplit};
 
 use mvt_plane::Count;
 
-/// How many edges stand at the front of the list of which `below` is true, where it is false of all others. Ticks a
+/// How many edges are at the front of the list of which `below` is true, where it is false of all others. Ticks a
 /// probe for each edge that it looks at.
 #[inline]
 pub(crate) fn split_in<F: Fn(usize) -> bool>(edges: &[usize], below: &F, count: &mut Count) -> usize

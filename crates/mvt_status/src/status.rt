@@ -8,7 +8,7 @@ use std::alloc::AllocError;
 /// Where a status splits.
 #[derive(Clone, Copy, Debug, PartialEq, Eq)]
 pub struct Split {
-    /// How many edges stand in front.
+    /// How many edges are in front.
     pub point: usize,
     /// The edge in front of the split, if there is one.
     pub front: Option<usize>,
@@ -80,7 +80,7 @@ pub trait Status {
         self.insert(at, edge, count)
     }
 
-    /// How many edges stand at the front of the list of which `below` is true, where it is false of all others.
+    /// How many edges are at the front of the list of which `below` is true, where it is false of all others.
     /// Each call of `below` counts as a probe.
     fn split_point<F: Fn(usize) -> bool>(&self, below: &F, count: &mut Count) -> usize
         requires callable { All (F.pre below.now) (edges self.now) }

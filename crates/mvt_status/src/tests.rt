@@ -46,8 +46,8 @@ pub(crate) fn list<S: Status>(
     Ok(edges)
 }
 
-/// Puts edges 7, 4 and 9 into a status, so that they stand as 4, 9, 7. Answers how many stand before the 7, and the
-/// edge at 1, which it takes out.
+/// Puts edges 7, 4 and 9 into a status, in the order 4, 9, 7. Answers how many are in front of the 7, and the edge at 1,
+/// which it takes out.
 fn three_edges<S: Status>(status: &mut S, count: &mut Count) -> Result<(usize, usize), AllocError>
     requires { S.edges status.old ≡ [] }
     ensures found { IfOk result (λ found. found ≡ (2, 9)) }
@@ -94,6 +94,30 @@ pub(crate) fn edges_come_and_go<S: Status>(
     let edges = list(alloc, status, &mut count)?;
     assert_eq!(rt; edges.as_slice(), [1, 6, 8].as_slice());
     Ok(count)
+}
+
+/// Edges come two by two into a status that is empty at first: at the front, at the end and in the middle.
+pub(crate) fn edges_come_in_twos<S: Status>(
+    rt: &impl Abort,
+    alloc: Global,
+    status: &mut S,
+) -> Result<(), AllocError> {
+    let mut count = Count::new();
+    for (at, lower, upper) in [(0, 1, 2), (2, 8, 9), (2, 4, 6)] {
+        if at <= status.len() {
+            status.insert_two(at, lower, upper, &mut count)?;
+        }
+    }
+    let edges = list(alloc, status, &mut count)?;
+    assert_eq!(rt; edges.as_slice(), [1, 2, 4, 6, 8, 9].as_slice());
+    for (at, lower, upper) in [(0, 3, 7), (3, 5, 0)] {
+        if at <= status.len() {
+            status.insert_two(at, lower, upper, &mut count)?;
+        }
+    }
+    let edges = list(alloc, status, &mut count)?;
+    assert_eq!(rt; edges.as_slice(), [3, 7, 1, 5, 0, 2, 4, 6, 8, 9].as_slice());
+    Ok(())
 }
 
 /// Puts the numbers below `many` into a status, each at the end. Answers the most visits that one took.

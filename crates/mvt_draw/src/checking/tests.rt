@@ -5,8 +5,8 @@ use std::process::Abort;
 
 /// That the numbers have this command fault, or none.
 fn expect(rt: &impl Abort, kind: Kind, numbers: &[u32], fault: Option<(CommandCode, usize)>) {
-    let told = command_fault(kind, numbers);
-    assert!(rt; told == fault, "for {numbers:?}: {told:?}");
+    let found = command_fault(kind, numbers);
+    assert!(rt; found == fault, "for {numbers:?}: {found:?}");
 }
 
 // The examples of the specification (section 4.3.5), and a polygon with a hole.
@@ -62,7 +62,7 @@ fn commands(rt: HostRuntime) {
     expect(&rt, Kind::LineString, &closed, other_command(6));
 }
 
-// The range of coordinates, and the parameter that stands for -2^31.
+// The range of coordinates, and the parameter that means -2^31.
 #[test]
 fn parameters(rt: HostRuntime) {
     let greatest = |index: usize| Some((CommandCode::GreatestParameter, index));

@@ -1,5 +1,5 @@
 use super::TreeStatus;
-use crate::tests::{edges_come_and_go, split_of_many};
+use crate::tests::{edges_come_and_go, edges_come_in_twos, split_of_many};
 use std::process::Abort;
 use std::test::Fail;
 
@@ -11,6 +11,13 @@ mod generated;
 fn few_edges(rt: HostRuntime) -> Result<(), Fail> {
     let count = edges_come_and_go(&rt, rt.alloc(), &mut TreeStatus::new(rt.alloc()))?;
     assert_eq!(&rt; (count.tests(), count.probes(), count.visits()), (0, 5, 15));
+    Ok(())
+}
+
+// Edges that come two by two. The last two find no room in the node that has the other eight.
+#[test]
+fn two_edges_at_once(rt: HostRuntime) -> Result<(), Fail> {
+    edges_come_in_twos(&rt, rt.alloc(), &mut TreeStatus::new(rt.alloc()))?;
     Ok(())
 }
 

@@ -1,5 +1,5 @@
 use super::VecStatus;
-use crate::tests::{edges_come_and_go, split_of_many};
+use crate::tests::{edges_come_and_go, edges_come_in_twos, split_of_many};
 use std::process::Abort;
 use std::test::Fail;
 
@@ -11,7 +11,14 @@ fn few_edges(rt: HostRuntime) -> Result<(), Fail> {
     Ok(())
 }
 
-// Many edges, of which a few are asked for.
+// Edges that come two by two.
+#[test]
+fn two_edges_at_once(rt: HostRuntime) -> Result<(), Fail> {
+    edges_come_in_twos(&rt, rt.alloc(), &mut VecStatus::new(rt.alloc()))?;
+    Ok(())
+}
+
+// Many edges, and a few limits.
 #[test]
 fn many_edges(rt: HostRuntime) -> Result<(), Fail> {
     for limit in [0, 1, 700, 999, 1000] {

@@ -1,7 +1,7 @@
 use Rattle.std.proofs.Common.{◌≡◌, ℕ, ◌<◌, length, slice_index}
 use Rattle.mvt_status.proofs.tests.count_up.Given as goal
 
--- the numbers so far stand at their own places
+-- the numbers so far are at their own places
 abbrev pub invariant-loop-edge : goal.invariant-loop-edge
 invariant-loop-edge g l = record {
   many : length (g.S.Status.edges l.status) ≡ l.edge;
