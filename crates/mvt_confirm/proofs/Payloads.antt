@@ -1,5 +1,5 @@
 -- Where the payloads of a message's fields lie, one field behind others.
-use Rattle.std.proofs.Common.{◌≡◌, ◌≢◌, ℕ, suc, zero, ◌≤◌, ◌==◌, List, [], ◌∷◌, ◌++◌, length, take, map, filter_map, slice_get, Some, None, inl, inr, refl, sym, ◌∙◌, ap, subst, arith, append-nil, length-take}
+use Rattle.std.proofs.Common.{◌≡◌, ◌≢◌, ℕ, suc, zero, ◌==◌, List, [], ◌∷◌, ◌++◌, length, take, map, filter_map, slice_get, Some, None, inl, inr, refl, sym, ◌∙◌, ap, subst, arith, append-nil, length-take}
 use Rattle.std.proofs.lemmas.Bool.{cases_eq, eq-eqb, ne_eqb, cond-true, cond-false}
 use Rattle.mvt_wire.specs.Field.{Entry, IsField}
 use Rattle.mvt_wire.specs.Scope.{Span, span_of, spans_of, IsPart}

@@ -1,5 +1,5 @@
 -- A walk over rings: which of them a step gives, and where they end.
-use Rattle.std.proofs.Common.{◌≡◌, ◌↔◌, ℕ, suc, ◌+◌, ◌≤◌, ◌<◌, true, false, IsTrue, List, [], ◌∷◌, length, drop, get_or, slice_get, Option, Some, None, IfSome, IfNone, is_some, ℤ, pos, ◌<ℤ◌, FitsSigned, to_z, of_z, nat_eq, eqb-true, eq-eqb, sym, ◌∙◌, ap, subst, arith, length-drop}
+use Rattle.std.proofs.Common.{◌≡◌, ◌↔◌, ℕ, suc, ◌+◌, ◌≤◌, ◌<◌, true, IsTrue, List, [], ◌∷◌, length, drop, get_or, slice_get, Option, Some, None, IfSome, is_some, ℤ, pos, ◌<ℤ◌, FitsSigned, to_z, of_z, nat_eq, eqb-true, eq-eqb, sym, ◌∙◌, ap, subst, arith, length-drop}
 use Rattle.std.proofs.Math.Seq.{drop-cons}
 use Rattle.std.proofs.lemmas.Int.{ints, to_z-of_z}
 use Rattle.std.proofs.lemmas.Option.{slice_get-get_or, slice_get_within}

@@ -1,4 +1,4 @@
--- A walk over the fields of a whole message that looks at each message of one field number in turn, for as long as it
+-- A walk over the fields of a whole message that looks at each message of one field number, for as long as it
 -- finds nothing there.
 use Rattle.std.proofs.Common.{◌≡◌, ◌≢◌, ℕ, ◌+◌, ◌<◌, ◌≤◌, List, [], ◌∷◌, ◌++◌, length, Some, slice_get, refl, sym, ◌∙◌, ap, subst, arith, length-append}
 use Rattle.mvt_wire.specs.Field.{Entry}

@@ -9,16 +9,16 @@ use Rattle.mvt_wire.specs.declared.schema.Message.{Message}
 use Rattle.mvt_wire.specs.declared.schema.Message.TheVariants.{Value}
 use Rattle.mvt_fault.specs.Place.{ComesFirst}
 use Rattle.mvt_tile.specs.Least.{cause_place, IsLeastCause}
-use Rattle.mvt_tile.specs.Scan.{Passes, IsMissing}
+use Rattle.mvt_tile.specs.FieldScan.{Passes, IsMissing}
 use Rattle.mvt_tile.specs.declared.wire.scan.FieldScan.{FieldScan}
 use Rattle.mvt_tile.proofs.Causes.{by_code, by_field, same_cause}
 
--- a fault at the end of a message is told there
+-- a fault at the end of a message has its place there
 pub end_place : (message : Message) (entries : List Entry) (end : ℕ) (cause : WireCause) → EndFault message entries end cause → cause.at ≡ end
 end_place message entries end cause (missing field_number rule known required absent is) = ap (λ (c : WireCause). c.at) is
 end_place message entries end cause (not_one value count is) = ap (λ (c : WireCause). c.at) is
 
--- just one known field stood
+-- just one known field occurred
 one_known : (count : ℕ) (known several : Bool) → known ≡ nat_lt 0 count → several ≡ nat_lt 1 count → (known && not several) ≡ true → count ≡ 1
 one_known count known several some more one =
     let parts = and_parts known (not several) one in
@@ -26,7 +26,7 @@ one_known count known several some more one =
     let high : count ≤ 1 = ltb-false 1 count (sym more ∙ not-true several parts.1) in
     omega arith
 
--- a fault at the end, as the scan tells it
+-- a fault at the end, as the scan finds it
 abbrev pub UnseenOrNotOne : FieldScan → ℕ → WireCause → Type 0
 UnseenOrNotOne scan end cause =
     ((field_number : ℕ) × IsMissing scan field_number × (cause ≡ cause_at Missing end field_number))
@@ -37,7 +37,7 @@ not_true b never = elim (cases_Bool b) [ inl is ↦ absurd (never is) | inr is �
 
 unseen_or_not_one : (scan : FieldScan) (entries : List Entry) (end : ℕ) (cause : WireCause) → Passes scan entries → EndFault scan.message entries end cause → UnseenOrNotOne scan end cause
 unseen_or_not_one scan entries end cause passes (missing field_number rule known required absent is) =
-    inl (field_number, record { rule = rule; known = known; required = required; absent = passes.stood field_number rule known ∙ absent }, is)
+    inl (field_number, record { rule = rule; known = known; required = required; absent = passes.occurred field_number rule known ∙ absent }, is)
 unseen_or_not_one scan entries end cause passes (not_one value count is) =
     inr (value, not_true (scan.known && not scan.several) (λ one. count (one_known (count_known scan.message entries) scan.known scan.several passes.known passes.several one)), is)
 
@@ -45,7 +45,7 @@ unseen_or_not_one scan entries end cause passes (not_one value count is) =
 pub Missing-first : (scan : FieldScan) (entries : List Entry) (end field_number : ℕ) → IsMissing scan field_number → ((other : ℕ) → IsMissing scan other → field_number ≤ other) → Passes scan entries
     → IsLeastCause (EndFault scan.message entries end) (cause_at Missing end field_number)
 Missing-first scan entries end field_number here least passes = record {
-  holds = missing field_number here.rule here.known here.required (sym (passes.stood field_number here.rule here.known) ∙ here.absent) refl;
+  holds = missing field_number here.rule here.known here.required (sym (passes.occurred field_number here.rule here.known) ∙ here.absent) refl;
   least = λ other fault. elim (unseen_or_not_one scan entries end other passes fault) [
     | inl unseen ↦ subst (λ (c : WireCause). ComesFirst (cause_place (cause_at Missing end field_number)) (cause_place c)) (sym unseen.2) (elim (cases_lt field_number unseen.0) [
       | inl less ↦ by_field (cause_at Missing end field_number) (cause_at Missing end unseen.0) refl refl less

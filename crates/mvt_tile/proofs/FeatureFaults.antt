@@ -110,7 +110,7 @@ module _ (IsBroken : Breaks) where
             let ordered : ComesFirst (place_of (Tag code layer feature index)) (2 ∷ layer ∷ feature ∷ place.0 ∷ place.1) = inr (refl, inr (refl, inr (refl, inl (omega arith)))) in
             subst (ComesFirst (place_of (Tag code layer feature index))) (sym place.3) ordered
 
-  -- what is found of the feature that was read, as said of the one that stands there
+  -- what is found of the feature that was read, as said of the one that is there
   module _ (bytes : List ℕ) (IsKnown : LayerRecord → Type 0) (layer ordinal : ℕ) (span : Span) (read : FeatureRecord) (reads : (it : FeatureRecord) → IsFeature bytes span it → read ≡ it) where
     pub good_feature : (IsKept : Keeps) → ((layer_record : LayerRecord) → IsKnown layer_record → IsSound IsBroken IsKept layer_record read layer ordinal) → IsGoodFeature IsBroken IsKept bytes IsKnown layer ordinal span
     good_feature IsKept good = λ it stands layer_record known. subst (λ (feature : FeatureRecord). IsSound IsBroken IsKept layer_record feature layer ordinal) (reads it stands) (good layer_record known)

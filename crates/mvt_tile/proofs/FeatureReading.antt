@@ -23,7 +23,7 @@ module _ (entries : List Entry) (entry : Entry) (feature : FeatureRecord) (tells
   same_geometry : entry.number ≢ 4 → StateTogether (contents_of 4 (entries ++ entry ∷ [])) feature.geometry
   same_geometry other = subst (λ (contents : List Content). StateTogether contents feature.geometry) (sym (contents_of-other 4 entries entry other)) tells.geometry
 
-  -- what a field tells, by its number
+  -- the content of a field, by its number
   pub tells_id : (id : ℕ) → entry.number ≡ 1 → number_in entry.content ≡ Some id
       → TellsFeature (entries ++ entry ∷ []) (record feature { id = Some id })
   tells_id id is told = record {
@@ -77,7 +77,7 @@ only [] few = refl
 only (n ∷ []) few = refl
 only (n ∷ m ∷ numbers) few = absurd (omega arith)
 
--- a record that has what all fields tell is the one that stands there
+-- a record that has the content of all fields is the one that is there
 pub told_is : {bytes : List ℕ} {span : Span} {feature told : FeatureRecord} (is : IsFeature bytes span feature) → TellsFeature is.entries told → told ≡ feature
 told_is {feature = feature} {told = told} is tells =
     let id : told.id ≡ feature.id = tells.id ∙ only (numbers_of 1 is.entries) (few_picked number_in 1 is.entries (is.keeps.at_most 1 _ refl refl)) ∙ sym is.id in

@@ -87,7 +87,7 @@ module _ {IsBroken : Breaks} {IsKept : Keeps} {bytes : List ℕ} {from to layer 
     pub IsScanned-least : IfSome found (λ fault. (layer_record : LayerRecord) → IsLayer bytes (record { from = from; to = to }) layer_record → HasEnough needs layer_record → IsLeast (IsFaultInLayer IsBroken layer_record layer) fault)
     IsScanned-least = IfSome_then found so_far.some (λ fault least layer_record is enough. least layer_record is (roomy layer_record is enough))
 
--- the fields that were passed, what they tell of the layer, and what was found of its features
+-- the fields that were passed, their content, and what was found of its features
 pub record IsLayerScan (IsBroken : Breaks) (IsKept : Keeps) (bytes : List ℕ) (from to layer : ℕ) (scan : LayerScan) (walk : Walk) (count : ℕ) : Type 0 where
   pub entries : List Entry
   pub walking : IsWalking (take to bytes) from walk entries

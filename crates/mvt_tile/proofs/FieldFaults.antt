@@ -11,7 +11,7 @@ use Rattle.mvt_wire.specs.declared.schema.FieldRule.{FieldRule}
 use Rattle.mvt_wire.specs.declared.schema.Shape.TheVariants.{Text, Numbers}
 use Rattle.mvt_fault.specs.Place.{ComesFirst}
 use Rattle.mvt_tile.specs.Least.{cause_place, IsLeastCause, FindsLeastCause}
-use Rattle.mvt_tile.specs.Placed.{LiesWithin, IsPlaced}
+use Rattle.mvt_tile.specs.FieldPlace.{LiesWithin, IsPlaced}
 use Rattle.mvt_tile.proofs.Causes.{same_cause}
 use Rattle.mvt_tile.proofs.SmallNumbers.{fault_in_part}
 
@@ -23,34 +23,34 @@ part_place : (entry : Entry) (next from : ℕ) (part : List ℕ) → IsPlaced en
 part_place entry next from part placed content = subst (λ (c : Content). LiesWithin entry.at next c) content placed.payload
 
 -- a fault of a field lies between its key and the next one
-pub fault_within : (rule : FieldRule) (stood : Bool) (entry : Entry) (next : ℕ) (cause : WireCause) → IsPlaced entry next → EntryFault rule stood entry cause → (entry.at ≤ cause.at) × (cause.at < next)
-fault_within rule stood entry next cause placed (other_type other is) =
+pub fault_within : (rule : FieldRule) (occurred : Bool) (entry : Entry) (next : ℕ) (cause : WireCause) → IsPlaced entry next → EntryFault rule occurred entry cause → (entry.at ≤ cause.at) × (cause.at < next)
+fault_within rule occurred entry next cause placed (other_type other is) =
     let here : cause.at ≡ entry.at = ap (λ (c : WireCause). c.at) is in let forward = placed.forward in (omega arith, omega arith)
-fault_within rule stood entry next cause placed (again singular stands is) =
+fault_within rule occurred entry next cause placed (again singular stands is) =
     let here : cause.at ≡ entry.at = ap (λ (c : WireCause). c.at) is in let forward = placed.forward in (omega arith, omega arith)
-fault_within rule stood entry next cause placed (no_text from part shape content not is) =
+fault_within rule occurred entry next cause placed (no_text from part shape content not is) =
     let here : cause.at ≡ entry.at = ap (λ (c : WireCause). c.at) is in let forward = placed.forward in (omega arith, omega arith)
-fault_within rule stood entry next cause placed (out_of_range value at content over is) =
+fault_within rule occurred entry next cause placed (out_of_range value at content over is) =
     let here : cause.at ≡ at = ap (λ (c : WireCause). c.at) is in let place = varint_place entry next value at placed content in (omega arith, omega arith)
-fault_within rule stood entry next cause placed (packed from part shape content fault) =
+fault_within rule occurred entry next cause placed (packed from part shape content fault) =
     let place = part_place entry next from part placed content in
     let within = fault_in_part from part entry.number cause fault in
     (omega arith, omega arith)
 
 -- the field isn't one too many
-abbrev pub MayStand : FieldRule → Bool → Type 0
-MayStand rule stood = is_singular rule.occurrence ≡ true → ¬ (stood ≡ true)
+abbrev pub MayOccur : FieldRule → Bool → Type 0
+MayOccur rule occurred = is_singular rule.occurrence ≡ true → ¬ (occurred ≡ true)
 
--- of a field that may stand, with its own wire type, a number out of range is the first fault
-pub out_of_range-first : (rule : FieldRule) (stood : Bool) (entry : Entry) (value at : ℕ) → is_own rule.shape (wire_type_of entry.content) ≡ true → MayStand rule stood
+-- of a field that may occur, with its own wire type, a number out of range is the first fault
+pub out_of_range-first : (rule : FieldRule) (occurred : Bool) (entry : Entry) (value at : ℕ) → is_own rule.shape (wire_type_of entry.content) ≡ true → MayOccur rule occurred
     → entry.content ≡ varint value at → is_out_of_range rule.shape value ≡ true
-    → IsLeastCause (EntryFault rule stood entry) (cause_at OutOfRange at entry.number)
-out_of_range-first rule stood entry value at own may content over = record { holds = out_of_range value at content over refl; least = behind }
+    → IsLeastCause (EntryFault rule occurred entry) (cause_at OutOfRange at entry.number)
+out_of_range-first rule occurred entry value at own may content over = record { holds = out_of_range value at content over refl; least = behind }
   where
     cause : WireCause
     cause = cause_at OutOfRange at entry.number
 
-    behind : (fault : WireCause) → EntryFault rule stood entry fault → ComesFirst (cause_place cause) (cause_place fault)
+    behind : (fault : WireCause) → EntryFault rule occurred entry fault → ComesFirst (cause_place cause) (cause_place fault)
     behind fault (other_type o is) = absurd (both_ways _ o own)
     behind fault (again s st is) = absurd (may s st)
     behind fault (no_text from part shape other not is) = let both : varint value at ≡ delimited from part = sym content ∙ other in absurd (cc)
@@ -61,15 +61,15 @@ out_of_range-first rule stood entry value at own may content over = record { hol
     behind fault (packed from part shape other inner) = let both : varint value at ≡ delimited from part = sym content ∙ other in absurd (cc)
 
 -- and a text that isn't UTF-8
-pub no_text-first : (rule : FieldRule) (stood : Bool) (entry : Entry) (from : ℕ) (part : List ℕ) → is_own rule.shape (wire_type_of entry.content) ≡ true → MayStand rule stood
+pub no_text-first : (rule : FieldRule) (occurred : Bool) (entry : Entry) (from : ℕ) (part : List ℕ) → is_own rule.shape (wire_type_of entry.content) ≡ true → MayOccur rule occurred
     → rule.shape ≡ Text → entry.content ≡ delimited from part → ¬ IsUtf8 part
-    → IsLeastCause (EntryFault rule stood entry) (cause_at NotUtf8 entry.at entry.number)
-no_text-first rule stood entry from part own may shape content not = record { holds = no_text from part shape content not refl; least = behind }
+    → IsLeastCause (EntryFault rule occurred entry) (cause_at NotUtf8 entry.at entry.number)
+no_text-first rule occurred entry from part own may shape content not = record { holds = no_text from part shape content not refl; least = behind }
   where
     cause : WireCause
     cause = cause_at NotUtf8 entry.at entry.number
 
-    behind : (fault : WireCause) → EntryFault rule stood entry fault → ComesFirst (cause_place cause) (cause_place fault)
+    behind : (fault : WireCause) → EntryFault rule occurred entry fault → ComesFirst (cause_place cause) (cause_place fault)
     behind fault (other_type o is) = absurd (both_ways _ o own)
     behind fault (again s st is) = absurd (may s st)
     behind fault (no_text f p s other n is) = same_cause cause fault (sym is)
@@ -77,23 +77,23 @@ no_text-first rule stood entry from part own may shape content not = record { ho
     behind fault (packed f p numbers other inner) = let both : Text ≡ Numbers = sym shape ∙ numbers in absurd (cc)
 
 -- and the first fault of a packed list
-packed-only : (rule : FieldRule) (stood : Bool) (entry : Entry) (from : ℕ) (part : List ℕ) (fault : WireCause) → is_own rule.shape (wire_type_of entry.content) ≡ true → MayStand rule stood
-    → rule.shape ≡ Numbers → entry.content ≡ delimited from part → EntryFault rule stood entry fault → PackedFault from part entry.number fault
-packed-only rule stood entry from part fault own may shape content (other_type o is) = absurd (both_ways _ o own)
-packed-only rule stood entry from part fault own may shape content (again s st is) = absurd (may s st)
-packed-only rule stood entry from part fault own may shape content (no_text f p s other not is) = let both : Text ≡ Numbers = sym s ∙ shape in absurd (cc)
-packed-only rule stood entry from part fault own may shape content (out_of_range value at other over is) = let both : varint value at ≡ delimited from part = sym other ∙ content in absurd (cc)
-packed-only rule stood entry from part fault own may shape content (packed f p s other inner) =
+packed-only : (rule : FieldRule) (occurred : Bool) (entry : Entry) (from : ℕ) (part : List ℕ) (fault : WireCause) → is_own rule.shape (wire_type_of entry.content) ≡ true → MayOccur rule occurred
+    → rule.shape ≡ Numbers → entry.content ≡ delimited from part → EntryFault rule occurred entry fault → PackedFault from part entry.number fault
+packed-only rule occurred entry from part fault own may shape content (other_type o is) = absurd (both_ways _ o own)
+packed-only rule occurred entry from part fault own may shape content (again s st is) = absurd (may s st)
+packed-only rule occurred entry from part fault own may shape content (no_text f p s other not is) = let both : Text ≡ Numbers = sym s ∙ shape in absurd (cc)
+packed-only rule occurred entry from part fault own may shape content (out_of_range value at other over is) = let both : varint value at ≡ delimited from part = sym other ∙ content in absurd (cc)
+packed-only rule occurred entry from part fault own may shape content (packed f p s other inner) =
     let both : delimited f p ≡ delimited from part = sym other ∙ content in
     let places : f ≡ from = cc in
     let parts : p ≡ part = cc in
     subst (λ (place : ℕ). PackedFault place part entry.number fault) places (subst (λ (bytes : List ℕ). PackedFault f bytes entry.number fault) parts inner)
 
-pub packed-first : (rule : FieldRule) (stood : Bool) (entry : Entry) (from : ℕ) (part : List ℕ) (found : Option WireCause) → is_own rule.shape (wire_type_of entry.content) ≡ true → MayStand rule stood
+pub packed-first : (rule : FieldRule) (occurred : Bool) (entry : Entry) (from : ℕ) (part : List ℕ) (found : Option WireCause) → is_own rule.shape (wire_type_of entry.content) ≡ true → MayOccur rule occurred
     → rule.shape ≡ Numbers → entry.content ≡ delimited from part → FindsLeastCause (PackedFault from part entry.number) found
-    → FindsLeastCause (EntryFault rule stood entry) found
-packed-first rule stood entry from part None own may shape content none = λ fault bad. none fault (packed-only rule stood entry from part fault own may shape content bad)
-packed-first rule stood entry from part (Some cause) own may shape content first = record {
+    → FindsLeastCause (EntryFault rule occurred entry) found
+packed-first rule occurred entry from part None own may shape content none = λ fault bad. none fault (packed-only rule occurred entry from part fault own may shape content bad)
+packed-first rule occurred entry from part (Some cause) own may shape content first = record {
   holds = packed from part shape content first.holds;
-  least = λ fault bad. first.least fault (packed-only rule stood entry from part fault own may shape content bad);
+  least = λ fault bad. first.least fault (packed-only rule occurred entry from part fault own may shape content bad);
 }

@@ -27,7 +27,7 @@ module _ (bytes : List ℕ) (entries : List Entry) (entry : Entry) (layer : Laye
   same_extent : entry.number ≢ 5 → layer.extent ≡ last_of 4096 (numbers_of 5 (entries ++ entry ∷ []))
   same_extent other = tells.extent ∙ ap (last_of 4096) (sym (picked-other number_in 5 entries entry other))
 
-  -- what a field tells, by its number
+  -- the content of a field, by its number
   pub tells_name : (name : List ℕ) → entry.number ≡ 1 → bytes_in entry.content ≡ Some name
       → TellsLayer bytes (entries ++ entry ∷ []) (record layer { name = name })
   tells_name name is told = record {
@@ -100,7 +100,7 @@ only_or otherwise [] few = refl
 only_or otherwise (n ∷ []) few = refl
 only_or otherwise (n ∷ m ∷ numbers) few = absurd (omega arith)
 
--- a record that has what all fields tell is the one that stands there
+-- a record that has the content of all fields is the one that is there
 pub IsLayer-from_told : {bytes : List ℕ} {span : Span} {layer told : LayerRecord} (is : IsLayer bytes span layer) → TellsLayer bytes is.entries told → IsLayer bytes span told
 IsLayer-from_told is tells = record {
   entries = is.entries;

@@ -14,9 +14,9 @@ use Rattle.mvt_tile.specs.Embedded.{HasNone, HasFirst}
 use Rattle.mvt_tile.specs.First.{FindsFirst}
 use Rattle.mvt_tile.specs.LayerFault.{IsLayerFault}
 use Rattle.mvt_tile.specs.Least.{FindsLeastCause}
-use Rattle.mvt_tile.specs.Placed.{IsPlaced}
-use Rattle.mvt_tile.specs.Rest.{IsDefectOr}
-use Rattle.mvt_tile.specs.Scan.{Passes, IsFirstFault}
+use Rattle.mvt_tile.specs.FieldPlace.{IsPlaced}
+use Rattle.mvt_tile.specs.FieldsLeft.{IsDefectOr}
+use Rattle.mvt_tile.specs.FieldScan.{Passes, IsFirstFault}
 use Rattle.mvt_tile.specs.declared.wire.embedded.EmbeddedScan.{EmbeddedScan}
 use Rattle.mvt_tile.specs.declared.wire.scan.FieldScan.{FieldScan}
 use Rattle.mvt_fault.specs.Truth.{wire_fault_in}
@@ -49,7 +49,7 @@ scan_finds bytes scan entries message field_number found kind number first scans
     (subst (λ (n : ℕ). FindsFirst (HasNone scan.look bytes) (HasFirst scan.look bytes) (spans_of n entries) scan.count found) number
     (subst (λ (f : Option (ℕ × WireCause)). FindsFirst (HasNone scan.look bytes) (HasFirst scan.look bytes) (spans_of scan.number entries) scan.count f) first scans))
 
--- what a scan of embedded messages tells of the field that it passes
+-- what a scan of embedded messages keeps of the field that it passes
 pub record Notes (bytes : List ℕ) (before after : EmbeddedScan Message (ℕ × WireCause)) (entry : Entry) : Type 0 where
   pub message : after.look ≡ before.look
   pub number : after.number ≡ before.number

@@ -1,5 +1,5 @@
 -- The faults of a layer and of the messages in it: which comes first.
-use Rattle.std.proofs.Common.{◌≡◌, ℕ, inl, inr, List, ◌∷◌, take, Some, slice_get, refl, sym, ◌∙◌, ap, subst, arith}
+use Rattle.std.proofs.Common.{◌≡◌, ℕ, inl, inr, List, ◌∷◌, Some, slice_get, refl, sym, ◌∙◌, ap, subst, arith}
 use Rattle.std.proofs.lemmas.Bool.{cases_lt}
 use Rattle.mvt_wire.specs.Field.{Entry, cause_at}
 use Rattle.mvt_wire.specs.Scope.{Span, spans_of, IsMessageAt, IsPart}
@@ -12,7 +12,6 @@ use Rattle.mvt_wire.proofs.Tiles.{part_here}
 use Rattle.mvt_fault.specs.Place.{ComesFirst, IsLeast, place_of}
 use Rattle.mvt_fault.specs.Truth.{wire_fault_in}
 use Rattle.mvt_fault.specs.declared.fault.Fault.{Fault}
-use Rattle.mvt_fault.specs.declared.fault.Fault.TheVariants.{Wire}
 use Rattle.mvt_tile.specs.Embedded.{HasFault, HasNone, HasFirst}
 use Rattle.mvt_tile.specs.First.{AreClean, IsFirst}
 use Rattle.mvt_tile.specs.LayerFault.{FaultInLayer, IsLayerFault, wire}

@@ -3,8 +3,8 @@ pub mod SmallNumbers
 pub mod ShortNumbers
 pub mod FieldFaults
 pub mod SchemaRules
-pub mod Passing
-pub mod Scans
+pub mod OneMoreField
+pub mod FieldScans
 pub mod EndFaults
 pub mod Walking
 pub mod Spans

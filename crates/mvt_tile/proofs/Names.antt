@@ -1,4 +1,4 @@
--- Names of layers, sorted so that those that are the same come together.
+-- Names of layers, sorted so that those that are the same are neighbours.
 use Rattle.std.proofs.Common.{◌≡◌, ◌≢◌, ◌∙◌, sym, ap, subst, refl, true≢false, ℕ, zero, suc, ◌+◌, ◌-◌, ◌<◌, ◌≤◌, false, List, [], ◌∷◌, ◌++◌, length, get_or, slice_get, map, Option, Some, None, IfSome, IfNone, ◌⊎◌, inl, inr, arith}
 use Rattle.std.specs.Cmp.{IsTotalOrder, nat_cmp_is}
 use Rattle.std.specs.Cmp.Lexicographic.{slice_cmp}
@@ -66,7 +66,7 @@ module _ {X : Type 0} (name : X → List ℕ) (ordinal : X → ℕ) (names : Lis
         }
   ]
 
-  -- so they stand that equal names are neighbours, and those of one name in the order of their ordinals
+  -- they are ordered so that equal names are neighbours, and those of one name in the order of their ordinals
   pub record AreGrouped (xs : List X) : Type 0 where
     pub naming : IsNaming xs
     pub rising : (at other : ℕ) (x y : X) → at < other → slice_get xs at ≡ Some x → slice_get xs other ≡ Some y → name x ≡ name y → ordinal x < ordinal y
@@ -76,7 +76,7 @@ module _ {X : Type 0} (name : X → List ℕ) (ordinal : X → ℕ) (names : Lis
   named_total : IsTotalOrder (compare_named name ordinal)
   named_total = then_total (on_total name nat_list_cmp_total) (on_total ordinal nat_cmp_total)
 
-  -- what stands behind isn't less
+  -- what is behind isn't less
   not_less : (xs : List X) → IsSorted (compare_named name ordinal) xs → (at other : ℕ) (x y : X) → at ≤ other → slice_get xs at ≡ Some x → slice_get xs other ≡ Some y
       → is_lt (compare_named name ordinal y x) ≡ false
   not_less xs sorted at other x y behind there elsewhere =
@@ -85,7 +85,7 @@ module _ {X : Type 0} (name : X → List ℕ) (ordinal : X → ℕ) (names : Lis
       let further : get_or xs other x ≡ y = get_or_from_slice_get xs other y x elsewhere in
       rw (here, further) at (sorted_far (λ (x y : X). is_lt (compare_named name ordinal x y)) (ranks_by named_total (λ (x : X). x)) xs sorted at other x behind within)
 
-  -- so names that are the same stand together, and those of one name in the order of their ordinals
+  -- so names that are the same are neighbours, and those of one name in the order of their ordinals
   pub grouped_by_sort : (before xs : List X) → IsNaming before → IsPermutation before xs → IsSorted (compare_named name ordinal) xs → AreGrouped xs
   grouped_by_sort before xs it permutation sorted = record { naming = naming; rising = rising; together = together }
     where
@@ -192,7 +192,7 @@ module _ {X : Type 0} (name : X → List ℕ) (ordinal : X → ℕ) (names : Lis
     pair_taken same earlier = forward (Some (ordinal x, ordinal y)) (IsLeastPair-taken xs (at - 1) x y first_there second_there found before same earlier)
 
   module _ (xs : List X) (grouped : AreGrouped xs) (found : Option (ℕ × ℕ)) (is : IsLeastPair xs (length xs) found) where
-    -- two layers of one name stand one behind the other
+    -- two layers of one name are one behind the other
     behind : (first second at other : ℕ) (x y : X) → first < second → slice_get xs at ≡ Some x → slice_get xs other ≡ Some y → ordinal x ≡ first → ordinal y ≡ second → name x ≡ name y → at < other
     behind first second at other x y before there elsewhere its others same = elim (cases_lt at other) [
       | inl ahead ↦ ahead
@@ -297,7 +297,7 @@ module _ {X : Type 0} (name : X → List ℕ) (ordinal : X → ℕ) (names : Lis
   if_some end None all is = tt
   if_some end (Some pair) all is = first_repeated name ordinal names xs grouped (Some pair) (to_the_end end (Some pair) all is) pair.0 pair.1 refl
 
--- names that stand in the order of their layers
+-- names that are in the order of their layers
 pub IsNaming-numbered : {X : Type 0} (name : X → List ℕ) (ordinal : X → ℕ) (xs : List X) → AreNumbered (map ordinal xs) → IsNaming name ordinal (map name xs) xs
 IsNaming-numbered name ordinal xs numbered = record { known = known; all = all; once = λ at other x y there elsewhere same. sym (place at x there) ∙ same ∙ place other y elsewhere }
   where
@@ -313,7 +313,7 @@ IsNaming-numbered name ordinal xs numbered = record { known = known; all = all; 
       | inr past ↦ let both : None ≡ Some it = sym (slice_get-map name xs number ∙ ap (option_map name) past.1) ∙ there in cc
     ]
 
--- what stands in a list with one more at its end
+-- what is in a list with one more at its end
 pub slice_get-push : {X : Type 0} (xs : List X) (y : X) (i : ℕ) (x : X) → slice_get (xs ++ y ∷ []) i ≡ Some x → (slice_get xs i ≡ Some x) ⊎ ((i ≡ length xs) × (x ≡ y))
 slice_get-push [] y zero x is = inr (refl, sym (same_Some _ _ is))
 slice_get-push [] y (suc i) x is = absurd (cc)

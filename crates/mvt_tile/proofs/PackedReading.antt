@@ -1,11 +1,11 @@
 -- A packed list of numbers, read one by one.
-use Rattle.std.proofs.Common.{◌≡◌, ℕ, ◌<◌, ◌^◌, List, [], ◌∷◌, ◌++◌, length, refl, sym, subst, arith}
+use Rattle.std.proofs.Common.{◌≡◌, ℕ, ◌<◌, ◌^◌, List, [], ◌∷◌, length, subst, arith}
 use Rattle.std.proofs.lemmas.List.Elements.{All-head, All-tail}
 use Rattle.mvt_wire.specs.Varint.{SpellsVarint}
 use Rattle.mvt_wire.specs.Number.{VarintList, AreSmall}
 use Rattle.mvt_wire.proofs.Varints.{one_end}
 
--- before the end of a list of small numbers stands a small number
+-- before the end of a list of small numbers is a small number
 pub next_number : (part : List ℕ) (from : ℕ) (given numbers : List ℕ) (at : ℕ)
     → VarintList part from given (length part) → AreSmall given → VarintList part from numbers at → at < length part
     → (n next : ℕ) × SpellsVarint part at next n × (n < 2 ^ 32)

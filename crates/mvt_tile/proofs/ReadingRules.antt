@@ -22,7 +22,7 @@ pub own_type : (rule : FieldRule) (content : Content) (wire_type : ℕ)
 own_type rule content wire_type fits own =
     eqb-true (wire_type_of content) wire_type (sym (own (wire_type_of content)) ∙ fits.own)
 
--- a number that is told is the varint's
+-- a number that is read is the varint's
 pub varint_from : (content : Content) (n : ℕ) → number_in content ≡ Some n → (at : ℕ) × (content ≡ varint n at)
 varint_from (varint value at) n told = (at, cc)
 varint_from (eight_bytes part) n told = absurd (cc)
@@ -36,7 +36,7 @@ below_limit rule content limit n fits out told =
     let place = varint_from content n told in
     leb-false limit n (sym (out n) ∙ fits.in_range n place.0 place.1)
 
--- numbers stand in a field of numbers
+-- a field of numbers states some
 pub states_some : (rule : FieldRule) (content : Content)
     → Fits rule content → rule.shape ≡ Numbers → (given : List ℕ) × States content given × AreSmall given
 states_some rule (varint value at) fits shape =

@@ -29,7 +29,7 @@ module _ {message : List ℕ} {from : ℕ} {old : Walk} {entries : List Entry} (
   IsWalking-over {new} over = one_list message from entries whole (IsWalking-whole message from old new entries so_far over) is_whole
 
   module _ {new : Walk} {entry : Entry} (given : GivesField old new entry) where
-    -- a field that was given stands behind those that were passed, and before others
+    -- a field that was given is behind those that were passed, and before others
     pub IsWalking-front : (rest : List Entry) × (whole ≡ (entries ++ entry ∷ []) ++ rest)
     IsWalking-front = longest_whole message from new.at whole (entries ++ entry ∷ []) is_whole (IsWalking-more message from old new entries entry so_far given).passed
 

@@ -37,11 +37,11 @@ found_number low (rule ∷ rules) field_number found ascend is = elim (cases_Boo
 pub known_number : (message : Message) (field_number : ℕ) (rule : FieldRule) → rule_of message field_number ≡ Some rule → (rule.number ≡ field_number) × (field_number < 16)
 known_number message field_number rule is = let found = found_number 0 (rules_of message) field_number rule (rules_ascend message) is in (found.0, found.2)
 
--- a rule asks for a number that wasn't seen
+-- a rule requires a number that wasn't seen
 abbrev pub lacks : (ℕ → Bool) → FieldRule → Bool
 lacks seen rule = is_required rule.occurrence && not (seen rule.number)
 
--- the first number that a rule asks for and that wasn't seen
+-- the first number that a rule requires and that wasn't seen
 abbrev pub first_unseen : List FieldRule → (ℕ → Bool) → Option ℕ
 first_unseen [] seen = None
 first_unseen (rule ∷ rules) seen = if lacks seen rule then Some rule.number else first_unseen rules seen

@@ -1,4 +1,4 @@
--- Packed lists of numbers of up to four bytes: no four bytes in a row are 128 or more, which vectors of bytes tell.
+-- Packed lists of numbers of up to four bytes: no four bytes in a row are 128 or more, as vectors of bytes show.
 use Rattle.std.proofs.Common.{◌≡◌, ℕ, ◌+◌, ◌-◌, ◌^◌, ◌<◌, ◌≤◌, ◌%◌, min, inl, inr, List, [], ◌∷◌, map, length, get_or, replicate, bit_and, refl, sym, ◌∙◌, ap, subst, arith, Fits, w8, suc, zero, Bool, true, false, cond, eqb, leb, eqb-true, leb-false}
 use Rattle.std.proofs.lemmas.Bool.{cases_lt}
 use Rattle.std.proofs.lemmas.List.{get_or_past, length-map}
@@ -28,7 +28,7 @@ high_and a b byte_a high_a byte_b high_b = elim (cases_lt (bit_and a b) 128) [
   | inr high ↦ high
 ]
 
--- where no lane is told to be 128 or more, none is
+-- where no lane is found to be 128 or more, none is
 none_high : (xs : List ℕ) → mask_l (map (top 7) (zip2 at_least (replicate (length xs) 128) xs)) ≡ 0 → (i : ℕ) → get_or xs i 0 < 128
 none_high [] e i = omega arith
 none_high (x ∷ xs) e zero = go (leb 128 x) refl (omega arith)
@@ -100,7 +100,7 @@ whole_mask lanes n long few =
     let tops : length (map (top 7) (zip2 at_least (replicate n 128) lanes)) ≡ n = length-map (zip2 at_least (replicate n 128) lanes) (top 7) ∙ compared in
     mask_l-mod _ 64 (omega arith)
 
--- where no lane of four bytes in a row is told to be 128 or more, no run begins at its place
+-- where no lane of four bytes in a row is found to be 128 or more, no run begins at its place
 pub HasNoRun-fours : (part : List ℕ) (at n : ℕ) → ((i : ℕ) → Fits w8 (get_or part i 0)) → at + n + 3 ≤ length part → n ≤ 64
     → eqb (mask_l (map (top 7) (zip2 at_least (replicate n 128) (fours part at n))) % 2 ^ 64) 0 ≡ true → HasNoRun part at (at + n)
 HasNoRun-fours part at n bytes within few empty place forward below run =

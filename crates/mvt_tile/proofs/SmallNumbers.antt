@@ -1,8 +1,9 @@
--- Packed lists of small numbers: how a walk over the bytes tells them, and that the first fault that it meets is the least.
-use Rattle.std.proofs.Common.{◌≡◌, ℕ, ◌+◌, ◌-◌, ◌^◌, ◌<◌, ◌≤◌, inl, inr, List, [], ◌∷◌, ◌++◌, length, get_or, take, drop, slice_range, refl, sym, ◌∙◌, ap, subst, arith, length-drop, lit<, suc, length-append}
+-- Packed lists of small numbers: how a walk over the bytes finds them, and that the first fault that it meets is the
+-- least.
+use Rattle.std.proofs.Common.{◌≡◌, ℕ, ◌+◌, ◌-◌, ◌^◌, ◌<◌, ◌≤◌, inl, inr, List, [], ◌∷◌, ◌++◌, length, get_or, take, drop, slice_range, refl, sym, ◌∙◌, ap, subst, arith, length-drop, lit<}
 use Rattle.std.proofs.Math.Nat.{pow-le-pow_right}
 use Rattle.std.proofs.lemmas.Bool.{cases_lt}
-use Rattle.std.proofs.lemmas.List.{get_or-drop, get_or_at}
+use Rattle.std.proofs.lemmas.List.{get_or-drop}
 use Rattle.std.proofs.lemmas.List.Elements.{All-push}
 use Rattle.mvt_wire.specs.Varint.{sum_of_groups, IsVarint, SpellsVarint}
 use Rattle.mvt_wire.specs.Field.{cause_at}
@@ -147,13 +148,13 @@ fault_in_part from part field_number cause fault =
     let left = bad.left in
     (omega arith, omega arith)
 
--- behind the end of a list that goes on by small numbers stands no bad one, unless it has come to the end
+-- behind the end of a list that goes on by small numbers is no bad one, unless it has come to the end
 none_behind : (part : List ℕ) (at end : ℕ) (whole front rest : List ℕ) (code : WireCode) → AreSmall whole → whole ≡ front ++ rest → VarintList part at rest end → NumberFault part at code → end ≤ at
 none_behind part at end whole front [] code small is list bad = omega arith
 none_behind part at end whole front (n ∷ rest) code small is list bad =
     absurd (small_or_bad part at list.0 n code list.1 (small_behind whole front rest n is small) bad)
 
--- no bad number stands before the first
+-- no bad number is before the first
 pub none_before : (part : List ℕ) (at place : ℕ) (code other : WireCode) (numbers : List ℕ) → IsFirstBad part at code → VarintList part 0 numbers place → NumberFault part place other → at ≤ place
 none_before part at place code other numbers first list bad = elim (one_goes_on part 0 at place first.before.0 numbers first.before.1 list) [
   | inl longer ↦ none_behind part place at first.before.0 numbers longer.0 other first.before.2 longer.1 longer.2 bad

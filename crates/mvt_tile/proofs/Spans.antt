@@ -29,7 +29,7 @@ spans_of-no_part field_number entries field own not =
     ∙ filter_map-append span_of (contents_of field_number entries) (content_of field.body ∷ [])
     ∙ ap (λ (rest : List Span). spans_of field_number entries ++ rest) (no_span field.body not) ∙ append-nil (spans_of field_number entries)
 
--- what stands in a list stands in a longer one
+-- what is in a list is in a longer one
 pub slice_get-append : {X : Type 0} (xs ys : List X) (i : ℕ) → i < length xs → slice_get (xs ++ ys) i ≡ slice_get xs i
 slice_get-append [] ys i within = absurd (omega arith)
 slice_get-append (x ∷ xs) ys zero within = refl

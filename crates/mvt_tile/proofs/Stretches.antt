@@ -1,4 +1,4 @@
--- Where the messages lie that a message embeds, and the records that stand for them.
+-- Where the messages lie that a message embeds, and their records.
 use Rattle.std.proofs.Common.{◌≡◌, ◌≢◌, ℕ, List, [], ◌∷◌, ◌++◌, take, Some, sym, ◌∙◌, ap, subst, arith, length-take}
 use Rattle.mvt_wire.specs.Field.{Entry, IsField}
 use Rattle.mvt_wire.specs.Message.{IsMessage}
@@ -11,14 +11,14 @@ use Rattle.mvt_tile.proofs.ReadingWalk.{IsWalking-front}
 use Rattle.mvt_wire.proofs.Walking.{IsWalking}
 use Rattle.mvt_wire.proofs.Payloads.{payload_within, spans_of-append}
 
--- one more stretch, and the record that stands for it
+-- one more stretch, and its record
 Each-push : {A B : Type 0} (R : A → B → Type 0) (xs : List A) (ys : List B) (x : A) (y : B) → Each R xs ys → R x y → Each R (xs ++ x ∷ []) (ys ++ y ∷ [])
 Each-push R [] [] x y each related = (related, tt)
 Each-push R (first ∷ xs) (other ∷ ys) x y each related = (each.0, Each-push R xs ys x y each.1 related)
 Each-push R [] (other ∷ ys) x y each related = absurd each
 Each-push R (first ∷ xs) [] x y each related = absurd each
 
--- what stands for a stretch among others
+-- the record of a stretch among others
 Each-at : {A B : Type 0} (R : A → B → Type 0) (xs rest : List A) (ys : List B) (x : A) → Each R ((xs ++ x ∷ []) ++ rest) ys → (y : B) × R x y
 Each-at R [] rest [] x each = absurd each
 Each-at R [] rest (y ∷ ys) x each = (y, each.0)
@@ -51,7 +51,7 @@ module _ {message : List ℕ} {from : ℕ} {old new : Walk} {entries : List Entr
             ∙ ap (λ (list : List Span). list ++ spans_of field_number front.0) (picked-push span_of field_number entries entry span is there),
       )
 
-  -- a record stands for it
+  -- it has a record
   pub Embeds-given : {B : Type 0} (Stands : Span → B → Type 0) (records : List B) → Each Stands (spans_of field_number whole) records
       → Embeds field_number (λ span. (read : B) × Stands span read) entry
   Embeds-given Stands records each = λ span is there.

@@ -48,7 +48,7 @@ module _ (entries : List Entry) (entry : Entry) (summary : LayerSummary) (tells 
   same_values : entry.number ≢ 4 → summary.values ≡ length (spans_of 4 (entries ++ entry ∷ []))
   same_values other = tells.values ∙ ap length (sym (picked-other span_of 4 entries entry other))
 
-  -- what a field tells, by its number
+  -- the content of a field, by its number
   pub sums_name : (after : LayerSummary) → after.version ≡ summary.version → after.keys ≡ summary.keys → after.values ≡ summary.values
       → entry.number ≡ 1 → bytes_in entry.content ≡ Some after.name.now → TellsSummary (entries ++ entry ∷ []) after
   sums_name after version keys values is told = record {
@@ -126,7 +126,7 @@ few_keys bytes from to layer is forward =
     let keys = few_of_list bytes_in 3 is.entries in
     omega (arith, length-take to bytes, ap length is.keys)
 
--- what all fields tell is the summary of the layer that stands there
+-- the content of all fields is the summary of the layer that is there
 pub IsSummary-from_told : {bytes : List ℕ} {span : Span} {layer : LayerRecord} {told : LayerSummary} (is : IsLayer bytes span layer) → TellsSummary is.entries told → IsSummary told layer
 IsSummary-from_told {layer = layer} is tells = record {
   version = tells.version ∙ ap (last_of 0) is.version;

@@ -29,7 +29,7 @@ odd_even tags pairs others odd even = omega arith
 key_value : (place pair other : ℕ) → place ≡ 2 * pair → place ≡ 2 * other + 1 → ⊥
 key_value place pair other key value = omega arith
 
--- at one place stands one number
+-- at one place is one number
 one_number : (tags : List ℕ) (place first second : ℕ) → slice_get tags place ≡ Some first → slice_get tags place ≡ Some second → first ≡ second
 one_number tags place first second here there = let both : Some first ≡ Some second = sym here ∙ there in cc
 
@@ -91,7 +91,7 @@ IsPassed-nothing tags has none = record {
   kept = λ key earlier below there. absurd (omega arith);
 }
 
--- no tags stand before the first
+-- no tags are before the first
 pub AreCleanBefore-nothing : (keys values : ℕ) (tags : List ℕ) → AreCleanBefore keys values tags 0
 AreCleanBefore-nothing keys values tags = record { clean = λ code place below broken. absurd (omega arith) }
 
@@ -100,7 +100,7 @@ module _ (keys values : ℕ) (tags : List ℕ) (pairs : ℕ) (even : length tags
   key_at : (place pair key : ℕ) → place ≡ 2 * pair → slice_get tags place ≡ Some key → IsKeyAt tags place key
   key_at place pair key first here = record { pairs = pairs; even = even; pair = pair; first = first; here = here }
 
-  -- where a key stands, its list is no list of odd length
+  -- where a key is, its list is no list of odd length
   no_odd : (place : ℕ) → ¬ OddTags tags place
   no_odd place odd = odd_even tags odd.pairs pairs odd.odd even
 
@@ -117,7 +117,7 @@ module _ (keys values : ℕ) (tags : List ℕ) (pairs : ℕ) (even : length tags
       least Repeated broken = lit≤ tt
 
   module _ (has : ℕ → Bool) (place key : ℕ) (passed : IsPassed tags has place) (here : slice_get tags place ≡ Some key) where
-    -- a key in range is at the place of a key, where no value stands
+    -- a key in range is at the place of a key, where no value is
     in_range : key < keys → ¬ NoSuchKey keys tags place
     in_range below broken = let same : broken.key ≡ key = one_number tags place broken.key key broken.here.here here in let beyond : keys ≤ broken.key = broken.beyond in absurd (omega arith)
 
@@ -151,7 +151,7 @@ module _ (keys values : ℕ) (tags : List ℕ) (pairs : ℕ) (even : length tags
             let both : true ≡ false = sym held ∙ ap has same ∙ unheld in
             absurd (cc)
 
-    -- behind the place of a key stands no key
+    -- behind the place of a key is no key
     no_key_behind : (other : ℕ) → ¬ IsKeyAt tags (place + 1) other
     no_key_behind other there = key_value (place + 1) there.pair passed.pair there.first (ap (λ (n : ℕ). n + 1) passed.even)
 
@@ -242,7 +242,7 @@ module _ (layer_record : LayerRecord) (it : FeatureRecord) (layer feature : ℕ)
   comes_first : (other : Fault) → IsFaultOfTags layer_record it layer feature other → ComesFirst (place_of (Tag code layer feature index)) (place_of other)
   comes_first fault (tag other at broken) = inr (refl, inr (refl, inr (refl, inr (refl, index_first code other index at (first.first other at broken)))))
 
-  -- the first fault of a feature's tags, told with its layer and its feature, is the one with the least place
+  -- the first fault of a feature's tags, given with its layer and its feature, is the one with the least place
   pub IsLeast-first : IsLeast (IsFaultOfTags layer_record it layer feature) (Tag code layer feature index)
   IsLeast-first = record { holds = tag code index first.broken; least = comes_first }
 

@@ -19,7 +19,7 @@ use Rattle.mvt_tile.proofs.FeatureFaults.{AreBehindTags, IsGoodLayer, IsFirstInL
 use Rattle.mvt_wire.proofs.NothingFound.{IfNone_then, IfNone-found}
 use Rattle.mvt_tile.proofs.ReadingWalk.{IsWalking-over}
 
--- so many layers were passed, of which nothing is asked
+-- so many layers were passed, of which nothing is required
 abbrev pub PassedLayers : List ℕ → Walk → ℕ → Type 0
 PassedLayers bytes walk count = CleanWalk (λ ordinal span. Unit {0}) 3 (take (length bytes) bytes) 0 walk count
 

@@ -12,11 +12,11 @@ use Rattle.mvt_fault.specs.Place.{IsLeast}
 use Rattle.mvt_fault.specs.Truth.{IsWireFault, wire_fault_in}
 use Rattle.mvt_fault.specs.declared.fault.Fault.{Fault}
 use Rattle.mvt_tile.specs.First.{FindsFirst}
-use Rattle.mvt_tile.specs.LayerScan.{IsFaultless, IsFirstOf}
+use Rattle.mvt_tile.specs.LayersFound.{IsFaultless, IsFirstOf}
 use Rattle.mvt_tile.specs.Least.{FindsLeastCause}
-use Rattle.mvt_tile.specs.Placed.{IsPlaced}
-use Rattle.mvt_tile.specs.Rest.{IsDefectOr}
-use Rattle.mvt_tile.specs.Scan.{Passes, IsFirstFault}
+use Rattle.mvt_tile.specs.FieldPlace.{IsPlaced}
+use Rattle.mvt_tile.specs.FieldsLeft.{IsDefectOr}
+use Rattle.mvt_tile.specs.FieldScan.{Passes, IsFirstFault}
 use Rattle.mvt_tile.specs.declared.wire.Layers.{Layers}
 use Rattle.mvt_tile.specs.declared.wire.embedded.EmbeddedScan.{EmbeddedScan}
 use Rattle.mvt_tile.specs.declared.wire.scan.FieldScan.{FieldScan}

@@ -17,7 +17,7 @@ use Rattle.mvt_tile.specs.Embedded.{HasFault}
 use Rattle.mvt_tile.specs.First.{IsFirst, FindsFirst}
 use Rattle.mvt_tile.specs.LayerFault.{FaultInLayer, IsLayerFault}
 use Rattle.mvt_tile.specs.LayerFault as layer_faults
-use Rattle.mvt_tile.specs.LayerScan.{IsFaultless, IsFirstOf}
+use Rattle.mvt_tile.specs.LayersFound.{IsFaultless, IsFirstOf}
 use Rattle.mvt_tile.specs.Least.{cause_place, IsLeastCause}
 
 -- bytes with no wire fault are a tile

@@ -15,7 +15,7 @@ use Rattle.mvt_tile.proofs.ReadingRules.{varint_from}
 abbrev pub is_known : Entry → Bool
 is_known entry = is_some (rule_of Value entry.number)
 
--- bytes that are told are those behind a length
+-- bytes that are read are those behind a length
 pub delimited_from : (content : Content) (part : List ℕ) → bytes_in content ≡ Some part → (from : ℕ) × (content ≡ delimited from part)
 delimited_from (varint value at) part told = absurd (cc)
 delimited_from (eight_bytes bytes) part told = absurd (cc)
@@ -58,7 +58,7 @@ first_known front rest entry known none test one =
     ∙ sym parts ∙ one in
     cc
 
--- and its value is the one that stands there
+-- and its value is the one that is there
 pub IsValue-from_known : {bytes : List ℕ} {span : Span} {value told : ValueRecord} (is : IsValue bytes span value) (front rest : List Entry) (entry : Entry)
     → filter is_known front ≡ [] → is_known entry ≡ true → is.entries ≡ (front ++ entry ∷ []) ++ rest
     → Says entry.number entry.content told → IsValue bytes span told

@@ -11,13 +11,13 @@ use Rattle.mvt_wire.specs.declared.schema.Message.{Message}
 use Rattle.mvt_wire.proofs.Entries.{field_extent}
 use Rattle.mvt_wire.proofs.Messages.{one_list, whole_or_defect, one_defect}
 use Rattle.mvt_tile.specs.Least.{IsLeastCause, FindsLeastCause}
-use Rattle.mvt_tile.specs.Placed.{LiesWithin, IsPlaced}
-use Rattle.mvt_tile.specs.Rest.{IsDefectOr}
-use Rattle.mvt_tile.specs.Scan.{Passes, IsFirstFault}
+use Rattle.mvt_tile.specs.FieldPlace.{LiesWithin, IsPlaced}
+use Rattle.mvt_tile.specs.FieldsLeft.{IsDefectOr}
+use Rattle.mvt_tile.specs.FieldScan.{Passes, IsFirstFault}
 use Rattle.mvt_tile.specs.declared.wire.scan.FieldScan.{FieldScan}
 use Rattle.mvt_tile.proofs.Causes.{by_offset, same_cause}
 use Rattle.mvt_tile.proofs.EndFaults.{end_place}
-use Rattle.mvt_tile.proofs.Passing.{IsFirstFault-kept}
+use Rattle.mvt_tile.proofs.OneMoreField.{IsFirstFault-kept}
 use Rattle.mvt_wire.proofs.Walking.{IsWalking, IsWalking-more, IsWalking-whole}
 
 -- where a payload lies
@@ -79,7 +79,7 @@ end_finds message entries end (Some first) none finds = record {
   least = λ cause fault. elim fault [ inl field ↦ absurd (none cause field) | inr at_end ↦ finds.least cause at_end ];
 }
 
--- a first fault of the fields before a place is the first of all, whatever stands behind
+-- a first fault of the fields before a place is the first of all, whatever is behind
 first_of_rest : (message : Message) (bytes : List ℕ) (entries rest : List Entry) (from to : ℕ) (first : WireCause) → FieldList bytes from rest to → IsFirstFault message entries from first
     → IsFirstFault message (entries ++ rest) to first
 first_of_rest message bytes entries [] from to first list so_far =

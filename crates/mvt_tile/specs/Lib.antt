@@ -1,12 +1,12 @@
 pub mod Least
 pub mod Packed
-pub mod Placed
-pub mod Scan
-pub mod Rest
+pub mod FieldPlace
+pub mod FieldScan
+pub mod FieldsLeft
 pub mod First
 pub mod Embedded
 pub mod LayerFault
-pub mod LayerScan
+pub mod LayersFound
 pub mod View
 pub mod Reading
 pub mod ReadFault

@@ -1,4 +1,4 @@
--- Names of layers that come again (Mapbox Vector Tile Specification 2.1, section 4.1).
+-- Names that several layers have (Mapbox Vector Tile Specification 2.1, section 4.1).
 use Rattle.std.specs.Prelude.{◌≡◌, ℕ, ◌<◌, ◌≤◌, ◌⊎◌, List, Some, slice_get}
 
 -- two layers, by their ordinals, have one name
@@ -8,11 +8,11 @@ pub record IsRepeated (names : List (List ℕ)) (first second : ℕ) : Type 0 wh
   pub there : slice_get names first ≡ Some name
   pub again : slice_get names second ≡ Some name
 
--- of all such pairs the one whose later layer comes first, and of these the one whose earlier layer does
+-- of all such pairs the one with the earliest second layer, and of these the one with the earliest first layer
 pub record IsFirstRepeated (names : List (List ℕ)) (first second : ℕ) : Type 0 where
   pub repeated : IsRepeated names first second
   pub least : (other later : ℕ) → IsRepeated names other later → (second < later) ⊎ ((second ≡ later) × (first ≤ other))
 
--- each ordinal stands in its own place
+-- each ordinal is at its own place
 abbrev pub AreNumbered : List ℕ → Type 0
 AreNumbered ordinals = (place ordinal : ℕ) → slice_get ordinals place ≡ Some ordinal → ordinal ≡ place

@@ -5,7 +5,7 @@ use Rattle.mvt_wire.specs.Number.{VarintList, AreSmall}
 use Rattle.mvt_wire.specs.declared.cause.WireCode.{WireCode}
 use Rattle.mvt_wire.specs.declared.cause.WireCode.TheVariants.{OutOfRange}
 
--- a number below 2^32 stands at a place
+-- a number below 2^32 is at a place
 pub record IsSmallNumber (part : List ℕ) (at : ℕ) : Type 0 where
   pub next : ℕ
   pub number : ℕ
@@ -22,7 +22,7 @@ NumberFault part at code =
 abbrev pub AreSmallBefore : List ℕ → ℕ → Type 0
 AreSmallBefore part at = (numbers : List ℕ) × VarintList part 0 numbers at × AreSmall numbers
 
--- the first number with a fault stands at a place
+-- the first number with a fault is at a place
 pub record IsFirstBad (part : List ℕ) (at : ℕ) (code : WireCode) : Type 0 where
   pub before : AreSmallBefore part at
   pub left : at < length part

@@ -11,7 +11,7 @@ abbrev pub last_of : {A : Type 0} → A → List A → A
 last_of otherwise [] = otherwise
 last_of otherwise (x ∷ xs) = last_of x xs
 
--- the feature has what these fields of it tell, and 0 for the type before that was told
+-- the feature has the content of these fields of it, and type 0 where none of them is its type
 pub record TellsFeature (entries : List Entry) (feature : FeatureRecord) : Type 0 where
   pub id : feature.id ≡ last_of None (map Some (numbers_of 1 entries))
   pub tags : StateTogether (contents_of 2 entries) feature.tags
@@ -22,7 +22,7 @@ pub record TellsFeature (entries : List Entry) (feature : FeatureRecord) : Type 
 abbrev pub LiesIn : List ℕ → Entry → Type 0
 LiesIn bytes entry = (span : Span) → span_of entry.content ≡ Some span → (span.from ≤ span.to) × (span.to ≤ length bytes)
 
--- the layer has what these fields of it tell, and the extent 4096 before one was told
+-- the layer has the content of these fields of it, and extent 4096 where none of them is its extent
 pub record TellsLayer (bytes : List ℕ) (entries : List Entry) (layer : LayerRecord) : Type 0 where
   pub version : layer.version ≡ last_of 0 (numbers_of 15 entries)
   pub name : layer.name ≡ last_of [] (texts_of 1 entries)
@@ -31,13 +31,13 @@ pub record TellsLayer (bytes : List ℕ) (entries : List Entry) (layer : LayerRe
   pub values : Each (IsValue bytes) (spans_of 4 entries) layer.values
   pub extent : layer.extent ≡ last_of 4096 (numbers_of 5 entries)
 
--- the summary has what these fields of a layer tell
+-- the summary has the content of these fields of a layer
 pub record TellsSummary (entries : List Entry) (summary : LayerSummary) : Type 0 where
   pub version : summary.version ≡ last_of 0 (numbers_of 15 entries)
   pub name : summary.name.now ≡ last_of [] (texts_of 1 entries)
   pub keys : summary.keys ≡ length (texts_of 3 entries)
   pub values : summary.values ≡ length (spans_of 4 entries)
 
--- the tile has what these fields of it tell
+-- the tile has the content of these fields of it
 abbrev pub TellsTile : List ℕ → List Entry → TileRecord → Type 0
 TellsTile bytes entries tile = Each (IsLayer bytes) (spans_of 3 entries) tile.layers

@@ -10,7 +10,7 @@ use Rattle.mvt_tile.specs.FeatureRules.{Breaks, Keeps}
 use Rattle.mvt_tile.specs.declared.rules.summary.LayerSummary.{LayerSummary}
 use Rattle.mvt_tile.specs.declared.rules.tags.TagNeeds.{TagNeeds}
 
--- what the layer has, as far as the rules ask for it
+-- what the layer has, as far as the rules need it
 pub record IsSummary (summary : LayerSummary) (layer : LayerRecord) : Type 0 where
   pub version : summary.version ≡ layer.version
   pub name : summary.name.now ≡ layer.name

@@ -32,7 +32,7 @@ pub struct Layer<'a> {
 pub struct Feature {
     /// The id, any number of 64 bits, where the feature has one.
     pub id: Option<u64>,
-    /// Indices of keys and values in turn (section 4.4), of all the feature's fields of tags, joined.
+    /// The index of a key, that of its value, and so on (section 4.4), of all the feature's fields of tags, joined.
     pub tags: Vec<u32>,
     /// What its geometry is.
     pub kind: Kind,
@@ -67,14 +67,14 @@ pub enum Kind {
     Polygon,
 }
 
-/// The value of a tag (section 4.4), by which of its seven fields is set.
+/// The value of a tag (section 4.4): which of its seven fields is set, and to what.
 #[derive(Clone, Copy, Debug, PartialEq, Eq)]
 pub enum Value<'a> {
     /// `string_value`, a text in UTF-8.
     Text(&'a str),
-    /// `float_value`: four bytes, as they stand in the tile.
+    /// `float_value`: four bytes, as they are in the tile.
     Float(&'a [u8]),
-    /// `double_value`: eight bytes, as they stand in the tile.
+    /// `double_value`: eight bytes, as they are in the tile.
     Double(&'a [u8]),
     /// `int_value`, spelled in two's complement.
     Int(i64),

@@ -38,8 +38,8 @@ pub use tags::check_tags;
 /// layer, no key twice (section 4.4), and each feature keeps the further rule. The layers' faults come first; then the
 /// first feature that has a fault decides, and its tags come before the further rule. The bytes must have no wire fault
 /// (`wire_fault`), and the rule's faults must come behind those of the tags of their feature in the order of faults.
-/// The bytes are read again: each layer at most once, or twice where a list of tags has an odd length, or a tag names a
-/// key or a value that the layer doesn't have. No record of the tile is built. Its memory is for the names of the
+/// The bytes are read again: each layer at most once, or twice where a tag names a key or a value that the layer
+/// doesn't have. No record of the tile is built. Its memory is for the names of the
 /// layers, for one feature at a time, and for marks of keys. The only error is that memory was refused.
 pub fn rule_fault<R: FeatureRule>(
     alloc: Global,

@@ -6,7 +6,7 @@ ghost use Rattle.mvt_wire.specs.declared.cause.WireCause.{WireCause};
 ghost use Rattle.mvt_wire.specs.declared.scope.Scope.{Scope};
 ghost use Rattle.mvt_fault.specs.Place.{IsLeast};
 ghost use Rattle.mvt_fault.specs.Truth.{IsWireFault};
-ghost use Rattle.mvt_tile.specs.Placed.{IsPlaced};
+ghost use Rattle.mvt_tile.specs.FieldPlace.{IsPlaced};
 
 mod embedded;
 mod field;
@@ -62,7 +62,7 @@ pub fn wire_fault(bytes: &[u8]) -> Option<Fault>
 struct Layers;
 
 impl Look for Layers {
-    ghost use Rattle.mvt_tile.specs.LayerScan.{IsFaultless, IsFirstOf};
+    ghost use Rattle.mvt_tile.specs.LayersFound.{IsFaultless, IsFirstOf};
 
     type Found = Fault;
 

@@ -1,11 +1,11 @@
 -- A message that keeps its schema has no fault of a field, and none at its end.
-use Rattle.std.proofs.Common.{◌≡◌, ◌≢◌, ℕ, suc, nat_lt, ◌+◌, ◌≤◌, ◌==◌, Bool, true, false, ◌⊎◌, inl, inr, List, [], ◌∷◌, ◌++◌, length, Some, refl, ◌∙◌, ap, subst, arith, length-append, All}
+use Rattle.std.proofs.Common.{◌≡◌, ◌≢◌, ℕ, suc, nat_lt, ◌+◌, ◌≤◌, ◌==◌, Bool, true, false, ◌⊎◌, inl, inr, List, [], ◌∷◌, ◌++◌, length, refl, ◌∙◌, ap, subst, arith, length-append, All}
 use Rattle.std.proofs.lemmas.Bool.{both_ways, ltb-false, lt-ltb, le-ltb, eq-eqb, ne_eqb, cond-true, cond-false}
 use Rattle.std.proofs.lemmas.List.{get_or_at}
 use Rattle.std.proofs.lemmas.List.Elements.{filter-append}
 use Rattle.mvt_wire.specs.Field.{Content, Entry}
 use Rattle.mvt_wire.specs.Number.{States}
-use Rattle.mvt_wire.specs.Schema.{rule_of, is_singular}
+use Rattle.mvt_wire.specs.Schema.{is_singular}
 use Rattle.mvt_wire.specs.Scope.{fields_of}
 use Rattle.mvt_wire.specs.Tile.{Fits, FitsRule, KeepsSchema}
 use Rattle.mvt_wire.specs.WireFault.{count_of, stands_in, EntryFault, other_type, again, no_text, out_of_range, packed, FieldFault, EndFault, missing, not_one}

@@ -26,27 +26,27 @@ stands_in field_number entries = nat_lt 0 (count_of field_number entries)
 abbrev pub count_known : Message → List Entry → ℕ
 count_known message entries = length (filter (λ entry. is_some (rule_of message entry.number)) entries)
 
--- What is wrong with a field of a whole message, by the rule for its number. `stood` says whether a field of that
+-- What is wrong with a field of a whole message, by the rule for its number. `occurred` says whether a field of that
 -- number comes before it.
-pub data EntryFault (rule : FieldRule) (stood : Bool) (entry : Entry) (cause : WireCause) : Type 0 where
+pub data EntryFault (rule : FieldRule) (occurred : Bool) (entry : Entry) (cause : WireCause) : Type 0 where
   -- another wire type than its own
   other_type : is_own rule.shape (wire_type_of entry.content) ≡ false
-      → cause ≡ cause_at OtherType entry.at entry.number → EntryFault rule stood entry cause
+      → cause ≡ cause_at OtherType entry.at entry.number → EntryFault rule occurred entry cause
   -- a further field of a number that may occur once
-  again : is_singular rule.occurrence ≡ true → stood ≡ true
-      → cause ≡ cause_at Again entry.at entry.number → EntryFault rule stood entry cause
+  again : is_singular rule.occurrence ≡ true → occurred ≡ true
+      → cause ≡ cause_at Again entry.at entry.number → EntryFault rule occurred entry cause
   -- a text that isn't UTF-8
   no_text : (from : ℕ) (part : List ℕ)
       → rule.shape ≡ Text → entry.content ≡ delimited from part → ¬ IsUtf8 part
-      → cause ≡ cause_at NotUtf8 entry.at entry.number → EntryFault rule stood entry cause
+      → cause ≡ cause_at NotUtf8 entry.at entry.number → EntryFault rule occurred entry cause
   -- a number out of its range
   out_of_range : (value at : ℕ)
       → entry.content ≡ varint value at → is_out_of_range rule.shape value ≡ true
-      → cause ≡ cause_at OutOfRange at entry.number → EntryFault rule stood entry cause
+      → cause ≡ cause_at OutOfRange at entry.number → EntryFault rule occurred entry cause
   -- a packed list that has a fault
   packed : (from : ℕ) (part : List ℕ)
       → rule.shape ≡ Numbers → entry.content ≡ delimited from part → PackedFault from part entry.number cause
-      → EntryFault rule stood entry cause
+      → EntryFault rule occurred entry cause
 
 -- a field that the message knows is wrong
 pub record FieldFault (message : Message) (entries : List Entry) (cause : WireCause) : Type 0 where

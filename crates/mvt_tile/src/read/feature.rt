@@ -15,7 +15,7 @@ use mvt_wire::field_number::{FEATURE_ID, GEOMETRY, GEOMETRY_TYPE, TAGS};
 use mvt_wire::{Field, Fields};
 use std::alloc::{AllocError, Global};
 
-/// The feature that stands in the bytes from one offset up to another (Mapbox Vector Tile
+/// The feature that the bytes hold from one offset up to another (Mapbox Vector Tile
 /// Specification 2.1, section 4.2).
 pub(crate) fn read_feature(
     alloc: Global,
@@ -33,7 +33,7 @@ pub(crate) fn read_feature(
     Ok(feature)
 }
 
-/// Puts the feature that stands in the bytes from one offset up to another in the place of what was there.
+/// Reads the feature that the bytes hold from one offset up to another, in the place of what was in the record.
 /// The memory of its lists is used again.
 pub(crate) fn read_feature_into(
     bytes: &[u8],
@@ -57,7 +57,7 @@ pub(crate) fn read_feature_into(
     Ok(())
 }
 
-/// Adds what one more field tells.
+/// Adds the content of one more field.
 fn add_field(feature: &mut Feature, field: Field) -> Result<(), AllocError>
     requires { FitsRule messages.Feature (entry_of field) }
     ensures { OnOk result ((entries : List Entry) → TellsFeature entries (feature_of feature.old)

@@ -15,10 +15,10 @@ use mvt_wire::field_number::{EXTENT, FEATURES, KEYS, LAYER_NAME, VALUES, VERSION
 use mvt_wire::{Field, Fields};
 use std::alloc::{AllocError, Global};
 
-/// The extent of a layer that tells none (Mapbox Vector Tile Specification 2.1, `vector_tile.proto`).
+/// The extent of a layer that has no field for it (Mapbox Vector Tile Specification 2.1, `vector_tile.proto`).
 const DEFAULT_EXTENT: u32 = 4096;
 
-/// The layer that stands in the bytes from one offset up to another (section 4.1).
+/// The layer that the bytes hold from one offset up to another (section 4.1).
 pub(crate) fn read_layer(
     alloc: Global,
     bytes: &[u8],
@@ -45,7 +45,7 @@ pub(crate) fn read_layer(
     Ok(layer)
 }
 
-/// Adds what one more field tells.
+/// Adds the content of one more field.
 fn add_field<'a>(
     alloc: Global,
     bytes: &'a [u8],

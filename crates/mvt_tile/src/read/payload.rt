@@ -28,7 +28,7 @@ pub(crate) fn int_in(body: Body) -> i64
     number_in(body).cast_signed()
 }
 
-/// The number that a varint is the zigzag number of (Protocol Buffers encoding, "Signed Integers").
+/// The number that a varint is the zigzag form of (Protocol Buffers encoding, "Signed Integers").
 pub(crate) fn sint_in(body: Body) -> i64
     requires { wire_type_of (content_of body) ≡ 0 }
     ensures { number_in (content_of body.entry) ≡ Some (zigzag result) }
@@ -140,7 +140,7 @@ fn push_packed(numbers: &mut Vec<u32>, part: &[u8]) -> Result<(), AllocError>
     Ok(())
 }
 
-/// The number that stands at an offset of a packed list, and the offset behind it.
+/// The number at an offset of a packed list, and the offset behind it.
 fn packed_number(part: &[u8], at: usize) -> (u32, usize)
     requires within { at ≤ length part.now }
     requires stands { (n next : ℕ) × SpellsVarint part.now at next n × (n < 2 ^ 32) }

@@ -15,7 +15,7 @@ use mvt_wire::field_number::{
 };
 use mvt_wire::{Field, Fields};
 
-/// The value that stands in the bytes from one offset up to another: what its one known field says
+/// The value that the bytes hold from one offset up to another: what its one known field says
 /// (Mapbox Vector Tile Specification 2.1, section 4.4).
 pub(crate) fn read_value(bytes: &[u8], from: usize, to: usize) -> Value<'_>
     requires forward { from ≤ to }

@@ -25,7 +25,7 @@ use std::alloc::{AllocError, Global};
 /// to count; what it requires doesn't change. Its faults must have later places than those of the feature's
 /// tags, and earlier ones than those of later features.
 pub trait FeatureRule {
-    // the fault is one of this feature's, whose layer and place in it are these ordinals
+    // the feature has this fault; the ordinals are those of its layer, and of the feature in it
     ghost IsBroken: { FeatureRecord → ℕ → ℕ → Fault → Type 0 };
     // the feature keeps the rule
     ghost IsKept: { FeatureRecord → Type 0 };
@@ -46,7 +46,7 @@ pub trait FeatureRule {
         ensures least { IfOk result (λ found. IfSome found (IsLeast (IsBroken (feature_of feature.old) layer_index feature_index))) };
 }
 
-/// Room for one feature after another, and for marks of the keys of its tags.
+/// A record that one feature after another is read into, and marks of the keys of its tags.
 #[derive(Drop)]
 pub(crate) struct FeatureRoom {
     /// What memory is taken from.
@@ -56,7 +56,7 @@ pub(crate) struct FeatureRoom {
 }
 
 impl FeatureRoom {
-    /// Room that has served no feature. It takes no memory.
+    /// A record that no feature was read into. It takes no memory.
     pub(crate) fn new(alloc: Global) -> FeatureRoom {
         FeatureRoom {
             alloc,
@@ -66,7 +66,7 @@ impl FeatureRoom {
     }
 }
 
-/// The summary of the layer with an ordinal, which stands in the bytes from one offset up to another, and the first
+/// The summary of the layer with an ordinal, which the bytes hold from one offset up to another, and the first
 /// fault of its features or None. The layer is walked once, unless a tag names a key or a value that the layer doesn't
 /// have. The only error is that memory was refused.
 pub(crate) fn look_at_layer<'a, R: FeatureRule>(
@@ -97,7 +97,7 @@ pub(crate) fn look_at_layer<'a, R: FeatureRule>(
     Ok((summary, found))
 }
 
-/// The first fault of the features of the layer with an ordinal, or None. The layer stands in the bytes
+/// The first fault of the features of the layer with an ordinal, or None. The bytes hold the layer
 /// from one offset up to another, and the summary is its own. The only error is that memory was refused.
 fn fault_in_layer<R: FeatureRule>(
     bytes: &[u8],
@@ -142,8 +142,8 @@ fn fault_in_layer<R: FeatureRule>(
     Ok(None) // no feature of the layer has a fault
 }
 
-/// The first fault of the feature that was read into the room, or None: its tags, in a layer of so many keys and
-/// values, come before the further rule. The only error is that memory was refused.
+/// The first fault of the feature that was read into the shared record, or None: its tags, in a layer of so many
+/// keys and values, come before the further rule. The only error is that memory was refused.
 pub(crate) fn fault_of_feature<R: FeatureRule>(
     rule: &mut R,
     keys: usize,

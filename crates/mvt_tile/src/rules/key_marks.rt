@@ -46,7 +46,7 @@ impl KeyMarks {
         }
     }
 
-    /// Adds a key, and tells whether it wasn't there. It takes memory for a mark of each key of a lesser index. The
+    /// Adds a key, and returns whether it wasn't there. It takes memory for a mark of each key of a lesser index. The
     /// only error is that memory was refused, and then the set is as it was.
     #[inline(always)]
     pub(crate) fn insert(&mut self, key: u32) -> Result<bool, AllocError>

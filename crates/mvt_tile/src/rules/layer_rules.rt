@@ -16,7 +16,7 @@ use std::alloc::{AllocError, Global};
 pub(crate) struct LayerRules<'a> {
     /// The names of the layers that have version 2.
     names: LayerNames<'a>,
-    /// Whether a layer of another version stands behind them.
+    /// Whether a layer of another version comes behind them.
     other_version: bool,
 }
 
@@ -32,7 +32,7 @@ impl<'a> LayerRules<'a> {
         }
     }
 
-    /// Passes the next layer, and tells whether it has version 2: another version ends the walk over the layers. The
+    /// Passes the next layer, and returns whether it has version 2: another version ends the walk over the layers. The
     /// only error is that memory was refused.
     pub(crate) fn note(&mut self, version: u32, name: &'a [u8]) -> Result<bool, AllocError>
         ensures count { IfOk result (λ goes_on. IsTrue goes_on → passed self.new ≡ passed self.old + 1) }

@@ -1,5 +1,5 @@
-//! One walk over a layer: its summary, and the first fault of its features as far as that can be told before all its
-//! keys and values were counted.
+//! One walk over a layer: its summary, and the first fault of its features as far as that is known before all its
+//! keys and values are counted.
 ghost use Rattle.std.specs.Prelude.{◌≤◌, ℕ, length, IfOk, IfNone, IfSome};
 ghost use Rattle.mvt_fault.specs.Place.{IsLeast, place_of};
 ghost use Rattle.mvt_fault.specs.declared.fault.Fault.{Fault};
@@ -9,7 +9,7 @@ ghost use Rattle.mvt_tile.specs.RuleFaults.{HasEnough, IsBehindTags, IsSummary};
 ghost use Rattle.mvt_tile.specs.View.{feature_of};
 
 use super::features::{FeatureRoom, FeatureRule, fault_of_feature};
-use super::summary::{LayerSummary, add_field, nothing_told};
+use super::summary::{LayerSummary, add_field, empty_summary};
 use super::tags::TagNeeds;
 use crate::read::feature::read_feature_into;
 use crate::read::payload::stretch_of;
@@ -19,20 +19,21 @@ use mvt_wire::Fields;
 use mvt_wire::field_number::FEATURES;
 use std::alloc::AllocError;
 
-/// What one walk over a layer tells.
+/// What one walk over a layer finds.
 #[derive(Drop)]
 pub(crate) struct LayerScan<'a> {
     pub(crate) summary: LayerSummary<'a>,
-    /// What the tags of the features need that were looked at.
+    /// How many keys and values the tags need of the features that were looked at.
     pub(crate) needs: TagNeeds,
     /// The first fault of the features, where the layer has what their tags need. The features behind it were not
     /// looked at.
     pub(crate) found: Option<Fault>,
 }
 
-/// Walks over the layer with an ordinal, which stands in the bytes from one offset up to another. Its keys and values
-/// may stand behind its features, so the tags are held against as many as they need, and the walk looks at no further
-/// features where these are more keys than the layer has bytes. The only error is that memory was refused.
+/// Walks over the layer with an ordinal, which the bytes hold from one offset up to another. Its keys and values may
+/// come behind its features, so tags are checked as if the layer had every key and value that they name. Once these
+/// are more keys than the layer has bytes, the walk looks at no further features. The only error is that memory was
+/// refused.
 pub(crate) fn scan_layer<'a, R: FeatureRule>(
     bytes: &'a [u8],
     rule: &mut R,
@@ -53,7 +54,7 @@ pub(crate) fn scan_layer<'a, R: FeatureRule>(
         → IsLeast (IsFaultInLayer R.IsBroken layer_record layer_index) fault)) }
 {
     let mut scan = LayerScan {
-        summary: nothing_told(),
+        summary: empty_summary(),
         needs: TagNeeds::none(),
         found: None,
     };
@@ -78,8 +79,8 @@ pub(crate) fn scan_layer<'a, R: FeatureRule>(
     Ok(scan)
 }
 
-/// The first fault of the feature that was read into the room, or None, in a layer that has what its tags need. Where
-/// these need more than `most` keys, it is not looked at.
+/// The first fault of the feature that was read into the shared record, or None, in a layer that has every key and
+/// value that tags named so far. Where these are more than `most` keys, the feature is not looked at.
 fn fault_so_far<R: FeatureRule>(
     rule: &mut R,
     needs: &mut TagNeeds,

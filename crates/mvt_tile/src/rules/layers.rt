@@ -14,8 +14,8 @@ use crate::record::Tile;
 use mvt_fault::Fault;
 use std::alloc::{AllocError, Global};
 
-/// The first fault of the layers' versions and names, or None where there is none: a layer whose version
-/// isn't 2, or the second of two layers that have one name, the same byte for byte (section 4.1). The
+/// The first fault of the layers' versions and names, or None where there is none: a layer with
+/// another version than 2, or two layers that have one name, the same byte for byte (section 4.1). The
 /// only error is that memory was refused.
 pub fn check_layers(alloc: Global, tile: &Tile<'_>) -> Result<Option<Fault>, AllocError>
     ensures none { IfOk result (λ found. IfNone found ((fault : Fault) → ¬ IsFaultOfLayers (tile_of tile.now) fault)) }

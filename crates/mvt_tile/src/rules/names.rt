@@ -49,8 +49,8 @@ impl<'a> LayerNames<'a> {
         Ok(())
     }
 
-    /// The ordinals of two layers that have one name: of all such pairs the one whose later layer comes first. It sorts
-    /// the names, so that those that are the same stand together.
+    /// The ordinals of two layers that have one name: of all such pairs the one with the earliest second layer. It
+    /// sorts the names, so that those that are the same are neighbours.
     pub(crate) fn first_repeated(self) -> Option<(usize, usize)>
         ensures none { IfNone result ((first second : ℕ) → ¬ IsRepeated self.entry first second) }
         ensures first { IfSome result (λ found. IsFirstRepeated self.entry found.0 found.1) }

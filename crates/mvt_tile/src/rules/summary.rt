@@ -1,4 +1,4 @@
-//! What the rules ask of a layer (Mapbox Vector Tile Specification 2.1, section 4.1).
+//! What the rules need to know of a layer (Mapbox Vector Tile Specification 2.1, section 4.1).
 ghost use Rattle.std.specs.Prelude.{◌+◌, ◌<◌, ◌≤◌, ◌^◌, List, ◌∷◌, [], ◌++◌, length};
 ghost use Rattle.mvt_wire.specs.Field.{Entry, entry_of};
 ghost use Rattle.mvt_wire.specs.Tile.{LayerRecord, IsLayer, FitsRule};
@@ -14,7 +14,7 @@ use crate::read::walk::next_whole;
 use mvt_wire::field_number::{KEYS, LAYER_NAME, VALUES, VERSION};
 use mvt_wire::{Field, Fields};
 
-/// What the rules ask of a layer: its version, its name, and how many keys and values it has.
+/// What the rules need to know of a layer: its version, its name, and how many keys and values it has.
 #[derive(Clone, Copy)]
 pub(crate) struct LayerSummary<'a> {
     pub(crate) version: u32,
@@ -23,7 +23,7 @@ pub(crate) struct LayerSummary<'a> {
     pub(crate) values: usize,
 }
 
-/// The summary of the layer that stands in the bytes from one offset up to another (Mapbox Vector Tile
+/// The summary of the layer that the bytes hold from one offset up to another (Mapbox Vector Tile
 /// Specification 2.1, section 4.1).
 pub(crate) fn summarize(bytes: &[u8], from: usize, to: usize) -> LayerSummary<'_>
     requires forward { from ≤ to }
@@ -31,7 +31,7 @@ pub(crate) fn summarize(bytes: &[u8], from: usize, to: usize) -> LayerSummary<'_
     requires stands { (layer : LayerRecord) × IsLayer bytes.now (record { from = from; to = to }) layer }
     ensures { (layer : LayerRecord) → IsLayer bytes.now (record { from = from; to = to }) layer → IsSummary result layer }
 {
-    let mut summary = nothing_told();
+    let mut summary = empty_summary();
     let mut fields = Fields::new(bytes, from, to);
     'walk: while let Some(field) = next_whole(&mut fields) {
         add_field(&mut summary, field);
@@ -40,7 +40,7 @@ pub(crate) fn summarize(bytes: &[u8], from: usize, to: usize) -> LayerSummary<'_
 }
 
 /// The summary of a layer of which no field was passed.
-pub(crate) fn nothing_told<'a>() -> LayerSummary<'a>
+pub(crate) fn empty_summary<'a>() -> LayerSummary<'a>
     ensures { TellsSummary [] result }
 {
     LayerSummary {
@@ -51,7 +51,7 @@ pub(crate) fn nothing_told<'a>() -> LayerSummary<'a>
     }
 }
 
-/// Adds what one more field of the layer tells.
+/// Adds the content of one more field of the layer.
 pub(crate) fn add_field<'a>(summary: &mut LayerSummary<'a>, field: Field<'a>)
     requires fits { FitsRule messages.Layer (entry_of field) }
     requires keys { summary.old.keys + 1 < 2 ^ 64 }

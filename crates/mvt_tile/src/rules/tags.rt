@@ -46,7 +46,7 @@ pub fn check_tags(
     }))
 }
 
-/// How many keys and values a layer is to have at least, so that tags find theirs.
+/// How many keys and values a layer must have at least, so that it has those that tags name.
 #[derive(Clone, Copy)]
 pub(crate) struct TagNeeds {
     pub(crate) keys: usize,
@@ -54,7 +54,7 @@ pub(crate) struct TagNeeds {
 }
 
 impl TagNeeds {
-    /// What no tags need.
+    /// The needs where there are no tags.
     pub(crate) fn none() -> TagNeeds
         ensures { result ≡ record { keys = 0; values = 0 } }
     {
@@ -80,8 +80,8 @@ impl TagNeeds {
     }
 }
 
-/// The first fault of tags, in a layer of so many keys and values, and its place in their list. `marks` is room for
-/// marks of keys, which serves one feature after another. The only error is that memory was refused.
+/// The first fault of tags, in a layer of so many keys and values, and its place in their list. `marks` keeps
+/// marks of keys, and is used again for each feature. The only error is that memory was refused.
 pub(crate) fn fault_of_tags(
     marks: &mut KeyMarks,
     tags: &[u32],

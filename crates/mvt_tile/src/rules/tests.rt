@@ -10,7 +10,7 @@ use std::alloc::{AllocError, Global};
 use std::process::Abort;
 
 /// A rule that is broken by a feature of unknown type, at the first number of its geometry. It counts the
-/// features that it is asked of.
+/// features that it is called for.
 #[derive(Drop)]
 struct TypesAreKnown {
     asked: usize,

@@ -4,7 +4,7 @@ ghost use Rattle.mvt_wire.specs.Field.{Entry, entry_of};
 ghost use Rattle.mvt_wire.specs.Scope.{Span, spans_of, stretch};
 ghost use Rattle.mvt_tile.specs.Embedded.{HasNone, HasFirst};
 ghost use Rattle.mvt_tile.specs.First.{FindsFirst};
-ghost use Rattle.mvt_tile.specs.Placed.{IsPlaced};
+ghost use Rattle.mvt_tile.specs.FieldPlace.{IsPlaced};
 
 use crate::wire::message::message_fault;
 use mvt_wire::{Body, Field, Message, WireCause};
@@ -18,7 +18,7 @@ pub(crate) trait Look {
     // this is found in it
     ghost IsFound: { Self → List ℕ → Self.Found → ℕ → Span → Type 0 };
 
-    /// What is found in the message that stands in the bytes from one offset up to another.
+    /// What is found in the message that the bytes hold from one offset up to another.
     fn look(&self, bytes: &[u8], ordinal: usize, from: usize, to: usize) -> Option<Self::Found>
         requires forward { from ≤ to }
         requires within { to ≤ length bytes.now }
@@ -52,7 +52,7 @@ impl<L: Look> EmbeddedScan<L> {
         }
     }
 
-    /// Passes the next field, whose payload lies in the bytes.
+    /// Passes the next field. Its payload lies in the bytes.
     #[inline(always)]
     pub(crate) fn note(&mut self, bytes: &[u8], field: &Field<'_>)
         requires placed { (next : ℕ) × IsPlaced (entry_of field.now) next × (next ≤ length bytes.now) }

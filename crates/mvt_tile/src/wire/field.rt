@@ -4,34 +4,34 @@ ghost use Rattle.mvt_wire.specs.Field.{entry_of, content_of, wire_type_of, cause
 ghost use Rattle.mvt_wire.specs.Schema.{is_own, is_singular};
 ghost use Rattle.mvt_wire.specs.WireFault.{EntryFault};
 ghost use Rattle.mvt_tile.specs.Least.{FindsLeastCause};
-ghost use Rattle.mvt_tile.specs.Placed.{IsPlaced};
+ghost use Rattle.mvt_tile.specs.FieldPlace.{IsPlaced};
 
 use crate::wire::packed::packed_fault;
 use mvt_wire::{Body, Field, FieldRule, Shape, WireCause, WireCode, text};
 
-/// The first fault of a field by the rule for its number. `stood` says whether a field of that
-/// number stands before it.
+/// The first fault of a field by the rule for its number. `occurred` says whether a field of that
+/// number comes before it.
 #[inline(always)]
-pub(crate) fn field_fault(rule: FieldRule, stood: bool, field: &Field<'_>) -> Option<WireCause>
+pub(crate) fn field_fault(rule: FieldRule, occurred: bool, field: &Field<'_>) -> Option<WireCause>
     requires { (next : ℕ) × IsPlaced (entry_of field.now) next × (next < 2 ^ 64) }
-    ensures { FindsLeastCause (EntryFault rule stood (entry_of field.now)) result }
+    ensures { FindsLeastCause (EntryFault rule occurred (entry_of field.now)) result }
 {
     if !rule.shape.is_own(field.body.wire_type()) {
         return Some(at_key(field, WireCode::OtherType));
     }
-    if stood && rule.occurrence.is_singular() {
+    if occurred && rule.occurrence.is_singular() {
         return Some(at_key(field, WireCode::Again));
     }
     payload_fault(rule, field)
 }
 
-/// The first fault in the payload of a field of its own wire type that may stand here.
+/// The first fault in the payload of a field of its own wire type that may occur here.
 #[inline(always)]
 fn payload_fault(rule: FieldRule, field: &Field<'_>) -> Option<WireCause>
     requires placed { (next : ℕ) × IsPlaced (entry_of field.now) next × (next < 2 ^ 64) }
     requires own { is_own rule.shape (wire_type_of (content_of field.now.body)) ≡ true }
-    ensures { (stood : Bool) → (is_singular rule.occurrence ≡ true → ¬ (stood ≡ true))
-        → FindsLeastCause (EntryFault rule stood (entry_of field.now)) result }
+    ensures { (occurred : Bool) → (is_singular rule.occurrence ≡ true → ¬ (occurred ≡ true))
+        → FindsLeastCause (EntryFault rule occurred (entry_of field.now)) result }
 {
     match field.body {
         Body::Varint { value, at } if rule.shape.is_out_of_range(value) => Some(WireCause {

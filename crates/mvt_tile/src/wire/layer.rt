@@ -1,5 +1,5 @@
 //! The faults of a layer and of the messages in it.
-ghost use Rattle.std.specs.Prelude.{◌≡◌, ◌≤◌, length};
+ghost use Rattle.std.specs.Prelude.{◌≤◌, length};
 ghost use Rattle.mvt_wire.specs.Scope.{stretch};
 ghost use Rattle.mvt_tile.specs.LayerFault.{IsLayerFault};
 ghost use Rattle.mvt_tile.specs.Least.{FindsLeastFault};
@@ -11,7 +11,7 @@ use mvt_fault::{Fault, wire_fault_in};
 use mvt_wire::field_number::{FEATURES, VALUES};
 use mvt_wire::{Fields, Message, Scope};
 
-/// The first fault of the layer with an ordinal, which stands in the bytes from one offset up to
+/// The first fault of the layer with an ordinal, which the bytes hold from one offset up to
 /// another: that of its own fields, or else of its values, or else of its features (Mapbox Vector
 /// Tile Specification 2.1, section 4.1). The layer is walked once.
 pub(crate) fn layer_fault(bytes: &[u8], layer: usize, from: usize, to: usize) -> Option<Fault>

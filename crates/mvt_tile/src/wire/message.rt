@@ -2,12 +2,12 @@
 ghost use Rattle.std.specs.Prelude.{◌≤◌, length, take};
 ghost use Rattle.mvt_wire.specs.WireFault.{MessageFault};
 ghost use Rattle.mvt_tile.specs.Least.{FindsLeastCause};
-ghost use Rattle.mvt_tile.specs.Rest.{IsDefectOr};
+ghost use Rattle.mvt_tile.specs.FieldsLeft.{IsDefectOr};
 
 use crate::wire::scan::FieldScan;
 use mvt_wire::{Fields, Message, WireCause};
 
-/// The first fault of the message that stands in the bytes from one offset up to another, without
+/// The first fault of the message that the bytes hold from one offset up to another, without
 /// those of the messages in it. The message is walked once.
 // Inlined, so that the rules of each message are constants of its own walk.
 #[inline(always)]

@@ -25,7 +25,7 @@ pub(crate) fn packed_fault(part: &[u8], from: usize, number: u32) -> Option<Wire
     })
 }
 
-/// Where the first number stands that isn't below 2^32 or isn't whole, and what is wrong with it.
+/// The offset of the first number that isn't below 2^32 or isn't whole, and what is wrong with it.
 ///
 /// Numbers of up to four bytes are small, so their bytes are only counted; a longer one is read in
 /// full, once.

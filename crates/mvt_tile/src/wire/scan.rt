@@ -4,26 +4,26 @@ ghost use Rattle.mvt_wire.specs.Field.{Entry, entry_of};
 ghost use Rattle.mvt_wire.specs.Schema.{is_required};
 ghost use Rattle.mvt_wire.specs.WireFault.{EndFault};
 ghost use Rattle.mvt_tile.specs.Least.{FindsLeastCause};
-ghost use Rattle.mvt_tile.specs.Placed.{IsPlaced};
+ghost use Rattle.mvt_tile.specs.FieldPlace.{IsPlaced};
 
 use crate::wire::field::field_fault;
 use mvt_wire::{Field, FieldRule, Message, WireCause, WireCode};
 
 /// What is kept of the fields of a message that were passed, none of which has a fault: no more than
-/// the message's rules ask for.
+/// the message's rules need.
 #[derive(Drop)]
 pub(crate) struct FieldScan {
     message: Message,
-    /// Which of the numbers that the message knows stood. They are all below 16.
-    stood: [bool; 16],
-    /// Whether one of these numbers stood.
+    /// Which of the numbers that the message knows have occurred. They are all below 16.
+    occurred: [bool; 16],
+    /// Whether one of these numbers has occurred.
     known: bool,
-    /// Whether more than one field of these numbers stood.
+    /// Whether more than one field of these numbers has occurred.
     several: bool,
 }
 
 impl FieldScan {
-    ghost use Rattle.mvt_tile.specs.Scan.{Passes, IsFirstFault, IsMissing, was_seen};
+    ghost use Rattle.mvt_tile.specs.FieldScan.{Passes, IsFirstFault, IsMissing, was_seen};
 
     pub(crate) fn new(message: Message) -> Self
         ensures message { result.message ≡ message }
@@ -31,13 +31,13 @@ impl FieldScan {
     {
         FieldScan {
             message,
-            stood: [false; 16],
+            occurred: [false; 16],
             known: false,
             several: false,
         }
     }
 
-    /// Passes the next field, or tells the first fault of it.
+    /// Passes the next field, or returns its first fault.
     #[inline(always)]
     pub(crate) fn pass(&mut self, field: &Field<'_>) -> Option<WireCause>
         requires { (next : ℕ) × IsPlaced (entry_of field.now) next × (next < 2 ^ 64) }
@@ -51,10 +51,10 @@ impl FieldScan {
             return None;
         };
         let number = field.number as usize;
-        if let Some(cause) = field_fault(rule, self.stood[number], field) {
+        if let Some(cause) = field_fault(rule, self.occurred[number], field) {
             return Some(cause);
         }
-        self.stood[number] = true;
+        self.occurred[number] = true;
         self.several = self.known;
         self.known = true;
         None
@@ -83,7 +83,7 @@ impl FieldScan {
         None
     }
 
-    /// The least number that has to stand and didn't.
+    /// The least required field number that is missing.
     #[inline(always)]
     fn first_missing(&self) -> Option<u32>
         ensures none { IfNone result ((number : ℕ) → ¬ IsMissing self.now number) }
@@ -98,16 +98,16 @@ impl FieldScan {
         None
     }
 
-    /// Whether a rule asks for a number that didn't stand.
+    /// Whether a rule requires a number that has not occurred.
     #[inline(always)]
     fn lacks(&self, rule: FieldRule) -> bool
         requires { rule.number < 16 }
         ensures { result ≡ (is_required rule.occurrence && not (was_seen self.now rule.number)) }
     {
-        rule.occurrence.is_required() && !self.stood[rule.number as usize]
+        rule.occurrence.is_required() && !self.occurred[rule.number as usize]
     }
 
-    /// Whether just one field of the numbers that the message knows stood.
+    /// Whether just one field of the numbers that the message knows has occurred.
     fn has_one(&self) -> bool
         ensures { result ≡ (self.now.known && not self.now.several) }
     {

@@ -56,7 +56,7 @@ fn whole_tiles(rt: HostRuntime) {
     }
 }
 
-// Varints in fields whose numbers the message doesn't know: 1 in a tile, 6 in a layer, 8 in a value
+// Varints in fields of numbers that the message doesn't know: 1 in a tile, 6 in a layer, 8 in a value
 // and 5 in a feature.
 #[test]
 fn unknown_fields(rt: HostRuntime) {
@@ -113,7 +113,7 @@ fn broken_encoding(rt: HostRuntime) {
             wire(WireCode::BadNumber, Scope::Tile, 0, 0),
         ),
         (&[0x1b], wire(WireCode::BadWireType, Scope::Tile, 0, 3)),
-        // A layer that isn't whole has no other fault, though its version stands twice.
+        // A layer that isn't whole has no other fault, though its version occurs twice.
         (
             &[0x1a, 0x07, 0x78, 0x02, 0x78, 0x02, 0x0a, 0x05, 0x61],
             wire(WireCode::PastEnd, layer, 6, 1),
@@ -278,7 +278,7 @@ fn packed_numbers(rt: HostRuntime) {
 #[test]
 fn first_of_several(rt: HostRuntime) {
     let cases: [(&[u8], Option<Fault>); 8] = [
-        // a version that stands twice, and a name that isn't UTF-8
+        // a version that occurs twice, and a name that isn't UTF-8
         (
             &[0x1a, 0x07, 0x78, 0x02, 0x78, 0x02, 0x0a, 0x01, 0xff],
             wire(WireCode::Again, Scope::Layer(0), 4, 15),

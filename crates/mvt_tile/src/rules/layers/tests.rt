@@ -71,7 +71,7 @@ fn expect_pair(rt: &impl Abort, alloc: Global, names: &[&str], first: usize, sec
     expect(rt, alloc, &layers, Some(Fault::Name { first, second }));
 }
 
-// Of several pairs the one whose later layer comes first, however far apart its layers are.
+// Of several pairs the one with the earliest second layer, however far apart its layers are.
 #[test]
 fn names_repeated_far_apart(rt: HostRuntime) {
     let names = ["a", "b", "c", "d", "b", "a", "b", "a"];

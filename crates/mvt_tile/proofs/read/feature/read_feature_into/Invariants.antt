@@ -5,7 +5,7 @@ use Rattle.mvt_tile.specs.View.{feature_of}
 use Rattle.mvt_tile.proofs.read.feature.read_feature_into.Given as goal
 use Rattle.mvt_wire.proofs.Walking.{IsWalking}
 
--- the record has what the fields tell that were passed
+-- the record has the content of the fields that were passed
 abbrev pub invariant-walk : goal.invariant-walk
 invariant-walk l = (entries : List Entry) × IsWalking (take l.to l.bytes) l.from l.fields entries × TellsFeature entries (feature_of l.feature)
 

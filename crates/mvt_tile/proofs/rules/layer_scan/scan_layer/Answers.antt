@@ -19,7 +19,7 @@ pub walk-init : goal.walk-init
 walk-init over c = record {
   entries = [];
   walking = IsWalking-none c.new-fields.ensures;
-  tells = c.nothing_told.ensures;
+  tells = c.empty_summary.ensures;
   features = record { none = λ small. CleanWalk-nothing c.new-fields.ensures; some = tt };
   few = omega arith;
 }

@@ -2,7 +2,7 @@ use Rattle.std.proofs.Common.{◌-◌, length}
 use Rattle.mvt_tile.proofs.FeatureScan.{IsLayerScan}
 use Rattle.mvt_tile.proofs.rules.layer_scan.scan_layer.Given as goal
 
--- what the fields tell that were passed, and what was found of their features
+-- the content of the fields that were passed, and what was found of their features
 abbrev pub invariant-walk : goal.invariant-walk
 invariant-walk over l = IsLayerScan over.R.FeatureRule.IsBroken over.R.FeatureRule.IsKept l.bytes l.from l.to l.layer_index l.scan l.fields l.feature_index
 

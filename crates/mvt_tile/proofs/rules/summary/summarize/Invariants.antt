@@ -4,7 +4,7 @@ use Rattle.mvt_tile.specs.Reading.{TellsSummary}
 use Rattle.mvt_tile.proofs.rules.summary.summarize.Given as goal
 use Rattle.mvt_wire.proofs.Walking.{IsWalking}
 
--- the summary has what the fields tell that were passed
+-- the summary has the content of the fields that were passed
 abbrev pub invariant-walk : goal.invariant-walk
 invariant-walk l = (entries : List Entry) × IsWalking (take l.to l.bytes) l.from l.fields entries × TellsSummary entries l.summary
 

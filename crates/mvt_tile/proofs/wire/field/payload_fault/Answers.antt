@@ -6,17 +6,17 @@ use Rattle.mvt_tile.proofs.FieldFaults.{out_of_range-first, no_text-first, packe
 use Rattle.mvt_tile.proofs.wire.field.payload_fault.Goals as goal
 
 pub returns-in-Varint : goal.returns-in-Varint
-returns-in-Varint c = λ stood may.
-    out_of_range-first c.args.rule stood (entry_of c.args.field.now) c.in-Varint.value c.in-Varint.at c.requires.own may
+returns-in-Varint c = λ occurred may.
+    out_of_range-first c.args.rule occurred (entry_of c.args.field.now) c.in-Varint.value c.in-Varint.at c.requires.own may
     (ap content_of c.in-Varint.is) (sym c.if-is_out_of_range.ensures)
 
 pub returns-in-Bytes : goal.returns-in-Bytes
-returns-in-Bytes c = λ stood may.
-    subst (λ cause. IsLeastCause (EntryFault c.args.rule stood (entry_of c.args.field.now)) cause) (sym c.at_key.ensures)
-    (no_text-first c.args.rule stood (entry_of c.args.field.now) c.in-Bytes.from c.in-Bytes.slice.now c.requires.own may
+returns-in-Bytes c = λ occurred may.
+    subst (λ cause. IsLeastCause (EntryFault c.args.rule occurred (entry_of c.args.field.now)) cause) (sym c.at_key.ensures)
+    (no_text-first c.args.rule occurred (entry_of c.args.field.now) c.in-Bytes.from c.in-Bytes.slice.now c.requires.own may
     (search rules) (ap content_of c.in-Bytes.is) (search rules))
 
 pub returns-in-Bytes-2 : goal.returns-in-Bytes-2
-returns-in-Bytes-2 c = λ stood may.
-    packed-first c.args.rule stood (entry_of c.args.field.now) c.in-Bytes-2.from c.in-Bytes-2.slice.now _ c.requires.own may
+returns-in-Bytes-2 c = λ occurred may.
+    packed-first c.args.rule occurred (entry_of c.args.field.now) c.in-Bytes-2.from c.in-Bytes-2.slice.now _ c.requires.own may
     (search rules) (ap content_of c.in-Bytes-2.is) c.packed_fault.ensures

@@ -1,7 +1,7 @@
 use Rattle.std.proofs.Common.{◌<◌, length, sym, arith}
 use Rattle.mvt_wire.specs.Field.{entry_of}
 use Rattle.mvt_tile.proofs.SchemaRules.{known_number}
-use Rattle.mvt_tile.proofs.Scans.{Passes-unknown, Passes-known, Passes-fault}
+use Rattle.mvt_tile.proofs.FieldScans.{Passes-unknown, Passes-known, Passes-fault}
 use Rattle.mvt_tile.proofs.wire.scan.FieldScan.pass.Goals as goal
 
 pub bounds-self-number : goal.bounds-self-number
@@ -18,5 +18,5 @@ returns-in-Some-field_fault-clause-fault c = λ entries next placed so_far.
 pub returns-clause-passed : goal.returns-clause-passed
 returns-clause-passed c = λ entries so_far.
     let below = known_number c.args.self.now.message c.args.field.now.number c.in-Some.rule (sym c.in-Some.ensures) in
-    let within : c.args.field.now.number < length c.args.self.now.stood = omega arith in
+    let within : c.args.field.now.number < length c.args.self.now.occurred = omega arith in
     Passes-known c.args.self.now entries (entry_of c.args.field.now) c.in-Some.rule (sym c.in-Some.ensures) within c.in_default-field_fault.ensures so_far

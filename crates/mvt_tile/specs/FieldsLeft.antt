@@ -1,4 +1,4 @@
--- What stands behind the place of a walk.
+-- What is behind the place of a walk over fields.
 use Rattle.std.specs.Prelude.{◌≡◌, ◌⊎◌, List}
 use Rattle.mvt_wire.specs.Field.{Entry}
 use Rattle.mvt_wire.specs.Message.{IsMessage, HasDefect}

@@ -1,19 +1,18 @@
--- One more field behind others: what stands, how many are known, and the faults of fields.
-use Rattle.std.proofs.Common.{◌≡◌, ℕ, ◌+◌, ◌==◌, nat_lt, true, inl, inr, List, [], ◌∷◌, ◌++◌, length, filter, is_some, Some, None, refl, sym, ◌∙◌, ap, subst, arith, length-append}
-use Rattle.std.proofs.lemmas.Bool.{eq-eqb, ne_eqb, lt-ltb, cond-true, cond-false}
+-- One more field behind others: how many are known, and the faults of fields.
+use Rattle.std.proofs.Common.{◌≡◌, ℕ, ◌+◌, inl, inr, List, [], ◌∷◌, ◌++◌, length, filter, is_some, Some, None, refl, sym, ◌∙◌, ap, subst, arith, length-append}
+use Rattle.std.proofs.lemmas.Bool.{cond-true, cond-false}
 use Rattle.std.proofs.lemmas.List.Elements.{filter-append}
 use Rattle.mvt_wire.specs.Field.{Entry}
 use Rattle.mvt_wire.specs.Schema.{rule_of}
-use Rattle.mvt_wire.specs.WireFault.{count_of, stands_in, count_known, EntryFault, FieldFault}
+use Rattle.mvt_wire.specs.WireFault.{stands_in, count_known, EntryFault, FieldFault}
 use Rattle.mvt_wire.specs.declared.cause.WireCause.{WireCause}
 use Rattle.mvt_wire.specs.declared.schema.FieldRule.{FieldRule}
 use Rattle.mvt_wire.specs.declared.schema.Message.{Message}
 use Rattle.mvt_tile.specs.Least.{IsLeastCause}
-use Rattle.mvt_tile.specs.Placed.{IsPlaced}
-use Rattle.mvt_tile.specs.Scan.{IsFirstFault}
+use Rattle.mvt_tile.specs.FieldPlace.{IsPlaced}
+use Rattle.mvt_tile.specs.FieldScan.{IsFirstFault}
 use Rattle.mvt_tile.proofs.Causes.{by_offset}
 use Rattle.mvt_tile.proofs.FieldFaults.{fault_within}
-use Rattle.mvt_wire.proofs.Schemas.{count_of-append}
 use Rattle.mvt_wire.proofs.LastFields.{LastFault, FieldFault-last, FieldFault-earlier}
 
 count_known-append : (message : Message) (entries : List Entry) (entry : Entry) → count_known message (entries ++ entry ∷ []) ≡ count_known message entries + length (filter (λ (e : Entry). is_some (rule_of message e.number)) (entry ∷ []))
@@ -78,7 +77,7 @@ IsFirstFault-new message entries last next rule first placed known none least = 
   };
 }
 
--- and stays it, whatever stands behind
+-- and stays it, whatever is behind
 pub IsFirstFault-kept : (message : Message) (entries : List Entry) (last : Entry) (next : ℕ) (first : WireCause) → IsPlaced last next
     → IsFirstFault message entries last.at first → IsFirstFault message (entries ++ last ∷ []) next first
 IsFirstFault-kept message entries last next first placed so_far = record {

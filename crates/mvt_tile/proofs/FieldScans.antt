@@ -8,11 +8,11 @@ use Rattle.mvt_wire.specs.declared.cause.WireCause.{WireCause}
 use Rattle.mvt_wire.specs.declared.schema.FieldRule.{FieldRule}
 use Rattle.mvt_wire.specs.declared.schema.Message.{Message}
 use Rattle.mvt_tile.specs.Least.{IsLeastCause}
-use Rattle.mvt_tile.specs.Placed.{IsPlaced}
-use Rattle.mvt_tile.specs.Scan.{was_seen, Passes, IsFirstFault}
+use Rattle.mvt_tile.specs.FieldPlace.{IsPlaced}
+use Rattle.mvt_tile.specs.FieldScan.{was_seen, Passes, IsFirstFault}
 use Rattle.mvt_tile.specs.declared.wire.scan.FieldScan.{FieldScan}
 use Rattle.mvt_wire.proofs.Schemas.{stands_in-own, stands_in-other}
-use Rattle.mvt_tile.proofs.Passing.{count_known-more, count_known-same, faultless-unknown, faultless-known, IsFirstFault-new}
+use Rattle.mvt_tile.proofs.OneMoreField.{count_known-more, count_known-same, faultless-unknown, faultless-known, IsFirstFault-new}
 
 -- no field was passed
 none_split : (before : List Entry) (entry : Entry) (after : List Entry) → [] ≡ before ++ entry ∷ after → ⊥
@@ -27,24 +27,24 @@ pub Passes-unknown : (scan : FieldScan) (entries : List Entry) (entry : Entry) �
 Passes-unknown scan entries entry unknown so_far =
     let same : count_known scan.message entries ≡ count_known scan.message (entries ++ entry ∷ []) = sym (count_known-same scan.message entries entry unknown) in
     record {
-      stood = λ field_number rule known.
+      occurred = λ field_number rule known.
           let other : ¬ (entry.number ≡ field_number) = λ same. let both : None ≡ Some rule = sym unknown ∙ ap (rule_of scan.message) same ∙ known in absurd (cc) in
-          so_far.stood field_number rule known ∙ sym (stands_in-other field_number entries entry other);
+          so_far.occurred field_number rule known ∙ sym (stands_in-other field_number entries entry other);
       known = so_far.known ∙ ap (nat_lt 0) same;
       several = so_far.several ∙ ap (nat_lt 1) same;
       faultless = faultless-unknown scan.message entries entry unknown so_far.faultless;
     }
 
--- that a number stood is kept
-stood_more : (stood : List Bool) (entries : List Entry) (entry : Entry) (field_number : ℕ) → entry.number < length stood
-    → get_or stood field_number false ≡ stands_in field_number entries
-    → get_or (slice_set stood entry.number true) field_number false ≡ stands_in field_number (entries ++ entry ∷ [])
-stood_more stood entries entry field_number within so_far = elim (cases_eq field_number entry.number) [
+-- that a number has occurred is kept
+occurred_more : (occurred : List Bool) (entries : List Entry) (entry : Entry) (field_number : ℕ) → entry.number < length occurred
+    → get_or occurred field_number false ≡ stands_in field_number entries
+    → get_or (slice_set occurred entry.number true) field_number false ≡ stands_in field_number (entries ++ entry ∷ [])
+occurred_more occurred entries entry field_number within so_far = elim (cases_eq field_number entry.number) [
   | inl same ↦
-      let here : get_or (slice_set stood entry.number true) field_number false ≡ true = ap (λ (n : ℕ). get_or (slice_set stood entry.number true) n false) same ∙ get_or-set_same stood entry.number true false within in
+      let here : get_or (slice_set occurred entry.number true) field_number false ≡ true = ap (λ (n : ℕ). get_or (slice_set occurred entry.number true) n false) same ∙ get_or-set_same occurred entry.number true false within in
       here ∙ sym (stands_in-own entry.number entries entry refl) ∙ ap (λ (n : ℕ). stands_in n (entries ++ entry ∷ [])) (sym same)
   | inr other ↦
-      get_or-set_other stood entry.number field_number true false other ∙ so_far ∙ sym (stands_in-other field_number entries entry (λ same. other (sym same)))
+      get_or-set_other occurred entry.number field_number true false other ∙ so_far ∙ sym (stands_in-other field_number entries entry (λ same. other (sym same)))
 ]
 
 -- more than one of one more are some
@@ -55,17 +55,17 @@ lt_more count = elim (cases_lt 0 count) [
 ]
 
 -- a field of a known number is passed, which has no fault
-pub Passes-known : (scan : FieldScan) (entries : List Entry) (entry : Entry) (rule : FieldRule) → rule_of scan.message entry.number ≡ Some rule → entry.number < length scan.stood
+pub Passes-known : (scan : FieldScan) (entries : List Entry) (entry : Entry) (rule : FieldRule) → rule_of scan.message entry.number ≡ Some rule → entry.number < length scan.occurred
     → ((cause : WireCause) → ¬ EntryFault rule (was_seen scan entry.number) entry cause) → Passes scan entries
-    → Passes (record { message = scan.message; stood = slice_set scan.stood entry.number true; known = true; several = scan.known }) (entries ++ entry ∷ [])
+    → Passes (record { message = scan.message; occurred = slice_set scan.occurred entry.number true; known = true; several = scan.known }) (entries ++ entry ∷ [])
 Passes-known scan entries entry rule is within clean so_far =
     let more = count_known-more scan.message entries entry rule is in
     record {
-      stood = λ field_number other asked. stood_more scan.stood entries entry field_number within (so_far.stood field_number other asked);
+      occurred = λ field_number other asked. occurred_more scan.occurred entries entry field_number within (so_far.occurred field_number other asked);
       known = sym (lt-ltb 0 (count_known scan.message (entries ++ entry ∷ [])) (omega arith));
       several = so_far.known ∙ sym (lt_more (count_known scan.message entries)) ∙ ap (nat_lt 1) (sym more);
       faultless = faultless-known scan.message entries entry rule is so_far.faultless
-          (λ cause. subst (λ (stood : Bool). ¬ EntryFault rule stood entry cause) (so_far.stood entry.number rule is) (clean cause));
+          (λ cause. subst (λ (occurred : Bool). ¬ EntryFault rule occurred entry cause) (so_far.occurred entry.number rule is) (clean cause));
     }
 
 -- its first fault is the first of all
@@ -73,4 +73,4 @@ pub Passes-fault : (scan : FieldScan) (entries : List Entry) (entry : Entry) (ne
     → IsLeastCause (EntryFault rule (was_seen scan entry.number) entry) cause → Passes scan entries → IsFirstFault scan.message (entries ++ entry ∷ []) next cause
 Passes-fault scan entries entry next rule cause placed is least so_far =
     IsFirstFault-new scan.message entries entry next rule cause placed is so_far.faultless
-    (subst (λ (stood : Bool). IsLeastCause (EntryFault rule stood entry) cause) (so_far.stood entry.number rule is) least)
+    (subst (λ (occurred : Bool). IsLeastCause (EntryFault rule occurred entry) cause) (so_far.occurred entry.number rule is) least)

@@ -9,13 +9,13 @@ use Rattle.mvt_wire.specs.declared.schema.Message.{Message}
 use Rattle.mvt_tile.specs.Least.{IsLeastCause}
 use Rattle.mvt_tile.specs.declared.wire.scan.FieldScan.{FieldScan}
 
--- it was kept that a field of the number stood
+-- the scan has kept that a field of the number occurred
 abbrev pub was_seen : FieldScan → ℕ → Bool
-was_seen scan field_number = slice_index_or scan.stood field_number false
+was_seen scan field_number = slice_index_or scan.occurred field_number false
 
 -- the scan has passed these fields, none of which has a fault
 pub record Passes (scan : FieldScan) (entries : List Entry) : Type 0 where
-  pub stood : (field_number : ℕ) (rule : FieldRule) → rule_of scan.message field_number ≡ Some rule → was_seen scan field_number ≡ stands_in field_number entries
+  pub occurred : (field_number : ℕ) (rule : FieldRule) → rule_of scan.message field_number ≡ Some rule → was_seen scan field_number ≡ stands_in field_number entries
   pub known : scan.known ≡ nat_lt 0 (count_known scan.message entries)
   pub several : scan.several ≡ nat_lt 1 (count_known scan.message entries)
   pub faultless : (cause : WireCause) → ¬ FieldFault scan.message entries cause
@@ -25,7 +25,7 @@ pub record IsFirstFault (message : Message) (entries : List Entry) (to : ℕ) (c
   pub before : cause.at < to
   pub least : IsLeastCause (FieldFault message entries) cause
 
--- a number has to stand, and it was not kept that it did
+-- a number is required, and the scan has not kept that it occurred
 pub record IsMissing (scan : FieldScan) (field_number : ℕ) : Type 0 where
   pub rule : FieldRule
   pub known : rule_of scan.message field_number ≡ Some rule

@@ -1,4 +1,4 @@
--- What a walk over the fields of a tile keeps of its layers.
+-- What the walk over the fields of a tile for its wire faults keeps of its layers.
 use Rattle.std.specs.Prelude.{ℕ, List}
 use Rattle.mvt_wire.specs.Scope.{Span}
 use Rattle.mvt_fault.specs.Place.{IsLeast}
