@@ -1,6 +1,6 @@
 -- Shown faults by their parts: the wire, the rules between a tile's parts, and the geometry of each feature.
 use Rattle.std.proofs.Common.{◌↔◌, ◌⊎◌, inl, inr, ℕ, List}
-use Rattle.mvt_fault.specs.Truth.{IsWireFault, wire, IsFaultOfLayers, version, name, IsFaultOfTags, tag, FeatureFault, OneFeatureHas, BreaksRule}
+use Rattle.mvt_fault.specs.TrueFaults.{IsWireFault, wire, IsFaultOfLayers, version, name, IsFaultOfTags, tag, FeatureFault, OneFeatureHas, BreaksRule}
 use Rattle.mvt_fault.specs.declared.fault.Fault.{Fault}
 use Rattle.mvt_fault.specs.declared.fault.Fault.TheVariants.{Wire, Version, Name, Tag, Command, Ring, Meeting, Outside, HoleInHole}
 use Rattle.mvt_wire.specs.Rules.{IsFeatureOf}

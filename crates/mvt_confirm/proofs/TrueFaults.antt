@@ -1,7 +1,7 @@
 -- Faults that are true of bytes: none of a valid tile, nothing but wire faults of bytes that are no tile, and nothing of
 -- polygons where a ring has a fault.
 use Rattle.std.proofs.Common.{◌≡◌, inl, inr, ℕ, List, ℤ, refl, sym, subst}
-use Rattle.mvt_fault.specs.Truth.{IsWireFault, wire}
+use Rattle.mvt_fault.specs.TrueFaults.{IsWireFault, wire}
 use Rattle.mvt_fault.specs.Code.{ring_code}
 use Rattle.mvt_fault.specs.declared.fault.Fault.{Fault}
 use Rattle.mvt_fault.specs.declared.fault.Fault.TheVariants.{Wire, Ring, Meeting}

@@ -1,7 +1,7 @@
 -- Valid tiles by their parts: the rules between a tile's parts, and the geometry of each feature.
 use Rattle.std.proofs.Common.{◌↔◌, inl, inr, ℕ, List}
 use Rattle.mvt_fault.specs.Code.{ring_code}
-use Rattle.mvt_fault.specs.Truth.{IsFaultOfLayers, version, name, IsFaultOfTags, tag, BreaksRule}
+use Rattle.mvt_fault.specs.TrueFaults.{IsFaultOfLayers, version, name, IsFaultOfTags, tag, BreaksRule}
 use Rattle.mvt_fault.specs.declared.fault.Fault.{Fault}
 use Rattle.mvt_fault.specs.declared.fault.Fault.TheVariants.{Version, Name, Tag}
 use Rattle.mvt_wire.specs.Rules.{IsFeatureOf}

@@ -1,6 +1,6 @@
 -- Valid tiles: the profile of the Mapbox Vector Tile Specification 2.1, section 4, that is kept to.
 use Rattle.std.specs.Prelude.{ℕ, List, length}
-use Rattle.mvt_fault.specs.Truth.{TagsBreak}
+use Rattle.mvt_fault.specs.TrueFaults.{TagsBreak}
 use Rattle.mvt_fault.specs.declared.tag.TagCode.{TagCode}
 use Rattle.mvt_plane.specs.Geometry.{HasFigure, HasRings}
 use Rattle.mvt_plane.specs.Meeting.{EdgeNumber, MeetsWrongly}

@@ -6,7 +6,7 @@ ghost use Rattle.mvt_confirm.specs.Feature.{IsFeatureIn};
 ghost use Rattle.mvt_confirm.specs.Geometry.{IsFaultOfGeometry};
 ghost use Rattle.mvt_confirm.specs.Shows.{Shows};
 ghost use Rattle.mvt_confirm.specs.Valid.{IsValidGeometry, Valid};
-ghost use Rattle.mvt_fault.specs.Truth.{IsWireFault, OneFeatureHas, BreaksRule};
+ghost use Rattle.mvt_fault.specs.TrueFaults.{IsWireFault, OneFeatureHas, BreaksRule};
 ghost use Rattle.mvt_fault.specs.declared.fault.Fault.{Fault};
 ghost use Rattle.mvt_fault.specs.declared.fault.Fault.TheVariants.{Wire, Ring, Meeting, Outside, HoleInHole};
 ghost use Rattle.mvt_fault.specs.declared.ring.RingCode.{RingCode};

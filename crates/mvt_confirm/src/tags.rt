@@ -1,6 +1,6 @@
 //! The tags of a feature (Mapbox Vector Tile Specification 2.1, sections 4.2 and 4.4).
 ghost use Rattle.std.specs.Prelude.{◌≡◌, ◌↔◌, ℕ, IsTrue, List, [], ◌*◌, ◌<◌, ◌≤◌, length, slice_get, Some, None, IfSome, IfNone};
-ghost use Rattle.mvt_fault.specs.Truth.{TagsBreak};
+ghost use Rattle.mvt_fault.specs.TrueFaults.{TagsBreak};
 ghost use Rattle.mvt_wire.specs.Numbers.{NumbersLeft, GivesNumber};
 ghost use Rattle.mvt_wire.specs.Rules.{OddTags, IsKeyAt, IsValueAt, NoSuchKey, NoSuchValue, KeyAgain, IsFeatureOf};
 ghost use Rattle.mvt_wire.specs.Tile.{FeatureRecord, IsFeature, LayerRecord, IsLayer, TileRecord, IsTile};

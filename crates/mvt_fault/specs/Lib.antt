@@ -6,4 +6,4 @@ pub mod Code
 pub mod Text
 pub mod Place
 pub mod Reading
-pub mod Truth
+pub mod TrueFaults

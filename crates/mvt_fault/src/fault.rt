@@ -1,7 +1,7 @@
 ghost use Rattle.std.specs.Prelude.{◌≡◌, ◌∷◌, []};
 ghost use Rattle.mvt_fault.specs.Code.{fault_code};
 ghost use Rattle.mvt_fault.specs.Place.{IsOfPolygon, place_of, scope_place};
-ghost use Rattle.mvt_fault.specs.Truth.{wire_fault_in};
+ghost use Rattle.mvt_fault.specs.TrueFaults.{wire_fault_in};
 
 use crate::command::CommandCode;
 use crate::order::Place;

@@ -1,7 +1,7 @@
 -- No input has two answers of `dump`, or two lines.
 use Rattle.std.proofs.Common.{◌≡◌, ℕ, List, ◌++◌, codes, inl, inr, refl, sym, ◌∙◌, ap}
 use Rattle.mvt_fault.specs.Place.{IsLeast, IsMeetingIn}
-use Rattle.mvt_fault.specs.Truth.{IsWireFault, wire}
+use Rattle.mvt_fault.specs.TrueFaults.{IsWireFault, wire}
 use Rattle.mvt_fault.specs.declared.fault.Fault.{Fault}
 use Rattle.mvt_wire.proofs.Tiles.{one_tile}
 use Rattle.mvt_wire.specs.Tile.{TileRecord}

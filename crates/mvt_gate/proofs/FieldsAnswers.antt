@@ -3,7 +3,7 @@ use Rattle.std.proofs.Common.{◌≡◌, ℕ, List, inl, inr, refl, sym, ◌∙�
 use Rattle.mvt_wire.proofs.Messages.{one_list, whole_or_defect, one_defect, message_or_defect}
 use Rattle.mvt_wire.specs.declared.cause.WireCause.{WireCause}
 use Rattle.mvt_wire.specs.declared.scope.Scope.TheVariants.{Tile}
-use Rattle.mvt_fault.specs.Truth.{wire_fault_in}
+use Rattle.mvt_fault.specs.TrueFaults.{wire_fault_in}
 use Rattle.mvt_gate.specs.FaultLine.{fault_line}
 use Rattle.mvt_gate.specs.Fields.{IsFieldsAnswer}
 use Rattle.mvt_gate.specs.FieldsLine.{fields_line}

@@ -9,7 +9,7 @@ use Rattle.mvt_confirm.specs.Shows.{Shows}
 use Rattle.mvt_confirm.specs.Valid.{IsValidGeometry, Valid}
 use Rattle.mvt_fault.proofs.Places.{ComesFirst-antisymmetric, same_place_or_meetings}
 use Rattle.mvt_fault.specs.Place.{AreMeetingsInOne, IsLeast, place_of}
-use Rattle.mvt_fault.specs.Truth.{IsWireFault}
+use Rattle.mvt_fault.specs.TrueFaults.{IsWireFault}
 use Rattle.mvt_fault.specs.declared.fault.Fault.{Fault}
 use Rattle.mvt_tile.proofs.Tiles.{is_tile}
 use Rattle.mvt_tile.specs.RuleFaults.{BreaksAnyRule, KeepsRules}

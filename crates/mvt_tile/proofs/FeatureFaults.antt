@@ -5,7 +5,7 @@ use Rattle.std.proofs.lemmas.Bool.{cases_lt}
 use Rattle.mvt_wire.specs.Scope.{Span, spans_of}
 use Rattle.mvt_wire.specs.Tile.{FeatureRecord, IsFeature, LayerRecord, IsLayer, TileRecord, IsTile}
 use Rattle.mvt_fault.specs.Place.{ComesFirst, IsLeast, place_of}
-use Rattle.mvt_fault.specs.Truth.{IsFaultOfTags, OneFeatureHas, TagsBreak, tag}
+use Rattle.mvt_fault.specs.TrueFaults.{IsFaultOfTags, OneFeatureHas, TagsBreak, tag}
 use Rattle.mvt_fault.specs.declared.fault.Fault.{Fault}
 use Rattle.mvt_fault.specs.declared.fault.Fault.TheVariants.{Tag}
 use Rattle.mvt_fault.specs.declared.tag.TagCode.{TagCode}

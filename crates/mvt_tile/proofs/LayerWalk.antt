@@ -19,7 +19,7 @@ use Rattle.mvt_tile.specs.FieldsLeft.{IsDefectOr}
 use Rattle.mvt_tile.specs.FieldScan.{Passes, IsFirstFault}
 use Rattle.mvt_tile.specs.declared.wire.embedded.EmbeddedScan.{EmbeddedScan}
 use Rattle.mvt_tile.specs.declared.wire.scan.FieldScan.{FieldScan}
-use Rattle.mvt_fault.specs.Truth.{wire_fault_in}
+use Rattle.mvt_fault.specs.TrueFaults.{wire_fault_in}
 use Rattle.mvt_tile.proofs.Layers.{IsLeast-own, IsLeast-value, IsLeast-feature, IsLayerFault-none}
 use Rattle.mvt_tile.proofs.Walking.{IsScanning, IsPlaced-within, IsScanning-more, IsScanning-fault, IsScanning-whole, defect_alone}
 use Rattle.mvt_wire.proofs.Walking.{IsWalking-defect, IsWalking-whole}

@@ -10,7 +10,7 @@ use Rattle.mvt_wire.specs.declared.schema.Message.{Message}
 use Rattle.mvt_wire.specs.declared.schema.Message.TheVariants as messages
 use Rattle.mvt_wire.proofs.Tiles.{part_here}
 use Rattle.mvt_fault.specs.Place.{ComesFirst, IsLeast, place_of}
-use Rattle.mvt_fault.specs.Truth.{wire_fault_in}
+use Rattle.mvt_fault.specs.TrueFaults.{wire_fault_in}
 use Rattle.mvt_fault.specs.declared.fault.Fault.{Fault}
 use Rattle.mvt_tile.specs.Embedded.{HasFault, HasNone, HasFirst}
 use Rattle.mvt_tile.specs.First.{AreClean, IsFirst}

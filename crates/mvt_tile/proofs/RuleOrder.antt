@@ -2,7 +2,7 @@
 use Rattle.std.proofs.Common.{◌≡◌, ℕ, ◌⊎◌, inl, inr, List, ◌∷◌, length, Option, Some, None, IfSome, IfNone, refl, sym, subst, arith}
 use Rattle.mvt_wire.specs.Tile.{TileRecord, IsTile}
 use Rattle.mvt_fault.specs.Place.{ComesFirst, IsLeast, place_of}
-use Rattle.mvt_fault.specs.Truth.{BreaksRule, IsFaultOfLayers, OneFeatureHas, version, name}
+use Rattle.mvt_fault.specs.TrueFaults.{BreaksRule, IsFaultOfLayers, OneFeatureHas, version, name}
 use Rattle.mvt_fault.specs.declared.fault.Fault.{Fault}
 use Rattle.mvt_tile.specs.FeatureRules.{Breaks, Keeps, IsFaultOfFeature, AllSound}
 use Rattle.mvt_tile.specs.PassedLayers.{passed, EndsLayers}

@@ -4,7 +4,7 @@ use Rattle.std.proofs.lemmas.Bool.{cases_lt, cases_order, or_cases, or_left, or_
 use Rattle.std.proofs.lemmas.Option.{slice_get_within, slice_get_read, slice_get-map}
 use Rattle.mvt_fault.specs.Code.{tag_code}
 use Rattle.mvt_fault.specs.Place.{place_of, ComesFirst, IsLeast}
-use Rattle.mvt_fault.specs.Truth.{TagsBreak, IsFaultOfTags, tag}
+use Rattle.mvt_fault.specs.TrueFaults.{TagsBreak, IsFaultOfTags, tag}
 use Rattle.mvt_fault.specs.declared.fault.Fault.{Fault}
 use Rattle.mvt_fault.specs.declared.fault.Fault.TheVariants.{Tag}
 use Rattle.mvt_fault.specs.declared.tag.TagCode.{TagCode}

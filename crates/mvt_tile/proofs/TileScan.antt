@@ -7,7 +7,7 @@ use Rattle.mvt_wire.specs.Tile.{LayerRecord, IsLayer, TileRecord, IsTile}
 use Rattle.mvt_wire.specs.Walk.{Walk, IsOver, GivesField}
 use Rattle.mvt_wire.proofs.PairedLists.{each_there, same_length}
 use Rattle.mvt_fault.specs.Place.{IsLeast}
-use Rattle.mvt_fault.specs.Truth.{OneFeatureHas}
+use Rattle.mvt_fault.specs.TrueFaults.{OneFeatureHas}
 use Rattle.mvt_fault.specs.declared.fault.Fault.{Fault}
 use Rattle.mvt_tile.specs.FeatureRules.{Breaks, Keeps, IsFaultOfFeature}
 use Rattle.mvt_tile.specs.PassedLayers.{passed, EndsLayers, IsNextLayer, PassesLayers}

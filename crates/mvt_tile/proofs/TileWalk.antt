@@ -9,7 +9,7 @@ use Rattle.mvt_wire.specs.declared.scope.Scope.{Scope}
 use Rattle.mvt_wire.specs.declared.scope.Scope.TheVariants as scopes
 use Rattle.mvt_wire.specs.declared.schema.Message.TheVariants.{Tile}
 use Rattle.mvt_fault.specs.Place.{IsLeast}
-use Rattle.mvt_fault.specs.Truth.{IsWireFault, wire_fault_in}
+use Rattle.mvt_fault.specs.TrueFaults.{IsWireFault, wire_fault_in}
 use Rattle.mvt_fault.specs.declared.fault.Fault.{Fault}
 use Rattle.mvt_tile.specs.First.{FindsFirst}
 use Rattle.mvt_tile.specs.LayersFound.{IsFaultless, IsFirstOf}

@@ -11,7 +11,7 @@ use Rattle.mvt_wire.specs.declared.scope.Scope.TheVariants.{Tile, Layer, Value, 
 use Rattle.mvt_wire.specs.declared.schema.Message.TheVariants as messages
 use Rattle.mvt_wire.proofs.Tiles.{tile_or_fault, part_here}
 use Rattle.mvt_fault.specs.Place.{ComesFirst, IsLeast, place_of}
-use Rattle.mvt_fault.specs.Truth.{IsWireFault, wire, wire_fault_in}
+use Rattle.mvt_fault.specs.TrueFaults.{IsWireFault, wire, wire_fault_in}
 use Rattle.mvt_fault.specs.declared.fault.Fault.{Fault}
 use Rattle.mvt_tile.specs.Embedded.{HasFault}
 use Rattle.mvt_tile.specs.First.{IsFirst, FindsFirst}

@@ -1,6 +1,6 @@
 -- The faults of tags and of a further rule, feature by feature, and which features have none of them.
 use Rattle.std.specs.Prelude.{◌≡◌, ℕ, ◌⊎◌, Some, slice_get}
-use Rattle.mvt_fault.specs.Truth.{FeatureFault, IsFaultOfTags}
+use Rattle.mvt_fault.specs.TrueFaults.{FeatureFault, IsFaultOfTags}
 use Rattle.mvt_fault.specs.declared.fault.Fault.{Fault}
 use Rattle.mvt_wire.specs.Rules.{IsFeatureOf}
 use Rattle.mvt_wire.specs.Tile.{FeatureRecord, LayerRecord, TileRecord}

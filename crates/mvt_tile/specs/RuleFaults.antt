@@ -1,7 +1,7 @@
 -- The first fault of the rules between a tile's parts, and what is kept of a layer to look for it.
 use Rattle.std.specs.Prelude.{◌≡◌, ℕ, ◌<◌, ◌≤◌, ◌⊎◌, List, ◌∷◌, length}
 use Rattle.mvt_fault.specs.Code.{tag_code}
-use Rattle.mvt_fault.specs.Truth.{BreaksRule, OneFeatureHas, TagsBreak}
+use Rattle.mvt_fault.specs.TrueFaults.{BreaksRule, OneFeatureHas, TagsBreak}
 use Rattle.mvt_fault.specs.declared.fault.Fault.{Fault}
 use Rattle.mvt_fault.specs.declared.tag.TagCode.{TagCode}
 use Rattle.mvt_wire.specs.Rules.{IsFeatureOf}

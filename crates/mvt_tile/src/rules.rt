@@ -1,7 +1,7 @@
 //! The rules between the parts of a tile (Mapbox Vector Tile Specification 2.1, sections 4.1, 4.2 and 4.4):
 //! the versions and names of its layers, and the tags of its features; and a further rule on features.
 ghost use Rattle.std.specs.Prelude.{◌≡◌, ℕ, length, IfOk, IfNone, IfSome, OnOk};
-ghost use Rattle.mvt_fault.specs.Truth.{OneFeatureHas};
+ghost use Rattle.mvt_fault.specs.TrueFaults.{OneFeatureHas};
 ghost use Rattle.mvt_fault.specs.Place.{IsLeast, place_of};
 ghost use Rattle.mvt_fault.specs.declared.fault.Fault.{Fault};
 ghost use Rattle.mvt_wire.specs.Tile.{FeatureRecord, TileRecord, IsTile};

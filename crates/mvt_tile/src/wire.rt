@@ -5,7 +5,7 @@ ghost use Rattle.mvt_wire.specs.WireFault.{WireFault};
 ghost use Rattle.mvt_wire.specs.declared.cause.WireCause.{WireCause};
 ghost use Rattle.mvt_wire.specs.declared.scope.Scope.{Scope};
 ghost use Rattle.mvt_fault.specs.Place.{IsLeast};
-ghost use Rattle.mvt_fault.specs.Truth.{IsWireFault};
+ghost use Rattle.mvt_fault.specs.TrueFaults.{IsWireFault};
 ghost use Rattle.mvt_tile.specs.FieldPlace.{IsPlaced};
 
 mod embedded;

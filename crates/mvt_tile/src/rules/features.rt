@@ -1,7 +1,7 @@
 //! The rules on the features of a tile, which are read from its bytes one after another.
 ghost use Rattle.std.specs.Prelude.{◌≡◌, ◌≤◌, ℕ, length, IfOk, IfNone, IfSome};
 ghost use Rattle.mvt_fault.specs.Place.{IsLeast, place_of};
-ghost use Rattle.mvt_fault.specs.Truth.{OneFeatureHas};
+ghost use Rattle.mvt_fault.specs.TrueFaults.{OneFeatureHas};
 ghost use Rattle.mvt_fault.specs.declared.fault.Fault.{Fault};
 ghost use Rattle.mvt_wire.specs.Tile.{FeatureRecord, LayerRecord, IsLayer, TileRecord, IsTile};
 ghost use Rattle.mvt_tile.specs.FeatureRules.{IsFaultOfFeature, IsFaultInLayer, IsSound, AllSoundInLayer, AllSound};

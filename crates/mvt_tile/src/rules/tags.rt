@@ -1,7 +1,7 @@
 //! The tags of a feature (Mapbox Vector Tile Specification 2.1, section 4.4).
 ghost use Rattle.std.specs.Prelude.{◌≡◌, ◌<◌, ◌≤◌, ℕ, length, IfOk, IfNone, IfSome, Some, slice_get};
 ghost use Rattle.mvt_fault.specs.Place.{IsLeast};
-ghost use Rattle.mvt_fault.specs.Truth.{IsFaultOfTags, TagsBreak};
+ghost use Rattle.mvt_fault.specs.TrueFaults.{IsFaultOfTags, TagsBreak};
 ghost use Rattle.mvt_fault.specs.declared.fault.Fault.{Fault};
 ghost use Rattle.mvt_fault.specs.declared.tag.TagCode.{TagCode};
 ghost use Rattle.mvt_wire.specs.Tile.{FeatureRecord};

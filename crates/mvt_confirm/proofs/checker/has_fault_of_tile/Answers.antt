@@ -1,5 +1,5 @@
 use Rattle.std.proofs.Common.{length}
-use Rattle.mvt_fault.specs.Truth.{TagsBreak}
+use Rattle.mvt_fault.specs.TrueFaults.{TagsBreak}
 use Rattle.mvt_wire.specs.Rules.{OtherVersion, SameName}
 use Rattle.mvt_confirm.proofs.ShownByCases.{of_tile, of_feature, no_wire, of_polygon, any_of_polygon}
 use Rattle.mvt_confirm.proofs.checker.has_fault_of_tile.Goals as goal

@@ -1,5 +1,5 @@
 use Rattle.std.proofs.Common.{◌≡◌, ◌↔◌, ℕ, Bool, IsTrue, List, length, sym, subst}
-use Rattle.mvt_fault.specs.Truth.{TagsBreak}
+use Rattle.mvt_fault.specs.TrueFaults.{TagsBreak}
 use Rattle.mvt_fault.specs.declared.tag.TagCode.{TagCode}
 use Rattle.mvt_fault.specs.declared.tag.TagCode.TheVariants.{OddLength, NoKey, NoValue, Repeated}
 use Rattle.mvt_wire.specs.Rules.{IsFeatureOf}

@@ -3,7 +3,7 @@ use Rattle.std.proofs.lemmas.Result.{IfErr-at_err, IfOk-at_ok}
 use Rattle.mvt_wire.specs.Field.{entry_of}
 use Rattle.mvt_wire.specs.declared.schema.Message.TheVariants.{Tile}
 use Rattle.mvt_fault.specs.Place.{IsLeast}
-use Rattle.mvt_fault.specs.Truth.{IsWireFault}
+use Rattle.mvt_fault.specs.TrueFaults.{IsWireFault}
 use Rattle.mvt_tile.proofs.TileWalk.{TileWalk-placed, TileWalk-more, TileWalk-fault, TileWalk-defect, TileWalk-own, TileWalk-layers}
 use Rattle.mvt_tile.proofs.Walking.{IsScanning-nothing}
 use Rattle.mvt_tile.proofs.wire.wire_fault.Goals as goal
