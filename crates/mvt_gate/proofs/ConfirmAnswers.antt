@@ -22,11 +22,11 @@ one_answer input claimed Yes No line other a b = absurd (b.2 (same_fault input c
 one_answer input claimed No Yes line other a b = absurd (a.2 (same_fault input claimed b.0 a.0 b.1 a.1 b.2))
 one_answer input claimed No No line other a b = (refl, a.3 ∙ sym b.3)
 
--- a text is refused for the reason that is told, if that isn't want of memory
-pub reason_told : (claim : List ℕ) (error : FaultTextError) (read : Result Fault FaultTextError) → read ≡ Err error
+-- a text is refused for the reason that is given, if that isn't want of memory
+pub reason_given : (claim : List ℕ) (error : FaultTextError) (read : Result Fault FaultTextError) → read ≡ Err error
     → (read ≢ Err Memory → (read ≡ Err Json) ↔ IsNoJson claim) → (read ≢ Err Memory → (read ≡ Err Shape) ↔ HasOtherShape claim)
     → (read ≢ Err Memory → (read ≡ Err Range) ↔ HasOtherRange claim) → error ≢ Memory → IsRefusedClaim claim error
-reason_told claim Json read is json shape range other = (json (λ same. other (cc (is, same)))).0 is
-reason_told claim Shape read is json shape range other = (shape (λ same. other (cc (is, same)))).0 is
-reason_told claim Range read is json shape range other = (range (λ same. other (cc (is, same)))).0 is
-reason_told claim Memory read is json shape range other = absurd (other refl)
+reason_given claim Json read is json shape range other = (json (λ same. other (cc (is, same)))).0 is
+reason_given claim Shape read is json shape range other = (shape (λ same. other (cc (is, same)))).0 is
+reason_given claim Range read is json shape range other = (range (λ same. other (cc (is, same)))).0 is
+reason_given claim Memory read is json shape range other = absurd (other refl)

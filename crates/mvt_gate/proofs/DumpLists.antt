@@ -16,7 +16,7 @@ abbrev pub has_none : List Data → Bool
 has_none [] = true
 has_none (d ∷ ds) = false
 
--- the bracket and these members stand behind a text
+-- the bracket and these members are behind a text
 pub record ListsMembers (old new : List ℕ) (ds : List Data) (is_first : Bool) : Type 0 where
   pub written : new ≡ old ++ (91 ∷ members_text false ds)
   pub first : is_first ≡ has_none ds
@@ -29,7 +29,7 @@ closed later (d ∷ ds) =
     ∙ sym (append_assoc (comma_if later) (compact_text d ++ members_text true ds) (93 ∷ [])
     ∙ ap (λ rest. comma_if later ++ rest) (append_assoc (compact_text d) (members_text true ds) (93 ∷ [])))
 
--- one more member behind those that some stand before
+-- one more member behind others
 later_push : (ds : List Data) (d : Data) → members_text true (ds ++ d ∷ []) ≡ members_text true ds ++ (44 ∷ compact_text d)
 later_push [] d = ap (λ rest. 44 ∷ rest) (append-nil (compact_text d))
 later_push (one ∷ ds) d =

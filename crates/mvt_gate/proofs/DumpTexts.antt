@@ -28,11 +28,11 @@ pub braced : {E : Type 0} (result : Result (Unit {0}) E) (t0 t1 t2 t3 opening co
 braced (Ok unit) t0 t1 t2 t3 opening content opened written closed = rw (closed, written, opened) (simp append_assoc)
 braced (Err error) t0 t1 t2 t3 opening content opened written closed = tt
 
--- the text of a list whose members are told by other records
-pub told_list : {A B : Type 0} (data_of : B → Data) (tell : A → B) (list all : List A) → list ≡ all
-    → compact_text (list_data (λ member. data_of (tell member)) list) ≡ compact_text (list_data data_of (map tell all))
-told_list data_of tell list all same =
-    ap (λ (ds : List Data). compact_text (array (items_of ds))) (ap (map (λ member. data_of (tell member))) same ∙ sym (map-map data_of tell all))
+-- the text of a list whose members have records of their own
+pub recorded_list : {A B : Type 0} (data_of : B → Data) (record_of : A → B) (list all : List A) → list ≡ all
+    → compact_text (list_data (λ member. data_of (record_of member)) list) ≡ compact_text (list_data data_of (map record_of all))
+recorded_list data_of record_of list all same =
+    ap (λ (ds : List Data). compact_text (array (items_of ds))) (ap (map (λ member. data_of (record_of member))) same ∙ sym (map-map data_of record_of all))
 
 -- the text of a whole number with its sign
 pub signed_text : (z : ℤ) → compact_text (signed z) ≡ signed_decimal z

@@ -43,7 +43,7 @@ one_fault kind numbers code other index place bad its =
     one_command_fault bad.0 numbers code other index place bad.2
     (subst (λ (geometry_type : GeometryType). HasCommandFault geometry_type numbers other place) same its.2)
 
--- so it comes before all that a feature may have beside it
+-- so it comes before all other faults that a feature may have
 before_commands : (it : FeatureRecord) (layer feature : ℕ) (code : CommandCode) (index : ℕ) (other : Fault) → BreaksCommands it.kind it.geometry (command_code code) index → IsFaultOfGeometry it layer feature other
     → ComesFirst (place_of (Command code layer feature index)) (place_of other)
 before_commands it layer feature code index other bad (command its_code place its) =
@@ -72,7 +72,7 @@ by_ring number code place other (inr same) = elim (cases_lt code other) [
   | inr more ↦ inr (same.0, inr (omega arith, ComesFirst-reflexive (0 ∷ 0 ∷ 0 ∷ 0 ∷ [])))
 ]
 
--- the first ring with a fault of its own comes before all that a feature has beside it
+-- the first ring with a fault of its own comes before all other faults of its feature
 before_rings : (it : FeatureRecord) (layer feature : ℕ) (parts : List (List Position)) (found : RingFault) (other : Fault) → HasRings it.kind it.geometry parts → IsFirstRingFault parts found → IsFaultOfGeometry it layer feature other
     → ComesFirst (place_of (Ring found.code layer feature found.ring)) (place_of other)
 before_rings it layer feature parts found other has least (command its_code place its) = absurd (no_command_fault it parts (command_code its_code) place has its)

@@ -6,8 +6,8 @@ pub mod DumpTexts
 pub mod EngineLemmas
 pub mod FeatureGeometries
 pub mod FieldsAnswers
+pub mod FieldsLineWalk
 pub mod FirstFaults
-pub mod Listing
 pub mod PolygonFaults
 pub mod PolygonParts
 pub mod PolygonPlaces

@@ -76,7 +76,7 @@ by_polygon layer feature polygon number xs ys most behind = elim (cases_lt polyg
 abbrev no_more : List ℕ
 no_more = 0 ∷ 0 ∷ 0 ∷ 0 ∷ 0 ∷ []
 
--- a meeting in the first polygon that isn't valid comes before all that its feature has beside it
+-- a meeting in the first polygon that isn't valid comes before all other faults of its feature
 before_meeting : (it : FeatureRecord) (layer feature : ℕ) (parts : List (List Position)) (polygon : ℕ) (other : Fault) → HasRings it.kind it.geometry parts → ArePolygonRings parts → AreValidBefore parts polygon
     → IsFaultOfGeometry it layer feature other → ComesFirst (2 ∷ layer ∷ feature ∷ 3 ∷ polygon ∷ no_more) (place_of other)
 before_meeting it layer feature parts polygon other has sound valid (command code index bad) = absurd (no_command_fault it parts (command_code code) index has bad)
@@ -110,7 +110,7 @@ pub record IsFirstHole (parts : List (List Position)) (its : PolygonRings) (plac
   pub outside : (hole vertex : ℕ) → IsOutside parts its hole vertex → ComesFirst place (hole ∷ vertex ∷ 505 ∷ 0 ∷ [])
   pub in_hole : (hole vertex other : ℕ) → IsInHole parts its hole vertex other → ComesFirst place (hole ∷ vertex ∷ 506 ∷ other ∷ [])
 
--- the first such vertex of the first polygon that isn't valid comes before all that its feature has beside it
+-- the first such vertex of the first polygon that isn't valid comes before all other faults of its feature
 before_hole : (it : FeatureRecord) (layer feature : ℕ) (parts : List (List Position)) (polygon : ℕ) (its : PolygonRings) (place : List ℕ) (other : Fault) → HasRings it.kind it.geometry parts → IsPolygonOf parts polygon its
     → AreValidBefore parts polygon → AreApart parts its → IsFirstHole parts its place → IsFaultOfGeometry it layer feature other → ComesFirst (2 ∷ layer ∷ feature ∷ 3 ∷ polygon ∷ 1 ∷ place) (place_of other)
 before_hole it layer feature parts polygon its place other has of_it valid apart least (command code index bad) = absurd (no_command_fault it parts (command_code code) index has bad)

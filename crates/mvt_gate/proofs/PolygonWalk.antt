@@ -11,7 +11,7 @@ use Rattle.mvt_plane.specs.Ring.{ArePolygonRings}
 use Rattle.mvt_gate.specs.Polygons.{AreValidBefore}
 
 -- The polygons before that of this number were passed, and all of them are valid. They are those that begin before this
--- ring, which is the exterior of the polygon of this number, or stands behind the last ring.
+-- ring, which is the exterior of the polygon of this number, or is behind the last ring.
 pub record HasPassed (rings : List (List Position)) (polygon exterior : ℕ) : Type 0 where
   pub count : polygon ≤ exterior
   pub within : exterior ≤ length rings

@@ -26,7 +26,7 @@ signed (negsuc n) = number (negative (negsuc n))
 abbrev pub keyed : List ℕ → Data → Data
 keyed key content = object (member key content no_members)
 
--- a value: its kind is the key; the bytes of floats stand in their order, in lower case hexadecimal
+-- a value: its kind is the key; the bytes of floats are in their order, in lower case hexadecimal
 abbrev pub value_data : ValueRecord → Data
 value_data (text bytes) = keyed (codes "string") (string bytes)
 value_data (float bytes) = keyed (codes "float") (string (encode_lower bytes))

@@ -37,11 +37,11 @@ pub record IsClean {T : Type 0} (t : Tally T) (others : ℕ) : Type 0 where
   pub failed : (counts_of t).failed ≡ 0
   pub patient : (counts_of t).interrupted + others ≤ interruption_limit
 
--- the fault is one of a second input, which is to tell a fault
+-- the fault is one of a second input, which is to be the text of a fault
 abbrev pub IsOfClaim : EngineFault → Type 0
 IsOfClaim fault = (fault ≡ NotJson) ⊎ (fault ≡ NotAFault) ⊎ (fault ≡ FaultRange)
 
--- An engine is told by its answers: which outcome and which line answer an input.
+-- An engine is described by its answers: which outcome and which line answer an input.
 
 -- the engine read its whole input, and the line of an answer to it went out, once and whole
 pub record Answers {R W : Type 0} (IsAnswer : List ℕ → Outcome → List ℕ → Type 0)

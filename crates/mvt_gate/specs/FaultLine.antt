@@ -1,4 +1,4 @@
--- The line that tells a fault.
+-- The line of a fault.
 use Rattle.std.specs.Prelude.{ℕ, List, ◌++◌, codes}
 use Rattle.mvt_fault.specs.Text.{text_of}
 use Rattle.mvt_fault.specs.declared.fault.Fault.{Fault}

@@ -27,7 +27,7 @@ content_text at field_number (four_bytes part) = payload_text at 4 field_number 
 abbrev pub field_text : Entry → List ℕ
 field_text entry = content_text entry.at entry.number entry.content
 
--- what stands before the first field
+-- what is before the first field
 abbrev pub opening : List ℕ
 opening = codes "{\"fields\":["
 

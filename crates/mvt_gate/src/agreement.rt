@@ -21,7 +21,7 @@ pub struct Agreement {
     pub is_other_confirmed: bool,
 }
 
-/// Judges the bytes, and asks the separate checker about the fault of the verdict and about any other fault.
+/// Judges the bytes, and calls `confirm`, the separate checker, on the fault of the verdict and on any other fault.
 /// Its contract is the promise of the gate, for every byte string and every fault: the judge says Yes exactly
 /// where the bytes are a valid tile (Mapbox Vector Tile Specification 2.1, section 4, by the rules that `judge`
 /// names), and otherwise No with a fault that the checker accepts, the one of least place of all that are true

@@ -17,7 +17,7 @@ use std::io::{Read, Write};
 /// layer, no key twice in a feature (section 4.4), whose geometry draws a figure of the feature's
 /// type where that is known (section 4.3), and whose rings are those of polygons of which no two edges
 /// cross or touch and whose holes are inside their exterior and not inside each other (section 4.3.4.4;
-/// `judge` says it whole); or else the JSON text of its first fault. `Read` and `Write` come only where
+/// `judge` has the full rules); or else the JSON text of its first fault. `Read` and `Write` come only where
 /// a device failed or the devices were interrupted too often, and `TooLarge` only where the input is too
 /// large, as the counts show. The only other error is `Memory`.
 pub fn check_stream<R: Read, W: Write>(

@@ -15,7 +15,7 @@ use std::alloc::{AllocError, Global};
 use std::io::{Read, Write};
 
 /// Reads a whole tile and then a whole fault text, each of at most 67,108,864 bytes, and writes whether
-/// the fault is true of the tile's bytes (`mvt_confirm::confirm` says it whole), as the line
+/// the fault is true of the tile's bytes (`mvt_confirm::confirm` has the full rules), as the line
 /// `{"confirmed":true}` or `{"confirmed":false}` with one LF. `Read` and `Write` come only where a device
 /// failed or the devices were interrupted too often, and `TooLarge` only where an input is too large, as the
 /// counts show; `NotJson`, `NotAFault` and `FaultRange` come only where the text is none of a fault. The only

@@ -1,4 +1,4 @@
-//! A device for tests: a reader and a writer over memory that misbehaves as it is told. And bytes for it.
+//! A device for tests: a reader and a writer over memory, which can be set to fail. And bytes for it.
 use std::alloc::Global;
 use std::io;
 use std::io::{ErrorKind, Read, Write};

@@ -23,7 +23,7 @@ pub const INPUT_LIMIT: usize = 67_108_864;
 /// How many interruptions an engine allows, those of all its devices together.
 pub const INTERRUPTION_LIMIT: u64 = 1_000;
 
-/// How many bytes one read asks for.
+/// The most bytes of one read.
 const CHUNK_LENGTH: usize = 65_536;
 
 /// What the line of an engine says.

@@ -16,7 +16,7 @@ use std::alloc::{AllocError, Global};
 /// The first fault of the rings that the geometry of a feature draws, or None where they are those of valid
 /// polygons: faults that rings have of their own come first, and then those of the polygons, one polygon
 /// after another. `layer` and `feature` are the ordinals of the layer in its tile and of the feature in its
-/// layer, for the fault to tell. The only error is that memory was refused.
+/// layer, which the fault reports. The only error is that memory was refused.
 pub(crate) fn rings_fault(
     alloc: Global,
     rings: &[Vec<Point>],
@@ -72,7 +72,7 @@ fn polygons_fault(
     Ok(None)
 }
 
-/// Where a polygon is: the ordinals that its faults tell, and its rings.
+/// Where a polygon is: the ordinals that its faults report, and its rings.
 #[derive(Clone, Copy)]
 struct PolygonPlace {
     /// The ordinal of the layer in the tile.

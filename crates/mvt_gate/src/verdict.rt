@@ -32,7 +32,7 @@ pub enum Verdict {
 /// their vertex; so its rings may not touch either, not even in one vertex. Each vertex of a hole is inside
 /// the exterior, and inside no other hole of its polygon.
 ///
-/// Edges are tested at most three times for each vertex of their polygon, and the work that is counted beside grows as
+/// Edges are tested at most three times for each vertex of their polygon, and the other work that is counted grows as
 /// n log n with the number n of its vertices, also where it has many holes. The only error is that memory was refused.
 pub fn judge(alloc: Global, bytes: &[u8]) -> Result<Verdict, AllocError>
     ensures verdict { IfOk result (IsVerdict bytes.now) }

@@ -216,7 +216,7 @@ split_of_all answers edges own part passed there_point all_point behind found em
       ];
     }
 
--- the edges beside it, both in the node
+-- the edges in front of it and behind it, both in the node
 pub beside_in_node : (answers : ℕ → Bool → Type 0) (edges own part : List ℕ) (passed there_point all_point in_front_of next : ℕ) (behind : Option ℕ) → IsSearched answers edges own part passed behind → part ≡ []
     → 0 < there_point → there_point < length own → all_point ≡ passed - (length own - there_point) → in_front_of ≡ slice_index own (there_point - 1) → next ≡ slice_index own there_point
     → AreBeside edges (record { point = all_point; front = Some in_front_of; behind = Some next })

@@ -47,7 +47,7 @@ enum Engine {
     Dump,
 }
 
-/// What the words ask for.
+/// The call that the words make.
 #[derive(Clone, Copy)]
 enum Call<'a> {
     /// An engine on a tile, of a file or of standard input.
@@ -164,7 +164,7 @@ fn confirm_command<'a>(alloc: Global) -> Result<Command<'a>, AllocError> {
         .arg(fault)
 }
 
-/// What the words ask for, and the files that they name.
+/// The call that the words make, and the files that they name.
 fn call_of<'a>(matches: &ArgMatches<'a>) -> Option<Call<'a>> {
     let (name, found) = matches.subcommand()?;
     let file = found.get_str("FILE");

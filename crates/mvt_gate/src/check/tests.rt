@@ -231,7 +231,7 @@ const FAULTS: [(&str, &str); 58] = [
         "1a 25 78 02 0a 01 61 12 1e 18 03 22 1a 09 00 a0 01 1a c8 01 9f 01 00 c8 01 9f 01 b3 01 0f 09 13 64 12 28 13 00 09 0f",
         r#"{"code":504,"feature":0,"first":{"edge":0,"ring":0},"layer":0,"polygon":0,"second":{"edge":2,"ring":0},"w":"15400","x":"740000","y":"640000"}"#,
     ),
-    // a hole beside its exterior, and one inside another
+    // a hole outside its exterior, and one inside another
     (
         "1a 21 78 02 0a 01 61 12 1a 18 03 22 16 09 00 00 1a 14 00 00 14 13 00 0f 09 28 13 1a 00 14 14 00 00 13 0f",
         r#"{"code":505,"feature":0,"layer":0,"polygon":0,"ring":1,"vertex":0}"#,
@@ -296,8 +296,8 @@ const FAULTS: [(&str, &str); 58] = [
     ),
 ];
 
-/// What `judge` says, as the line tells it.
-fn told(rt: &HostRuntime, verdict: Verdict) -> Result<String, Fail> {
+/// The line of what `judge` says.
+fn line_of(rt: &HostRuntime, verdict: Verdict) -> Result<String, Fail> {
     Ok(match verdict {
         Verdict::Yes => String::from_str(rt.alloc(), OK)?,
         Verdict::No(fault) => fault_text(rt.alloc(), &fault)?,
@@ -333,7 +333,7 @@ fn is_answer(rt: &HostRuntime, text: &str, line: &str) -> Result<bool, Fail> {
     let whole = format!(in rt.alloc(); "{line}\n")?;
     Ok(
         is_agreed
-            && told(rt, verdict)?.as_str() == line
+            && line_of(rt, verdict)?.as_str() == line
             && (outcome == Outcome::Yes) == (line == OK)
             && sink.taken.as_slice() == whole.as_bytes(),
     )

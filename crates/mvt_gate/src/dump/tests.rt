@@ -49,11 +49,11 @@ fn is_answer(rt: &HostRuntime, bytes: &[u8], outcome: Outcome, line: &str) -> Re
 fn dumps_a_tile(rt: HostRuntime) -> Result<(), Fail> {
     for (text, dump) in DUMPS {
         let bytes = bytes_of(&rt, text)?;
-        let told = match read_tile(rt.alloc(), &bytes) {
+        let shown = match read_tile(rt.alloc(), &bytes) {
             Ok(tile) => dump_text(rt.alloc(), &tile)?,
             Err(_fault) => String::from_str(rt.alloc(), "no tile")?,
         };
-        assert_eq!(rt; told.as_str(), dump);
+        assert_eq!(rt; shown.as_str(), dump);
         assert!(rt; is_answer(&rt, &bytes, Outcome::Yes, dump)?, "for {text}");
     }
     Ok(())

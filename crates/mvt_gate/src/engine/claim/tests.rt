@@ -30,7 +30,7 @@ const ENDLESS: Manner = Manner {
     ..CALM
 };
 
-/// To tell whether a claim repeats the tile.
+/// Whether a claim repeats the tile.
 struct Compare;
 
 impl ClaimTask for Compare {

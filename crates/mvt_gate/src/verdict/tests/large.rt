@@ -53,7 +53,7 @@ fn tile_of(rt: &HostRuntime, combs: &Combs) -> Result<Vec<u8>, Fail> {
 }
 
 // In two minutes by the clock. (`rt ci` and `rt test` end a test after one minute, which fails it too, but `rt test`
-// can be told to wait longer. `rt try --test` needs minutes for this, so it fails there.)
+// can be set to wait longer. `rt try --test` needs minutes for this, so it fails there.)
 #[test]
 fn judges_combs_of_many_teeth(rt: HostRuntime) -> Result<(), Fail> {
     for combs in &COMBS {

@@ -1,7 +1,7 @@
 use Rattle.std.proofs.Common.{◌++◌, ◌∷◌, []}
 use Rattle.std.proofs.lemmas.Result.{IfErr-at_err, IfOk-at_ok}
 use Rattle.mvt_wire.specs.Field.{entry_of}
-use Rattle.mvt_gate.proofs.Listing.{Passing-defect, Passing-more}
+use Rattle.mvt_gate.proofs.FieldsLineWalk.{Passing-defect, Passing-more}
 use Rattle.mvt_gate.proofs.fields.defect.first_defect.Goals as goal
 
 pub walk-preserved : goal.walk-preserved

@@ -1,6 +1,6 @@
 use Rattle.std.proofs.Common.{List, ◌-◌, length}
 use Rattle.mvt_wire.specs.Field.{Entry}
-use Rattle.mvt_gate.proofs.Listing.{Passing}
+use Rattle.mvt_gate.proofs.FieldsLineWalk.{Passing}
 use Rattle.mvt_gate.proofs.fields.defect.first_defect.Given as goal
 
 abbrev pub invariant-walk : goal.invariant-walk

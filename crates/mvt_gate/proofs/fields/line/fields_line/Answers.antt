@@ -1,7 +1,7 @@
 use Rattle.std.proofs.Common.{string_bytes}
 use Rattle.std.proofs.lemmas.Result.{IfErr-at_err, IfOk-at_ok}
 use Rattle.mvt_wire.specs.Field.{entry_of}
-use Rattle.mvt_gate.proofs.Listing.{Listing-more, Listing-whole}
+use Rattle.mvt_gate.proofs.FieldsLineWalk.{Listing-more, Listing-whole}
 use Rattle.mvt_gate.proofs.fields.line.fields_line.Goals as goal
 
 pub unreachable-requires : goal.unreachable-requires

@@ -1,5 +1,5 @@
 use Rattle.std.proofs.Common.{◌-◌, length, string_bytes}
-use Rattle.mvt_gate.proofs.Listing.{Listing}
+use Rattle.mvt_gate.proofs.FieldsLineWalk.{Listing}
 use Rattle.mvt_gate.proofs.fields.line.fields_line.Given as goal
 
 abbrev pub invariant-walk : goal.invariant-walk
