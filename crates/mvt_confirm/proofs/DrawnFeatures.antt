@@ -75,7 +75,7 @@ module _ (bytes : List ℕ) (layer feature : ℕ) where
 
   module _ (place : FeaturePlace) (test : Bool) (stands : StandsThere place)
       (tells : (it : FeatureRecord) → IsFeatureAt place it → IsTrue test ↔ ((rings : List (List Position)) × HasRings it.kind it.geometry rings)) where
-    -- a feature of which it is told that it draws rings
+    -- a feature that draws rings, by the test
     pub draws_told : IsTrue test → DrawsThere place
     draws_told holds = λ tile is.
         let found = stands tile is in

@@ -1,4 +1,4 @@
--- Where two edges meet wrongly, told by their own numbers and ends.
+-- Where two edges meet wrongly, by their numbers and ends.
 use Rattle.std.proofs.Common.{◌≡◌, ◌≢◌, ◌↔◌, ℕ, Bool, IsTrue, eqb, ◌&&◌, List, slice_get, Some, sym, ◌∙◌, ap, ap₂, subst, arith}
 use Rattle.std.proofs.lemmas.Bool.Decides.{nat_tests}
 use Rattle.std.proofs.lemmas.Option.{same_Some}
@@ -124,7 +124,7 @@ meeting_in_order {Found} {Ordered} rings first second made point same ordered bo
     let moved = subst (λ (at : RationalPoint). Found ↔ MeetsWrongly rings first second at) same meets in
     (λ found. (ordered, bounded, moved.0 found), λ all. moved.1 all.2)
 
--- a test that tells these tells where the edges meet wrongly
+-- a test that decides this decides where the edges meet wrongly
 pub meeting_by_tests : {Found : Type 0} (rings : List (List Position)) (first second : NumberedEdge) (vertex_count : ℕ) (point : RationalPoint) → AreEdgesOf rings first second vertex_count
     → Found ↔ AreApartAt first second vertex_count point → Found ↔ MeetsWrongly rings (number_of first.number) (number_of second.number) point
 meeting_by_tests {Found} rings first second vertex_count point are found =

@@ -1,4 +1,4 @@
--- Vertices of holes that aren't where they should be, told by tests whether they are inside other rings.
+-- Vertices of holes that aren't where they should be, by tests whether they are inside other rings.
 use Rattle.std.proofs.Common.{◌≡◌, ◌≢◌, ◌↔◌, ℕ, Bool, not, IsTrue, List, slice_get, Some, sym, ◌∙◌, ap, subst}
 use Rattle.std.proofs.lemmas.Bool.Decides.{Decides-not}
 use Rattle.std.proofs.lemmas.Option.{same_Some}
@@ -57,7 +57,7 @@ test_by_outside rings polygon ring vertex exterior position inside hole here tel
     let same : position ≡ is.outside.position = one_position rings ring vertex position is.outside.position here is.outside.here in
     is.outside.outside (subst (λ (at : Position). IsInside at is.outside.exterior) same ((tells is.outside.exterior there).0 within))
 
--- so the test tells
+-- so the test decides whether a vertex of a hole is outside the exterior
 pub outside_told : (rings : List (List Position)) (polygon ring vertex exterior : ℕ) (position : Position) (inside : Bool) → ArePolygonRings rings → IsHoleRound rings polygon ring exterior
     → IsVertexOf rings ring vertex position → TellsInside rings exterior position inside → IsTrue (not inside) ↔ IsVertexOutside rings polygon ring vertex
 outside_told rings polygon ring vertex exterior position inside sound hole here tells =
@@ -96,7 +96,7 @@ test_by_in_hole rings polygon ring vertex other position inside here tells is =
     let same : is.inside.position ≡ position = one_position rings ring vertex is.inside.position position is.inside.here here in
     (tells is.inside.around is.inside.there).1 (subst (λ (at : Position). IsInside at is.inside.around) same is.inside.inside)
 
--- so the test tells
+-- so the test decides whether a vertex of a hole is inside another hole
 pub in_hole_told : (rings : List (List Position)) (polygon ring vertex other : ℕ) (position : Position) (inside : Bool) → ArePolygonRings rings → ring ≢ other → IsHole rings polygon ring
     → IsHole rings polygon other → IsVertexOf rings ring vertex position → TellsInside rings other position inside → IsTrue inside ↔ IsVertexInHole rings polygon ring vertex other
 in_hole_told rings polygon ring vertex other position inside sound different hole other_hole here tells = (

@@ -58,13 +58,13 @@ counted_by_edges rings number vertices ring count there its is =
 abbrev MeetsInOrder : List (List Position) → RingEdge → RingEdge → RationalPoint → Type 0
 MeetsInOrder rings first second point = ComesBefore (number_of first) (number_of second) × IsBounded point × MeetsWrongly rings (number_of first) (number_of second) point
 
--- what is told of two edges that are there, of which the first one's ring is counted
+-- a test of two edges that exist, with the number of vertices of the first one's ring, decides whether they meet wrongly
 abbrev IsTold : Type 0 → List (List Position) → NumberedEdge → NumberedEdge → ℕ → RationalPoint → RingEdge → RingEdge → Type 0
 IsTold Found rings one other count point first second =
     IsEdgeOf rings (number_of first) one.edge → IsEdgeOf rings (number_of second) other.edge → ((ring : List Position) → slice_get rings first.ring ≡ Some ring → length ring ≡ count)
     → Found ↔ MeetsInOrder rings first second point
 
--- it is told of the edges by the numbers that they are found by
+-- it decides so for the numbers by which the edges were found
 pub told_by_numbers : {Found : Type 0} (rings : List (List Position)) (one other : NumberedEdge) (count : ℕ) (point : RationalPoint) (first second : RingEdge) → one.number ≡ first → other.number ≡ second
     → (AreEdgesOf rings one other count → Found ↔ MeetsInOrder rings one.number other.number point) → IsTold Found rings one other count point first second
 told_by_numbers {Found} rings one other count point first second is_first is_second told =

@@ -104,16 +104,6 @@ module _ (bytes : List ℕ) (outer : Span) (field_number ordinal : ℕ) where
   IsSearching-over old new passed None so_far over = λ span. none_last old new passed span so_far over
   IsSearching-over old new passed (Some stretch) so_far over = tt
 
--- what holds anyway
-pub IfNone-anyway : {T : Type 0} (found : Option T) (P : Type 0) → P → IfNone found P
-IfNone-anyway None P holds = holds
-IfNone-anyway (Some x) P holds = tt
-
--- what follows
-pub IfNone-weaker : {T : Type 0} (found : Option T) (P Q : Type 0) → (P → Q) → IfNone found P → IfNone found Q
-IfNone-weaker None P Q follows holds = follows holds
-IfNone-weaker (Some x) P Q follows holds = tt
-
 -- the one stretch of a layer decides of its messages
 pub one_layer : (bytes : List ℕ) (layer field_number ordinal : ℕ) (span found : Span) → IsPart bytes (whole_span bytes) 3 layer found → ((part : Span) → ¬ IsPart bytes found field_number ordinal part)
     → (outer : Span) → IsPart bytes (whole_span bytes) 3 layer outer → ¬ IsPart bytes outer field_number ordinal span

@@ -22,7 +22,7 @@ IsMember rings polygon ring = (it : PolygonRings) × IsPolygon rings polygon it 
 abbrev pub IsHole : List (List Position) → ℕ → ℕ → Type 0
 IsHole rings polygon ring = (it : PolygonRings) × IsPolygon rings polygon it × IsHoleOf it ring
 
--- a test that fails tells what isn't so
+-- a claim that fails is decided by a test that fails
 pub test_fails : {Claim : Type 0} (test : Bool) → test ≡ false → ¬ Claim → IsTrue test ↔ Claim
 test_fails {Claim} test fails none = (λ holds. absurd (cc), λ claim. absurd (none claim))
 
@@ -47,16 +47,16 @@ exterior_in rings polygon it is = let further = is.further in record { from = om
 pub hole_in : (it : PolygonRings) (ring : ℕ) → IsHoleOf it ring → IsRingOf it ring
 hole_in it ring hole = let behind = hole.behind in record { from = omega arith; before = hole.before }
 
--- A ring whose place is told
+-- A ring whose place among the polygons is known
 
--- is one of the polygon that is told, and of no other
+-- is one of the polygon of that place, and of no other
 pub told_by_place : (rings : List (List Position)) (polygon ring : ℕ) (place : RingPlace) → IsPlaceOf rings ring place → IsTrue (place.polygon == polygon) ↔ IsMember rings polygon ring
 told_by_place rings polygon ring place is = (
   λ same. (is.polygon_rings, subst (λ (number : ℕ). IsPolygon rings number is.polygon_rings) ((Decides-eqb place.polygon polygon).0 same) is.there, is.of),
   λ member. (Decides-eqb place.polygon polygon).1 (one_polygon rings ring place.polygon polygon is.polygon_rings member.0 is.there is.of member.1 member.2).0,
 )
 
--- is a hole where it isn't the exterior that is told
+-- is a hole where it isn't the exterior of that place
 pub hole_by_place : (rings : List (List Position)) (polygon ring : ℕ) (place : RingPlace) → IsPlaceOf rings ring place → place.polygon ≡ polygon → place.exterior ≢ ring
     → (it : PolygonRings) × IsPolygon rings polygon it × IsHoleOf it ring × (it.exterior ≡ place.exterior)
 hole_by_place rings polygon ring place is same other =

@@ -31,13 +31,13 @@ rest_at xs rest i x is =
     let same : get_or xs i x ≡ x = cc in
     (within, read ∙ ap Some same, (cc))
 
--- the ring of this number, of which this is told
+-- the ring of this number has this measure
 pub record IsToldOf (rings : List (List Position)) (number : ℕ) (measure : Measure) : Type 0 where
   pub ring : List Position
   pub there : slice_get rings number ≡ Some ring
   pub told : IsMeasured ring measure
 
--- what a step gives is told of the next of them
+-- the measure that a step gives is that of the next ring
 pub next_passed : (rings : List (List Position)) (old new : CornerWalk) (passed : ℕ) (measure : Measure) → HavePassed rings old passed → GivesRing old new measure
     → IsToldOf rings passed measure × HavePassed rings new (passed + 1)
 next_passed rings old new passed measure so_far given =
@@ -55,7 +55,7 @@ all_passed rings walk passed so_far ends =
     let within = so_far.within in
     omega (arith, length-drop passed rings, ap length empty)
 
--- Answers that are told apart by a test
+-- Options whose case a test decides
 
 -- there is one
 pub where_some : {X : Type 0} (found : Option X) (P : X → Type 0) → is_some found ≡ true → IfSome found P → (x : X) × P x
@@ -68,7 +68,7 @@ where_some (Some x) P is holds = (x, holds)
 pub same_ring : (rings : List (List Position)) (number : ℕ) (ring other : List Position) → slice_get rings number ≡ Some ring → slice_get rings number ≡ Some other → ring ≡ other
 same_ring rings number ring other here there = cc
 
--- what is told of a ring says whether it has a fault: it ends at its beginning
+-- the measure of a ring decides whether the ring ends at its beginning
 pub ends_told : (rings : List (List Position)) (number : ℕ) (measure : Measure) → IsToldOf rings number measure → IsTrue measure.is_closed ↔ EndsAtItsBeginning rings number
 ends_told rings number measure is = (
   λ holds.

@@ -28,7 +28,7 @@ pub data IsCounted (rings : List (List Position)) (number exteriors last : ℕ) 
 pub none_counted : (rings : List (List Position)) (last : ℕ) → IsCounted rings 0 0 last
 none_counted rings last = none_yet refl (none_in_nothing rings 0)
 
--- what is told of a ring says whether it is an exterior
+-- the measure of a ring decides whether the ring is an exterior
 exterior_told : (rings : List (List Position)) (number : ℕ) (measure : Measure) → IsToldOf rings number measure → (pos 0 <ℤ measure.twice_area) ↔ IsExterior rings number
 exterior_told rings number measure is = (
   λ positive. record { ring = is.ring; there = is.there; positive = subst (λ area. pos 0 <ℤ area) is.told.area positive },

@@ -109,7 +109,7 @@ closed_where first ring answer told = (
       told.1 (cc (last, closed.first, closed.last)),
 )
 
--- then it is told of it
+-- then the walk gives the measure of this ring
 pub ring_told : (rings : List (List Position)) (walk : CornerWalk) (first last : Position) (area whole : ℤ) (answer : Bool) → IsAmidRing rings walk first last true area
     → whole ≡ area +ℤ edge_area (record { a = last; b = first }) → (IsTrue answer ↔ (last ≡ first))
     → (ring : List Position) × (rest : List (List Position)) × (rings ≡ ring ∷ rest) × IsMeasured ring (record { twice_area = whole; is_closed = answer }) × RingsLeft walk rest

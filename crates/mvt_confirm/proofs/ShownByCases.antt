@@ -14,11 +14,11 @@ use Rattle.mvt_confirm.proofs.TrueFaults.{wire_faults_alone}
 use Rattle.mvt_confirm.proofs.TileFeatures.{of_this_tile, feature_of_this_tile}
 use Rattle.mvt_confirm.specs.Shows.{OfTile, OfFeature, Shows}
 
--- what a test tells of a fault that is one of a polygon
+-- a claim with the fact that the fault is one of a polygon
 pub with_polygon : {Found Is Told : Type 0} → Is → (Found ↔ Told) → Found ↔ Is × Told
 with_polygon is tells = (λ holds. (is, tells.0 holds), λ both. tells.1 both.1)
 
--- where the fault is one of a polygon, nothing but that it is true is told
+-- where the fault is one of a polygon, the test decides whether it is true
 pub of_polygon : (bytes : List ℕ) (test : Bool) (fault : Fault) → IsOfPolygon fault → (IsTrue test ↔ IsOfPolygon fault × Shows bytes fault) → IsTrue test ↔ Shows bytes fault
 of_polygon bytes test fault is_polygon tells = (λ holds. let both = tells.0 holds in both.1, λ shown. tells.1 (is_polygon, shown))
 

@@ -24,7 +24,7 @@ none_sound rings walk left = record {
   sound = λ number before code broken. omega arith;
 }
 
--- the next one has none, by what is told of it
+-- the next one has none, by its measure
 next_sound : (rings : List (List Position)) (number : ℕ) (measure : Measure) (is_first : Bool) → IsToldOf rings number measure → (IsTrue is_first ↔ (number ≡ 0)) → measure.is_closed ≡ false
     → ¬ (measure.twice_area ≡ pos 0) → ¬ (IsTrue is_first × (measure.twice_area <ℤ pos 0)) → (code : ℕ) → ¬ BreaksRings rings code number
 next_sound rings number measure is_first told first apart some no_hole code (ends_at_its_beginning is ends) = true≢false (sym ((ends_told rings number measure told).1 ends) ∙ apart)

@@ -30,7 +30,7 @@ all_passed tags walk passed so_far none =
     let within = so_far.within in
     omega (arith, length-drop passed tags, ap length empty)
 
--- the test tells whether so many are pairs, or else pairs and one more
+-- true for an even number of tags, false for an odd one
 abbrev pub IsParity : Bool → ℕ → Type 0
 IsParity true n = (pairs : ℕ) × (n ≡ 2 * pairs)
 IsParity false n = (pairs : ℕ) × (n ≡ 2 * pairs + 1)

@@ -48,7 +48,7 @@ layer_in_scope bytes tile layer span layer_record is scope there =
     let same : found.0 ≡ layer_record = cc (found.1, there) in
     subst (IsLayer bytes span) same found.2
 
--- what a test tells about the record of a scope, it tells about the feature with these ordinals
+-- what a test decides about the record of a scope, it decides about the feature with these ordinals
 pub feature_tells : (bytes : List ℕ) (tile : TileRecord) (layer feature : ℕ) (span : Span) (test : Bool) (Holds : LayerRecord → FeatureRecord → Type 0)
     → IsTile bytes tile → IsScope bytes (Feature layer feature) span
     → ((layer_record : LayerRecord) (feature_record : FeatureRecord) → IsFeatureOf tile layer feature layer_record feature_record → IsFeature bytes span feature_record

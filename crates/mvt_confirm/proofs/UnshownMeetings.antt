@@ -99,7 +99,7 @@ in_order first second different = by_ring (cases_order first.ring second.ring)
     by_ring (inr (inl before)) = inl (inl before)
     by_ring (inr (inr behind)) = inr (inl behind)
 
--- the edge of these numbers, as a fault tells it
+-- the edge with these numbers, as a fault names it
 abbrev told : EdgeNumber → RingEdge
 told number = record { ring = number.ring; edge = number.edge }
 

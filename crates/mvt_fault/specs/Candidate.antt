@@ -22,7 +22,7 @@ IsAnswerTo d (Err Memory) = ⊤
 abbrev pub HasCode : Data → ℕ → Type 0
 HasCode d n = get (codes "code") d ≡ Some (whole n)
 
--- if the value has a fault's shape, it is the object, and the fault is what the object stands for, where that is in range
+-- if the value has a fault's shape, it is the object, and the fault is the one that the object means, where that is in range
 pub record IsCandidate (d : Data) (c : Candidate) : Type 0 where
   pub only : (f : Fault) → StandsFor f d → d ≡ view c.object
   pub fault : MatchOption c.fault (IsOutOfRange (view c.object)) (λ f. StandsFor f (view c.object) × IsInRange f)

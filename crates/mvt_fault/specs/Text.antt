@@ -1,4 +1,4 @@
--- The JSON objects that stand for faults, and their texts.
+-- The JSON objects of faults, and their texts.
 use Rattle.std.specs.Fmt.{signed_decimal}
 use Rattle.std.specs.Prelude.{◌≡◌, ℕ, ◌^◌, ◌<◌, List, Some, codes, IsUtf8, ℤ, pos, neg_ℤ, ◌≤ℤ◌, ◌<ℤ◌}
 use Rattle.serde_json.specs.Data.{Data, number, unsigned, string, object, member, no_members}
@@ -167,7 +167,7 @@ IsInRange (Meeting layer feature polygon first second x y w) = HasWidth x × Has
 IsInRange (Outside layer feature polygon ring vertex) = Unit {0}
 IsInRange (HoleInHole layer feature polygon ring vertex other) = Unit {0}
 
--- the bytes are a text that stands for this fault, as JSON is read
+-- the bytes are a text of this fault, as JSON is read
 pub record Reads (bytes : List ℕ) (f : Fault) : Type 0 where
   pub utf8 : IsUtf8 bytes
   pub value : read bytes ≡ Some (data_of f)

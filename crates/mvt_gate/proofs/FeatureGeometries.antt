@@ -1,7 +1,6 @@
 -- The geometry of a feature's record, by the numbers that its readers were given.
 use Rattle.std.proofs.Common.{◌≡◌, ℕ, List, Option, Result, IfOk, IfNone, sym, ap, subst}
 use Rattle.std.proofs.lemmas.Result.{IfOk-weaker}
-use Rattle.mvt_confirm.proofs.PayloadSearch.{IfNone-weaker}
 use Rattle.mvt_confirm.proofs.ValidParts.{geometry_kept}
 use Rattle.mvt_confirm.specs.Geometry.{IsFaultOfGeometry}
 use Rattle.mvt_confirm.specs.Valid.{AreValidRings, IsValidGeometry}
@@ -15,16 +14,17 @@ use Rattle.mvt_plane.specs.Position.{Position}
 use Rattle.mvt_tile.specs.View.{feature_of, kind_number}
 use Rattle.mvt_tile.specs.declared.record.Feature.{Feature}
 use Rattle.mvt_tile.specs.declared.record.Kind.TheVariants.{Polygon}
+use Rattle.mvt_wire.proofs.NothingFound.{IfNone_then}
 use Rattle.mvt_gate.proofs.FirstFaults.{command_is_least}
 use Rattle.mvt_gate.proofs.ValidGeometries.{valid_of_rings}
 
 -- what is known where nothing is found
 abbrev WhereNone : {E : Type 0} → Result (Option Fault) E → Type 0 → Type 0
-WhereNone found Holds = IfOk found (λ it. IfNone it Holds)
+WhereNone found Holds = IfOk found (λ fault. IfNone fault Holds)
 
 -- and what follows from it
 where_none : {E : Type 0} (First Second : Type 0) (found : Result (Option Fault) E) → (First → Second) → WhereNone found First → WhereNone found Second
-where_none First Second found so = IfOk-weaker found (λ it. IfNone it First) (λ it. IfNone it Second) (λ it. IfNone-weaker it First Second so)
+where_none First Second found so = IfOk-weaker found (λ fault. IfNone fault First) (λ fault. IfNone fault Second) (λ fault none. IfNone_then fault none so)
 
 -- the rings of a feature of the type of polygons
 rings_of_feature : (feature : Feature) (numbers : List ℕ) (parts drawn : List (List Position)) → feature.kind ≡ Polygon → numbers ≡ feature.geometry.items → parts ≡ drawn → HasRings 3 numbers drawn

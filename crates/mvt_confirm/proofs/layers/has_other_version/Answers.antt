@@ -9,7 +9,7 @@ use Rattle.mvt_confirm.specs.Stretch.{as_span}
 use Rattle.mvt_confirm.proofs.TileScopes.{layer_of_scope, scope_of_layer}
 use Rattle.mvt_confirm.proofs.layers.has_other_version.Goals as goal
 
--- the test tells whether a version is another one than 2
+-- the test decides whether a version is another one than 2
 test_tells : (test : Bool) (version : ℕ) → test ≡ not (version == 2) → IsTrue test ↔ (version ≢ 2)
 test_tells test version is = elim (cases_eq version 2) [
   | inl two ↦

@@ -3,7 +3,7 @@ use Rattle.std.specs.Int.{w128}
 use Rattle.mvt_confirm.specs.Polygons.{IsPlaceOf}
 use Rattle.mvt_confirm.proofs.RingCounts.{none_passed, next_passed, all_passed}
 use Rattle.mvt_confirm.proofs.RingPlaces.{none_counted, exterior_by_bits, given_within, exterior_counted, hole_counted, counted_as, exterior_place, hole_place, hole_behind_none}
-use Rattle.mvt_confirm.proofs.PayloadSearch.{IfNone-anyway}
+use Rattle.mvt_wire.proofs.NothingFound.{IfNone-any}
 use Rattle.mvt_confirm.proofs.polygons.place_of_ring.Goals.{then-branch-gt0, else-branch-gt0}
 use Rattle.mvt_confirm.proofs.polygons.place_of_ring.Goals as goal
 
@@ -15,7 +15,7 @@ rings-init c = record {
 }
 
 pub returns-in_err-next_ring-clause-none : goal.returns-in_err-next_ring-clause-none
-returns-in_err-next_ring-clause-none c = IfNone-anyway c.from_residual.result _ (λ rings left able.
+returns-in_err-next_ring-clause-none c = IfNone-any c.from_residual.result (λ rings left able.
     let size = all_passed rings c.rings.corners c.rings.number (c.rings.invariant.passed rings left) c.in_err-next_ring.ensures.end in
     let before = c.rings-test.true in
     omega arith)
@@ -51,7 +51,7 @@ rings-preserved c =
     }
 
 pub returns-in_err-next_ring-2-clause-none : goal.returns-in_err-next_ring-2-clause-none
-returns-in_err-next_ring-2-clause-none c = IfNone-anyway c.from_residual-in_err-next_ring-2.result _ (λ rings left able.
+returns-in_err-next_ring-2-clause-none c = IfNone-any c.from_residual-in_err-next_ring-2.result (λ rings left able.
     let size = all_passed rings c.rings.corners c.rings.number (c.rings.invariant.passed rings left) c.in_err-next_ring-2.ensures.end in
     omega arith)
 
@@ -65,7 +65,7 @@ returns-then-branch-gt0-2-clause-there c = λ rings left able.
     (exterior_place rings c.rings.number c.rings.exteriors c.rings.last able (c.rings.invariant.counted rings left) (told.0 c.if-branch-gt0-2.true))
 
 pub returns-in_err-checked_sub-clause-none : goal.returns-in_err-checked_sub-clause-none
-returns-in_err-checked_sub-clause-none c = IfNone-anyway c.from_residual-in_err-checked_sub.result _ (λ rings left able.
+returns-in_err-checked_sub-clause-none c = IfNone-any c.from_residual-in_err-checked_sub.result (λ rings left able.
     let measure = c.in_ok-next_ring-2.field-0 in
     let fits : FitsSigned w128 measure.twice_area = search rules in
     let so_far = c.rings.invariant.passed rings left in

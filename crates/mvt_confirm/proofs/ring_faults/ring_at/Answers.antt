@@ -1,7 +1,7 @@
 use Rattle.std.proofs.Common.{refl, sym, true≢false, arith}
 use Rattle.std.proofs.lemmas.Option.{IfSome_then}
 use Rattle.mvt_confirm.proofs.RingCounts.{next_passed, all_passed}
-use Rattle.mvt_confirm.proofs.PayloadSearch.{IfNone-weaker}
+use Rattle.mvt_wire.proofs.NothingFound.{IfNone_then}
 use Rattle.mvt_confirm.proofs.ring_faults.ring_at.Goals as goal
 
 pub returns-then-pass_rings-clause-there : goal.returns-then-pass_rings-clause-there
@@ -11,9 +11,9 @@ returns-then-pass_rings-clause-there c = IfSome_then c.next_ring.result c.next_r
     (next.ring, next.there, next.told))
 
 pub returns-then-pass_rings-clause-none : goal.returns-then-pass_rings-clause-none
-returns-then-pass_rings-clause-none c = IfNone-weaker c.next_ring.result _ _ (λ ends rings left.
+returns-then-pass_rings-clause-none c = IfNone_then c.next_ring.result c.next_ring.ensures.end (λ ends rings left.
     let behind = c.if-pass_rings.ensures.passed refl rings left in
-    omega (arith, all_passed rings c.pass_rings.new.corners c.args.ring (record { within = behind.0; left = behind.1 }) ends)) c.next_ring.ensures.end
+    omega (arith, all_passed rings c.pass_rings.new.corners c.args.ring (record { within = behind.0; left = behind.1 }) ends))
 
 pub returns-else-pass_rings-clause-none : goal.returns-else-pass_rings-clause-none
 returns-else-pass_rings-clause-none c = λ rings left. omega (arith, c.if-pass_rings.ensures.fewer (λ same. true≢false (sym same)) rings left)

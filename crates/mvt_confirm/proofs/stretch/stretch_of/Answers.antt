@@ -1,17 +1,15 @@
 use Rattle.std.proofs.Common.{sym, subst}
 use Rattle.mvt_wire.specs.Scope.{Span, IsScope}
 use Rattle.mvt_wire.specs.declared.scope.Scope.{Scope}
-use Rattle.mvt_confirm.proofs.PayloadSearch.{IfNone-weaker}
+use Rattle.mvt_wire.proofs.NothingFound.{IfNone_then}
 use Rattle.mvt_confirm.proofs.stretch.stretch_of.Goals as goal
 
 pub returns-in-Value-clause-none : goal.returns-in-Value-clause-none
 returns-in-Value-clause-none c =
-    IfNone-weaker c.part_of_layer.result _ _
+    IfNone_then c.part_of_layer.result c.part_of_layer.ensures.none
     (λ none. subst (λ (scope : Scope). (span : Span) → ¬ IsScope c.args.bytes.now scope span) (sym c.in-Value.is) (λ span there. none span there.0 there.1 there.2))
-    c.part_of_layer.ensures.none
 
 pub returns-in-Feature-clause-none : goal.returns-in-Feature-clause-none
 returns-in-Feature-clause-none c =
-    IfNone-weaker c.part_of_layer-in-Feature.result _ _
+    IfNone_then c.part_of_layer-in-Feature.result c.part_of_layer-in-Feature.ensures.none
     (λ none. subst (λ (scope : Scope). (span : Span) → ¬ IsScope c.args.bytes.now scope span) (sym c.in-Feature.is) (λ span there. none span there.0 there.1 there.2))
-    c.part_of_layer-in-Feature.ensures.none

@@ -18,7 +18,7 @@ module _ (bytes : List ℕ) (tile : TileRecord) (layer feature index : ℕ) (lay
       (layer_record : LayerRecord) × (feature_record : FeatureRecord) × IsFeatureOf tile layer feature layer_record feature_record
       × TagsBreak code (length layer_record.keys) (length layer_record.values) feature_record.tags index
 
-  -- what a test tells about the records of the two stretches
+  -- what a test decides about the records of the two stretches
   breaks_tells : (code own : TagCode) → code ≡ own
       → ((layer_record : LayerRecord) (feature_record : FeatureRecord) → IsLayer bytes layer_span layer_record → IsFeature bytes span feature_record
       → IsTrue test ↔ TagsBreak own (length layer_record.keys) (length layer_record.values) feature_record.tags index)
