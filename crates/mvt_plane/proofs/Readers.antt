@@ -5,8 +5,8 @@ use Rattle.std.proofs.lemmas.Int.{ints}
 use Rattle.mvt_plane.proofs.FirstCodes.{other_command_first, other_count_first, greatest_x_first, greatest_y_first, x_outside_first, y_outside_first, no_step_first}
 use Rattle.mvt_plane.proofs.Parameters.{zigzag-unzigzag, unzigzag-zigzag}
 use Rattle.mvt_plane.specs.CommandFault.{command, x_of_step, y_of_step, greatest_parameter, LeavesRange}
-use Rattle.mvt_plane.specs.Drawing.{Leg, to_point, to_first, to_next, State, points_command, path_command, line_command, close_command, step_x, step_y, due, id_of, least, IsMove, IsAllowed, GoesElsewhere, MayEnd, moved, behind, behind_path, next, Passes, state_behind, unzigzag, IsBlamed, not_allowed, FaultFrom}
-use Rattle.mvt_plane.specs.Figure.{GeometryType, point, line_string, polygon, zigzag, move_to, line_to, command_integer, IsParameter}
+use Rattle.mvt_plane.specs.Drawing.{Leg, to_point, to_first, to_next, State, points_command, path_command, line_command, close_command, step_x, step_y, due, id_of, IsMove, IsAllowed, GoesElsewhere, MayEnd, moved, behind, behind_path, next, Passes, state_behind, unzigzag, IsBlamed, not_allowed, FaultFrom}
+use Rattle.mvt_plane.specs.Figure.{GeometryType, zigzag, move_to, line_to, command_integer, IsParameter}
 use Rattle.mvt_plane.specs.Position.{Position, origin, IsCoordinate}
 use Rattle.mvt_plane.specs.Reading.{Leads, AsksCommand, of_points, of_path, of_line, of_close, AsksCoordinate, of_x, of_y, is_line, with_left, path_type}
 

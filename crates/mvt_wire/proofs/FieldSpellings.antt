@@ -3,7 +3,7 @@ use Rattle.std.proofs.Common.{◌≡◌, ℕ, ◌+◌, ◌-◌, ◌*◌, ◌≤�
 use Rattle.std.specs.List.{concat}
 use Rattle.std.proofs.lemmas.List.{drop-drop, drop_at, drop_all, append-nil, length-take-le, take-append-drop}
 use Rattle.mvt_wire.specs.Varint.{IsVarint, SpellsVarint}
-use Rattle.mvt_wire.specs.Field.{Content, varint, delimited, Entry, wire_type_of, IsKey, IsPayload, IsField}
+use Rattle.mvt_wire.specs.Field.{Content, varint, delimited, Entry, wire_type_of, IsKey, IsPayload, IsField, IsFieldSpelling}
 use Rattle.mvt_wire.specs.Message.{FieldList, IsMessage, content_moved, moved, AreSpellings}
 use Rattle.mvt_wire.proofs.Entries.{entry_at, slice_range-append, IsField-append, payload_extent, field_extent}
 
@@ -156,6 +156,20 @@ IsField-within bytes more to e within field =
       payload = IsPayload-within bytes more field.key_end to e.content within field.payload;
     }
 
+-- what a field behind other bytes and before others is moved from is its spelling
+spelled_alone : (by : ℕ) (piece rest : List ℕ) (entry spelled : Entry) → entry.at ≡ by → entry ≡ moved by spelled → IsField (piece ++ rest) (length piece) spelled → IsFieldSpelling piece spelled
+spelled_alone by piece rest entry spelled start told field =
+    let places : entry.at ≡ by + spelled.at = ap (λ (entry : Entry). entry.at) told in
+    (omega arith, IsField-within piece rest (length piece) spelled (omega arith) field)
+
+-- a field behind other bytes and before others has a spelling, which is moved behind the former
+spelling_between : (front piece rest : List ℕ) (entry : Entry) → entry.at ≡ length front → IsField (front ++ (piece ++ rest)) (length front + length piece) entry → (spelled : Entry) × IsFieldSpelling piece spelled × (entry ≡ moved (length front) spelled)
+spelling_between front piece rest entry start field =
+    let found = IsField-behind front (piece ++ rest) (length front + length piece) entry (omega arith) field in
+    let width : length front + length piece - length front ≡ length piece = omega arith in
+    let spelled : IsField (piece ++ rest) (length piece) found.0 = subst (λ (to : ℕ). IsField (piece ++ rest) to found.0) width found.2 in
+    (found.0, spelled_alone (length front) piece rest entry found.0 start found.1 spelled, found.1)
+
 -- the fields of a message are spellings one behind another
 parted_from : (bytes : List ℕ) (from : ℕ) (entries : List Entry) → IsMessage bytes from entries → (pieces : List (List ℕ)) × (drop from bytes ≡ concat pieces) × AreSpellings from pieces entries
 parted_from bytes from [] h = ([], drop_all from bytes (omega arith), tt)
@@ -169,18 +183,16 @@ parted_from bytes from (e ∷ es) h =
     let behind : drop from bytes ≡ piece ++ drop next bytes =
     sym (take-append-drop (next - from) (drop from bytes)) ∙ ap (λ (rest : List ℕ). piece ++ rest) (drop-drop (next - from) from bytes ∙ ap (λ (k : ℕ). drop k bytes) (omega arith)) in
     let whole : bytes ≡ take from bytes ++ (piece ++ drop next bytes) = sym (take-append-drop from bytes) ∙ ap (λ (rest : List ℕ). take from bytes ++ rest) behind in
-    let field : IsField (take from bytes ++ (piece ++ drop next bytes)) next e = subst (λ (list : List ℕ). IsField list next e) whole h.1.1 in
-    let found = IsField-behind (take from bytes) (piece ++ drop next bytes) next e (omega arith) field in
-    let told : e ≡ moved from found.0 = found.1 ∙ ap (λ (by : ℕ). moved by found.0) front in
-    let start : found.0.at ≡ 0 = let places : e.at ≡ from + found.0.at = ap (λ (e : Entry). e.at) told in omega arith in
-    let width : next - length (take from bytes) ≡ length piece = omega arith in
-    let spelled : IsField (piece ++ drop next bytes) (length piece) found.0 = subst (λ (to : ℕ). IsField (piece ++ drop next bytes) to found.0) width found.2 in
-    let alone : IsField piece (length piece) found.0 = IsField-within piece (drop next bytes) (length piece) found.0 (omega arith) spelled in
+    let width : next ≡ length (take from bytes) + length piece = omega arith in
+    let field : IsField (take from bytes ++ (piece ++ drop next bytes)) (length (take from bytes) + length piece) e =
+    subst (λ (to : ℕ). IsField (take from bytes ++ (piece ++ drop next bytes)) to e) width (subst (λ (list : List ℕ). IsField list next e) whole h.1.1) in
+    let found = spelling_between (take from bytes) piece (drop next bytes) e (omega arith) field in
+    let told : e ≡ moved from found.0 = subst (λ (by : ℕ). e ≡ moved by found.0) front found.2 in
     let rest = parted_from bytes next es h.1.2 in
     let end : next ≡ from + length piece = omega arith in (
       piece ∷ rest.0,
       behind ∙ ap (λ (tail : List ℕ). piece ++ tail) rest.1,
-      (found.0, (start, alone), told, subst (λ (at : ℕ). AreSpellings at rest.0 es) end rest.2),
+      (found.0, found.1, told, subst (λ (at : ℕ). AreSpellings at rest.0 es) end rest.2),
     )
 
 pub parted : (bytes : List ℕ) (entries : List Entry) → IsMessage bytes 0 entries → (pieces : List (List ℕ)) × (bytes ≡ concat pieces) × AreSpellings 0 pieces entries
