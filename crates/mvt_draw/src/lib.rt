@@ -10,6 +10,8 @@ mod reading;
 mod ring_buffer;
 mod sink;
 mod spelling;
+#[cfg(test)]
+mod tests;
 
 pub use checking::command_fault;
 pub use drawing::{DrawFault, draw};

@@ -3,37 +3,43 @@ use crate::{Body, Fields, WireCause, WireCode, read_varint, text, unzigzag32, un
 // 150 is the example of the Protocol Buffers documentation; the greatest number takes ten bytes.
 #[test]
 fn varints(rt: HostRuntime) {
-    let cases: [(&[u8], Result<(u64, usize), WireCode>); 13] = [
-        (&[0x96, 0x01], Ok((150, 2))),
-        (&[0x02, 0xff], Ok((2, 1))),
-        (&[0x82, 0x80, 0x00], Ok((2, 3))),
-        // 2^14, at the end and before other bytes, 2^21, 2^28, and the greatest number of 32 bits
-        (&[0x80, 0x80, 0x01], Ok((16_384, 3))),
-        (&[0x80, 0x80, 0x01, 0xff, 0xff], Ok((16_384, 3))),
-        (&[0x80, 0x80, 0x80, 0x01, 0xff], Ok((2_097_152, 4))),
-        (&[0x80, 0x80, 0x80, 0x80, 0x01], Ok((268_435_456, 5))),
-        (&[0xff, 0xff, 0xff, 0xff, 0x0f], Ok((4_294_967_295, 5))),
-        // 2^35
-        (
-            &[0x80, 0x80, 0x80, 0x80, 0x80, 0x01],
-            Ok((34_359_738_368, 6)),
-        ),
-        (
-            &[0xff, 0xff, 0xff, 0xff, 0xff, 0xff, 0xff, 0xff, 0xff, 0x01],
-            Ok((u64::MAX, 10)),
-        ),
-        (
-            &[0x82, 0x80, 0x80, 0x80, 0x80, 0x80, 0x80, 0x80, 0x80, 0x02],
-            Err(WireCode::TooLong),
-        ),
-        (
-            &[0x80, 0x80, 0x80, 0x80, 0x80, 0x80, 0x80, 0x80, 0x80],
-            Err(WireCode::Ends),
-        ),
-        (&[], Err(WireCode::Ends)),
-    ];
-    for (bytes, want) in cases {
-        assert_eq!(rt; read_varint(bytes, 0), want, "at {bytes:?}");
+    assert!(rt; read_varint(&[0x96, 0x01], 0) == Ok((150, 2)));
+    assert!(rt; read_varint(&[0x02, 0xff], 0) == Ok((2, 1)));
+    assert!(rt; read_varint(&[0x82, 0x80, 0x00], 0) == Ok((2, 3)));
+    // 2^14, at the end and before other bytes, 2^21, 2^28, and the greatest number of 32 bits
+    assert!(rt; read_varint(&[0x80, 0x80, 0x01], 0) == Ok((16_384, 3)));
+    assert!(rt; read_varint(&[0x80, 0x80, 0x01, 0xff, 0xff], 0) == Ok((16_384, 3)));
+    assert!(rt; read_varint(&[0x80, 0x80, 0x80, 0x01, 0xff], 0) == Ok((2_097_152, 4)));
+    assert!(rt; read_varint(&[0x80, 0x80, 0x80, 0x80, 0x01], 0) == Ok((268_435_456, 5)));
+    assert!(rt; read_varint(&[0xff, 0xff, 0xff, 0xff, 0x0f], 0) == Ok((4_294_967_295, 5)));
+    // 2^35, and the greatest number
+    let more = &[0x80, 0x80, 0x80, 0x80, 0x80, 0x01];
+    assert!(rt; read_varint(more, 0) == Ok((34_359_738_368, 6)));
+    let greatest = &[0xff, 0xff, 0xff, 0xff, 0xff, 0xff, 0xff, 0xff, 0xff, 0x01];
+    assert!(rt; read_varint(greatest, 0) == Ok((u64::MAX, 10)));
+}
+
+#[test]
+fn no_varints(rt: HostRuntime) {
+    let long = &[0x82, 0x80, 0x80, 0x80, 0x80, 0x80, 0x80, 0x80, 0x80, 0x02];
+    assert!(rt; read_varint(long, 0) == Err(WireCode::TooLong));
+    let cut = &[0x80, 0x80, 0x80, 0x80, 0x80, 0x80, 0x80, 0x80, 0x80];
+    assert!(rt; read_varint(cut, 0) == Err(WireCode::Ends));
+    assert!(rt; read_varint(&[], 0) == Err(WireCode::Ends));
+}
+
+/// A field's number, the place of its key, its content (a varint's value, or the length of bytes), and the content's
+/// place; of a field of fixed width its length alone.
+fn next_of(fields: &mut Fields) -> Option<(u32, usize, u64, usize)> {
+    let Some(Ok(field)) = fields.next_field() else {
+        return None;
+    };
+    match field.body {
+        Body::Varint { value, at } => Some((field.number, field.at, value, at)),
+        Body::Bytes { from, slice } => Some((field.number, field.at, slice.len() as u64, from)),
+        Body::Fixed64(part) | Body::Fixed32(part) => {
+            Some((field.number, field.at, part.len() as u64, 0))
+        }
     }
 }
 
@@ -45,19 +51,9 @@ fn fields_of_a_layer(rt: HostRuntime) {
         0x22,
     ];
     let mut fields = Fields::new(&tile, 2, 16);
-    let wanted = [(15, 2, 2, 3), (1, 4, 1, 6), (2, 7, 7, 9)];
-    for (number, at, content, from) in wanted {
-        let (found, place) = match fields.next_field() {
-            Some(Ok(field)) => match field.body {
-                Body::Varint { value, at } => ((field.number, field.at, value), at),
-                Body::Bytes { from, slice } => ((field.number, field.at, slice.len() as u64), from),
-                _ => ((0, 0, 0), 0),
-            },
-            _ => ((0, 0, 0), 0),
-        };
-        assert_eq!(rt; found, (number, at, content));
-        assert_eq!(rt; place, from);
-    }
+    assert!(rt; next_of(&mut fields) == Some((15, 2, 2, 3)));
+    assert!(rt; next_of(&mut fields) == Some((1, 4, 1, 6)));
+    assert!(rt; next_of(&mut fields) == Some((2, 7, 7, 9)));
     assert!(rt; fields.next_field().is_none());
 }
 
@@ -67,17 +63,8 @@ fn fixed_widths(rt: HostRuntime) {
         0x09, 1, 2, 3, 4, 5, 6, 7, 8, 0x15, 1, 2, 3, 4, 0x15, 1, 2, 3,
     ];
     let mut fields = Fields::new(&bytes, 0, 18);
-    let widths = [8, 4];
-    for width in widths {
-        let found = match fields.next_field() {
-            Some(Ok(field)) => match field.body {
-                Body::Fixed64(part) | Body::Fixed32(part) => part.len(),
-                _ => 0,
-            },
-            _ => 0,
-        };
-        assert_eq!(rt; found, width);
-    }
+    assert!(rt; next_of(&mut fields) == Some((1, 0, 8, 0)));
+    assert!(rt; next_of(&mut fields) == Some((2, 9, 4, 0)));
     let cut = WireCause {
         code: WireCode::PastEnd,
         at: 14,
@@ -99,7 +86,7 @@ fn numbers_from_zigzag(rt: HostRuntime) {
         (u32::MAX, i32::MIN),
     ];
     for (zigzag, want) in cases {
-        assert_eq!(rt; unzigzag32(zigzag), want, "at {zigzag}");
+        assert!(rt; unzigzag32(zigzag) == want);
     }
     let cases = [
         (0, 0),
@@ -110,7 +97,7 @@ fn numbers_from_zigzag(rt: HostRuntime) {
         (u64::MAX, i64::MIN),
     ];
     for (zigzag, want) in cases {
-        assert_eq!(rt; unzigzag64(zigzag), want, "at {zigzag}");
+        assert!(rt; unzigzag64(zigzag) == want);
     }
 }
 
@@ -119,10 +106,10 @@ fn numbers_from_zigzag(rt: HostRuntime) {
 #[test]
 fn texts(rt: HostRuntime) {
     let long = "The quick brown fox jumps over the lazy dog, and then it jumps back: \u{e9}.";
-    assert_eq!(rt; text(b"testing"), Some("testing"));
-    assert_eq!(rt; text(&[0xc3, 0xa9]), Some("\u{e9}"));
-    assert_eq!(rt; text(long.as_bytes()), Some(long));
-    assert_eq!(rt; text(&[]), Some(""));
+    assert!(rt; text(b"testing") == Some("testing"));
+    assert!(rt; text(&[0xc3, 0xa9]) == Some("\u{e9}"));
+    assert!(rt; text(long.as_bytes()) == Some(long));
+    assert!(rt; text(&[]) == Some(""));
     assert!(rt; text(&[0xff]).is_none());
     assert!(rt; text(&[0x61, 0xc3]).is_none());
     assert!(rt; text(&[0xed, 0xa0, 0x80]).is_none());

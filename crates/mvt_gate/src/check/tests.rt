@@ -355,39 +355,67 @@ fn tells_the_first_fault(rt: HostRuntime) -> Result<(), Fail> {
     Ok(())
 }
 
-/// What comes of devices that fail, and how many bytes of the line go out.
+/// Whether a run on these bytes ends so where the reader and the writer have these manners: its result, and what goes
+/// out.
+fn ends_so(
+    rt: &HostRuntime,
+    bytes: &[u8],
+    (reads, writes): (Manner, Manner),
+    want: Result<Outcome, EngineFault>,
+    went_out: &[u8],
+) -> bool {
+    let mut source = Device::new(rt.alloc(), bytes, reads);
+    let mut sink = Device::new(rt.alloc(), &[], writes);
+    let mut reader = Tally::new(&mut source);
+    let mut writer = Tally::new(&mut sink);
+    let got = check_stream(rt.alloc(), &mut reader, &mut writer);
+    got == want && sink.taken.as_slice() == went_out
+}
+
 #[test]
 fn bears_devices_that_fail(rt: HostRuntime) -> Result<(), Fail> {
     let calm = Manner::CALM;
-    let fails = Manner {
+    let late = Manner {
         step: 3,
         fails_at: 2,
         ..calm
     };
-    let first = Manner {
-        fails_at: 1,
-        ..calm
-    };
+    let first = fails_with(ErrorKind::BrokenPipe, 1);
+    let line = b"{\"code\":202,\"first\":0,\"second\":1}\n";
     let bytes = bytes_of(&rt, EQUAL_LAYERS)?;
-    for (reads, writes, want, went_out) in [
-        (
-            calm,
-            calm,
-            Ok(Outcome::No),
-            b"{\"code\":202,\"first\":0,\"second\":1}\n".as_slice(),
-        ),
-        (first, calm, Err(EngineFault::Read), b""),
-        (calm, fails, Err(EngineFault::Write), b"{\"c"),
-    ] {
-        let mut source = Device::new(rt.alloc(), &bytes, reads);
-        let mut sink = Device::new(rt.alloc(), &[], writes);
-        let mut reader = Tally::new(&mut source);
-        let mut writer = Tally::new(&mut sink);
-        let got = check_stream(rt.alloc(), &mut reader, &mut writer);
-        assert_eq!(rt; got, want);
-        assert!(rt; sink.taken.as_slice() == went_out);
-    }
+    assert!(rt; ends_so(&rt, &bytes, (calm, calm), Ok(Outcome::No), line));
+    let read = Err(EngineFault::Read);
+    assert!(rt; ends_so(&rt, &bytes, (first, calm), read, b""));
+    let write = Err(EngineFault::Write);
+    assert!(rt; ends_so(&rt, &bytes, (calm, late), write, b"{\"c"));
     Ok(())
+}
+
+/// A device that fails at a call with an error of this kind.
+fn fails_with(kind: ErrorKind, at: u64) -> Manner {
+    Manner {
+        fails_at: at,
+        failure: kind,
+        ..Manner::CALM
+    }
+}
+
+/// Whether a run on these bytes ends with this fault, and how many calls of the reader and of the writer failed.
+fn fails_so(
+    rt: &HostRuntime,
+    bytes: &[u8],
+    (reads, writes): (Manner, Manner),
+    want: EngineFault,
+    failed: (u64, u64),
+) -> bool {
+    let mut source = Device::new(rt.alloc(), bytes, reads);
+    let mut sink = Device::new(rt.alloc(), &[], writes);
+    let mut reader = Tally::new(&mut source);
+    let mut writer = Tally::new(&mut sink);
+    let got = check_stream(rt.alloc(), &mut reader, &mut writer);
+    got == Err(want)
+        && (reader.failed(), writer.failed()) == failed
+        && (reader.interrupted(), writer.interrupted()) == (0, 0)
 }
 
 /// An error that is no interruption ends a run and counts as failed, of whatever kind it is.
@@ -396,27 +424,11 @@ fn fails_with_any_kind_of_error(rt: HostRuntime) -> Result<(), Fail> {
     let calm = Manner::CALM;
     let bytes = bytes_of(&rt, EQUAL_LAYERS)?;
     for kind in [ErrorKind::WouldBlock, ErrorKind::TimedOut] {
-        let blocks = |at: u64| Manner {
-            fails_at: at,
-            failure: kind,
-            ..calm
-        };
-        // the result, and the failed calls of the reader and of the writer
-        for (reads, writes, want, failed) in [
-            (blocks(1), calm, EngineFault::Read, (1, 0)),
-            (blocks(2), calm, EngineFault::Read, (1, 0)),
-            (calm, blocks(1), EngineFault::Write, (0, 1)),
-            (calm, blocks(2), EngineFault::Write, (0, 1)),
-        ] {
-            let mut source = Device::new(rt.alloc(), &bytes, reads);
-            let mut sink = Device::new(rt.alloc(), &[], writes);
-            let mut reader = Tally::new(&mut source);
-            let mut writer = Tally::new(&mut sink);
-            let got = check_stream(rt.alloc(), &mut reader, &mut writer);
-            assert_eq!(rt; got, Err(want));
-            assert_eq!(rt; (reader.failed(), writer.failed()), failed);
-            assert_eq!(rt; (reader.interrupted(), writer.interrupted()), (0, 0));
-        }
+        let (first, second) = (fails_with(kind, 1), fails_with(kind, 2));
+        assert!(rt; fails_so(&rt, &bytes, (first, calm), EngineFault::Read, (1, 0)));
+        assert!(rt; fails_so(&rt, &bytes, (second, calm), EngineFault::Read, (1, 0)));
+        assert!(rt; fails_so(&rt, &bytes, (calm, first), EngineFault::Write, (0, 1)));
+        assert!(rt; fails_so(&rt, &bytes, (calm, second), EngineFault::Write, (0, 1)));
     }
     Ok(())
 }
