@@ -25,20 +25,16 @@ fn statuses(rt: &HostRuntime, word: &str, files: &[&str]) -> Result<Vec<u8>, Fai
 
 #[test]
 fn exits_by_the_words(rt: HostRuntime) -> Result<(), Fail> {
-    for (texts, want) in [
-        (["mvtgate"].as_slice(), 2),
-        (["mvtgate", "nothing"].as_slice(), 2),
-        (["mvtgate", "fields", "a", "b"].as_slice(), 2),
-        (["mvtgate", "check", "a", "b"].as_slice(), 2),
-        (["mvtgate", "dump", "a", "b"].as_slice(), 2),
-        (["mvtgate", "confirm", "a"].as_slice(), 2),
-        (["mvtgate", "fields", "--help"].as_slice(), 0),
-        (["mvtgate", "check", "--help"].as_slice(), 0),
-        (["mvtgate", "confirm", "--help"].as_slice(), 0),
-        (["mvtgate", "--version"].as_slice(), 0),
-    ] {
-        assert_eq!(rt; status(&rt, texts)?, want, "{texts:?}");
-    }
+    assert!(rt; status(&rt, &["mvtgate"])? == 2);
+    assert!(rt; status(&rt, &["mvtgate", "nothing"])? == 2);
+    assert!(rt; status(&rt, &["mvtgate", "fields", "a", "b"])? == 2);
+    assert!(rt; status(&rt, &["mvtgate", "check", "a", "b"])? == 2);
+    assert!(rt; status(&rt, &["mvtgate", "dump", "a", "b"])? == 2);
+    assert!(rt; status(&rt, &["mvtgate", "confirm", "a"])? == 2);
+    assert!(rt; status(&rt, &["mvtgate", "fields", "--help"])? == 0);
+    assert!(rt; status(&rt, &["mvtgate", "check", "--help"])? == 0);
+    assert!(rt; status(&rt, &["mvtgate", "confirm", "--help"])? == 0);
+    assert!(rt; status(&rt, &["mvtgate", "--version"])? == 0);
     Ok(())
 }
 
@@ -67,9 +63,10 @@ fn exits_by_the_file(rt: HostRuntime) -> Result<(), Fail> {
     let dumped = statuses(&rt, "dump", &files)?;
     // the folder goes before a wrong status ends the test
     fs::remove_dir_all(&rt, &folder)?;
-    for got in [listed, checked, dumped] {
-        assert_eq!(rt; got.as_slice(), [0, 1, 3, 3, 3].as_slice());
-    }
+    let wanted = [0, 1, 3, 3, 3].as_slice();
+    assert!(rt; listed.as_slice() == wanted);
+    assert!(rt; checked.as_slice() == wanted);
+    assert!(rt; dumped.as_slice() == wanted);
     Ok(())
 }
 
@@ -100,6 +97,6 @@ fn exits_by_the_fault(rt: HostRuntime) -> Result<(), Fail> {
     // the folder goes before a wrong status ends the test
     fs::remove_dir_all(&rt, &folder)?;
     // (at first there is no file of the fault)
-    assert_eq!(rt; got.as_slice(), [3, 0, 1, 5, 5, 5].as_slice());
+    assert!(rt; got.as_slice() == [3, 0, 1, 5, 5, 5].as_slice());
     Ok(())
 }
