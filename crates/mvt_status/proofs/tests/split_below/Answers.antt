@@ -1,7 +1,6 @@
-use Rattle.std.proofs.Common.{◌≡◌, ℕ, ◌<◌, ◌≤◌, nat_lt, Bool, List, length, slice_index, refl, ap, ◌∙◌, arith}
+use Rattle.std.proofs.Common.{◌≡◌, ℕ, ◌<◌, ◌≤◌, nat_lt, List, length, slice_index, refl, ap, ◌∙◌, arith}
 use Rattle.std.proofs.lemmas.Bool.{lt-ltb, le-ltb}
 use Rattle.mvt_status.specs.Split.{IsSplit}
-use Rattle.mvt_status.proofs.SplitPoints.{one_split}
 use Rattle.mvt_status.proofs.tests.split_below.Goals as goal
 
 -- numbers at their own places split at a limit
@@ -16,10 +15,3 @@ splits_at_limit edges limit within numbered = record {
 pub split_point-requires-clause-splits : goal.split_point-requires-clause-splits
 split_point-requires-clause-splits g c =
     (c.args.limit, splits_at_limit (g.S.Status.edges c.args.status.now) c.args.limit c.requires.within c.requires.numbered)
-
-pub returns-clause-split : goal.returns-clause-split
-returns-clause-split g c =
-    let edges = g.S.Status.edges c.args.status.now in
-    one_split (λ (edge : ℕ) (answer : Bool). answer ≡ nat_lt edge c.args.limit) edges c.split_point.result c.args.limit
-    (λ i within. (nat_lt (slice_index edges i) c.args.limit, refl)) c.split_point.ensures.split
-    (splits_at_limit edges c.args.limit c.requires.within c.requires.numbered)

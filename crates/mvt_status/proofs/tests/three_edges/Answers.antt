@@ -1,6 +1,5 @@
-use Rattle.std.proofs.Common.{◌≡◌, ℕ, zero, suc, ◌<◌, ◌≤◌, ◌==◌, not, Bool, true, false, List, [], ◌∷◌, insert, slice_index, refl, sym, ap, subst, ◌∙◌, arith}
+use Rattle.std.proofs.Common.{◌≡◌, ℕ, zero, suc, ◌<◌, ◌≤◌, ◌==◌, not, Bool, true, false, List, [], ◌∷◌, insert, slice_index, subst, arith}
 use Rattle.mvt_status.specs.Split.{IsSplit}
-use Rattle.mvt_status.proofs.SplitPoints.{one_split}
 use Rattle.mvt_status.proofs.tests.three_edges.Goals as goal
 
 abbrev three : List ℕ
@@ -30,24 +29,9 @@ inserted empty first second third none one two all = cc
 splits : (edges : List ℕ) → three ≡ edges → (point : ℕ) × IsSplit is_other edges point
 splits edges same = (2, subst (λ (list : List ℕ). IsSplit is_other list 2) same splits_at_two)
 
-found : (edges : List ℕ) (split edge : ℕ) → three ≡ edges → IsSplit is_other edges split → edge ≡ slice_index edges 1 → ◌≡◌ {A = ℕ × ℕ} (split, edge) (2, 9)
-found edges split edge same is_split there =
-    let two : split ≡ 2 = one_split is_other edges split 2 (λ i within. (not (slice_index edges i == 7), refl)) is_split
-    (subst (λ (list : List ℕ). IsSplit is_other list 2) same splits_at_two) in
-    let nine : edge ≡ 9 = there ∙ ap (λ (list : List ℕ). slice_index list 1) (sym same) in
-    cc
-
 pub split_point-split-requires-clause-splits : goal.split_point-split-requires-clause-splits
 split_point-split-requires-clause-splits g c =
     let edges = g.S.Status.edges in
     splits (edges c.insert-3.new.self)
     (inserted (edges c.args.status.now) (edges c.insert.new.self) (edges c.insert-2.new.self) (edges c.insert-3.new.self) c.requires
     c.in_ok-insert.ensures.list c.in_ok-insert-2.ensures.list c.in_ok-insert-3.ensures.list)
-
-pub returns-clause-found : goal.returns-clause-found
-returns-clause-found g c =
-    let edges = g.S.Status.edges in
-    found (edges c.insert-3.new.self) c.split_point-split.result c.remove.result
-    (inserted (edges c.args.status.now) (edges c.insert.new.self) (edges c.insert-2.new.self) (edges c.insert-3.new.self) c.requires
-    c.in_ok-insert.ensures.list c.in_ok-insert-2.ensures.list c.in_ok-insert-3.ensures.list)
-    c.split_point-split.ensures.split c.remove.ensures.value
