@@ -4,6 +4,7 @@ pub use Rattle.serde_json.specs.Written
 pub mod Candidate
 pub mod Code
 pub mod Text
+pub mod Members
 pub mod Place
 pub mod Reading
 pub mod TrueFaults

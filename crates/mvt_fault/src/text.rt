@@ -2,6 +2,7 @@ ghost use Rattle.std.specs.Prelude.{◌≡◌, IfOk, OnOk, string_bytes};
 ghost use Rattle.serde_json.specs.View.{view};
 ghost use Rattle.mvt_fault.specs.Text.{data_of, text_of, IsInRange, Reads};
 
+mod members;
 pub(crate) mod polygons;
 pub(crate) mod rules;
 pub(crate) mod wire;

@@ -3,6 +3,7 @@ use crate::{
     fault_text,
 };
 use mvt_wire::WireCode;
+use std::alloc::Global;
 use std::test::Fail;
 
 fn meeting(x: i128, y: i128, w: i128) -> Fault {
@@ -27,65 +28,81 @@ fn wire(scope: Scope, at: usize, field: u32) -> Fault {
     }
 }
 
-// A fault of each variant and scope, with numbers at the bounds of their types among them.
+/// Whether the fault's text is read back as the fault.
+fn is_read_back(alloc: Global, fault: Fault) -> bool {
+    let Ok(text) = fault_text(alloc, &fault) else {
+        return false;
+    };
+    fault_from_text(alloc, text.as_bytes()) == Ok(fault)
+}
+
+// A fault of each scope and variant, with numbers at the bounds of their types among them.
 #[test]
-fn reads_what_is_written(rt: HostRuntime) -> Result<(), Fail> {
+fn reads_what_is_written(rt: HostRuntime) {
+    let alloc = rt.alloc();
+    assert!(rt; is_read_back(alloc, wire(Scope::Tile, 0, 3)));
+    assert!(rt; is_read_back(alloc, wire(Scope::Layer(4), usize::MAX, u32::MAX)));
+    assert!(rt; is_read_back(alloc, wire(Scope::Value(4, usize::MAX), 7, 0)));
+    assert!(rt; is_read_back(alloc, wire(Scope::Feature(4, 5), 7, 4)));
+    let version = Fault::Version { layer: usize::MAX };
+    assert!(rt; is_read_back(alloc, version));
+    let name = Fault::Name {
+        first: 1,
+        second: 2,
+    };
+    assert!(rt; is_read_back(alloc, name));
+}
+
+#[test]
+fn reads_what_is_written_of_features(rt: HostRuntime) {
+    let alloc = rt.alloc();
     let layer = 4;
     let feature = 5;
-    let polygon = 6;
-    for fault in [
-        wire(Scope::Tile, 0, 3),
-        wire(Scope::Layer(layer), usize::MAX, u32::MAX),
-        wire(Scope::Value(layer, usize::MAX), 7, 0),
-        wire(Scope::Feature(layer, feature), 7, 4),
-        Fault::Version { layer: usize::MAX },
-        Fault::Name {
-            first: 1,
-            second: 2,
-        },
-        Fault::Tag {
-            code: TagCode::Repeated,
-            layer,
-            feature,
-            index: 2,
-        },
-        Fault::Command {
-            code: CommandCode::NoStep,
-            layer,
-            feature,
-            index: 3,
-        },
-        Fault::Ring {
-            code: RingCode::NoArea,
-            layer,
-            feature,
-            ring: 1,
-        },
-        meeting(800, 800, 180),
-        meeting(i128::MIN, i128::MAX, 0),
-        Fault::Outside {
-            layer,
-            feature,
-            polygon,
-            ring: 1,
-            vertex: 2,
-        },
-        Fault::HoleInHole {
-            layer,
-            feature,
-            polygon,
-            ring: 1,
-            vertex: 2,
-            other: 3,
-        },
-    ] {
-        let text = fault_text(rt.alloc(), &fault)?;
-        assert!(rt;
-            fault_from_text(rt.alloc(), text.as_bytes()) == Ok(fault),
-            "for {text}"
-        );
-    }
-    Ok(())
+    let tag = Fault::Tag {
+        code: TagCode::Repeated,
+        layer,
+        feature,
+        index: 2,
+    };
+    assert!(rt; is_read_back(alloc, tag));
+    let command = Fault::Command {
+        code: CommandCode::NoStep,
+        layer,
+        feature,
+        index: 3,
+    };
+    assert!(rt; is_read_back(alloc, command));
+    let ring = Fault::Ring {
+        code: RingCode::NoArea,
+        layer,
+        feature,
+        ring: 1,
+    };
+    assert!(rt; is_read_back(alloc, ring));
+}
+
+#[test]
+fn reads_what_is_written_of_polygons(rt: HostRuntime) {
+    let alloc = rt.alloc();
+    assert!(rt; is_read_back(alloc, meeting(800, 800, 180)));
+    assert!(rt; is_read_back(alloc, meeting(i128::MIN, i128::MAX, 0)));
+    let outside = Fault::Outside {
+        layer: 4,
+        feature: 5,
+        polygon: 6,
+        ring: 1,
+        vertex: 2,
+    };
+    assert!(rt; is_read_back(alloc, outside));
+    let hole_in_hole = Fault::HoleInHole {
+        layer: 4,
+        feature: 5,
+        polygon: 6,
+        ring: 1,
+        vertex: 2,
+        other: 3,
+    };
+    assert!(rt; is_read_back(alloc, hole_in_hole));
 }
 
 #[test]
@@ -104,8 +121,7 @@ fn reads_other_spellings(rt: HostRuntime) {
         "{\"code\":200,\"layer\":9,\"code\":201,\"layer\":3}",
     ] {
         assert!(rt;
-            fault_from_text(rt.alloc(), text.as_bytes()) == Ok(Fault::Version { layer: 3 }),
-            "for {text}"
+            fault_from_text(rt.alloc(), text.as_bytes()) == Ok(Fault::Version { layer: 3 })
         );
     }
 }
@@ -135,50 +151,41 @@ fn refuses_other_shapes(rt: HostRuntime) {
         "{\"at\":0,\"code\":105,\"field\":3,\"scope\":\"layer\"}",
         "{\"at\":0,\"code\":105,\"field\":4294967296,\"layer\":0,\"scope\":\"tile\"}",
     ] {
-        assert!(rt;
-            fault_from_text(rt.alloc(), text.as_bytes()) == Err(FaultTextError::Shape),
-            "for {text}"
-        );
+        assert!(rt; fault_from_text(rt.alloc(), text.as_bytes()) == Err(FaultTextError::Shape));
     }
 }
 
-fn read_with_x(rt: &HostRuntime, x: &str) -> Result<Result<Fault, FaultTextError>, Fail> {
-    let text = format!(in rt.alloc();
+/// What is read in the text of a meeting with this for its x.
+fn read_with_x(alloc: Global, x: &str) -> Result<Fault, FaultTextError> {
+    let text = format!(in alloc;
         "{{\"code\":504,\"feature\":0,\"first\":{{\"edge\":0,\"ring\":0}},\"layer\":0,\"polygon\":0,\"second\":{{\"edge\":2,\"ring\":0}},\"w\":\"180\",\"x\":{x},\"y\":\"800\"}}"
     )?;
-    Ok(fault_from_text(rt.alloc(), text.as_bytes()))
+    fault_from_text(alloc, text.as_bytes())
 }
 
 #[test]
-fn refuses_other_digits(rt: HostRuntime) -> Result<(), Fail> {
+fn refuses_other_digits(rt: HostRuntime) {
     for x in [
         "\"-0\"", "\"0800\"", "\"-08\"", "\"00\"", "\"\"", "\"-\"", "\"+8\"", "\" 8\"", "\"8e2\"",
         "\"8.0\"", "800", "null",
     ] {
-        assert!(rt;
-            read_with_x(&rt, x)? == Err(FaultTextError::Shape),
-            "for {x}"
-        );
+        assert!(rt; read_with_x(rt.alloc(), x) == Err(FaultTextError::Shape));
     }
-    Ok(())
 }
 
 #[test]
-fn refuses_numbers_out_of_range(rt: HostRuntime) -> Result<(), Fail> {
+fn refuses_numbers_out_of_range(rt: HostRuntime) {
+    let alloc = rt.alloc();
     for x in [
         "\"170141183460469231731687303715884105728\"",
         "\"-170141183460469231731687303715884105729\"",
         "\"1000000000000000000000000000000000000000000000000000000000000000000000000000000\"",
     ] {
-        assert!(rt;
-            read_with_x(&rt, x)? == Err(FaultTextError::Range),
-            "for {x}"
-        );
+        assert!(rt; read_with_x(alloc, x) == Err(FaultTextError::Range));
     }
-    assert!(rt; read_with_x(&rt, "\"0\"")? == Ok(meeting(0, 800, 180)));
+    assert!(rt; read_with_x(alloc, "\"0\"") == Ok(meeting(0, 800, 180)));
     let text = "{\"at\":0,\"code\":105,\"field\":4294967296,\"scope\":\"tile\"}";
-    assert!(rt; fault_from_text(rt.alloc(), text.as_bytes()) == Err(FaultTextError::Range));
-    Ok(())
+    assert!(rt; fault_from_text(alloc, text.as_bytes()) == Err(FaultTextError::Range));
 }
 
 #[test]

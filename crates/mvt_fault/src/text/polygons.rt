@@ -1,14 +1,15 @@
 //! The JSON objects of the faults of rings and polygons.
 
 ghost use Rattle.std.specs.Prelude.{◌≡◌, IfOk, OnOk};
-ghost use Rattle.serde_json.specs.Data.{string};
-ghost use Rattle.serde_json.specs.View.{view};
+ghost use Rattle.serde_json.specs.Data.{put as with_member, string};
+ghost use Rattle.serde_json.specs.View.{members_view, view};
 ghost use Rattle.mvt_fault.specs.Place.{IsOfPolygon};
 ghost use Rattle.mvt_fault.specs.Text.{data_of, IsInRange, ring_data, edge_data, meeting_data, meeting_parts, outside_data, hole_in_hole_data};
 
 use crate::fault::{Fault, HOLE_IN_HOLE_CODE, MEETING_CODE, OUTSIDE_CODE};
 use crate::ring::RingEdge;
-use serde_json::{Value, json};
+use crate::text::members::{add_text, members_of};
+use serde_json::{Map, Value, put};
 use std::alloc::{AllocError, Global};
 
 /// A polygon of a tile by ordinals: of its layer, of the feature in the layer, and of the polygon in the
@@ -59,7 +60,13 @@ pub(crate) fn ring_object(
 ) -> Result<Value, AllocError>
     ensures { IfOk result (λ v. view v ≡ ring_data code layer feature ring) }
 {
-    json!(in alloc; {"code": code, "feature": feature, "layer": layer, "ring": ring})
+    let members = [
+        ("code", u64::from(code)),
+        ("feature", feature as u64),
+        ("layer", layer as u64),
+        ("ring", ring as u64),
+    ];
+    Ok(Value::Object(members_of(alloc, &members)?))
 }
 
 pub(crate) fn polygon_object(alloc: Global, fault: &Fault) -> Result<Value, AllocError>
@@ -140,17 +147,32 @@ pub(crate) fn written_meeting_object(
     ensures { IfOk result (λ v. view v ≡ meeting_parts id.layer id.feature id.polygon (edge_data first) (edge_data second)
         (string point.now.w.now) (string point.now.x.now) (string point.now.y.now)) }
 {
-    json!(in alloc; {
-        "code": MEETING_CODE, "feature": id.feature, "first": edge_object(alloc, first)?,
-        "layer": id.layer, "polygon": id.polygon, "second": edge_object(alloc, second)?,
-        "w": point.w, "x": point.x, "y": point.y
-    })
+    let members = [
+        ("code", u64::from(MEETING_CODE)),
+        ("feature", id.feature as u64),
+        ("layer", id.layer as u64),
+        ("polygon", id.polygon as u64),
+    ];
+    let mut map = members_of(alloc, &members)?;
+    add_edge(&mut map, alloc, "first", first)?;
+    add_edge(&mut map, alloc, "second", second)?;
+    add_text(&mut map, alloc, "w", point.w)?;
+    add_text(&mut map, alloc, "x", point.x)?;
+    add_text(&mut map, alloc, "y", point.y)?;
+    Ok(Value::Object(map))
 }
 
-fn edge_object(alloc: Global, edge: RingEdge) -> Result<Value, AllocError>
-    ensures { IfOk result (λ v. view v ≡ edge_data edge) }
+/// One more member, an edge at its key.
+fn add_edge(
+    map: &mut Map<String, Value>,
+    alloc: Global,
+    key: &str,
+    edge: RingEdge,
+) -> Result<(), AllocError>
+    ensures { OnOk result (members_view map.new.entries ≡ with_member key.now (edge_data edge) (members_view map.old.entries)) }
 {
-    json!(in alloc; {"edge": edge.edge, "ring": edge.ring})
+    let members = [("edge", edge.edge as u64), ("ring", edge.ring as u64)];
+    put(map, alloc, key, Value::Object(members_of(alloc, &members)?))
 }
 
 pub(crate) fn outside_object(
@@ -161,10 +183,15 @@ pub(crate) fn outside_object(
 ) -> Result<Value, AllocError>
     ensures { IfOk result (λ v. view v ≡ outside_data id.layer id.feature id.polygon ring vertex) }
 {
-    json!(in alloc; {
-        "code": OUTSIDE_CODE, "feature": id.feature, "layer": id.layer,
-        "polygon": id.polygon, "ring": ring, "vertex": vertex
-    })
+    let members = [
+        ("code", u64::from(OUTSIDE_CODE)),
+        ("feature", id.feature as u64),
+        ("layer", id.layer as u64),
+        ("polygon", id.polygon as u64),
+        ("ring", ring as u64),
+        ("vertex", vertex as u64),
+    ];
+    Ok(Value::Object(members_of(alloc, &members)?))
 }
 
 pub(crate) fn hole_in_hole_object(
@@ -176,8 +203,14 @@ pub(crate) fn hole_in_hole_object(
 ) -> Result<Value, AllocError>
     ensures { IfOk result (λ v. view v ≡ hole_in_hole_data id.layer id.feature id.polygon ring vertex other) }
 {
-    json!(in alloc; {
-        "code": HOLE_IN_HOLE_CODE, "feature": id.feature, "layer": id.layer, "other": other,
-        "polygon": id.polygon, "ring": ring, "vertex": vertex
-    })
+    let members = [
+        ("code", u64::from(HOLE_IN_HOLE_CODE)),
+        ("feature", id.feature as u64),
+        ("layer", id.layer as u64),
+        ("other", other as u64),
+        ("polygon", id.polygon as u64),
+        ("ring", ring as u64),
+        ("vertex", vertex as u64),
+    ];
+    Ok(Value::Object(members_of(alloc, &members)?))
 }

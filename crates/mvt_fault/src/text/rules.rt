@@ -5,19 +5,26 @@ ghost use Rattle.serde_json.specs.View.{view};
 ghost use Rattle.mvt_fault.specs.Text.{version_data, name_data, feature_data};
 
 use crate::fault::{NAME_CODE, VERSION_CODE};
-use serde_json::{Value, json};
+use crate::text::members::members_of;
+use serde_json::Value;
 use std::alloc::{AllocError, Global};
 
 pub(crate) fn version_object(alloc: Global, layer: usize) -> Result<Value, AllocError>
     ensures { IfOk result (λ v. view v ≡ version_data layer) }
 {
-    json!(in alloc; {"code": VERSION_CODE, "layer": layer})
+    let members = [("code", u64::from(VERSION_CODE)), ("layer", layer as u64)];
+    Ok(Value::Object(members_of(alloc, &members)?))
 }
 
 pub(crate) fn name_object(alloc: Global, first: usize, second: usize) -> Result<Value, AllocError>
     ensures { IfOk result (λ v. view v ≡ name_data first second) }
 {
-    json!(in alloc; {"code": NAME_CODE, "first": first, "second": second})
+    let members = [
+        ("code", u64::from(NAME_CODE)),
+        ("first", first as u64),
+        ("second", second as u64),
+    ];
+    Ok(Value::Object(members_of(alloc, &members)?))
 }
 
 pub(crate) fn feature_rule_object(
@@ -29,5 +36,11 @@ pub(crate) fn feature_rule_object(
 ) -> Result<Value, AllocError>
     ensures { IfOk result (λ v. view v ≡ feature_data code layer feature index) }
 {
-    json!(in alloc; {"code": code, "feature": feature, "index": index, "layer": layer})
+    let members = [
+        ("code", u64::from(code)),
+        ("feature", feature as u64),
+        ("index", index as u64),
+        ("layer", layer as u64),
+    ];
+    Ok(Value::Object(members_of(alloc, &members)?))
 }
