@@ -14,7 +14,7 @@ use mvt_fault::RingEdge;
 use mvt_plane::{Edge, Hpoint, Point, on_edge, orient};
 
 /// An edge of a feature's rings, with its ordinals.
-#[derive(Clone, Copy, Debug, PartialEq, Eq)]
+#[derive(Clone, Copy)]
 pub(crate) struct NumberedEdge {
     /// The ordinals of its ring and of the edge.
     pub number: RingEdge,
