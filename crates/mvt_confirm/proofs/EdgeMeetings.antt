@@ -6,7 +6,7 @@ use Rattle.mvt_fault.specs.declared.ring.RingEdge.{RingEdge}
 use Rattle.mvt_plane.specs.Meeting.{EdgeNumber, IsEdgeOf, IsShared, Follows, forward, backward, MeetsWrongly}
 use Rattle.mvt_plane.specs.Position.{Position}
 use Rattle.mvt_plane.specs.RationalPoint.{RationalPoint, LiesOn, IsAt, IsBounded}
-use Rattle.mvt_plane.specs.Ring.{next_round, edges}
+use Rattle.mvt_plane.specs.Ring.{next_round}
 use Rattle.mvt_plane.specs.declared.edge.Edge.{Edge}
 use Rattle.mvt_plane.proofs.RingEdges.{ends_of_edge, one_edge}
 use Rattle.mvt_confirm.specs.EdgeTests.{AreEdgesOf, IsApartBehind}

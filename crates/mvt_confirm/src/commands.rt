@@ -12,8 +12,6 @@ use mvt_fault::CommandCode;
 use mvt_wire::Numbers;
 
 mod state;
-#[cfg(test)]
-mod tests;
 
 use state::{GeometryType, State};
 

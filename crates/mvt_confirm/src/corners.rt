@@ -7,9 +7,6 @@ ghost use Rattle.mvt_plane.specs.Geometry.{HasRings};
 ghost use Rattle.mvt_plane.specs.Position.{Position};
 ghost use Rattle.mvt_wire.specs.Numbers.{NumbersLeft, most_left};
 
-#[cfg(test)]
-mod tests;
-
 use crate::moves::moved_by;
 use mvt_plane::Point;
 use mvt_wire::Numbers;

@@ -6,13 +6,10 @@ ghost use Rattle.mvt_plane.specs.declared.edge.Edge.{Edge};
 use crate::edge_tests::passes_over;
 use mvt_plane::Point;
 
-#[cfg(test)]
-mod tests;
-
 /// The parity of the edges that pass over a position, of those that were met one behind another. A position
 /// is inside a ring where it is odd for all edges of the ring (Mapbox Vector Tile Specification 2.1, section
 /// 4.3.4.4).
-#[derive(Clone, Copy, Debug, PartialEq, Eq)]
+#[derive(Clone, Copy)]
 pub(crate) struct Crossings {
     is_odd: bool,
 }

@@ -13,11 +13,8 @@ ghost use Rattle.mvt_plane.specs.Ring.{next_round};
 use mvt_fault::RingEdge;
 use mvt_plane::{Edge, Hpoint, Point, on_edge, orient};
 
-#[cfg(test)]
-mod tests;
-
 /// An edge of a feature's rings, with its ordinals.
-#[derive(Clone, Copy, Debug, PartialEq, Eq)]
+#[derive(Clone, Copy)]
 pub(crate) struct NumberedEdge {
     /// The ordinals of its ring and of the edge.
     pub number: RingEdge,

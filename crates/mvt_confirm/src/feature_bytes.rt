@@ -12,9 +12,6 @@ ghost use Rattle.mvt_wire.specs.Numbers.{NumbersLeft};
 ghost use Rattle.mvt_wire.specs.Rules.{IsFeatureOf};
 ghost use Rattle.mvt_wire.specs.Tile.{FeatureRecord, LayerRecord, TileRecord, IsTile};
 
-#[cfg(test)]
-mod tests;
-
 use crate::commands::{breaks_commands, draws_rings};
 use crate::corners::Corners;
 use crate::stretch::{Stretch, stretch_of};

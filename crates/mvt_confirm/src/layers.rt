@@ -4,9 +4,6 @@ ghost use Rattle.mvt_wire.specs.Rules.{OtherVersion, SameName};
 ghost use Rattle.mvt_wire.specs.Tile.{LayerRecord, IsLayer, TileRecord, IsTile};
 ghost use Rattle.mvt_confirm.specs.Stretch.{as_span};
 
-#[cfg(test)]
-mod tests;
-
 use crate::stretch::{Stretch, payload_of, stretch_of};
 use mvt_wire::field_number::{LAYER_NAME, VERSION};
 use mvt_wire::{Numbers, Scope};

@@ -6,9 +6,6 @@ ghost use Rattle.mvt_confirm.specs.Polygons.{IsPlaceOf};
 ghost use Rattle.mvt_plane.specs.Position.{Position};
 ghost use Rattle.mvt_plane.specs.Ring.{ArePolygonRings};
 
-#[cfg(test)]
-mod tests;
-
 use crate::corners::Corners;
 use crate::rings::{Measure, next_ring};
 

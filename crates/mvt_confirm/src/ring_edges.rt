@@ -8,9 +8,6 @@ ghost use Rattle.mvt_plane.specs.Position.{Position};
 ghost use Rattle.mvt_plane.specs.Ring.{edges};
 ghost use Rattle.mvt_plane.specs.declared.edge.Edge.{Edge};
 
-#[cfg(test)]
-mod tests;
-
 use crate::corners::Corners;
 use crate::crossings::Crossings;
 use crate::ring_faults::pass_rings;

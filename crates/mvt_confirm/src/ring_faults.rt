@@ -8,9 +8,6 @@ ghost use Rattle.mvt_fault.specs.Code.{ring_code};
 ghost use Rattle.mvt_plane.specs.Position.{Position};
 ghost use Rattle.mvt_plane.specs.Ring.{BreaksRings};
 
-#[cfg(test)]
-mod tests;
-
 use crate::corners::Corners;
 use crate::rings::{Measure, next_ring};
 use mvt_fault::RingCode;

@@ -7,11 +7,8 @@ ghost use Rattle.mvt_confirm.specs.Stretch.{as_span};
 use mvt_wire::field_number::{FEATURES, LAYERS, VALUES};
 use mvt_wire::{Body, Field, Fields, Scope};
 
-#[cfg(test)]
-mod tests;
-
 /// A stretch of the bytes: the offset of its first byte, and the offset behind its last.
-#[derive(Clone, Copy, Debug, PartialEq, Eq)]
+#[derive(Clone, Copy)]
 pub(crate) struct Stretch {
     pub(crate) from: usize,
     pub(crate) to: usize,

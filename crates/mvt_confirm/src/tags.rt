@@ -7,9 +7,6 @@ ghost use Rattle.mvt_wire.specs.Tile.{FeatureRecord, IsFeature, LayerRecord, IsL
 ghost use Rattle.mvt_confirm.specs.Stretch.{as_span};
 ghost use Rattle.mvt_confirm.specs.Tags.{HasPassed};
 
-#[cfg(test)]
-mod tests;
-
 use crate::stretch::{Stretch, payload_of, stretch_of};
 use mvt_fault::TagCode;
 use mvt_wire::field_number::{KEYS, TAGS, VALUES};

@@ -7,8 +7,6 @@ mod parts;
 mod payload;
 mod rule;
 mod schema;
-#[cfg(test)]
-mod tests;
 
 use crate::tile::parts::layers_keep;
 use crate::tile::schema::keeps_schema;

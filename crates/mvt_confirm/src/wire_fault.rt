@@ -8,8 +8,6 @@ mod defect;
 mod end;
 mod field;
 mod packed;
-#[cfg(test)]
-mod tests;
 
 use crate::stretch::{Stretch, stretch_of};
 use defect::has_defect;
