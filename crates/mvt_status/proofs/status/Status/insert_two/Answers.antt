@@ -1,4 +1,4 @@
-use Rattle.std.proofs.Common.{◌≡◌, ℕ, suc, ◌≤◌, Bool, true, false, true≢false, List, if◌then◌else◌, insert, is_ok, length, remove, ap, ◌∙◌, arith}
+use Rattle.std.proofs.Common.{◌≡◌, ℕ, suc, ◌≤◌, Bool, true, false, true≢false, List, if◌then◌else◌, insert, is_ok, length, remove, ap, ◌∙◌, arith, rules}
 use Rattle.std.proofs.lemmas.List.Edits.{length-insert}
 use Rattle.mvt_status.specs.Counts.{bits}
 use Rattle.mvt_status.proofs.BinaryDigits.{no_more_digits}
@@ -72,3 +72,6 @@ returns-else-is_err-clause-counted g c =
       no_fewer_visits = omega (arith, put.no_fewer_visits, placed.no_fewer_visits);
       visits_added = omega (arith, put.visits_added, placed.visits_added, digits, digits_put);
     }
+
+pub returns-else-is_err-clause-list : goal.returns-else-is_err-clause-list
+returns-else-is_err-clause-list g c = search rules

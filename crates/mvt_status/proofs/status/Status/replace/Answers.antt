@@ -1,4 +1,4 @@
-use Rattle.std.proofs.Common.{◌≤◌, length, arith}
+use Rattle.std.proofs.Common.{◌≤◌, length, arith, rules}
 use Rattle.std.proofs.lemmas.List.Edits.{length-remove}
 use Rattle.mvt_status.specs.Counts.{bits}
 use Rattle.mvt_status.proofs.BinaryDigits.{no_more_digits}
@@ -19,3 +19,6 @@ returns-clause-counted g c =
       no_fewer_visits = omega (arith, taken.no_fewer_visits, put.no_fewer_visits);
       visits_added = omega (arith, taken.visits_added, put.visits_added, digits);
     }
+
+pub returns-clause-list : goal.returns-clause-list
+returns-clause-list g c = search rules

@@ -1,4 +1,5 @@
 use Rattle.std.proofs.Common.{suc, length, arith}
+use Rattle.std.proofs.lemmas.Grind.{common_steps}
 use Rattle.mvt_status.proofs.BinaryDigits.{no_more_digits}
 use Rattle.mvt_status.proofs.Heights.{visits_by_digits}
 use Rattle.mvt_status.proofs.tree_status.TreeStatusStatus.insert_two.Goals as goal
@@ -13,3 +14,6 @@ returns-clause-counted c =
       no_fewer_visits = added.no_fewer_visits;
       visits_added = omega (arith, added.visits_added, no_more_digits (length c.args.self.now) (suc (length c.args.self.now)) (omega arith));
     }
+
+pub returns-clause-list : goal.returns-clause-list
+returns-clause-list c = grind (arith, common_steps)

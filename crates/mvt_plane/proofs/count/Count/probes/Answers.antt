@@ -1,0 +1,5 @@
+use Rattle.std.proofs.Common.{rules}
+use Rattle.mvt_plane.proofs.count.Count.probes.Goals as goal
+
+pub returns : goal.returns
+returns c = search rules
