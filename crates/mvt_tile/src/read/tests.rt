@@ -2,7 +2,6 @@ use crate::{Feature, Kind, Layer, ReadFault, Value, read_tile};
 use mvt_fault::{Fault, Scope};
 use mvt_wire::WireCode;
 use std::alloc::Global;
-use std::process::Abort;
 
 // A layer with one POINT feature, in the order name, version, features and so on. The geometry is a
 // MoveTo to (25, 17), the specification's own example.
@@ -10,49 +9,47 @@ const POINT: [u8; 16] = [
     0x1a, 0x0e, 0x78, 0x02, 0x0a, 0x01, 0x61, 0x12, 0x07, 0x18, 0x01, 0x22, 0x03, 0x09, 0x32, 0x22,
 ];
 
-/// That the layer has this name and extent, these keys and values, and version 2.
-fn expect_layer(
-    rt: &impl Abort,
+/// Whether the layer has this name and extent, these keys and values, and version 2.
+fn is_layer(
     layer: &Layer<'_>,
     name: &str,
     extent: u32,
     keys: &[&str],
     values: &[Value<'_>],
-) {
-    assert_eq!(rt; layer.version, 2);
-    assert!(rt; layer.name == name);
-    assert_eq!(rt; layer.extent, extent);
-    assert!(rt; layer.keys.as_slice() == keys);
-    assert!(rt; layer.values.as_slice() == values);
+) -> bool {
+    layer.version == 2
+        && layer.name == name
+        && layer.extent == extent
+        && layer.keys.as_slice() == keys
+        && layer.values.as_slice() == values
 }
 
-/// That the feature has this id, these tags, this kind and this geometry.
-fn expect_feature(
-    rt: &impl Abort,
+/// Whether the feature has this id, these tags, this kind and this geometry.
+fn is_feature(
     feature: &Feature,
     id: Option<u64>,
     tags: &[u32],
     kind: Kind,
     geometry: &[u32],
-) {
-    assert_eq!(rt; feature.id, id);
-    assert_eq!(rt; feature.tags.as_slice(), tags);
-    assert_eq!(rt; feature.kind, kind);
-    assert_eq!(rt; feature.geometry.as_slice(), geometry);
+) -> bool {
+    feature.id == id
+        && feature.tags.as_slice() == tags
+        && feature.kind == kind
+        && feature.geometry.as_slice() == geometry
 }
 
-/// That the bytes are a tile of one layer, named `a`, with this one feature.
-fn expect_one(rt: &impl Abort, alloc: Global, bytes: &[u8], kind: Kind, geometry: &[u32]) {
-    match read_tile(alloc, bytes) {
-        Ok(tile) => {
-            assert_eq!(rt; tile.layers.len(), 1);
-            let layer = &tile.layers[0];
-            expect_layer(rt, layer, "a", 4096, &[], &[]);
-            assert_eq!(rt; layer.features.len(), 1);
-            expect_feature(rt, &layer.features[0], None, &[], kind, geometry);
-        }
-        Err(fault) => assert!(rt; false, "{fault:?}"),
-    }
+/// Whether the bytes are a tile of one layer, named `a`, with this one feature.
+fn is_one(alloc: Global, bytes: &[u8], kind: Kind, geometry: &[u32]) -> bool {
+    let Ok(tile) = read_tile(alloc, bytes) else {
+        return false;
+    };
+    let [layer] = tile.layers.as_slice() else {
+        return false;
+    };
+    let [feature] = layer.features.as_slice() else {
+        return false;
+    };
+    is_layer(layer, "a", 4096, &[], &[]) && is_feature(feature, None, &[], kind, geometry)
 }
 
 #[test]
@@ -64,24 +61,32 @@ fn no_bytes(rt: HostRuntime) {
 // longer than it needs.
 #[test]
 fn points(rt: HostRuntime) {
-    let spellings: [&[u8]; 4] = [
-        &POINT,
-        &[
-            0x1a, 0x0f, 0x78, 0x02, 0x0a, 0x01, 0x61, 0x12, 0x08, 0x18, 0x01, 0x20, 0x09, 0x20,
-            0x32, 0x20, 0x22,
-        ],
-        &[
-            0x1a, 0x0f, 0x78, 0x02, 0x0a, 0x01, 0x61, 0x12, 0x08, 0x18, 0x01, 0x22, 0x02, 0x09,
-            0x32, 0x20, 0x22,
-        ],
-        &[
-            0x1a, 0x0f, 0x78, 0x82, 0x00, 0x0a, 0x01, 0x61, 0x12, 0x07, 0x18, 0x01, 0x22, 0x03,
-            0x09, 0x32, 0x22,
-        ],
-    ];
-    for bytes in spellings {
-        expect_one(&rt, rt.alloc(), bytes, Kind::Point, &[9, 50, 34]);
-    }
+    let alloc = rt.alloc();
+    assert!(rt; is_one(alloc, &POINT, Kind::Point, &[9, 50, 34]));
+    assert!(rt;
+        is_one(
+            alloc,
+            b"\x1a\x0f\x78\x02\x0a\x01\x61\x12\x08\x18\x01\x20\x09\x20\x32\x20\x22",
+            Kind::Point,
+            &[9, 50, 34]
+        )
+    );
+    assert!(rt;
+        is_one(
+            alloc,
+            b"\x1a\x0f\x78\x02\x0a\x01\x61\x12\x08\x18\x01\x22\x02\x09\x32\x20\x22",
+            Kind::Point,
+            &[9, 50, 34]
+        )
+    );
+    assert!(rt;
+        is_one(
+            alloc,
+            b"\x1a\x0f\x78\x82\x00\x0a\x01\x61\x12\x07\x18\x01\x22\x03\x09\x32\x22",
+            Kind::Point,
+            &[9, 50, 34]
+        )
+    );
 }
 
 // An empty packed geometry is present, with no numbers.
@@ -90,7 +95,7 @@ fn empty_geometry(rt: HostRuntime) {
     let bytes = [
         0x1a, 0x0b, 0x78, 0x02, 0x0a, 0x01, 0x61, 0x12, 0x04, 0x18, 0x00, 0x22, 0x00,
     ];
-    expect_one(&rt, rt.alloc(), &bytes, Kind::Unknown, &[]);
+    assert!(rt; is_one(rt.alloc(), &bytes, Kind::Unknown, &[]));
 }
 
 // A number of five bytes, the greatest that a geometry may have.
@@ -100,133 +105,158 @@ fn greatest_number(rt: HostRuntime) {
         0x1a, 0x12, 0x78, 0x02, 0x0a, 0x01, 0x61, 0x12, 0x0b, 0x18, 0x01, 0x22, 0x07, 0x09, 0xff,
         0xff, 0xff, 0xff, 0x0f, 0x00,
     ];
-    expect_one(&rt, rt.alloc(), &bytes, Kind::Point, &[9, 4_294_967_295, 0]);
+    assert!(rt; is_one(rt.alloc(), &bytes, Kind::Point, &[9, 4_294_967_295, 0]));
+}
+
+/// Whether the bytes are a tile of the layer of the next test.
+fn is_usual(alloc: Global, bytes: &[u8]) -> bool {
+    let Ok(tile) = read_tile(alloc, bytes) else {
+        return false;
+    };
+    let [layer] = tile.layers.as_slice() else {
+        return false;
+    };
+    let [feature] = layer.features.as_slice() else {
+        return false;
+    };
+    is_layer(layer, "a", 4096, &["k"], &[Value::Text("v")])
+        && is_feature(feature, Some(7), &[0, 0], Kind::Point, &[9, 50, 34])
 }
 
 // A layer in the order in which writers usually put it: the version last.
 #[test]
 fn usual_order(rt: HostRuntime) {
-    let bytes = [
-        0x1a, 0x1f, 0x0a, 0x01, 0x61, 0x12, 0x0d, 0x08, 0x07, 0x12, 0x02, 0x00, 0x00, 0x18, 0x01,
-        0x22, 0x03, 0x09, 0x32, 0x22, 0x1a, 0x01, 0x6b, 0x22, 0x03, 0x0a, 0x01, 0x76, 0x28, 0x80,
-        0x20, 0x78, 0x02,
-    ];
-    match read_tile(rt.alloc(), &bytes) {
-        Ok(tile) => {
-            assert_eq!(rt; tile.layers.len(), 1);
-            let layer = &tile.layers[0];
-            expect_layer(&rt, layer, "a", 4096, &["k"], &[Value::Text("v")]);
-            assert_eq!(rt; layer.features.len(), 1);
-            let feature = &layer.features[0];
-            expect_feature(&rt, feature, Some(7), &[0, 0], Kind::Point, &[9, 50, 34]);
-        }
-        Err(fault) => assert!(rt; false, "{fault:?}"),
-    }
+    let bytes =
+        b"\x1a\x1f\x0a\x01\x61\x12\x0d\x08\x07\x12\x02\x00\x00\x18\x01\x22\x03\x09\x32\x22\x1a\x01\x6b\x22\x03\x0a\x01\x76\x28\x80\x20\x78\x02";
+    assert!(rt; is_usual(rt.alloc(), bytes));
+}
+
+/// Whether these are the features of the first layer of the next test.
+fn are_three(features: &[Feature]) -> bool {
+    let [point, line, polygon] = features else {
+        return false;
+    };
+    is_feature(point, Some(7), &[1, 0], Kind::Point, &[9, 50, 34])
+        && is_feature(
+            line,
+            None,
+            &[],
+            Kind::LineString,
+            &[9, 4, 4, 18, 0, 16, 16, 0],
+        )
+        && is_feature(
+            polygon,
+            None,
+            &[],
+            Kind::Polygon,
+            &[9, 6, 12, 18, 10, 12, 24, 44, 15],
+        )
+}
+
+/// Whether the bytes are a tile of the layers of the next test.
+fn are_two(alloc: Global, bytes: &[u8]) -> bool {
+    let Ok(tile) = read_tile(alloc, bytes) else {
+        return false;
+    };
+    let [first, second] = tile.layers.as_slice() else {
+        return false;
+    };
+    is_layer(first, "a", 512, &["k", "l"], &[])
+        && are_three(first.features.as_slice())
+        && is_layer(second, "b", 4096, &[], &[])
+        && second.features.is_empty()
 }
 
 // Two layers. The first has an extent, two keys, a field of an unknown number, and three features:
 // one with two lists of tags, a line and a polygon.
 #[test]
 fn two_layers(rt: HostRuntime) {
-    let bytes = [
-        0x1a, 0x3f, 0x0a, 0x01, 0x61, 0x78, 0x02, 0x28, 0x80, 0x04, 0x1a, 0x01, 0x6b, 0x1a, 0x01,
-        0x6c, 0x80, 0x01, 0x05, 0x12, 0x0f, 0x08, 0x07, 0x12, 0x01, 0x01, 0x12, 0x01, 0x00, 0x18,
-        0x01, 0x22, 0x03, 0x09, 0x32, 0x22, 0x12, 0x0c, 0x18, 0x02, 0x22, 0x08, 0x09, 0x04, 0x04,
-        0x12, 0x00, 0x10, 0x10, 0x00, 0x12, 0x0d, 0x18, 0x03, 0x22, 0x09, 0x09, 0x06, 0x0c, 0x12,
-        0x0a, 0x0c, 0x18, 0x2c, 0x0f, 0x1a, 0x05, 0x0a, 0x01, 0x62, 0x78, 0x02,
-    ];
-    match read_tile(rt.alloc(), &bytes) {
-        Ok(tile) => {
-            assert_eq!(rt; tile.layers.len(), 2);
-            expect_layer(&rt, &tile.layers[0], "a", 512, &["k", "l"], &[]);
-            expect_layer(&rt, &tile.layers[1], "b", 4096, &[], &[]);
-            let features = &tile.layers[0].features;
-            assert_eq!(rt; features.len(), 3);
-            let point = [9, 50, 34];
-            expect_feature(&rt, &features[0], Some(7), &[1, 0], Kind::Point, &point);
-            let line = [9, 4, 4, 18, 0, 16, 16, 0];
-            expect_feature(&rt, &features[1], None, &[], Kind::LineString, &line);
-            let polygon = [9, 6, 12, 18, 10, 12, 24, 44, 15];
-            expect_feature(&rt, &features[2], None, &[], Kind::Polygon, &polygon);
-            assert!(rt; tile.layers[1].features.is_empty());
-        }
-        Err(fault) => assert!(rt; false, "{fault:?}"),
-    }
+    let bytes =
+        b"\x1a\x3f\x0a\x01\x61\x78\x02\x28\x80\x04\x1a\x01\x6b\x1a\x01\x6c\x80\x01\x05\x12\x0f\x08\x07\x12\x01\x01\x12\x01\x00\x18\x01\x22\x03\x09\x32\x22\x12\x0c\x18\x02\x22\x08\x09\x04\x04\x12\x00\x10\x10\x00\x12\x0d\x18\x03\x22\x09\x09\x06\x0c\x12\x0a\x0c\x18\x2c\x0f\x1a\x05\x0a\x01\x62\x78\x02";
+    assert!(rt; are_two(rt.alloc(), bytes));
+}
+
+/// Whether the bytes are a tile of one layer, named `a`, of these values and no feature.
+fn are_values(alloc: Global, bytes: &[u8], values: &[Value<'_>]) -> bool {
+    let Ok(tile) = read_tile(alloc, bytes) else {
+        return false;
+    };
+    let [layer] = tile.layers.as_slice() else {
+        return false;
+    };
+    is_layer(layer, "a", 4096, &[], values) && layer.features.is_empty()
 }
 
 // Each kind of value: a text, the floats 1.0 of 32 and of 64 bits, the int -1 in ten bytes, the
 // uint 3, the sint of zigzag number 3, and both truth values.
 #[test]
 fn values(rt: HostRuntime) {
-    let bytes = [
-        0x1a, 0x39, 0x0a, 0x01, 0x61, 0x78, 0x02, 0x22, 0x03, 0x0a, 0x01, 0x76, 0x22, 0x05, 0x15,
-        0x00, 0x00, 0x80, 0x3f, 0x22, 0x09, 0x19, 0x00, 0x00, 0x00, 0x00, 0x00, 0x00, 0xf0, 0x3f,
-        0x22, 0x0b, 0x20, 0xff, 0xff, 0xff, 0xff, 0xff, 0xff, 0xff, 0xff, 0xff, 0x01, 0x22, 0x02,
-        0x28, 0x03, 0x22, 0x02, 0x30, 0x03, 0x22, 0x02, 0x38, 0x01, 0x22, 0x02, 0x38, 0x00,
-    ];
+    let bytes =
+        b"\x1a\x39\x0a\x01\x61\x78\x02\x22\x03\x0a\x01\x76\x22\x05\x15\x00\x00\x80\x3f\x22\x09\x19\x00\x00\x00\x00\x00\x00\xf0\x3f\x22\x0b\x20\xff\xff\xff\xff\xff\xff\xff\xff\xff\x01\x22\x02\x28\x03\x22\x02\x30\x03\x22\x02\x38\x01\x22\x02\x38\x00";
     let values = [
         Value::Text("v"),
-        Value::Float(&[0x00, 0x00, 0x80, 0x3f]),
-        Value::Double(&[0x00, 0x00, 0x00, 0x00, 0x00, 0x00, 0xf0, 0x3f]),
+        Value::Float(b"\x00\x00\x80\x3f"),
+        Value::Double(b"\x00\x00\x00\x00\x00\x00\xf0\x3f"),
         Value::Int(-1),
         Value::Uint(3),
         Value::Sint(-2),
         Value::Bool(true),
         Value::Bool(false),
     ];
-    match read_tile(rt.alloc(), &bytes) {
-        Ok(tile) => {
-            assert_eq!(rt; tile.layers.len(), 1);
-            expect_layer(&rt, &tile.layers[0], "a", 4096, &[], &values);
-            assert!(rt; tile.layers[0].features.is_empty());
-        }
-        Err(fault) => assert!(rt; false, "{fault:?}"),
-    }
+    assert!(rt; are_values(rt.alloc(), bytes, &values));
+}
+
+/// Whether the bytes are no tile, and this is their first fault.
+fn is_refused(
+    alloc: Global,
+    bytes: &[u8],
+    code: WireCode,
+    scope: Scope,
+    at: usize,
+    field: u32,
+) -> bool {
+    let fault = Fault::Wire {
+        code,
+        scope,
+        at,
+        field,
+    };
+    read_tile(alloc, bytes) == Err(ReadFault::Wire(fault))
 }
 
 // One fault for each kind of message.
 #[test]
 fn faults(rt: HostRuntime) {
     let alloc = rt.alloc();
-    let rows: [(&[u8], WireCode, Scope, usize, u32); 4] = [
-        (&POINT[..15], WireCode::PastEnd, Scope::Tile, 0, 3),
-        (
-            &[
-                0x1a, 0x09, 0x78, 0x80, 0x80, 0x80, 0x80, 0x10, 0x0a, 0x01, 0x61,
-            ],
+    assert!(rt; is_refused(alloc, &POINT[..15], WireCode::PastEnd, Scope::Tile, 0, 3));
+    assert!(rt;
+        is_refused(
+            alloc,
+            b"\x1a\x09\x78\x80\x80\x80\x80\x10\x0a\x01\x61",
             WireCode::OutOfRange,
             Scope::Layer(0),
             3,
-            15,
-        ),
-        (
-            &[0x1a, 0x07, 0x78, 0x02, 0x0a, 0x01, 0x61, 0x22, 0x00],
+            15
+        )
+    );
+    assert!(rt;
+        is_refused(
+            alloc,
+            b"\x1a\x07\x78\x02\x0a\x01\x61\x22\x00",
             WireCode::OneField,
             Scope::Value(0, 0),
             9,
-            0,
-        ),
-        (
-            &[
-                0x1a, 0x0e, 0x78, 0x02, 0x0a, 0x01, 0x61, 0x12, 0x07, 0x18, 0x01, 0x22, 0x03, 0x09,
-                0x32, 0xa2,
-            ],
+            0
+        )
+    );
+    assert!(rt;
+        is_refused(
+            alloc,
+            b"\x1a\x0e\x78\x02\x0a\x01\x61\x12\x07\x18\x01\x22\x03\x09\x32\xa2",
             WireCode::Ends,
             Scope::Feature(0, 0),
             15,
-            4,
-        ),
-    ];
-    for (bytes, code, scope, at, field) in rows {
-        let fault = Fault::Wire {
-            code,
-            scope,
-            at,
-            field,
-        };
-        assert!(rt;
-            read_tile(alloc, bytes) == Err(ReadFault::Wire(fault)),
-            "{bytes:?}"
-        );
-    }
+            4
+        )
+    );
 }

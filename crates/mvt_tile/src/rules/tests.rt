@@ -7,7 +7,6 @@ use crate::record::{Feature, Kind};
 use crate::{rule_fault, wire_fault};
 use mvt_fault::{CommandCode, Fault, TagCode};
 use std::alloc::{AllocError, Global};
-use std::process::Abort;
 
 /// A rule that is broken by a feature of unknown type, at the first number of its geometry. It counts the
 /// features that it is called for.
@@ -47,35 +46,19 @@ fn command(layer: usize, feature: usize) -> Option<Fault>
     })
 }
 
-/// The first fault of bytes that are a tile, by its rules and that further one.
-fn first_fault(
-    rt: &impl Abort,
-    alloc: Global,
-    bytes: &[u8],
-    rule: &mut TypesAreKnown,
-) -> Option<Fault> {
+/// The first fault of bytes by the rules of a tile and that further one, or None where there is none. None also where the
+/// bytes are no tile, or memory is refused.
+fn first_fault(alloc: Global, bytes: &[u8], rule: &mut TypesAreKnown) -> Option<Option<Fault>> {
     match wire_fault(bytes) {
-        Some(other) => {
-            assert!(rt; false, "{other:?} at {bytes:?}");
-            None
-        }
-        None => match rule_fault(alloc, bytes, rule) {
-            Ok(found) => found,
-            Err(_refused) => {
-                assert!(rt; false, "no memory at {bytes:?}");
-                None
-            }
-        },
+        Some(_) => None,
+        None => rule_fault(alloc, bytes, rule).ok(),
     }
 }
 
-/// That all bytes are tiles, and that this is the first fault of each by its rules and that further one.
-fn expect_faults(rt: &impl Abort, alloc: Global, cases: &[(&[u8], Option<Fault>)]) {
+/// Whether the bytes are a tile, and this is its first fault by its rules and that further one.
+fn is_first_fault(alloc: Global, bytes: &[u8], fault: Option<Fault>) -> bool {
     let mut rule = TypesAreKnown { asked: 0 };
-    for (bytes, fault) in cases {
-        let found = first_fault(rt, alloc, bytes, &mut rule);
-        assert_eq!(rt; found, *fault, "at {bytes:?}");
-    }
+    first_fault(alloc, bytes, &mut rule) == Some(fault)
 }
 
 fn tag(code: TagCode, layer: usize, feature: usize, index: usize) -> Option<Fault> {
@@ -89,283 +72,248 @@ fn tag(code: TagCode, layer: usize, feature: usize, index: usize) -> Option<Faul
 
 #[test]
 fn tiles_that_keep_the_rules(rt: HostRuntime) {
-    let cases: [(&[u8], Option<Fault>); 5] = [
-        (&[], None),
-        // a field that a tile doesn't know
-        (&[0x08, 0x05], None),
-        // a layer with a name and a version, and nothing else
-        (&[0x1a, 0x05, 0x78, 0x02, 0x0a, 0x01, 0x61], None),
-        // one point without tags
-        (
-            &[
-                0x1a, 0x0e, 0x78, 0x02, 0x0a, 0x01, 0x61, 0x12, 0x07, 0x18, 0x01, 0x22, 0x03, 0x09,
-                0x32, 0x22,
-            ],
-            None,
-        ),
-        // a layer as usual writers order it: its key and its value behind its feature
-        (
-            &[
-                0x1a, 0x1f, 0x0a, 0x01, 0x61, 0x12, 0x0d, 0x08, 0x07, 0x12, 0x02, 0x00, 0x00, 0x18,
-                0x01, 0x22, 0x03, 0x09, 0x32, 0x22, 0x1a, 0x01, 0x6b, 0x22, 0x03, 0x0a, 0x01, 0x76,
-                0x28, 0x80, 0x20, 0x78, 0x02,
-            ],
-            None,
-        ),
-    ];
-    expect_faults(&rt, rt.alloc(), &cases);
+    let alloc = rt.alloc();
+    assert!(rt; is_first_fault(alloc, b"", None));
+    // a field that a tile doesn't know
+    assert!(rt; is_first_fault(alloc, b"\x08\x05", None));
+    // a layer with a name and a version, and nothing else
+    assert!(rt; is_first_fault(alloc, b"\x1a\x05\x78\x02\x0a\x01\x61", None));
+    // one point without tags
+    assert!(rt;
+        is_first_fault(
+            alloc,
+            b"\x1a\x0e\x78\x02\x0a\x01\x61\x12\x07\x18\x01\x22\x03\x09\x32\x22",
+            None
+        )
+    );
+    // a layer as usual writers order it: its key and its value behind its feature
+    assert!(rt;
+        is_first_fault(
+            alloc,
+            b"\x1a\x1f\x0a\x01\x61\x12\x0d\x08\x07\x12\x02\x00\x00\x18\x01\x22\x03\x09\x32\x22\x1a\x01\x6b\x22\x03\x0a\x01\x76\x28\x80\x20\x78\x02",
+            None
+        )
+    );
 }
 
 #[test]
 fn versions_and_names(rt: HostRuntime) {
-    let cases: [(&[u8], Option<Fault>); 3] = [
-        (
-            &[0x1a, 0x05, 0x78, 0x01, 0x0a, 0x01, 0x61],
-            Some(Fault::Version { layer: 0 }),
-        ),
-        (
-            &[
-                0x1a, 0x0e, 0x78, 0x02, 0x0a, 0x01, 0x61, 0x12, 0x07, 0x18, 0x01, 0x22, 0x03, 0x09,
-                0x32, 0x22, 0x1a, 0x0e, 0x78, 0x02, 0x0a, 0x01, 0x61, 0x12, 0x07, 0x18, 0x01, 0x22,
-                0x03, 0x09, 0x32, 0x22,
-            ],
+    let alloc = rt.alloc();
+    assert!(rt;
+        is_first_fault(
+            alloc,
+            b"\x1a\x05\x78\x01\x0a\x01\x61",
+            Some(Fault::Version { layer: 0 })
+        )
+    );
+    assert!(rt;
+        is_first_fault(
+            alloc,
+            b"\x1a\x0e\x78\x02\x0a\x01\x61\x12\x07\x18\x01\x22\x03\x09\x32\x22\x1a\x0e\x78\x02\x0a\x01\x61\x12\x07\x18\x01\x22\x03\x09\x32\x22",
             Some(Fault::Name {
                 first: 0,
                 second: 1,
-            }),
-        ),
-        // two layers of different names, the second of another version
-        (
-            &[
-                0x1a, 0x05, 0x78, 0x02, 0x0a, 0x01, 0x61, 0x1a, 0x05, 0x78, 0x01, 0x0a, 0x01, 0x62,
-            ],
-            Some(Fault::Version { layer: 1 }),
-        ),
-    ];
-    expect_faults(&rt, rt.alloc(), &cases);
+            })
+        )
+    );
+    // two layers of different names, the second of another version
+    assert!(rt;
+        is_first_fault(
+            alloc,
+            b"\x1a\x05\x78\x02\x0a\x01\x61\x1a\x05\x78\x01\x0a\x01\x62",
+            Some(Fault::Version { layer: 1 })
+        )
+    );
 }
 
 // A layer of one key and two values, with one feature.
 #[test]
 fn tags_of_one_feature(rt: HostRuntime) {
-    let cases: [(&[u8], Option<Fault>); 5] = [
-        // tags 0 0
-        (
-            &[
-                0x1a, 0x1d, 0x78, 0x02, 0x0a, 0x01, 0x61, 0x12, 0x0b, 0x12, 0x02, 0x00, 0x00, 0x18,
-                0x01, 0x22, 0x03, 0x09, 0x32, 0x22, 0x1a, 0x01, 0x6b, 0x22, 0x02, 0x38, 0x01, 0x22,
-                0x02, 0x28, 0x05,
-            ],
-            None,
-        ),
-        // tags 0 0 0 1
-        (
-            &[
-                0x1a, 0x1f, 0x78, 0x02, 0x0a, 0x01, 0x61, 0x12, 0x0d, 0x12, 0x04, 0x00, 0x00, 0x00,
-                0x01, 0x18, 0x01, 0x22, 0x03, 0x09, 0x32, 0x22, 0x1a, 0x01, 0x6b, 0x22, 0x02, 0x38,
-                0x01, 0x22, 0x02, 0x28, 0x05,
-            ],
-            tag(TagCode::Repeated, 0, 0, 2),
-        ),
-        // tags 0
-        (
-            &[
-                0x1a, 0x1c, 0x78, 0x02, 0x0a, 0x01, 0x61, 0x12, 0x0a, 0x12, 0x01, 0x00, 0x18, 0x01,
-                0x22, 0x03, 0x09, 0x32, 0x22, 0x1a, 0x01, 0x6b, 0x22, 0x02, 0x38, 0x01, 0x22, 0x02,
-                0x28, 0x05,
-            ],
-            tag(TagCode::OddLength, 0, 0, 1),
-        ),
-        // tags 1 0
-        (
-            &[
-                0x1a, 0x1d, 0x78, 0x02, 0x0a, 0x01, 0x61, 0x12, 0x0b, 0x12, 0x02, 0x01, 0x00, 0x18,
-                0x01, 0x22, 0x03, 0x09, 0x32, 0x22, 0x1a, 0x01, 0x6b, 0x22, 0x02, 0x38, 0x01, 0x22,
-                0x02, 0x28, 0x05,
-            ],
-            tag(TagCode::NoKey, 0, 0, 0),
-        ),
-        // tags 0 2
-        (
-            &[
-                0x1a, 0x1d, 0x78, 0x02, 0x0a, 0x01, 0x61, 0x12, 0x0b, 0x12, 0x02, 0x00, 0x02, 0x18,
-                0x01, 0x22, 0x03, 0x09, 0x32, 0x22, 0x1a, 0x01, 0x6b, 0x22, 0x02, 0x38, 0x01, 0x22,
-                0x02, 0x28, 0x05,
-            ],
-            tag(TagCode::NoValue, 0, 0, 1),
-        ),
-    ];
-    expect_faults(&rt, rt.alloc(), &cases);
+    let alloc = rt.alloc();
+    // tags 0 0
+    assert!(rt;
+        is_first_fault(
+            alloc,
+            b"\x1a\x1d\x78\x02\x0a\x01\x61\x12\x0b\x12\x02\x00\x00\x18\x01\x22\x03\x09\x32\x22\x1a\x01\x6b\x22\x02\x38\x01\x22\x02\x28\x05",
+            None
+        )
+    );
+    // tags 0 0 0 1
+    assert!(rt;
+        is_first_fault(
+            alloc,
+            b"\x1a\x1f\x78\x02\x0a\x01\x61\x12\x0d\x12\x04\x00\x00\x00\x01\x18\x01\x22\x03\x09\x32\x22\x1a\x01\x6b\x22\x02\x38\x01\x22\x02\x28\x05",
+            tag(TagCode::Repeated, 0, 0, 2)
+        )
+    );
+    // tags 0
+    assert!(rt;
+        is_first_fault(
+            alloc,
+            b"\x1a\x1c\x78\x02\x0a\x01\x61\x12\x0a\x12\x01\x00\x18\x01\x22\x03\x09\x32\x22\x1a\x01\x6b\x22\x02\x38\x01\x22\x02\x28\x05",
+            tag(TagCode::OddLength, 0, 0, 1)
+        )
+    );
+    // tags 1 0
+    assert!(rt;
+        is_first_fault(
+            alloc,
+            b"\x1a\x1d\x78\x02\x0a\x01\x61\x12\x0b\x12\x02\x01\x00\x18\x01\x22\x03\x09\x32\x22\x1a\x01\x6b\x22\x02\x38\x01\x22\x02\x28\x05",
+            tag(TagCode::NoKey, 0, 0, 0)
+        )
+    );
+    // tags 0 2
+    assert!(rt;
+        is_first_fault(
+            alloc,
+            b"\x1a\x1d\x78\x02\x0a\x01\x61\x12\x0b\x12\x02\x00\x02\x18\x01\x22\x03\x09\x32\x22\x1a\x01\x6b\x22\x02\x38\x01\x22\x02\x28\x05",
+            tag(TagCode::NoValue, 0, 0, 1)
+        )
+    );
 }
 
 // Layers of one key and two values. The first fault is that of the first feature that has one.
 #[test]
 fn tags_of_several_features(rt: HostRuntime) {
-    let cases: [(&[u8], Option<Fault>); 2] = [
-        // tags 0 0 in the first layer; 0 0 and 0 2 in the second
-        (
-            &[
-                0x1a, 0x1d, 0x78, 0x02, 0x0a, 0x01, 0x61, 0x12, 0x0b, 0x12, 0x02, 0x00, 0x00, 0x18,
-                0x01, 0x22, 0x03, 0x09, 0x32, 0x22, 0x1a, 0x01, 0x6b, 0x22, 0x02, 0x38, 0x01, 0x22,
-                0x02, 0x28, 0x05, 0x1a, 0x2a, 0x78, 0x02, 0x0a, 0x01, 0x62, 0x12, 0x0b, 0x12, 0x02,
-                0x00, 0x00, 0x18, 0x01, 0x22, 0x03, 0x09, 0x32, 0x22, 0x12, 0x0b, 0x12, 0x02, 0x00,
-                0x02, 0x18, 0x01, 0x22, 0x03, 0x09, 0x32, 0x22, 0x1a, 0x01, 0x6b, 0x22, 0x02, 0x38,
-                0x01, 0x22, 0x02, 0x28, 0x05,
-            ],
-            tag(TagCode::NoValue, 1, 1, 1),
-        ),
-        // tags 0 0, 1 0 and 0 in the first layer; 0 in the second
-        (
-            &[
-                0x1a, 0x36, 0x78, 0x02, 0x0a, 0x01, 0x61, 0x12, 0x0b, 0x12, 0x02, 0x00, 0x00, 0x18,
-                0x01, 0x22, 0x03, 0x09, 0x32, 0x22, 0x12, 0x0b, 0x12, 0x02, 0x01, 0x00, 0x18, 0x01,
-                0x22, 0x03, 0x09, 0x32, 0x22, 0x12, 0x0a, 0x12, 0x01, 0x00, 0x18, 0x01, 0x22, 0x03,
-                0x09, 0x32, 0x22, 0x1a, 0x01, 0x6b, 0x22, 0x02, 0x38, 0x01, 0x22, 0x02, 0x28, 0x05,
-                0x1a, 0x1c, 0x78, 0x02, 0x0a, 0x01, 0x62, 0x12, 0x0a, 0x12, 0x01, 0x00, 0x18, 0x01,
-                0x22, 0x03, 0x09, 0x32, 0x22, 0x1a, 0x01, 0x6b, 0x22, 0x02, 0x38, 0x01, 0x22, 0x02,
-                0x28, 0x05,
-            ],
-            tag(TagCode::NoKey, 0, 1, 0),
-        ),
-    ];
-    expect_faults(&rt, rt.alloc(), &cases);
+    let alloc = rt.alloc();
+    // tags 0 0 in the first layer; 0 0 and 0 2 in the second
+    assert!(rt;
+        is_first_fault(
+            alloc,
+            b"\x1a\x1d\x78\x02\x0a\x01\x61\x12\x0b\x12\x02\x00\x00\x18\x01\x22\x03\x09\x32\x22\x1a\x01\x6b\x22\x02\x38\x01\x22\x02\x28\x05\x1a\x2a\x78\x02\x0a\x01\x62\x12\x0b\x12\x02\x00\x00\x18\x01\x22\x03\x09\x32\x22\x12\x0b\x12\x02\x00\x02\x18\x01\x22\x03\x09\x32\x22\x1a\x01\x6b\x22\x02\x38\x01\x22\x02\x28\x05",
+            tag(TagCode::NoValue, 1, 1, 1)
+        )
+    );
+    // tags 0 0, 1 0 and 0 in the first layer; 0 in the second
+    assert!(rt;
+        is_first_fault(
+            alloc,
+            b"\x1a\x36\x78\x02\x0a\x01\x61\x12\x0b\x12\x02\x00\x00\x18\x01\x22\x03\x09\x32\x22\x12\x0b\x12\x02\x01\x00\x18\x01\x22\x03\x09\x32\x22\x12\x0a\x12\x01\x00\x18\x01\x22\x03\x09\x32\x22\x1a\x01\x6b\x22\x02\x38\x01\x22\x02\x28\x05\x1a\x1c\x78\x02\x0a\x01\x62\x12\x0a\x12\x01\x00\x18\x01\x22\x03\x09\x32\x22\x1a\x01\x6b\x22\x02\x38\x01\x22\x02\x28\x05",
+            tag(TagCode::NoKey, 0, 1, 0)
+        )
+    );
 }
 
 // A feature of the first layer has the tags 0, which is no list of pairs; the second layer's own fault
 // comes first all the same.
 #[test]
 fn layers_before_tags(rt: HostRuntime) {
-    let cases: [(&[u8], Option<Fault>); 2] = [
-        (
-            &[
-                0x1a, 0x1c, 0x78, 0x02, 0x0a, 0x01, 0x61, 0x12, 0x0a, 0x12, 0x01, 0x00, 0x18, 0x01,
-                0x22, 0x03, 0x09, 0x32, 0x22, 0x1a, 0x01, 0x6b, 0x22, 0x02, 0x38, 0x01, 0x22, 0x02,
-                0x28, 0x05, 0x1a, 0x05, 0x78, 0x01, 0x0a, 0x01, 0x62,
-            ],
-            Some(Fault::Version { layer: 1 }),
-        ),
-        (
-            &[
-                0x1a, 0x1c, 0x78, 0x02, 0x0a, 0x01, 0x61, 0x12, 0x0a, 0x12, 0x01, 0x00, 0x18, 0x01,
-                0x22, 0x03, 0x09, 0x32, 0x22, 0x1a, 0x01, 0x6b, 0x22, 0x02, 0x38, 0x01, 0x22, 0x02,
-                0x28, 0x05, 0x1a, 0x05, 0x78, 0x02, 0x0a, 0x01, 0x61,
-            ],
+    let alloc = rt.alloc();
+    assert!(rt;
+        is_first_fault(
+            alloc,
+            b"\x1a\x1c\x78\x02\x0a\x01\x61\x12\x0a\x12\x01\x00\x18\x01\x22\x03\x09\x32\x22\x1a\x01\x6b\x22\x02\x38\x01\x22\x02\x28\x05\x1a\x05\x78\x01\x0a\x01\x62",
+            Some(Fault::Version { layer: 1 })
+        )
+    );
+    assert!(rt;
+        is_first_fault(
+            alloc,
+            b"\x1a\x1c\x78\x02\x0a\x01\x61\x12\x0a\x12\x01\x00\x18\x01\x22\x03\x09\x32\x22\x1a\x01\x6b\x22\x02\x38\x01\x22\x02\x28\x05\x1a\x05\x78\x02\x0a\x01\x61",
             Some(Fault::Name {
                 first: 0,
                 second: 1,
-            }),
-        ),
-    ];
-    expect_faults(&rt, rt.alloc(), &cases);
+            })
+        )
+    );
 }
 
 // The first feature that has a fault decides, and its tags come before the further rule.
 #[test]
 fn further_rule_behind_tags(rt: HostRuntime) {
-    let cases: [(&[u8], Option<Fault>); 4] = [
-        // a feature of unknown type, and one of unknown type with the tags 0
-        (
-            &[
-                0x1a, 0x14, 0x78, 0x02, 0x0a, 0x01, 0x61, 0x12, 0x04, 0x18, 0x00, 0x22, 0x00, 0x12,
-                0x07, 0x12, 0x01, 0x00, 0x18, 0x00, 0x22, 0x00,
-            ],
-            command(0, 0),
-        ),
-        // one of unknown type with the tags 0
-        (
-            &[
-                0x1a, 0x0e, 0x78, 0x02, 0x0a, 0x01, 0x61, 0x12, 0x07, 0x12, 0x01, 0x00, 0x18, 0x00,
-                0x22, 0x00,
-            ],
-            tag(TagCode::OddLength, 0, 0, 1),
-        ),
-        // a point, and in the next layer a point and one of unknown type
-        (
-            &[
-                0x1a, 0x0e, 0x78, 0x02, 0x0a, 0x01, 0x61, 0x12, 0x07, 0x18, 0x01, 0x22, 0x03, 0x09,
-                0x32, 0x22, 0x1a, 0x14, 0x78, 0x02, 0x0a, 0x01, 0x62, 0x12, 0x07, 0x18, 0x01, 0x22,
-                0x03, 0x09, 0x32, 0x22, 0x12, 0x04, 0x18, 0x00, 0x22, 0x00,
-            ],
-            command(1, 1),
-        ),
-        // one of unknown type, and behind it a layer of version 1
-        (
-            &[
-                0x1a, 0x0b, 0x78, 0x02, 0x0a, 0x01, 0x61, 0x12, 0x04, 0x18, 0x00, 0x22, 0x00, 0x1a,
-                0x05, 0x78, 0x01, 0x0a, 0x01, 0x62,
-            ],
-            Some(Fault::Version { layer: 1 }),
-        ),
-    ];
-    expect_faults(&rt, rt.alloc(), &cases);
+    let alloc = rt.alloc();
+    // a feature of unknown type, and one of unknown type with the tags 0
+    assert!(rt;
+        is_first_fault(
+            alloc,
+            b"\x1a\x14\x78\x02\x0a\x01\x61\x12\x04\x18\x00\x22\x00\x12\x07\x12\x01\x00\x18\x00\x22\x00",
+            command(0, 0)
+        )
+    );
+    // one of unknown type with the tags 0
+    assert!(rt;
+        is_first_fault(
+            alloc,
+            b"\x1a\x0e\x78\x02\x0a\x01\x61\x12\x07\x12\x01\x00\x18\x00\x22\x00",
+            tag(TagCode::OddLength, 0, 0, 1)
+        )
+    );
+    // a point, and in the next layer a point and one of unknown type
+    assert!(rt;
+        is_first_fault(
+            alloc,
+            b"\x1a\x0e\x78\x02\x0a\x01\x61\x12\x07\x18\x01\x22\x03\x09\x32\x22\x1a\x14\x78\x02\x0a\x01\x62\x12\x07\x18\x01\x22\x03\x09\x32\x22\x12\x04\x18\x00\x22\x00",
+            command(1, 1)
+        )
+    );
+    // one of unknown type, and behind it a layer of version 1
+    assert!(rt;
+        is_first_fault(
+            alloc,
+            b"\x1a\x0b\x78\x02\x0a\x01\x61\x12\x04\x18\x00\x22\x00\x1a\x05\x78\x01\x0a\x01\x62",
+            Some(Fault::Version { layer: 1 })
+        )
+    );
 }
 
 // One rule serves the features of all layers, and keeps what it noted: two layers, the first with one point and
 // the second with two.
 #[test]
 fn one_rule_for_all_features(rt: HostRuntime) {
-    let bytes = [
-        0x1a, 0x0e, 0x78, 0x02, 0x0a, 0x01, 0x61, 0x12, 0x07, 0x18, 0x01, 0x22, 0x03, 0x09, 0x32,
-        0x22, 0x1a, 0x17, 0x78, 0x02, 0x0a, 0x01, 0x62, 0x12, 0x07, 0x18, 0x01, 0x22, 0x03, 0x09,
-        0x32, 0x22, 0x12, 0x07, 0x18, 0x01, 0x22, 0x03, 0x09, 0x32, 0x22,
-    ];
+    let bytes =
+        b"\x1a\x0e\x78\x02\x0a\x01\x61\x12\x07\x18\x01\x22\x03\x09\x32\x22\x1a\x17\x78\x02\x0a\x01\x62\x12\x07\x18\x01\x22\x03\x09\x32\x22\x12\x07\x18\x01\x22\x03\x09\x32\x22";
     let mut rule = TypesAreKnown { asked: 0 };
-    let found = first_fault(&rt, rt.alloc(), &bytes, &mut rule);
-    assert_eq!(rt; found, None);
-    assert_eq!(rt; rule.asked, 3);
+    assert!(rt; first_fault(rt.alloc(), bytes, &mut rule) == Some(None));
+    assert!(rt; rule.asked == 3);
 }
 
 // A tag names a key that its layer doesn't have, in front of a feature of unknown type and behind it; the last index is
 // above the layer's bytes.
 #[test]
 fn keys_that_are_missing(rt: HostRuntime) {
-    let cases: [(&[u8], Option<Fault>); 3] = [
-        (
-            &[
-                0x1a, 0x18, 0x78, 0x02, 0x0a, 0x01, 0x61, 0x12, 0x04, 0x18, 0x00, 0x22, 0x00, 0x12,
-                0x0b, 0x12, 0x02, 0x01, 0x00, 0x18, 0x01, 0x22, 0x03, 0x09, 0x32, 0x22,
-            ],
-            command(0, 0),
-        ),
-        (
-            &[
-                0x1a, 0x18, 0x78, 0x02, 0x0a, 0x01, 0x61, 0x12, 0x0b, 0x12, 0x02, 0x01, 0x00, 0x18,
-                0x01, 0x22, 0x03, 0x09, 0x32, 0x22, 0x12, 0x04, 0x18, 0x00, 0x22, 0x00,
-            ],
-            tag(TagCode::NoKey, 0, 0, 0),
-        ),
-        (
-            &[
-                0x1a, 0x18, 0x78, 0x02, 0x0a, 0x01, 0x61, 0x12, 0x0b, 0x12, 0x02, 0x7f, 0x00, 0x18,
-                0x01, 0x22, 0x03, 0x09, 0x32, 0x22, 0x12, 0x04, 0x18, 0x00, 0x22, 0x00,
-            ],
-            tag(TagCode::NoKey, 0, 0, 0),
-        ),
-    ];
-    expect_faults(&rt, rt.alloc(), &cases);
+    let alloc = rt.alloc();
+    assert!(rt;
+        is_first_fault(
+            alloc,
+            b"\x1a\x18\x78\x02\x0a\x01\x61\x12\x04\x18\x00\x22\x00\x12\x0b\x12\x02\x01\x00\x18\x01\x22\x03\x09\x32\x22",
+            command(0, 0)
+        )
+    );
+    assert!(rt;
+        is_first_fault(
+            alloc,
+            b"\x1a\x18\x78\x02\x0a\x01\x61\x12\x0b\x12\x02\x01\x00\x18\x01\x22\x03\x09\x32\x22\x12\x04\x18\x00\x22\x00",
+            tag(TagCode::NoKey, 0, 0, 0)
+        )
+    );
+    assert!(rt;
+        is_first_fault(
+            alloc,
+            b"\x1a\x18\x78\x02\x0a\x01\x61\x12\x0b\x12\x02\x7f\x00\x18\x01\x22\x03\x09\x32\x22\x12\x04\x18\x00\x22\x00",
+            tag(TagCode::NoKey, 0, 0, 0)
+        )
+    );
 }
 
 // A feature of the first layer has a fault, and the third layer another version or the first one's name.
 #[test]
 fn faults_of_a_later_layer(rt: HostRuntime) {
-    let cases: [(&[u8], Option<Fault>); 2] = [
-        (
-            &[
-                0x1a, 0x0b, 0x78, 0x02, 0x0a, 0x01, 0x61, 0x12, 0x04, 0x18, 0x00, 0x22, 0x00, 0x1a,
-                0x05, 0x78, 0x02, 0x0a, 0x01, 0x62, 0x1a, 0x05, 0x78, 0x01, 0x0a, 0x01, 0x63,
-            ],
-            Some(Fault::Version { layer: 2 }),
-        ),
-        (
-            &[
-                0x1a, 0x0b, 0x78, 0x02, 0x0a, 0x01, 0x61, 0x12, 0x04, 0x18, 0x00, 0x22, 0x00, 0x1a,
-                0x05, 0x78, 0x02, 0x0a, 0x01, 0x62, 0x1a, 0x05, 0x78, 0x02, 0x0a, 0x01, 0x61,
-            ],
+    let alloc = rt.alloc();
+    assert!(rt;
+        is_first_fault(
+            alloc,
+            b"\x1a\x0b\x78\x02\x0a\x01\x61\x12\x04\x18\x00\x22\x00\x1a\x05\x78\x02\x0a\x01\x62\x1a\x05\x78\x01\x0a\x01\x63",
+            Some(Fault::Version { layer: 2 })
+        )
+    );
+    assert!(rt;
+        is_first_fault(
+            alloc,
+            b"\x1a\x0b\x78\x02\x0a\x01\x61\x12\x04\x18\x00\x22\x00\x1a\x05\x78\x02\x0a\x01\x62\x1a\x05\x78\x02\x0a\x01\x61",
             Some(Fault::Name {
                 first: 0,
                 second: 2,
-            }),
-        ),
-    ];
-    expect_faults(&rt, rt.alloc(), &cases);
+            })
+        )
+    );
 }

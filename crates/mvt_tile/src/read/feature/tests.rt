@@ -25,66 +25,6 @@ fn first_feature(bytes: &[u8], from: usize, to: usize) -> Option<(usize, usize)>
     Some(stretch_of(field.body))
 }
 
-// Features of one layer each, read into one record: of each nothing is left in the next.
-#[test]
-fn features_one_after_another(rt: HostRuntime) {
-    let rows: [(&[u8], Option<u64>, &[u32], Kind, &[u32]); 4] = [
-        // tags of two packed, then one single, then one single of two bytes; the type and the geometry between
-        // them; an id of seven
-        (
-            &[
-                0x1a, 0x19, 0x12, 0x12, 0x08, 0x07, 0x12, 0x02, 0x03, 0x05, 0x18, 0x01, 0x10, 0x07,
-                0x22, 0x03, 0x09, 0x32, 0x22, 0x10, 0x81, 0x01, 0x78, 0x02, 0x0a, 0x01, 0x61,
-            ],
-            Some(7),
-            &[3, 5, 7, 129],
-            Kind::Point,
-            &[9, 50, 34],
-        ),
-        // packed tags of one, two and five bytes, and an empty list; no id
-        (
-            &[
-                0x1a, 0x1a, 0x12, 0x13, 0x18, 0x01, 0x22, 0x03, 0x09, 0x32, 0x22, 0x12, 0x08, 0x01,
-                0xac, 0x02, 0xff, 0xff, 0xff, 0xff, 0x0f, 0x12, 0x00, 0x78, 0x02, 0x0a, 0x01, 0x61,
-            ],
-            None,
-            &[1, 300, 4294967295],
-            Kind::Point,
-            &[9, 50, 34],
-        ),
-        // an id of 2^32: it has 64 bits
-        (
-            &[
-                0x1a, 0x14, 0x12, 0x0d, 0x08, 0x80, 0x80, 0x80, 0x80, 0x10, 0x18, 0x01, 0x22, 0x03,
-                0x09, 0x32, 0x22, 0x78, 0x02, 0x0a, 0x01, 0x61,
-            ],
-            Some(4_294_967_296),
-            &[],
-            Kind::Point,
-            &[9, 50, 34],
-        ),
-        // a line, without tags
-        (
-            &[
-                0x1a, 0x13, 0x12, 0x0c, 0x18, 0x02, 0x22, 0x08, 0x09, 0x04, 0x04, 0x12, 0x00, 0x10,
-                0x10, 0x00, 0x78, 0x02, 0x0a, 0x01, 0x61,
-            ],
-            None,
-            &[],
-            Kind::LineString,
-            &[9, 4, 4, 18, 0, 16, 16, 0],
-        ),
-    ];
-    let mut feature = Feature::empty(rt.alloc());
-    for (bytes, id, tags, kind, geometry) in rows {
-        assert!(rt; reads_first_feature(bytes, &mut feature), "at {bytes:?}");
-        assert_eq!(rt; feature.id, id);
-        assert_eq!(rt; feature.tags.as_slice(), tags);
-        assert_eq!(rt; feature.kind, kind);
-        assert_eq!(rt; feature.geometry.as_slice(), geometry);
-    }
-}
-
 /// Reads the first feature of the first layer. False where there is none, or no memory for it.
 fn reads_first_feature(bytes: &[u8], feature: &mut Feature) -> bool {
     let Some((from, to)) = first_layer(bytes) else {
@@ -94,4 +34,79 @@ fn reads_first_feature(bytes: &[u8], feature: &mut Feature) -> bool {
         return false;
     };
     read_feature_into(bytes, from, to, feature).is_ok()
+}
+
+/// Whether the first feature of the first layer has this id, these tags, this kind and this geometry.
+fn is_read(
+    bytes: &[u8],
+    feature: &mut Feature,
+    id: Option<u64>,
+    tags: &[u32],
+    kind: Kind,
+    geometry: &[u32],
+) -> bool {
+    reads_first_feature(bytes, feature)
+        && feature.id == id
+        && feature.tags.as_slice() == tags
+        && feature.kind == kind
+        && feature.geometry.as_slice() == geometry
+}
+
+// Features of one layer each, read into one record: of each nothing is left in the next.
+#[test]
+fn features_one_after_another(rt: HostRuntime) {
+    let feature = &mut Feature::empty(rt.alloc());
+    // tags of two packed, then one single, then one single of two bytes; the type and the geometry between
+    // them; an id of seven
+    let bytes =
+        b"\x1a\x19\x12\x12\x08\x07\x12\x02\x03\x05\x18\x01\x10\x07\x22\x03\x09\x32\x22\x10\x81\x01\x78\x02\x0a\x01\x61";
+    assert!(rt;
+        is_read(
+            bytes,
+            feature,
+            Some(7),
+            &[3, 5, 7, 129],
+            Kind::Point,
+            &[9, 50, 34]
+        )
+    );
+    // packed tags of one, two and five bytes, and an empty list; no id
+    let bytes =
+        b"\x1a\x1a\x12\x13\x18\x01\x22\x03\x09\x32\x22\x12\x08\x01\xac\x02\xff\xff\xff\xff\x0f\x12\x00\x78\x02\x0a\x01\x61";
+    assert!(rt;
+        is_read(
+            bytes,
+            feature,
+            None,
+            &[1, 300, 4294967295],
+            Kind::Point,
+            &[9, 50, 34]
+        )
+    );
+    // an id of 2^32: it has 64 bits
+    let bytes =
+        b"\x1a\x14\x12\x0d\x08\x80\x80\x80\x80\x10\x18\x01\x22\x03\x09\x32\x22\x78\x02\x0a\x01\x61";
+    assert!(rt;
+        is_read(
+            bytes,
+            feature,
+            Some(4_294_967_296),
+            &[],
+            Kind::Point,
+            &[9, 50, 34]
+        )
+    );
+    // a line, without tags
+    let bytes =
+        b"\x1a\x13\x12\x0c\x18\x02\x22\x08\x09\x04\x04\x12\x00\x10\x10\x00\x78\x02\x0a\x01\x61";
+    assert!(rt;
+        is_read(
+            bytes,
+            feature,
+            None,
+            &[],
+            Kind::LineString,
+            &[9, 4, 4, 18, 0, 16, 16, 0]
+        )
+    );
 }

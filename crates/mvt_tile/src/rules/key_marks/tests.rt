@@ -1,32 +1,39 @@
 use crate::rules::key_marks::KeyMarks;
-use std::test::Fail;
+
+/// Whether a key is added that wasn't there.
+fn is_new(marks: &mut KeyMarks, key: u32) -> bool {
+    marks.insert(key) == Ok(true)
+}
+
+/// Whether a key is added that was there already.
+fn is_there(marks: &mut KeyMarks, key: u32) -> bool {
+    marks.insert(key) == Ok(false)
+}
 
 #[test]
-fn keys_far_apart(rt: HostRuntime) -> Result<(), Fail> {
+fn keys_far_apart(rt: HostRuntime) {
     let mut marks = KeyMarks::new(rt.alloc());
-    assert!(rt; marks.insert(1000) == Ok(true));
-    assert!(rt; marks.insert(0) == Ok(true));
-    assert!(rt; marks.insert(999) == Ok(true));
-    assert!(rt; marks.insert(1000) == Ok(false));
+    assert!(rt; is_new(&mut marks, 1000));
+    assert!(rt; is_new(&mut marks, 0));
+    assert!(rt; is_new(&mut marks, 999));
+    assert!(rt; is_there(&mut marks, 1000));
     marks.clear();
-    assert!(rt; marks.insert(1001) == Ok(true));
-    assert!(rt; marks.insert(1000) == Ok(true));
-    assert!(rt; marks.insert(1001) == Ok(false));
-    Ok(())
+    assert!(rt; is_new(&mut marks, 1001));
+    assert!(rt; is_new(&mut marks, 1000));
+    assert!(rt; is_there(&mut marks, 1001));
 }
 
 // Behind the greatest number that a mark can be, the marks start anew, and keys that once had those are not there.
 #[test]
-fn the_marks_start_anew(rt: HostRuntime) -> Result<(), Fail> {
+fn the_marks_start_anew(rt: HostRuntime) {
     let mut marks = KeyMarks::new(rt.alloc());
-    assert!(rt; marks.insert(5) == Ok(true));
-    assert_eq!(rt; marks.current, 1);
+    assert!(rt; is_new(&mut marks, 5));
+    assert!(rt; marks.current == 1);
     marks.current = u32::MAX;
-    assert!(rt; marks.insert(5) == Ok(true));
-    assert!(rt; marks.insert(2) == Ok(true));
+    assert!(rt; is_new(&mut marks, 5));
+    assert!(rt; is_new(&mut marks, 2));
     marks.clear();
-    assert!(rt; marks.insert(5) == Ok(true));
-    assert!(rt; marks.insert(2) == Ok(true));
-    assert!(rt; marks.insert(5) == Ok(false));
-    Ok(())
+    assert!(rt; is_new(&mut marks, 5));
+    assert!(rt; is_new(&mut marks, 2));
+    assert!(rt; is_there(&mut marks, 5));
 }

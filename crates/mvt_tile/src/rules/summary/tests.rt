@@ -25,44 +25,38 @@ pub(crate) fn first_layer(bytes: &[u8]) -> Option<(usize, usize)>
     Some(stretch_of(field.body))
 }
 
+/// Whether the bytes are a tile, and its first layer has the name `a`, this version, and so many keys and values.
+fn is_summary(bytes: &[u8], version: u32, keys: usize, values: usize) -> bool {
+    let Some((from, to)) = first_layer(bytes) else {
+        return false;
+    };
+    let summary = summarize(bytes, from, to);
+    summary.version == version
+        && summary.name == b"a".as_slice()
+        && summary.keys == keys
+        && summary.values == values
+}
+
 #[test]
 fn summaries(rt: HostRuntime) {
-    let rows: [(&[u8], u32, usize, usize); 3] = [
-        // usual writers' order, the version last
-        (
-            &[
-                0x1a, 0x1f, 0x0a, 0x01, 0x61, 0x12, 0x0d, 0x08, 0x07, 0x12, 0x02, 0x00, 0x00, 0x18,
-                0x01, 0x22, 0x03, 0x09, 0x32, 0x22, 0x1a, 0x01, 0x6b, 0x22, 0x03, 0x0a, 0x01, 0x76,
-                0x28, 0x80, 0x20, 0x78, 0x02,
-            ],
+    // usual writers' order, the version last
+    assert!(rt;
+        is_summary(
+            b"\x1a\x1f\x0a\x01\x61\x12\x0d\x08\x07\x12\x02\x00\x00\x18\x01\x22\x03\x09\x32\x22\x1a\x01\x6b\x22\x03\x0a\x01\x76\x28\x80\x20\x78\x02",
             2,
             1,
-            1,
-        ),
-        // the version first, and two values
-        (
-            &[
-                0x1a, 0x1f, 0x78, 0x02, 0x0a, 0x01, 0x61, 0x12, 0x0d, 0x12, 0x04, 0x00, 0x00, 0x00,
-                0x01, 0x18, 0x01, 0x22, 0x03, 0x09, 0x32, 0x22, 0x1a, 0x01, 0x6b, 0x22, 0x02, 0x38,
-                0x01, 0x22, 0x02, 0x28, 0x05,
-            ],
+            1
+        )
+    );
+    // the version first, and two values
+    assert!(rt;
+        is_summary(
+            b"\x1a\x1f\x78\x02\x0a\x01\x61\x12\x0d\x12\x04\x00\x00\x00\x01\x18\x01\x22\x03\x09\x32\x22\x1a\x01\x6b\x22\x02\x38\x01\x22\x02\x28\x05",
             2,
             1,
-            2,
-        ),
-        // version 1, no key and no value
-        (&[0x1a, 0x05, 0x78, 0x01, 0x0a, 0x01, 0x61], 1, 0, 0),
-    ];
-    for (bytes, version, keys, values) in rows {
-        match first_layer(bytes) {
-            Some((from, to)) => {
-                let summary = summarize(bytes, from, to);
-                assert_eq!(rt; summary.version, version, "at {bytes:?}");
-                assert!(rt; summary.name == b"a".as_slice(), "at {bytes:?}");
-                assert_eq!(rt; summary.keys, keys, "at {bytes:?}");
-                assert_eq!(rt; summary.values, values, "at {bytes:?}");
-            }
-            None => assert!(rt; false, "at {bytes:?}"),
-        }
-    }
+            2
+        )
+    );
+    // version 1, no key and no value
+    assert!(rt; is_summary(b"\x1a\x05\x78\x01\x0a\x01\x61", 1, 0, 0));
 }
