@@ -1,40 +1,31 @@
 use super::{NestFault, check_nesting};
-use crate::rings::tests::{HOLE_BESIDE, SQUARE, TWO_POLYGONS, rings_at};
+use crate::rings::tests::{
+    HOLE_ACROSS, HOLE_BESIDE, HOLE_IN_HOLE, NOTCHED, SQUARE, TWO_POLYGONS, rings_at,
+};
 use std::alloc::Global;
 use std::process::Abort;
 
-/// That the polygon of these rings has this fault, or none.
-fn expect(
-    rt: &impl Abort,
-    alloc: Global,
-    coordinates: &[&'static [(i32, i32)]],
-    fault: Option<NestFault>,
-) {
-    let rings = rings_at(rt, alloc, coordinates).expect(rt, "memory");
-    assert_eq!(rt; check_nesting(&rings), fault);
+/// The fault of the polygon of rings through these coordinates.
+fn fault_at(rt: &impl Abort, alloc: Global, coordinates: &[&[(i32, i32)]]) -> Option<NestFault> {
+    check_nesting(&rings_at(rt, alloc, coordinates).expect(rt, "memory"))
 }
 
+// The last hole crosses its exterior with all vertices inside.
 #[test]
 fn holes_where_they_should_be(rt: HostRuntime) {
-    expect(&rt, rt.alloc(), &TWO_POLYGONS[..1], None);
-    expect(&rt, rt.alloc(), &TWO_POLYGONS[1..], None);
+    assert!(rt; fault_at(&rt, rt.alloc(), &TWO_POLYGONS[..1]).is_none());
+    assert!(rt; fault_at(&rt, rt.alloc(), &TWO_POLYGONS[1..]).is_none());
+    assert!(rt; fault_at(&rt, rt.alloc(), &[NOTCHED, HOLE_ACROSS]).is_none());
 }
 
+// Beside its exterior, and with one vertex outside.
 #[test]
-fn a_hole_beside_its_exterior(rt: HostRuntime) {
-    let fault = NestFault::Outside { ring: 1, vertex: 0 };
-    expect(&rt, rt.alloc(), &[SQUARE, HOLE_BESIDE], Some(fault));
-}
-
-#[test]
-fn a_hole_with_one_vertex_outside(rt: HostRuntime) {
-    let fault = NestFault::Outside { ring: 1, vertex: 2 };
-    expect(
-        &rt,
-        rt.alloc(),
-        &[SQUARE, &[(5, 5), (5, 7), (20, 6)]],
-        Some(fault),
-    );
+fn holes_outside(rt: HostRuntime) {
+    let beside = NestFault::Outside { ring: 1, vertex: 0 };
+    assert!(rt; fault_at(&rt, rt.alloc(), &[SQUARE, HOLE_BESIDE]) == Some(beside));
+    let one_vertex = NestFault::Outside { ring: 1, vertex: 2 };
+    let hole = [(5, 5), (5, 7), (20, 6)];
+    assert!(rt; fault_at(&rt, rt.alloc(), &[SQUARE, &hole]) == Some(one_vertex));
 }
 
 #[test]
@@ -44,28 +35,5 @@ fn a_hole_in_a_hole(rt: HostRuntime) {
         vertex: 0,
         other: 1,
     };
-    let exterior = &[(0, 0), (100, 0), (100, 100), (0, 100)];
-    let hole = &[(10, 10), (10, 90), (90, 90), (90, 10)];
-    let hole_in_it = &[(20, 20), (20, 30), (30, 30), (30, 20)];
-    expect(&rt, rt.alloc(), &[exterior, hole, hole_in_it], Some(fault));
-}
-
-#[test]
-fn a_hole_that_crosses_its_exterior_with_all_vertices_inside(rt: HostRuntime) {
-    let exterior = &[
-        (0, 0),
-        (30, 0),
-        (30, 30),
-        (20, 30),
-        (20, 10),
-        (10, 10),
-        (10, 30),
-        (0, 30),
-    ];
-    expect(
-        &rt,
-        rt.alloc(),
-        &[exterior, &[(5, 20), (25, 20), (15, 5)]],
-        None,
-    );
+    assert!(rt; fault_at(&rt, rt.alloc(), HOLE_IN_HOLE) == Some(fault));
 }
