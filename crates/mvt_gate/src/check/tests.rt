@@ -185,11 +185,11 @@ fn is_answer(rt: &HostRuntime, text: &str, line: &str) -> Result<bool, Fail> {
 
 #[test]
 fn says_yes_to_a_tile(rt: HostRuntime) -> Result<(), Fail> {
-    let mut tiles = 0;
+    let mut tiles = 0_u32;
     for line in TILES.lines() {
         if let Some(text) = line.strip_prefix("tile") {
             assert!(rt; is_answer(&rt, text, OK)?, "for {text}");
-            tiles += 1;
+            tiles = tiles.saturating_add(1);
         }
     }
     assert!(rt; tiles == 29);
@@ -198,11 +198,11 @@ fn says_yes_to_a_tile(rt: HostRuntime) -> Result<(), Fail> {
 
 #[test]
 fn tells_the_first_fault(rt: HostRuntime) -> Result<(), Fail> {
-    let mut faults = 0;
+    let mut faults = 0_u32;
     for row in FAULTS.lines() {
         if let Some((text, line)) = row.split_once(" => ") {
             assert!(rt; is_answer(&rt, text, line)?, "for {text}");
-            faults += 1;
+            faults = faults.saturating_add(1);
         }
     }
     assert!(rt; faults == 58);
