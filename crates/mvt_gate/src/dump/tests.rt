@@ -32,9 +32,7 @@ fn is_answer(rt: &HostRuntime, bytes: &[u8], outcome: Outcome, line: &str) -> Re
     let mut sink = Device::new(rt.alloc(), &[], Manner::CALM);
     let mut writer = Tally::new(&mut sink);
     let got = dump_stream(rt.alloc(), &mut reader, &mut writer)?;
-
-    let whole = format!(in rt.alloc(); "{line}\n")?;
-    Ok(got == outcome && sink.taken.as_slice() == whole.as_bytes())
+    Ok(got == outcome && sink.taken.strip_suffix(b"\n") == Some(line.as_bytes()))
 }
 
 /// Whether this is the dump of the tile that a text spells in hexadecimal, by `dump_text` and by the engine.

@@ -126,52 +126,6 @@ fn versions_and_names(rt: HostRuntime) {
     );
 }
 
-// A layer of one key and two values, with one feature.
-#[test]
-fn tags_of_one_feature(rt: HostRuntime) {
-    let alloc = rt.alloc();
-    // tags 0 0
-    assert!(rt;
-        is_first_fault(
-            alloc,
-            b"\x1a\x1d\x78\x02\x0a\x01\x61\x12\x0b\x12\x02\x00\x00\x18\x01\x22\x03\x09\x32\x22\x1a\x01\x6b\x22\x02\x38\x01\x22\x02\x28\x05",
-            None
-        )
-    );
-    // tags 0 0 0 1
-    assert!(rt;
-        is_first_fault(
-            alloc,
-            b"\x1a\x1f\x78\x02\x0a\x01\x61\x12\x0d\x12\x04\x00\x00\x00\x01\x18\x01\x22\x03\x09\x32\x22\x1a\x01\x6b\x22\x02\x38\x01\x22\x02\x28\x05",
-            tag(TagCode::Repeated, 0, 0, 2)
-        )
-    );
-    // tags 0
-    assert!(rt;
-        is_first_fault(
-            alloc,
-            b"\x1a\x1c\x78\x02\x0a\x01\x61\x12\x0a\x12\x01\x00\x18\x01\x22\x03\x09\x32\x22\x1a\x01\x6b\x22\x02\x38\x01\x22\x02\x28\x05",
-            tag(TagCode::OddLength, 0, 0, 1)
-        )
-    );
-    // tags 1 0
-    assert!(rt;
-        is_first_fault(
-            alloc,
-            b"\x1a\x1d\x78\x02\x0a\x01\x61\x12\x0b\x12\x02\x01\x00\x18\x01\x22\x03\x09\x32\x22\x1a\x01\x6b\x22\x02\x38\x01\x22\x02\x28\x05",
-            tag(TagCode::NoKey, 0, 0, 0)
-        )
-    );
-    // tags 0 2
-    assert!(rt;
-        is_first_fault(
-            alloc,
-            b"\x1a\x1d\x78\x02\x0a\x01\x61\x12\x0b\x12\x02\x00\x02\x18\x01\x22\x03\x09\x32\x22\x1a\x01\x6b\x22\x02\x38\x01\x22\x02\x28\x05",
-            tag(TagCode::NoValue, 0, 0, 1)
-        )
-    );
-}
-
 // Layers of one key and two values. The first fault is that of the first feature that has one.
 #[test]
 fn tags_of_several_features(rt: HostRuntime) {

@@ -233,38 +233,3 @@ fn fails_with_any_kind_of_error(rt: HostRuntime) {
         assert!(rt; ends_so(&rt, [CALM, CALM, second], TILE, write, SAME, (4, 4)));
     }
 }
-
-/// What a tally counts: bytes moved, calls that failed, and calls that were interrupted.
-fn counts<T>(tally: &Tally<T>) -> (u64, u64, u64) {
-    (tally.bytes(), tally.failed(), tally.interrupted())
-}
-
-/// An engine sets its tallies to zero first: what a run before it counted changes nothing.
-#[test]
-fn counts_each_run_alone(rt: HostRuntime) {
-    let fails_late = Manner {
-        interruptions: 600,
-        fails_at: 601,
-        ..CALM
-    };
-    let mut tile = Device::new(rt.alloc(), TILE, fails_late);
-    let mut claim = Device::new(rt.alloc(), TILE, fails_late);
-    let mut sink = Device::new(rt.alloc(), &[], fails_late);
-    let mut tile = Tally::new(&mut tile);
-    let mut claim = Tally::new(&mut claim);
-    let mut writer = Tally::new(&mut sink);
-    let got = run_on_claim(rt.alloc(), &Compare, &mut tile, &mut claim, &mut writer);
-    assert!(rt; got == Err(EngineFault::Read) && counts(&tile) == (0, 1, 600));
-    assert!(rt; counts(&claim) == (0, 0, 0) && counts(&writer) == (0, 0, 0));
-    let got = run_on_claim(rt.alloc(), &Compare, &mut tile, &mut claim, &mut writer);
-    assert!(rt; got == Err(EngineFault::Read) && counts(&tile) == (4, 0, 0));
-    assert!(rt; counts(&claim) == (0, 1, 600) && counts(&writer) == (0, 0, 0));
-    // the tile's reader has nothing left to give
-    let got = run_on_claim(rt.alloc(), &Compare, &mut tile, &mut claim, &mut writer);
-    assert!(rt; got == Err(EngineFault::Write) && counts(&tile) == (0, 0, 0));
-    assert!(rt; counts(&claim) == (4, 0, 0) && counts(&writer) == (0, 1, 600));
-    let got = run_on_claim(rt.alloc(), &Compare, &mut tile, &mut claim, &mut writer);
-    assert!(rt; got == Ok(Outcome::Yes) && counts(&tile) == (0, 0, 0));
-    assert!(rt; counts(&claim) == (0, 0, 0) && counts(&writer) == (5, 0, 0));
-    assert!(rt; sink.taken.as_slice() == SAME);
-}
