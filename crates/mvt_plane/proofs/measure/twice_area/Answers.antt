@@ -1,4 +1,5 @@
-use Rattle.std.proofs.Common.{arith}
+use Rattle.std.proofs.Common.{arith, rules, length, ◌≤◌}
+use Rattle.std.proofs.Math.ListN.{drop_of_length-le}
 use Rattle.mvt_plane.proofs.Areas.{area_through}
 use Rattle.mvt_plane.proofs.Bounds.{fitting}
 use Rattle.mvt_plane.proofs.measure.twice_area.Goals as goal
@@ -10,3 +11,19 @@ loop-i-preserved c =
       whole = omega (arith, fitting);
       bound = (omega (arith, fitting), omega (arith, fitting));
     }
+
+pub overflow_add-area : goal.overflow_add-area
+overflow_add-area c = omega (arith, fitting)
+
+pub overflow_add-result : goal.overflow_add-result
+overflow_add-result c =
+    let some : 1 ≤ length c.args.ring.now = search rules in
+    let end = c.loop-i.auto.i-end some in
+    omega (arith, fitting)
+
+pub returns : goal.returns
+returns c =
+    let some : 1 ≤ length c.args.ring.now = search rules in
+    let end = c.loop-i.auto.i-end some in
+    let whole = rw (drop_of_length-le c.args.ring.now c.loop-i-test.false) at c.loop-i.invariant.whole in
+    omega (arith, fitting)
