@@ -84,6 +84,11 @@ pub one_value : (bytes : List ℕ) (from to end m n : ℕ) → SpellsVarint byte
 one_value bytes from to end m n first second =
     first.spelling.value ∙ ap (λ (e : ℕ). sum_of_groups (slice_range bytes from e)) (one_end bytes from to end m n first second) ∙ sym second.spelling.value
 
+-- so a place has at most one varint, with its end
+pub one_read : (bytes : List ℕ) (from : ℕ) (read : ℕ × ℕ) (n to : ℕ) → SpellsVarint bytes from read.1 read.0 → SpellsVarint bytes from to n → read ≡ (n, to)
+one_read bytes from read n to first second =
+    rw (sym (one_value bytes from read.1 to read.0 n first second), sym (one_end bytes from read.1 to read.0 n first second)) refl
+
 -- a varint and a defect exclude each other
 pub varint_or_early : (bytes : List ℕ) (from to n : ℕ) → SpellsVarint bytes from to n → EndsEarly (drop from bytes) → ⊥
 varint_or_early bytes from to n spelled early =
