@@ -191,14 +191,19 @@ begins_from (suc fuel) i rest places within earlier = elim (cases_lt i (length r
 begins : (rest : List ℕ) → BeginsWithVarint rest ⊎ EndsEarly rest ⊎ IsTooLong rest
 begins rest = begins_from 9 0 rest (omega arith) (omega arith) (λ k h. absurd (omega arith))
 
+-- a front of the rest spells what the place does
+pub place_spells : (bytes : List ℕ) (at size n : ℕ) → at ≤ length bytes → size ≤ length (drop at bytes) → IsVarint (take size (drop at bytes)) n → SpellsVarint bytes at (at + size) n
+place_spells bytes at size n place within spelled =
+    let rest = length-drop at bytes in
+    let span : at + size - at ≡ size = omega arith in
+    let whole : length (take size (drop at bytes)) ≡ size = length-take-le size (drop at bytes) within in
+    let some = spelled.present in
+    let spelling : IsVarint (slice_range bytes at (at + size)) n = rw span spelled in
+    record { forward = omega arith; within = omega arith; spelling = spelling }
+
 -- each place has a varint or one of its defects
 pub place_begins : (bytes : List ℕ) (at : ℕ) → at ≤ length bytes → ((to n : ℕ) × SpellsVarint bytes at to n) ⊎ EndsEarly (drop at bytes) ⊎ IsTooLong (drop at bytes)
 place_begins bytes at within = elim (begins (drop at bytes)) [
-  | inl found ↦
-      let size = length-drop at bytes in
-      let span : at + found.0 - at ≡ found.0 = omega arith in
-      let whole : length (take found.0 (drop at bytes)) ≡ found.0 = length-take-le found.0 (drop at bytes) found.2 in
-      let spelling : IsVarint (slice_range bytes at (at + found.0)) found.1 = rw span found.3 in
-      inl (at + found.0, found.1, record { forward = omega arith; within = omega arith; spelling = spelling })
+  | inl found ↦ inl (at + found.0, found.1, place_spells bytes at found.0 found.1 within found.2 found.3)
   | inr bad ↦ inr bad
 ]
