@@ -7,6 +7,9 @@ use Rattle.mvt_plane.proofs.edge.offset.Goals as goal
 product : (c : goal.After-from) → IsMultiplied w128 (2 ^ 93) c.from.result c.args.w
 product c = multiplied w128 (2 ^ 30) (2 ^ 63) c.from.result c.args.w (omega (arith, fitting)) c.requires.w (omega arith) (omega arith) (omega arith)
 
+pub overflow_mul-result : goal.overflow_mul-result
+overflow_mul-result c = (product c).fits
+
 pub overflow_sub-result : goal.overflow_sub-result
 overflow_sub-result c =
     let known = product c in
