@@ -1,4 +1,4 @@
-ghost use Rattle.std.specs.Prelude.{◌≡◌, ◌↔◌, IsTrue, ◌-ℤ◌, ◌*ℤ◌};
+ghost use Rattle.std.specs.Prelude.{◌≡◌, ◌↔◌, IsTrue, ◌-ℤ◌, ◌*ℤ◌, ◌≤ℤ◌};
 ghost use Rattle.mvt_plane.specs.Inside.{PassesOver, IsInside};
 
 use crate::point::Point;
@@ -29,8 +29,8 @@ pub fn inside(point: Point, ring: &[Point]) -> bool
 fn passes_over(point: Point, a: Point, b: Point) -> bool
     ensures { IsTrue result ↔ PassesOver point (record { a = a; b = b }) }
 {
-    let begins_behind = a.x() <= point.x();
-    let ends_behind = b.x() <= point.x();
+    let begins_behind = is_behind(a, point);
+    let ends_behind = is_behind(b, point);
     if begins_behind == ends_behind {
         return false;
     }
@@ -41,6 +41,14 @@ fn passes_over(point: Point, a: Point, b: Point) -> bool
     } else {
         of_edge < of_point
     }
+}
+
+/// Whether a vertex has an x that is at most the position's.
+#[inline(always)]
+fn is_behind(vertex: Point, point: Point) -> bool
+    ensures { IsTrue result ↔ (vertex.x ≤ℤ point.x) }
+{
+    vertex.x() <= point.x()
 }
 
 /// The area of the rectangle from `corner` to the x of `across` and the y of `along`, negative where just
