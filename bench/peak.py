@@ -5,8 +5,8 @@ all that it started held at one time.
 usage: peak.py [--crates] COMMAND..
 
 With --crates it also prints, for each crate that the command had checked, from which second to which second after its
-start this took: the proof, the tests and the must-fail edits. All of this is sampled each second, so a shorter peak is
-missed. The status is the command's own.
+start this took, and how many seconds of a processor: the proof, the tests and the must-fail edits. All of this is
+sampled each second, so a shorter peak is missed, and up to a second of each process. The status is the command's own.
 """
 import argparse
 import ctypes
@@ -19,6 +19,7 @@ import time
 
 MIB = 1 << 20
 PAGE = os.sysconf("SC_PAGE_SIZE")
+TICKS = os.sysconf("SC_CLK_TCK")
 BECOME_SUBREAPER = 36
 # Between two looks at shared pages, which slow processes of many pages down.
 SECONDS_BETWEEN_LOOKS = 10
@@ -36,7 +37,7 @@ def text(path):
 
 
 def below(top):
-    """The processes that this one started, and those that they started, each with its resident pages."""
+    """The processes that this one started, and those that they started, each with its resident pages and its ticks."""
     parts = {it: text(f"/proc/{it}/stat").rpartition(")")[2].split() for it in os.listdir("/proc") if it.isdigit()}
     children = {}
     for process, it in parts.items():
@@ -45,7 +46,7 @@ def below(top):
     found, left = {}, [str(top)]
     while left:
         for it in children.get(left.pop(), []):
-            found[it] = int(parts[it][21])
+            found[it] = int(parts[it][21]), int(parts[it][11]) + int(parts[it][12])
             left.append(it)
     return found
 
@@ -70,12 +71,15 @@ def task(process):
     return words[words.index("--crate-name") + 1], part
 
 
-def print_crates(spans):
-    """Prints the first and the last second of each part of each crate."""
-    print(f"{'crate':<14}" + "".join(f"{it + ', s':>16}" for it in PARTS))
+def print_crates(spans, ticks):
+    """Prints the first and the last second of each part of each crate, and its seconds of a processor."""
+    used = {}
+    for (part, _), it in ticks.items():
+        used[part] = used.get(part, 0) + it / TICKS
+    print(f"{'crate':<14}" + "".join(f"{it + ', s (of a processor)':>28}" for it in PARTS))
     for crate in dict.fromkeys(crate for crate, _ in spans):
-        cells = [spans.get((crate, it)) for it in PARTS]
-        print(f"{crate:<14}" + "".join(f"{f'{it[0]:.0f} to {it[1]:.0f}' if it else '-':>16}" for it in cells))
+        cells = [spans.get((crate, it), ()) and (*spans[crate, it], used[crate, it]) for it in PARTS]
+        print(f"{crate:<14}" + "".join(f"{f'{it[0]:.0f} to {it[1]:.0f} ({it[2]:.0f})' if it else '-':>28}" for it in cells))
 
 
 reader = argparse.ArgumentParser(usage="peak.py [--crates] COMMAND..")
@@ -84,14 +88,18 @@ reader.add_argument("command", nargs=argparse.REMAINDER)
 said = reader.parse_args()
 # A process whose parent has ended then stays below this one.
 ctypes.CDLL(None).prctl(BECOME_SUBREAPER, 1, 0, 0, 0)
-before, most, most_resident, spans = time.monotonic(), 0, 0, {}
+before, most, most_resident, spans, ticks = time.monotonic(), 0, 0, {}, {}
 looked = -SECONDS_BETWEEN_LOOKS
 command = subprocess.Popen(said.command)
 while True:
-    resident = {process: pages * PAGE for process, pages in below(os.getpid()).items()}
+    found = below(os.getpid())
+    resident = {process: pages * PAGE for process, (pages, _) in found.items()}
     now = time.monotonic() - before
-    for it in filter(None, map(task, resident)) if said.crates else ():
-        spans[it] = spans.get(it, (now, now))[0], now
+    for process in found if said.crates else ():
+        it = task(process)
+        if it:
+            spans[it] = spans.get(it, (now, now))[0], now
+            ticks[it, process] = found[process][1]
     most_resident = max(most_resident, sum(resident.values()))
     if sum(resident.values()) > most and now - looked >= SECONDS_BETWEEN_LOOKS:
         most = max(most, sum(shared_once(*it) for it in resident.items()))
@@ -103,7 +111,7 @@ while True:
         pass
 took = time.monotonic() - before
 if said.crates:
-    print_crates(spans)
+    print_crates(spans, ticks)
 used = resource.getrusage(resource.RUSAGE_CHILDREN)
 print(f"wall time: {took:.1f} s, processor time: {used.ru_utime + used.ru_stime:.0f} s")
 print(f"peak memory, all processes together: {most / MIB:.0f} MiB, a shared page counted once ({most_resident / MIB:.0f} MiB as the sum of resident sets)")
