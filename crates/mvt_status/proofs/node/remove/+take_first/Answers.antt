@@ -1,20 +1,24 @@
-use Rattle.std.proofs.Common.{◌≡◌, ◌+◌, ◌∙◌, length, length-append, refl, ap, arith}
-use Rattle.mvt_status.specs.Tree.{edges_of}
-use Rattle.mvt_status.proofs.Heights.{as_high_as_before, node_alone}
-use Rattle.mvt_status.proofs.Removals.{all_counted}
+use Rattle.std.proofs.Common.{◌≡◌, ◌+◌, ◌∙◌, length, length-append, refl, ap, sym, arith}
+use Rattle.mvt_status.specs.Tree.{edges_of, height_of}
+use Rattle.mvt_status.proofs.Heights.{as_high_as_before, edge_of_levels, level_of_none, node_alone}
 use Rattle.mvt_status.proofs.node.remove.+take_first.Goals as goal
 
 pub invariant_of-top : goal.invariant_of-top
-invariant_of-top t c = rw c.len-top-inside.ensures.value (node_alone _ _ _ c.in_default-left.is c.take-right.ensures.after c.top.invariant.some)
+invariant_of-top t c =
+    rw c.len-top-inside.ensures.value
+    (node_alone _ _ _ (level_of_none c.top.inside.left c.height-level.ensures.some (omega (arith, c.height-level.ensures.value, c.if-level-eq0.true))) c.take-right.ensures.after c.top.invariant.some)
+
+pub take_first-first-requires : goal.take_first-first-requires
+take_first-first-requires t c =
+    let tall : c.top.inside.height ≡ height_of c.args.side.now = ap (λ seen. seen.1) (c.top.view_is ∙ c.deref_mut-top.ensures.value) ∙ sym (ap height_of c.in-Some.is) in
+    (omega (arith, tall, c.top.invariant.measured), edge_of_levels _ _ (omega (arith, c.height-level.ensures.value, c.if-level-eq0.false)) c.height-level.ensures.filled)
 
 pub invariant_of-top-then-height-level : goal.invariant_of-top-then-height-level
 invariant_of-top-then-height-level t c =
-    let first : length c.take_first-first.result.value.0 ≡ length (edges_of c.behind-first.inside.left) + length c.behind-first.inside.own.items + length (edges_of c.behind-first.inside.right)
-    = all_counted _ _ _ _ (ap (λ seen. seen.0) (c.behind-first.view_is ∙ c.deref-2.ensures)) in
     let taken : length (edges_of c.top.inside.left) ≡ length c.take_first-first.result.value.0 + length (edges_of c.take_first-first.new.side)
     = ap length c.take_first-first.ensures.edges ∙ length-append c.take_first-first.result.value.0 (edges_of c.take_first-first.new.side) in
     as_high_as_before _ _ _ _ _ _ _ _ _ _ c.top.invariant c.top.invariant.some
-    (omega (arith, c.top.invariant.counted, c.behind-first.invariant.counted, first, taken))
+    (omega (arith, c.top.invariant.counted, c.size_of.ensures ∙ ap (λ seen. length seen.0) c.deref.ensures, taken))
     refl (omega (arith, c.height.ensures.value, c.height-level.ensures.value, c.if-height-level.true)) refl c.height.ensures.filled c.is_filled.ensures.filled
 
 pub invariant_of-top-in-Some-settle : goal.invariant_of-top-in-Some-settle
