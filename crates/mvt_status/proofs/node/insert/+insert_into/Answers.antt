@@ -1,5 +1,5 @@
 use Rattle.std.proofs.Common.{◌≡◌, ◌≤◌, ◌++◌, ◌∙◌, ◌+◌, ◌-◌, ℕ, suc, ap, append-nil, length, length-append, refl, subst, sym, arith}
-use Rattle.mvt_status.specs.Tree.{IsNode, edges_of, fewest, height_of}
+use Rattle.mvt_status.specs.Tree.{edges_of, fewest, height_of}
 use Rattle.mvt_status.proofs.Heights.{more_levels, node_alone, visits_below}
 use Rattle.mvt_status.proofs.Insertions.{HasBetween, HasPutIn, IsHigher, has_between, higher_both, higher_left, higher_right, length_put_in, node_with_more, put_in_left, put_in_middle, put_in_right, put_in_upper}
 use Rattle.mvt_status.proofs.node.insert.+insert_into.Goals as goal

@@ -1,4 +1,4 @@
-use Rattle.std.proofs.Common.{◌≡◌, ℕ, List, None, suc, ◌+◌, ◌-◌, ◌<◌, ◌≤◌, ◌++◌, ◌∙◌, length, append-nil, remove, slice_index, refl, ap, sym, subst, arith}
+use Rattle.std.proofs.Common.{◌≡◌, ℕ, None, suc, ◌+◌, ◌≤◌, ◌++◌, ◌∙◌, length, append-nil, remove, slice_index, refl, ap, sym, subst, arith}
 use Rattle.std.proofs.lemmas.List.Edits.{length-remove}
 use Rattle.mvt_status.specs.Tree.{IsNode, edges_of, fewest, height_of}
 use Rattle.mvt_status.proofs.Heights.{as_high_as_before, more_levels, no_side, node_alone, visits_below}
