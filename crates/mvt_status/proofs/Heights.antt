@@ -127,6 +127,26 @@ found_in_node part height own edges down among within high some few filled =
       visits_added = omega (arith, down.visits_added, among.visits_added, within);
     }
 
+-- as many visits as more levels allow
+pub more_levels : (few many : ℕ) (before after : Counted) → AddsAtMost 0 few before after → few ≤ many → AddsAtMost 0 many before after
+more_levels few many before after added within = record {
+  tests = added.tests;
+  no_fewer_probes = added.no_fewer_probes;
+  probes_added = added.probes_added;
+  no_fewer_visits = added.no_fewer_visits;
+  visits_added = omega (arith, added.visits_added, within);
+}
+
+-- the visit of a node, and those below it
+pub visits_below : (below : ℕ) {height : ℕ} {start visited after : Counted} → AddsAtMost 0 1 start visited → AddsAtMost 0 below visited after → below + 1 ≤ height → AddsAtMost 0 height start after
+visits_below below visit down within = record {
+  tests = down.tests ∙ visit.tests;
+  no_fewer_probes = omega (arith, visit.no_fewer_probes, down.no_fewer_probes);
+  probes_added = omega (arith, visit.probes_added, down.probes_added);
+  no_fewer_visits = omega (arith, visit.no_fewer_visits, down.no_fewer_visits);
+  visits_added = omega (arith, visit.visits_added, down.visits_added, within);
+}
+
 -- a visit and a probe more
 pub one_more_level : {levels : ℕ} {start before visited after : Counted} → AddsAtMost levels levels start before → AddsAtMost 0 1 before visited → AddsAtMost 1 0 visited after
     → AddsAtMost (levels + 1) (levels + 1) start after
@@ -142,6 +162,16 @@ one_more_level so_far visit probe = record {
 no_level : (side : Option (Box (List ℕ × ℕ) Global)) → IfSome side (λ _. 0 < height_of side) → height_of side ≡ 0 → length (edges_of side) ≡ 0
 no_level None some none = refl
 no_level (Some node) some none = absurd (omega (arith, some))
+
+-- a side of no level is none
+pub level_of_none : (side : Option (Box (List ℕ × ℕ) Global)) → IfSome side (λ _. 0 < height_of side) → height_of side ≡ 0 → side ≡ None
+level_of_none None some none = refl
+level_of_none (Some node) some none = absurd (omega (arith, some))
+
+-- a side of some levels has an edge
+pub edge_of_levels : (height edges : ℕ) → 0 < height → fewest height ≤ suc edges → 0 < edges
+edge_of_levels height zero some filled = absurd (omega (arith, some, at_most_twice height 0 filled))
+edge_of_levels height (suc edges) some filled = omega arith
 
 -- a side of no edge is none
 pub no_side : (side : Option (Box (List ℕ × ℕ) Global)) → IfSome side (λ _. 0 < height_of side) → fewest (height_of side) ≤ suc (length (edges_of side)) → length (edges_of side) ≡ 0 → side ≡ None

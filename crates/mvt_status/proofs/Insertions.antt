@@ -1,8 +1,12 @@
 -- Edges put into a list that is made of two parts or of three.
-use Rattle.std.proofs.Common.{◌≡◌, ℕ, ◌+◌, ◌-◌, ◌<◌, ◌≤◌, Box, Global, Option, List, ◌++◌, length, length-append, take, drop, ap, sym, subst, ◌∙◌, append_assoc, refl, arith}
+use Rattle.std.proofs.Common.{◌≡◌, ℕ, suc, max, ◌+◌, ◌-◌, ◌<◌, ◌≤◌, inl, inr, Box, Global, Option, List, ◌++◌, length, length-append, take, drop, ap, sym, subst, ◌∙◌, append_assoc, refl, arith}
 use Rattle.std.proofs.lemmas.List.{take-append-drop, take-append-le, drop-append-le}
 use Rattle.std.proofs.Math.Seq.{take-append-add, drop-append-add}
-use Rattle.mvt_status.specs.Tree.{IsNode, edges_of, height_of}
+use Rattle.std.proofs.lemmas.Bool.{cases_lt}
+use Rattle.mvt_plane.specs.Counted.{Counted}
+use Rattle.mvt_status.specs.Counts.{AddsAtMost}
+use Rattle.mvt_status.specs.Tree.{DifferByAtMost, IsHeightOfBoth, IsNode, edges_of, height_of}
+use Rattle.mvt_status.proofs.Heights.{more_levels}
 
 -- put into the first of two parts
 pub put_in_front : (front rest part all new : List ℕ) (at : ℕ) → front ++ rest ≡ all → at ≤ length front → part ≡ take at front ++ (new ++ drop at front)
@@ -114,3 +118,52 @@ node_with_more left right new_left new_right own new_own size height new_size ne
   };
   filled = rw as_high (omega (arith, node.filled));
 }
+
+-- the levels on both sides of a node where edges were put in on one of them, with what was counted there
+pub record IsHigher (left right new_left new_right spare : ℕ) (before after : Counted) : Type 0 where
+  pub left_not_lower : left ≤ new_left
+  pub right_not_lower : right ≤ new_right
+  pub at_most_one_higher : new_left + new_right ≤ left + right + 1
+  pub spared : spare ≤ 1
+  pub counted : AddsAtMost 0 (max left right) before after
+
+-- on the left
+pub higher_left : (left right new_left spare : ℕ) (before after : Counted) → left ≤ new_left → new_left ≤ left + 1 → spare ≤ 1 → AddsAtMost 0 left before after
+    → IsHigher left right new_left right spare before after
+higher_left left right new_left spare before after not_lower near low added = record {
+  left_not_lower = not_lower;
+  right_not_lower = omega arith;
+  at_most_one_higher = omega (arith, near);
+  spared = low;
+  counted = more_levels left (max left right) before after added (omega arith);
+}
+
+-- on the right
+pub higher_right : (left right new_right spare : ℕ) (before after : Counted) → right ≤ new_right → new_right ≤ right + 1 → spare ≤ 1 → AddsAtMost 0 right before after
+    → IsHigher left right left new_right spare before after
+higher_right left right new_right spare before after not_lower near low added = record {
+  left_not_lower = omega arith;
+  right_not_lower = not_lower;
+  at_most_one_higher = omega (arith, near);
+  spared = low;
+  counted = more_levels right (max left right) before after added (omega arith);
+}
+
+-- a node that is put together of such sides is no lower
+pub higher_both : {left right new_left new_right spare out_left out_right height : ℕ} {before after : Counted} → DifferByAtMost 1 left right → IsHigher left right new_left new_right spare before after
+    → out_left ≡ new_left → out_right ≡ new_right → IsHeightOfBoth out_left out_right height → suc (max left right) ≤ height
+higher_both {left = left} {right = right} {new_left = new_left} {new_right = new_right} near up left_is right_is both = elim (cases_lt (max left right) (max new_left new_right)) [
+  | inl higher ↦ omega (arith, higher, left_is, right_is, both.not_lower)
+  | inr as_high ↦
+      omega (
+        arith,
+        left_is,
+        right_is,
+        up.left_not_lower,
+        up.right_not_lower,
+        both.exact (record {
+          first = omega (arith, as_high, left_is, right_is, near.first, near.second, up.left_not_lower, up.right_not_lower, up.at_most_one_higher);
+          second = omega (arith, as_high, left_is, right_is, near.first, near.second, up.left_not_lower, up.right_not_lower, up.at_most_one_higher);
+        }),
+      )
+]

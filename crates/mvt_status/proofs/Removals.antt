@@ -1,7 +1,12 @@
 -- Edges that are taken out of what two sides and the edges between them have, or put in the place of others.
-use Rattle.std.proofs.Common.{◌≡◌, ℕ, zero, suc, ◌+◌, ◌-◌, ◌<◌, ◌≤◌, List, [], ◌∷◌, ◌++◌, length, length-append, insert, remove, slice_index, slice_set, refl, ap, sym, ◌∙◌, append_assoc, arith}
+use Rattle.std.proofs.Common.{◌≡◌, ℕ, zero, suc, max, ◌+◌, ◌-◌, ◌<◌, ◌≤◌, inl, inr, List, [], ◌∷◌, ◌++◌, length, length-append, insert, remove, slice_index, slice_set, refl, ap, sym, ◌∙◌, append_assoc, arith}
 use Rattle.std.proofs.lemmas.List.{get_or_append_left, get_or-append_right, set-append_left, set-append_right}
 use Rattle.std.proofs.lemmas.List.Edits.{insert-append_right, length-remove, remove-append_left, remove-append_right}
+use Rattle.std.proofs.lemmas.Bool.{cases_lt}
+use Rattle.mvt_plane.specs.Counted.{Counted}
+use Rattle.mvt_status.specs.Counts.{AddsAtMost}
+use Rattle.mvt_status.specs.Tree.{DifferByAtMost, IsHeightOfBoth}
+use Rattle.mvt_status.proofs.Heights.{more_levels}
 
 -- how many edges two sides and those between them have
 pub all_counted : (left own right all : List ℕ) → left ++ (own ++ right) ≡ all → length all ≡ length left + length own + length right
@@ -125,3 +130,50 @@ without_own left own right new part all size at before out same counted some man
       edges = taken_alone left own right (new ++ part) all at before same many behind within one is;
       found = found_between left own right all at before out same many behind within (goes ∙ ap (slice_index own) first);
     }
+
+-- the levels on both sides of a node where an edge went out on one of them, with what was counted there
+pub record IsLower (left right new_left new_right spare : ℕ) (before after : Counted) : Type 0 where
+  pub left_not_higher : new_left ≤ left
+  pub right_not_higher : new_right ≤ right
+  pub at_most_one_lower : left + right ≤ new_left + new_right + 1
+  pub spared : spare ≤ 1
+  pub counted : AddsAtMost 0 (max left right) before after
+
+-- on the left
+pub lower_left : (left right new_left spare : ℕ) (before after : Counted) → new_left ≤ left → left ≤ new_left + 1 → spare ≤ 1 → AddsAtMost 0 left before after
+    → IsLower left right new_left right spare before after
+lower_left left right new_left spare before after not_higher near low added = record {
+  left_not_higher = not_higher;
+  right_not_higher = omega arith;
+  at_most_one_lower = omega (arith, near);
+  spared = low;
+  counted = more_levels left (max left right) before after added (omega arith);
+}
+
+-- on the right
+pub lower_right : (left right new_right spare : ℕ) (before after : Counted) → new_right ≤ right → right ≤ new_right + 1 → spare ≤ 1 → AddsAtMost 0 right before after
+    → IsLower left right left new_right spare before after
+lower_right left right new_right spare before after not_higher near low added = record {
+  left_not_higher = omega arith;
+  right_not_higher = not_higher;
+  at_most_one_lower = omega (arith, near);
+  spared = low;
+  counted = more_levels right (max left right) before after added (omega arith);
+}
+
+-- a node that is put together of such sides is at most one level lower
+pub lower_both : {left right new_left new_right spare out_left out_right height : ℕ} {before after : Counted} → DifferByAtMost 1 left right → IsLower left right new_left new_right spare before after
+    → out_left ≡ new_left → out_right ≡ new_right → IsHeightOfBoth out_left out_right height → max left right ≤ height
+lower_both {left = left} {right = right} {new_left = new_left} {new_right = new_right} near down left_is right_is both = elim (cases_lt (max new_left new_right) (max left right)) [
+  | inl lower ↦
+      omega (
+        arith,
+        lower,
+        down.at_most_one_lower,
+        both.exact (record {
+          first = omega (arith, lower, left_is, right_is, near.first, near.second, down.left_not_higher, down.right_not_higher, down.at_most_one_lower);
+          second = omega (arith, lower, left_is, right_is, near.first, near.second, down.left_not_higher, down.right_not_higher, down.at_most_one_lower);
+        }),
+      )
+  | inr as_high ↦ omega (arith, as_high, left_is, right_is, both.not_lower)
+]

@@ -128,17 +128,15 @@ fn take_first(side: &mut Side, count: &mut Count) -> Box<Node>
     visit(count);
     let top: &mut Node = node;
     is_filled(&top.right);
-    let Some(left) = &top.left else {
+    let level = height(&top.left);
+    if level == 0 {
         let right = top.right.take();
         top.size = top.own.len();
         top.height = 1;
         return lift(side, right);
-    };
-    // (each node has an edge of its own, so there is a first one)
-    prove!(left.size > 0);
-    let level = height(&top.left);
+    }
     let first = take_first(&mut top.left, count);
-    top.size -= first.size;
+    top.size -= size_of(&first);
     if height(&top.left) == level {
         return first;
     }
@@ -147,6 +145,14 @@ fn take_first(side: &mut Side, count: &mut Count) -> Box<Node>
         join_over(left, side, right);
     }
     first
+}
+
+/// How many edges there are in a node and on both sides.
+#[inline(always)]
+fn size_of(node: &Node) -> usize
+    ensures { result ≡ length node.now.0 }
+{
+    node.size
 }
 
 /// Exchanges the edges of a node with nothing on either side for others.

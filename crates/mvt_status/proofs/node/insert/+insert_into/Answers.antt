@@ -1,7 +1,7 @@
-use Rattle.std.proofs.Common.{◌≡◌, ◌≤◌, ◌++◌, ◌∙◌, ◌+◌, ◌-◌, ℕ, ap, append-nil, length, length-append, refl, subst, sym, arith}
-use Rattle.mvt_status.specs.Tree.{IsNode, edges_of, fewest, height_of}
-use Rattle.mvt_status.proofs.Heights.{node_alone}
-use Rattle.mvt_status.proofs.Insertions.{HasBetween, HasPutIn, has_between, length_put_in, node_with_more, put_in_left, put_in_middle, put_in_right, put_in_upper}
+use Rattle.std.proofs.Common.{◌≡◌, ◌≤◌, ◌++◌, ◌∙◌, ◌+◌, ◌-◌, ℕ, suc, ap, append-nil, length, length-append, refl, subst, sym, arith}
+use Rattle.mvt_status.specs.Tree.{edges_of, fewest, height_of}
+use Rattle.mvt_status.proofs.Heights.{more_levels, node_alone, visits_below}
+use Rattle.mvt_status.proofs.Insertions.{HasBetween, HasPutIn, IsHigher, has_between, higher_both, higher_left, higher_right, length_put_in, node_with_more, put_in_left, put_in_middle, put_in_right, put_in_upper}
 use Rattle.mvt_status.proofs.node.insert.+insert_into.Goals as goal
 use Rattle.mvt_status.proofs.node.insert.+insert_into.Goals.{After-len-2, Joined-at-before, Joined-at-behind-2, then-at-before+else-height-level, else-at-before+else-height-level-2, then-at-behind-2, else-at-behind-2}
 
@@ -28,6 +28,46 @@ put_behind t c =
           (put_in_right _ _ _ (edges_of w.insert_into-else-at-behind-2.new.side) _ _ _ c.args.at (c.size-before.result + c.len.result) node (omega arith) w.if-at-behind-2.false
           w.insert_into-else-at-behind-2.ensures.edges)
     ]
+
+-- the levels of the node before
+tall : (t : ℕ) (c : After-len-2 t) → c.top.inside.height ≡ height_of c.args.side.now
+tall t c = ap (λ seen. seen.1) (c.top.view_is ∙ c.deref_mut-top.ensures.value) ∙ sym (ap height_of c.in-Some.is)
+
+-- it has enough edges for them
+filled_before : (t : ℕ) (c : After-len-2 t) → fewest (height_of c.args.side.now) ≤ suc (length (edges_of c.args.side.now))
+filled_before t c =
+    subst (λ (height : ℕ). fewest height ≤ suc (length (edges_of c.args.side.now))) (tall t c) (omega (arith, (before t c).counted, c.top.invariant.some, c.top.invariant.filled))
+
+-- the levels of its sides behind the ways to the right, and what was counted
+higher_behind : (t : ℕ) (c : Joined-at-behind-2 t) → IsHigher (height_of c.top.inside.left) (height_of c.top.inside.right) (height_of c.if-at-behind-2.top-inside.left) (height_of c.if-at-behind-2.top-inside.right)
+    (height_of c.if-at-behind-2.spare) c.visit.new.count c.if-at-behind-2.count
+higher_behind t c = elim c.if-at-behind-2.branch [
+  | then-at-behind-2 w ↦
+      rw (w.top-inside-is, w.spare-is, w.count-is)
+      (higher_right _ _ _ _ _ _ w.put_first.ensures.not_lower w.put_first.ensures.at_most_one_higher (omega (arith, ap height_of w.halved-upper.ensures.used)) w.put_first.ensures.counted)
+  | else-at-behind-2 w ↦
+      rw (w.top-inside-is, w.spare-is, w.count-is)
+      (higher_right _ _ _ _ _ _ w.insert_into-else-at-behind-2.ensures.not_lower w.insert_into-else-at-behind-2.ensures.at_most_one_higher w.insert_into-else-at-behind-2.ensures.spare
+      w.insert_into-else-at-behind-2.ensures.counted)
+]
+
+-- and behind all ways
+higher : (t : ℕ) (c : Joined-at-before t) → IsHigher (height_of c.top.inside.left) (height_of c.top.inside.right) (height_of c.if-at-before.top-inside.left) (height_of c.if-at-before.top-inside.right)
+    (height_of c.if-at-before.spare) c.visit.new.count c.if-at-before.count
+higher t c = elim c.if-at-before.branch [
+  | then-at-before+else-height-level w ↦
+      rw (w.top-inside-is, w.spare-is, w.count-is)
+      (higher_left _ _ _ _ _ _ w.insert_into.ensures.not_lower w.insert_into.ensures.at_most_one_higher w.insert_into.ensures.spare w.insert_into.ensures.counted)
+  | else-at-before+else-height-level-2 w ↦ elim w.if-at-behind-2.branch [
+    | then-at-behind-2 v ↦
+        rw (w.top-inside-is, w.spare-is, w.count-is, v.top-inside-is, v.spare-is, v.count-is)
+        (higher_right _ _ _ _ _ _ v.put_first.ensures.not_lower v.put_first.ensures.at_most_one_higher (omega (arith, ap height_of v.halved-upper.ensures.used)) v.put_first.ensures.counted)
+    | else-at-behind-2 v ↦
+        rw (w.top-inside-is, w.spare-is, w.count-is, v.top-inside-is, v.spare-is, v.count-is)
+        (higher_right _ _ _ _ _ _ v.insert_into-else-at-behind-2.ensures.not_lower v.insert_into-else-at-behind-2.ensures.at_most_one_higher v.insert_into-else-at-behind-2.ensures.spare
+        v.insert_into-else-at-behind-2.ensures.counted)
+  ]
+]
 
 pub returns-in_default-clause-filled : goal.returns-in_default-clause-filled
 unfolding fewest
@@ -131,3 +171,102 @@ pub returns-in-Some-settle-clause-edges : goal.returns-in-Some-settle-clause-edg
 returns-in-Some-settle-clause-edges t c =
     let put = put_in_all t (goal.at.returns-in-Some-settle-clause-edges t c).Joined-at-before in
     rw (c.join_over.ensures.edges, c.in-Some-settle.ensures.out_left, c.in-Some-settle.ensures.out_right, c.in-Some-settle.ensures.no_left, c.in-Some-settle.ensures.no_right, append-nil) put.edges
+
+pub returns-then-at-behind-clause-filled : goal.returns-then-at-behind-clause-filled
+returns-then-at-behind-clause-filled t c = filled_before t (goal.at.returns-then-at-behind-clause-filled t c).After-len-2
+
+pub returns-then-height-level-clause-filled : goal.returns-then-height-level-clause-filled
+returns-then-height-level-clause-filled t c = filled_before t (goal.at.returns-then-height-level-clause-filled t c).After-len-2
+
+pub returns-then-height-level-2-clause-filled : goal.returns-then-height-level-2-clause-filled
+returns-then-height-level-2-clause-filled t c = filled_before t (goal.at.returns-then-height-level-2-clause-filled t c).After-len-2
+
+pub returns-in_default-settle-clause-filled : goal.returns-in_default-settle-clause-filled
+returns-in_default-settle-clause-filled t c = filled_before t (goal.at.returns-in_default-settle-clause-filled t c).After-len-2
+
+pub returns-in-Some-settle-clause-filled : goal.returns-in-Some-settle-clause-filled
+returns-in-Some-settle-clause-filled t c = filled_before t (goal.at.returns-in-Some-settle-clause-filled t c).After-len-2
+
+pub returns-then-at-behind-clause-counted : goal.returns-then-at-behind-clause-counted
+returns-then-at-behind-clause-counted t c =
+    more_levels 1 _ _ _ c.visit.ensures.counted (omega (arith, tall t (goal.at.returns-then-at-behind-clause-counted t c).After-len-2, c.top.invariant.measured))
+
+pub returns-then-height-level-clause-counted : goal.returns-then-height-level-clause-counted
+returns-then-height-level-clause-counted t c =
+    visits_below (height_of c.top.inside.left) c.visit.ensures.counted c.insert_into.ensures.counted (omega (arith, tall t (goal.at.returns-then-height-level-clause-counted t c).After-len-2, c.top.invariant.measured))
+
+pub returns-then-height-level-2-clause-spare : goal.returns-then-height-level-2-clause-spare
+returns-then-height-level-2-clause-spare t c = (higher_behind t (goal.at.returns-then-height-level-2-clause-spare t c).Joined-at-behind-2).spared
+
+pub returns-then-height-level-2-clause-counted : goal.returns-then-height-level-2-clause-counted
+returns-then-height-level-2-clause-counted t c =
+    visits_below _ c.visit.ensures.counted (higher_behind t (goal.at.returns-then-height-level-2-clause-counted t c).Joined-at-behind-2).counted (omega (arith, tall t (goal.at.returns-then-height-level-2-clause-counted t c).After-len-2, c.top.invariant.measured))
+
+pub returns-then-height-level-2-clause-visited : goal.returns-then-height-level-2-clause-visited
+returns-then-height-level-2-clause-visited t c =
+    let up = higher_behind t (goal.at.returns-then-height-level-2-clause-visited t c).Joined-at-behind-2 in
+    rw c.in-Some.is (omega (arith, c.visit.ensures.visited, up.counted.no_fewer_visits))
+
+pub returns-in_default-settle-clause-spare : goal.returns-in_default-settle-clause-spare
+returns-in_default-settle-clause-spare t c = (higher t (goal.at.returns-in_default-settle-clause-spare t c).Joined-at-before).spared
+
+pub returns-in_default-settle-clause-counted : goal.returns-in_default-settle-clause-counted
+returns-in_default-settle-clause-counted t c =
+    visits_below _ c.visit.ensures.counted (higher t (goal.at.returns-in_default-settle-clause-counted t c).Joined-at-before).counted (omega (arith, tall t (goal.at.returns-in_default-settle-clause-counted t c).After-len-2, c.top.invariant.measured))
+
+pub returns-in_default-settle-clause-visited : goal.returns-in_default-settle-clause-visited
+returns-in_default-settle-clause-visited t c =
+    let up = higher t (goal.at.returns-in_default-settle-clause-visited t c).Joined-at-before in
+    rw c.in-Some.is (omega (arith, c.visit.ensures.visited, up.counted.no_fewer_visits))
+
+pub returns-in-Some-settle-clause-spare : goal.returns-in-Some-settle-clause-spare
+returns-in-Some-settle-clause-spare t c = (higher t (goal.at.returns-in-Some-settle-clause-spare t c).Joined-at-before).spared
+
+pub returns-in-Some-settle-clause-counted : goal.returns-in-Some-settle-clause-counted
+returns-in-Some-settle-clause-counted t c =
+    visits_below _ c.visit.ensures.counted (higher t (goal.at.returns-in-Some-settle-clause-counted t c).Joined-at-before).counted (omega (arith, tall t (goal.at.returns-in-Some-settle-clause-counted t c).After-len-2, c.top.invariant.measured))
+
+pub returns-in-Some-settle-clause-visited : goal.returns-in-Some-settle-clause-visited
+returns-in-Some-settle-clause-visited t c =
+    let up = higher t (goal.at.returns-in-Some-settle-clause-visited t c).Joined-at-before in
+    rw c.in-Some.is (omega (arith, c.visit.ensures.visited, up.counted.no_fewer_visits))
+
+pub returns-in_default-settle-clause-not_lower : goal.returns-in_default-settle-clause-not_lower
+returns-in_default-settle-clause-not_lower t c =
+    let up = higher t (goal.at.returns-in_default-settle-clause-not_lower t c).Joined-at-before in
+    omega (arith, up.left_not_lower, up.right_not_lower, up.at_most_one_higher, c.in_default-settle.ensures.measured, tall t (goal.at.returns-in_default-settle-clause-not_lower t c).After-len-2, c.top.invariant.measured)
+
+pub returns-in_default-settle-clause-at_most_one_higher : goal.returns-in_default-settle-clause-at_most_one_higher
+returns-in_default-settle-clause-at_most_one_higher t c =
+    let up = higher t (goal.at.returns-in_default-settle-clause-at_most_one_higher t c).Joined-at-before in
+    omega (arith, up.left_not_lower, up.right_not_lower, up.at_most_one_higher, c.in_default-settle.ensures.measured, tall t (goal.at.returns-in_default-settle-clause-at_most_one_higher t c).After-len-2, c.top.invariant.measured)
+
+pub returns-in-Some-settle-clause-not_lower : goal.returns-in-Some-settle-clause-not_lower
+returns-in-Some-settle-clause-not_lower t c =
+    let up = higher t (goal.at.returns-in-Some-settle-clause-not_lower t c).Joined-at-before in
+    let lowest = higher_both c.top.invariant.near up (ap height_of c.in-Some-settle.ensures.out_left) (ap height_of c.in-Some-settle.ensures.out_right) c.join_over.ensures.height in
+    omega (arith, lowest, tall t (goal.at.returns-in-Some-settle-clause-not_lower t c).After-len-2, c.top.invariant.measured)
+
+pub returns-in-Some-settle-clause-at_most_one_higher : goal.returns-in-Some-settle-clause-at_most_one_higher
+returns-in-Some-settle-clause-at_most_one_higher t c =
+    let up = higher t (goal.at.returns-in-Some-settle-clause-at_most_one_higher t c).Joined-at-before in
+    let height = c.join_over.ensures.height in
+    omega (
+      arith,
+      height.at_most_one_higher,
+      ap height_of c.in-Some-settle.ensures.out_left,
+      ap height_of c.in-Some-settle.ensures.out_right,
+      up.left_not_lower,
+      up.right_not_lower,
+      up.at_most_one_higher,
+      tall t (goal.at.returns-in-Some-settle-clause-at_most_one_higher t c).After-len-2,
+      c.top.invariant.measured,
+    )
+
+pub join_over-requires-clause-near : goal.join_over-requires-clause-near
+join_over-requires-clause-near t c =
+    let up = higher t (goal.at.join_over-requires-clause-near t c).Joined-at-before in
+    record {
+      first = omega (arith, ap height_of c.in-Some-settle.ensures.out_left, ap height_of c.in-Some-settle.ensures.out_right, c.top.invariant.near, up.left_not_lower, up.right_not_lower, up.at_most_one_higher);
+      second = omega (arith, ap height_of c.in-Some-settle.ensures.out_left, ap height_of c.in-Some-settle.ensures.out_right, c.top.invariant.near, up.left_not_lower, up.right_not_lower, up.at_most_one_higher);
+    }

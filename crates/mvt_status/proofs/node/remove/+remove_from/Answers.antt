@@ -1,10 +1,10 @@
-use Rattle.std.proofs.Common.{◌≡◌, ℕ, List, None, ◌+◌, ◌-◌, ◌<◌, ◌≤◌, ◌++◌, ◌∙◌, length, append-nil, remove, slice_index, refl, ap, sym, subst, arith}
+use Rattle.std.proofs.Common.{◌≡◌, ℕ, None, suc, ◌+◌, ◌≤◌, ◌++◌, ◌∙◌, length, append-nil, remove, slice_index, refl, ap, sym, subst, arith}
 use Rattle.std.proofs.lemmas.List.Edits.{length-remove}
-use Rattle.mvt_status.specs.Tree.{IsNode, edges_of, height_of}
-use Rattle.mvt_status.proofs.Heights.{as_high_as_before, no_side, node_alone}
-use Rattle.mvt_status.proofs.Removals.{IsWithout, all_counted, found_first, taken_between, without_left, without_own, without_right}
+use Rattle.mvt_status.specs.Tree.{IsNode, edges_of, fewest, height_of}
+use Rattle.mvt_status.proofs.Heights.{as_high_as_before, more_levels, no_side, node_alone, visits_below}
+use Rattle.mvt_status.proofs.Removals.{IsLower, IsWithout, all_counted, found_first, lower_both, lower_left, lower_right, taken_between, without_left, without_own, without_right}
 use Rattle.mvt_status.proofs.node.remove.+remove_from.Goals as goal
-use Rattle.mvt_status.proofs.node.remove.+remove_from.Goals.{Then-top-before, After-height-else-top-before, After-settle, then-at-before+else-height-level, else-at-before+else-at-behind+else-top-before+else-height-level-2, else-at-behind-via-then-at-behind+else-len-gt1, else-at-behind-via-else-at-behind, then-at-behind-2, else-at-behind-2}
+use Rattle.mvt_status.proofs.node.remove.+remove_from.Goals.{Then-top-before, After-len, After-height-else-top-before, After-settle, then-at-before+else-height-level, else-at-before+else-at-behind+else-top-before+else-height-level-2, else-at-behind-via-then-at-behind+else-len-gt1, else-at-behind-via-else-at-behind, then-at-behind-2, else-at-behind-2}
 
 -- what is left of the node where the edge did not go out on the left
 without_behind : (t : ℕ) (c : After-height-else-top-before t) → IsWithout (edges_of c.if-at-behind-2.top-inside.left) c.if-at-behind-2.top-inside.own.items (edges_of c.if-at-behind-2.top-inside.right)
@@ -47,6 +47,47 @@ without t c =
             further.if-at-behind-2.false c.requires.within further.remove_from-out-else-at-behind-2.ensures.edges further.remove_from-out-else-at-behind-2.ensures.out)
       ]
     ]
+
+-- the levels of the node before
+tall : (t : ℕ) (c : After-len t) → c.top.inside.height ≡ height_of c.args.side.now
+tall t c = ap (λ seen. seen.1) (c.top.view_is ∙ c.deref_mut-top.ensures.value) ∙ sym (ap height_of c.in-Some.is)
+
+-- it has enough edges for them
+filled_before : (t : ℕ) (c : After-len t) → fewest (height_of c.args.side.now) ≤ suc (length (edges_of c.args.side.now))
+filled_before t c =
+    let same : edges_of c.top.inside.left ++ (c.top.inside.own.items ++ edges_of c.top.inside.right) ≡ edges_of c.args.side.now
+    = ap (λ seen. seen.0) (c.top.view_is ∙ c.deref_mut-top.ensures.value) ∙ sym (ap edges_of c.in-Some.is) in
+    subst (λ (height : ℕ). fewest height ≤ suc (length (edges_of c.args.side.now))) (tall t c)
+    (omega (arith, all_counted (edges_of c.top.inside.left) c.top.inside.own.items (edges_of c.top.inside.right) (edges_of c.args.side.now) same, c.top.invariant.counted, c.top.invariant.some, c.top.invariant.filled))
+
+-- the levels of its sides where the edge did not go out on the left, and what was counted
+lower_behind : (t : ℕ) (c : After-height-else-top-before t) → IsLower (height_of c.top.inside.left) (height_of c.top.inside.right) (height_of c.if-at-behind-2.top-inside.left) (height_of c.if-at-behind-2.top-inside.right)
+    (height_of c.if-at-behind-2.spare) c.visit.new.count c.if-at-behind-2.count
+lower_behind t c = elim c.if-at-behind-2.branch [
+  | then-at-behind-2 next ↦
+      rw (next.top-inside-is, next.spare-is, next.count-is)
+      (lower_right _ _ _ _ _ _ next.own_from-out.ensures.not_higher next.own_from-out.ensures.at_most_one_lower next.own_from-out.ensures.spare next.own_from-out.ensures.counted)
+  | else-at-behind-2 further ↦ rw (further.top-inside-is, further.spare-is, further.count-is) (lower_right _ _ _ _ _ _ further.remove_from-out-else-at-behind-2.ensures.not_higher
+      further.remove_from-out-else-at-behind-2.ensures.at_most_one_lower further.remove_from-out-else-at-behind-2.ensures.spare further.remove_from-out-else-at-behind-2.ensures.counted)
+]
+
+-- and where it went out on either
+lower : (t : ℕ) (c : After-settle t) → IsLower (height_of c.top.inside.left) (height_of c.top.inside.right) (height_of c.if-at-before.top-inside.left) (height_of c.if-at-before.top-inside.right)
+    (height_of c.if-at-before.spare) c.visit.new.count c.if-at-before.count
+lower t c = elim c.if-at-before.branch [
+  | then-at-before+else-height-level w ↦
+      rw (w.top-inside-is, w.spare-is, w.count-is)
+      (lower_left _ _ _ _ _ _ w.remove_from-out.ensures.not_higher w.remove_from-out.ensures.at_most_one_lower w.remove_from-out.ensures.spare w.remove_from-out.ensures.counted)
+  | else-at-before+else-at-behind+else-top-before+else-height-level-2 w ↦ elim w.if-at-behind-2.branch [
+    | then-at-behind-2 next ↦
+        rw (w.top-inside-is, w.spare-is, w.count-is, next.top-inside-is, next.spare-is, next.count-is)
+        (lower_right _ _ _ _ _ _ next.own_from-out.ensures.not_higher next.own_from-out.ensures.at_most_one_lower next.own_from-out.ensures.spare next.own_from-out.ensures.counted)
+    | else-at-behind-2 further ↦
+        rw (w.top-inside-is, w.spare-is, w.count-is, further.top-inside-is, further.spare-is, further.count-is)
+        (lower_right _ _ _ _ _ _ further.remove_from-out-else-at-behind-2.ensures.not_higher further.remove_from-out-else-at-behind-2.ensures.at_most_one_lower
+        further.remove_from-out-else-at-behind-2.ensures.spare further.remove_from-out-else-at-behind-2.ensures.counted)
+  ]
+]
 
 pub invariant_of-top : goal.invariant_of-top
 invariant_of-top t c =
@@ -147,3 +188,112 @@ returns-in-Some-settle-clause-edges t c =
 
 pub returns-in-Some-settle-clause-out : goal.returns-in-Some-settle-clause-out
 returns-in-Some-settle-clause-out t c = (without t (goal.at.returns-in-Some-settle-clause-out t c).After-settle).found
+
+pub returns-then-height-level-clause-filled : goal.returns-then-height-level-clause-filled
+returns-then-height-level-clause-filled t c = filled_before t (goal.at.returns-then-height-level-clause-filled t c).After-len
+
+pub returns-then-len-gt1-clause-filled : goal.returns-then-len-gt1-clause-filled
+returns-then-len-gt1-clause-filled t c = filled_before t (goal.at.returns-then-len-gt1-clause-filled t c).After-len
+
+pub returns-then-top-before-clause-filled : goal.returns-then-top-before-clause-filled
+returns-then-top-before-clause-filled t c = filled_before t (goal.at.returns-then-top-before-clause-filled t c).After-len
+
+pub returns-then-height-level-2-clause-filled : goal.returns-then-height-level-2-clause-filled
+returns-then-height-level-2-clause-filled t c = filled_before t (goal.at.returns-then-height-level-2-clause-filled t c).After-len
+
+pub returns-in_default-settle-clause-filled : goal.returns-in_default-settle-clause-filled
+returns-in_default-settle-clause-filled t c = filled_before t (goal.at.returns-in_default-settle-clause-filled t c).After-len
+
+pub returns-in-Some-settle-clause-filled : goal.returns-in-Some-settle-clause-filled
+returns-in-Some-settle-clause-filled t c = filled_before t (goal.at.returns-in-Some-settle-clause-filled t c).After-len
+
+pub returns-then-height-level-clause-counted : goal.returns-then-height-level-clause-counted
+returns-then-height-level-clause-counted t c =
+    visits_below (height_of c.top.inside.left) c.visit.ensures.counted c.remove_from-out.ensures.counted
+    (omega (arith, tall t (goal.at.returns-then-height-level-clause-counted t c).After-len, c.top.invariant.measured))
+
+pub returns-then-height-level-2-clause-spare : goal.returns-then-height-level-2-clause-spare
+returns-then-height-level-2-clause-spare t c = (lower_behind t (goal.at.returns-then-height-level-2-clause-spare t c).After-height-else-top-before).spared
+
+pub returns-then-height-level-2-clause-counted : goal.returns-then-height-level-2-clause-counted
+returns-then-height-level-2-clause-counted t c =
+    visits_below _ c.visit.ensures.counted (lower_behind t (goal.at.returns-then-height-level-2-clause-counted t c).After-height-else-top-before).counted
+    (omega (arith, tall t (goal.at.returns-then-height-level-2-clause-counted t c).After-len, c.top.invariant.measured))
+
+pub returns-then-height-level-2-clause-visited : goal.returns-then-height-level-2-clause-visited
+returns-then-height-level-2-clause-visited t c =
+    let down = lower_behind t (goal.at.returns-then-height-level-2-clause-visited t c).After-height-else-top-before in
+    omega (arith, c.visit.ensures.visited, down.counted.no_fewer_visits)
+
+pub returns-in_default-settle-clause-spare : goal.returns-in_default-settle-clause-spare
+returns-in_default-settle-clause-spare t c = (lower t (goal.at.returns-in_default-settle-clause-spare t c).After-settle).spared
+
+pub returns-in_default-settle-clause-counted : goal.returns-in_default-settle-clause-counted
+returns-in_default-settle-clause-counted t c =
+    visits_below _ c.visit.ensures.counted (lower t (goal.at.returns-in_default-settle-clause-counted t c).After-settle).counted
+    (omega (arith, tall t (goal.at.returns-in_default-settle-clause-counted t c).After-len, c.top.invariant.measured))
+
+pub returns-in_default-settle-clause-visited : goal.returns-in_default-settle-clause-visited
+returns-in_default-settle-clause-visited t c =
+    let down = lower t (goal.at.returns-in_default-settle-clause-visited t c).After-settle in
+    omega (arith, c.visit.ensures.visited, down.counted.no_fewer_visits)
+
+pub returns-in-Some-settle-clause-spare : goal.returns-in-Some-settle-clause-spare
+returns-in-Some-settle-clause-spare t c = (lower t (goal.at.returns-in-Some-settle-clause-spare t c).After-settle).spared
+
+pub returns-in-Some-settle-clause-counted : goal.returns-in-Some-settle-clause-counted
+returns-in-Some-settle-clause-counted t c =
+    visits_below _ c.visit.ensures.counted (lower t (goal.at.returns-in-Some-settle-clause-counted t c).After-settle).counted
+    (omega (arith, tall t (goal.at.returns-in-Some-settle-clause-counted t c).After-len, c.top.invariant.measured))
+
+pub returns-in-Some-settle-clause-visited : goal.returns-in-Some-settle-clause-visited
+returns-in-Some-settle-clause-visited t c =
+    let down = lower t (goal.at.returns-in-Some-settle-clause-visited t c).After-settle in
+    omega (arith, c.visit.ensures.visited, down.counted.no_fewer_visits)
+
+pub returns-in_default-settle-clause-not_higher : goal.returns-in_default-settle-clause-not_higher
+returns-in_default-settle-clause-not_higher t c =
+    let down = lower t (goal.at.returns-in_default-settle-clause-not_higher t c).After-settle in
+    omega (arith, down.left_not_higher, down.right_not_higher, c.in_default-settle.ensures.measured, tall t (goal.at.returns-in_default-settle-clause-not_higher t c).After-len, c.top.invariant.measured)
+
+pub returns-in_default-settle-clause-at_most_one_lower : goal.returns-in_default-settle-clause-at_most_one_lower
+returns-in_default-settle-clause-at_most_one_lower t c =
+    let down = lower t (goal.at.returns-in_default-settle-clause-at_most_one_lower t c).After-settle in
+    omega (arith, down.left_not_higher, down.right_not_higher, down.at_most_one_lower, c.in_default-settle.ensures.measured, tall t (goal.at.returns-in_default-settle-clause-at_most_one_lower t c).After-len, c.top.invariant.measured)
+
+pub returns-in-Some-settle-clause-not_higher : goal.returns-in-Some-settle-clause-not_higher
+returns-in-Some-settle-clause-not_higher t c =
+    let down = lower t (goal.at.returns-in-Some-settle-clause-not_higher t c).After-settle in
+    let height = c.join_over.ensures.height in
+    omega (
+      arith,
+      height.at_most_one_higher,
+      ap height_of c.in-Some-settle.ensures.out_left,
+      ap height_of c.in-Some-settle.ensures.out_right,
+      down.left_not_higher,
+      down.right_not_higher,
+      tall t (goal.at.returns-in-Some-settle-clause-not_higher t c).After-len,
+      c.top.invariant.measured,
+    )
+
+pub returns-in-Some-settle-clause-at_most_one_lower : goal.returns-in-Some-settle-clause-at_most_one_lower
+returns-in-Some-settle-clause-at_most_one_lower t c =
+    let down = lower t (goal.at.returns-in-Some-settle-clause-at_most_one_lower t c).After-settle in
+    let highest = lower_both c.top.invariant.near down (ap height_of c.in-Some-settle.ensures.out_left) (ap height_of c.in-Some-settle.ensures.out_right) c.join_over.ensures.height in
+    omega (arith, highest, tall t (goal.at.returns-in-Some-settle-clause-at_most_one_lower t c).After-len, c.top.invariant.measured)
+
+pub join_over-requires-clause-near : goal.join_over-requires-clause-near
+join_over-requires-clause-near t c =
+    let down = lower t (goal.at.join_over-requires-clause-near t c).After-settle in
+    record {
+      first = omega (arith, ap height_of c.in-Some-settle.ensures.out_left, ap height_of c.in-Some-settle.ensures.out_right, c.top.invariant.near, down.left_not_higher, down.right_not_higher, down.at_most_one_lower);
+      second = omega (arith, ap height_of c.in-Some-settle.ensures.out_left, ap height_of c.in-Some-settle.ensures.out_right, c.top.invariant.near, down.left_not_higher, down.right_not_higher, down.at_most_one_lower);
+    }
+
+pub returns-then-len-gt1-clause-counted : goal.returns-then-len-gt1-clause-counted
+returns-then-len-gt1-clause-counted t c =
+    more_levels 1 _ _ _ c.visit.ensures.counted (omega (arith, tall t (goal.at.returns-then-len-gt1-clause-counted t c).After-len, c.top.invariant.measured))
+
+pub returns-then-top-before-clause-counted : goal.returns-then-top-before-clause-counted
+returns-then-top-before-clause-counted t c =
+    more_levels 1 _ _ _ c.visit.ensures.counted (omega (arith, tall t (goal.at.returns-then-top-before-clause-counted t c).After-len, c.top.invariant.measured))
