@@ -15,7 +15,7 @@ mod layer_rules;
 mod layer_scan;
 mod layers;
 mod names;
-pub(crate) mod summary;
+mod summary;
 mod tags;
 #[cfg(test)]
 mod tests;
