@@ -1,5 +1,6 @@
 -- Lines and rings that are spelled in part: what was pushed, with the spelling of what is left, is the spelling of the whole.
-use Rattle.std.proofs.Common.{◌≡◌, ℕ, List, [], ◌∷◌, ◌++◌, ◌+◌, ◌<◌, length, map, get_or, drop, ◌∙◌, sym, ap, subst, append_assoc, append-nil, refl}
+use Rattle.std.proofs.Common.{◌≡◌, ℕ, List, [], ◌∷◌, ◌++◌, ◌+◌, ◌<◌, ◌≤◌, ◌==◌, false, length, map, get_or, drop, ◌∙◌, sym, ap, subst, append_assoc, append-nil, refl, arith}
+use Rattle.std.proofs.lemmas.List.{drop_all}
 use Rattle.mvt_plane.specs.Figure.{ArePaths, IsPath, cursor, path, paths}
 use Rattle.mvt_plane.specs.Position.{Position}
 use Rattle.mvt_draw.proofs.SpellingSteps.{drop_from}
@@ -39,3 +40,16 @@ ArePathsTo-on least ending before from all numbers last part rest more so_far is
 pub ArePathsTo-over : (least : ℕ) (ending before : List ℕ) (from : Position) (all : List (List Position)) (numbers : List ℕ) (last : Position)
     → ArePathsTo least ending before from all numbers last [] → ArePaths least from all × (numbers ≡ before ++ paths ending from all)
 ArePathsTo-over least ending before from all numbers last so_far = (so_far.able tt, sym (so_far.spelled ∙ append-nil numbers))
+
+-- behind the place of the last one
+pub ArePathsTo-whole : {Part : Type 0} (positions : Part → List Position) (least : ℕ) (ending before : List ℕ) (from : Position) (all : List Part) (numbers : List ℕ) (last : Position) (place : ℕ)
+    → ArePathsTo least ending before from (map positions all) numbers last (map positions (drop place all)) → length all ≤ place
+    → ArePaths least from (map positions all) × (numbers ≡ before ++ paths ending from (map positions all))
+ArePathsTo-whole {Part} positions least ending before from all numbers last place so_far behind =
+    ArePathsTo-over least ending before from (map positions all) numbers last
+    (subst (λ (rest : List Part). ArePathsTo least ending before from (map positions all) numbers last (map positions rest)) (drop_all place all behind) so_far)
+
+-- a list that isn't empty has one or more
+pub some_parts : {Part : Type 0} (positions : Part → List Position) (all : List Part) → false ≡ (length all == 0) → 1 ≤ length (map positions all)
+some_parts positions [] some = cc
+some_parts positions (part ∷ all) some = omega arith
