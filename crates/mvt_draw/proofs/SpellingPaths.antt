@@ -1,7 +1,9 @@
 -- Lines and rings that are spelled in part: what was pushed, with the spelling of what is left, is the spelling of the whole.
-use Rattle.std.proofs.Common.{◌≡◌, ℕ, List, [], ◌∷◌, ◌++◌, ◌+◌, ◌<◌, ◌≤◌, ◌==◌, false, length, map, get_or, drop, ◌∙◌, sym, ap, subst, append_assoc, append-nil, refl, arith}
-use Rattle.std.proofs.lemmas.List.{drop_all}
-use Rattle.mvt_plane.specs.Figure.{ArePaths, IsPath, cursor, path, paths}
+use Rattle.std.proofs.Common.{◌≡◌, ℕ, List, [], ◌∷◌, ◌++◌, ◌+◌, ◌-◌, ◌-ℤ◌, ◌<◌, ◌≤◌, ◌==◌, false, Result, length, map, get_or, take, drop, ◌∙◌, sym, ap, subst, append_assoc, append-nil, refl, arith}
+use Rattle.std.proofs.lemmas.List.{drop_all, take_all}
+use Rattle.std.specs.Result.{IfOk}
+use Rattle.std.proofs.lemmas.Result.{IfOk-weaker}
+use Rattle.mvt_plane.specs.Figure.{AreApart, ArePaths, AreSteps, IsCount, IsPath, IsStep, command_integer, cursor, line_to, move_to, path, paths, steps, zigzag}
 use Rattle.mvt_plane.specs.Position.{Position}
 use Rattle.mvt_draw.proofs.SpellingSteps.{drop_from}
 
@@ -53,3 +55,22 @@ ArePathsTo-whole {Part} positions least ending before from all numbers last plac
 pub some_parts : {Part : Type 0} (positions : Part → List Position) (all : List Part) → false ≡ (length all == 0) → 1 ≤ length (map positions all)
 some_parts positions [] some = cc
 some_parts positions (part ∷ all) some = omega arith
+
+-- a list that isn't empty is its first item and the others
+pub first_and_others : (positions : List Position) (first : Position) → 1 ≤ length positions → first ≡ get_or positions 0 first → positions ≡ first ∷ take (length positions - 1) (drop 1 positions)
+first_and_others [] first some is = absurd (omega arith)
+first_and_others (position ∷ others) first some is =
+    let so_many : length others ≡ length (position ∷ others) - 1 = omega arith in
+    (λ i. sym is i ∷ sym (take_all (length others) others (omega arith)) i) ∙ ap (λ (count : ℕ). first ∷ take count others) so_many
+
+-- a line or ring, spelled command by command
+pub path_spelled : {E : Type 0} (least : ℕ) (from first : Position) (rest : List Position) (none begun stepped counted all : List ℕ) (last : Result Position E)
+    → begun ≡ none ++ command_integer move_to 1 ∷ [] → IsStep from first × (stepped ≡ begun ++ zigzag (first.x -ℤ from.x) ∷ zigzag (first.y -ℤ from.y) ∷ [])
+    → IsCount (length rest) × (counted ≡ stepped ++ command_integer line_to (length rest) ∷ [])
+    → IfOk last (λ it. AreSteps first rest × (all ≡ counted ++ steps first rest) × (it ≡ cursor first rest))
+    → AreApart first rest → least ≤ length rest
+    → IfOk last (λ it. IsPath least from (first ∷ rest) × (all ≡ none ++ path from (first ∷ rest)) × (it ≡ cursor from (first ∷ rest)))
+path_spelled least from first rest none begun stepped counted all last begins steps_first counts further apart long =
+    IfOk-weaker last _ _
+    (λ it told. ((steps_first.0, told.0, apart, long, counts.0), rw (told.1, counts.1, steps_first.1, begins) (simp append_assoc), told.2))
+    further
