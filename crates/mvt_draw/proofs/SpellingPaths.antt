@@ -1,6 +1,9 @@
 -- Lines and rings that are spelled in part: what was pushed, with the spelling of what is left, is the spelling of the whole.
-use Rattle.std.proofs.Common.{◌≡◌, ℕ, List, [], ◌∷◌, ◌++◌, ◌+◌, ◌<◌, length, map, get_or, drop, ◌∙◌, sym, ap, subst, append_assoc, append-nil, refl}
-use Rattle.mvt_plane.specs.Figure.{ArePaths, IsPath, cursor, path, paths}
+use Rattle.std.proofs.Common.{◌≡◌, ℕ, List, [], ◌∷◌, ◌++◌, ◌+◌, ◌-◌, ◌-ℤ◌, ◌<◌, ◌≤◌, ◌==◌, false, Result, length, map, get_or, take, drop, ◌∙◌, sym, ap, subst, append_assoc, append-nil, refl, arith}
+use Rattle.std.proofs.lemmas.List.{drop_all, take_all}
+use Rattle.std.specs.Result.{IfOk}
+use Rattle.std.proofs.lemmas.Result.{IfOk-weaker}
+use Rattle.mvt_plane.specs.Figure.{AreApart, ArePaths, AreSteps, IsCount, IsPath, IsStep, command_integer, cursor, line_to, move_to, path, paths, steps, zigzag}
 use Rattle.mvt_plane.specs.Position.{Position}
 use Rattle.mvt_draw.proofs.SpellingSteps.{drop_from}
 
@@ -39,3 +42,35 @@ ArePathsTo-on least ending before from all numbers last part rest more so_far is
 pub ArePathsTo-over : (least : ℕ) (ending before : List ℕ) (from : Position) (all : List (List Position)) (numbers : List ℕ) (last : Position)
     → ArePathsTo least ending before from all numbers last [] → ArePaths least from all × (numbers ≡ before ++ paths ending from all)
 ArePathsTo-over least ending before from all numbers last so_far = (so_far.able tt, sym (so_far.spelled ∙ append-nil numbers))
+
+-- behind the place of the last one
+pub ArePathsTo-whole : {Part : Type 0} (positions : Part → List Position) (least : ℕ) (ending before : List ℕ) (from : Position) (all : List Part) (numbers : List ℕ) (last : Position) (place : ℕ)
+    → ArePathsTo least ending before from (map positions all) numbers last (map positions (drop place all)) → length all ≤ place
+    → ArePaths least from (map positions all) × (numbers ≡ before ++ paths ending from (map positions all))
+ArePathsTo-whole {Part} positions least ending before from all numbers last place so_far behind =
+    ArePathsTo-over least ending before from (map positions all) numbers last
+    (subst (λ (rest : List Part). ArePathsTo least ending before from (map positions all) numbers last (map positions rest)) (drop_all place all behind) so_far)
+
+-- a list that isn't empty has one or more
+pub some_parts : {Part : Type 0} (positions : Part → List Position) (all : List Part) → false ≡ (length all == 0) → 1 ≤ length (map positions all)
+some_parts positions [] some = cc
+some_parts positions (part ∷ all) some = omega arith
+
+-- a list that isn't empty is its first item and the others
+pub first_and_others : (positions : List Position) (first : Position) → 1 ≤ length positions → first ≡ get_or positions 0 first → positions ≡ first ∷ take (length positions - 1) (drop 1 positions)
+first_and_others [] first some is = absurd (omega arith)
+first_and_others (position ∷ others) first some is =
+    let so_many : length others ≡ length (position ∷ others) - 1 = omega arith in
+    (λ i. sym is i ∷ sym (take_all (length others) others (omega arith)) i) ∙ ap (λ (count : ℕ). first ∷ take count others) so_many
+
+-- a line or ring, spelled command by command
+pub path_spelled : {E : Type 0} (least : ℕ) (from first : Position) (rest : List Position) (none begun stepped counted all : List ℕ) (last : Result Position E)
+    → begun ≡ none ++ command_integer move_to 1 ∷ [] → IsStep from first × (stepped ≡ begun ++ zigzag (first.x -ℤ from.x) ∷ zigzag (first.y -ℤ from.y) ∷ [])
+    → IsCount (length rest) × (counted ≡ stepped ++ command_integer line_to (length rest) ∷ [])
+    → IfOk last (λ it. AreSteps first rest × (all ≡ counted ++ steps first rest) × (it ≡ cursor first rest))
+    → AreApart first rest → least ≤ length rest
+    → IfOk last (λ it. IsPath least from (first ∷ rest) × (all ≡ none ++ path from (first ∷ rest)) × (it ≡ cursor from (first ∷ rest)))
+path_spelled least from first rest none begun stepped counted all last begins steps_first counts further apart long =
+    IfOk-weaker last _ _
+    (λ it told. ((steps_first.0, told.0, apart, long, counts.0), rw (told.1, counts.1, steps_first.1, begins) (simp append_assoc), told.2))
+    further

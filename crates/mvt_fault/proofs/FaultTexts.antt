@@ -8,7 +8,7 @@ use Rattle.serde_json.specs.Data.{Data, depth}
 use Rattle.serde_json.specs.Read.{read, max_depth}
 use Rattle.serde_json.specs.View.{view}
 use Rattle.mvt_fault.specs.Candidate.{IsAnswerTo, IsCandidate, HasCandidate}
-use Rattle.mvt_fault.specs.Reading.{StandsFor, IsOutOfRange, IsTextOf, HasOtherRange}
+use Rattle.mvt_fault.specs.Reading.{StandsFor, HasShape, IsOutOfRange, IsTextOf, IsNoJson, HasOtherShape, HasOtherRange}
 use Rattle.mvt_fault.specs.Text.{data_of, IsInRange, Reads}
 use Rattle.mvt_fault.specs.declared.fault.Fault.{Fault}
 use Rattle.mvt_fault.specs.declared.reading.FaultTextError.{FaultTextError}
@@ -86,6 +86,27 @@ Range-answer d (Err Json) answer no_memory out = absurd answer
 Range-answer d (Err Shape) answer no_memory out = absurd (answer (out.0, out.1))
 Range-answer d (Err Range) answer no_memory out = refl
 Range-answer d (Err Memory) answer no_memory out = absurd (no_memory refl)
+
+-- no answer is that a text of a value is no JSON
+pub json-answer : (bytes : List ℕ) (d : Data) (r : Result Fault FaultTextError) → IsTextOf bytes d → IsAnswerTo d r
+    → r ≢ Err Memory → (r ≡ Err Json) ↔ IsNoJson bytes
+json-answer bytes d r text answer no_memory = (λ is. absurd (subst (IsAnswerTo d) is answer), λ none. absurd (none d text))
+
+-- where the value has no fault's shape, no other answer is right
+Shape-answer : (d : Data) (r : Result Fault FaultTextError) → IsAnswerTo d r → r ≢ Err Memory → ¬ HasShape d → r ≡ Err Shape
+Shape-answer d (Ok f) answer no_memory other = absurd (other (f, answer.0))
+Shape-answer d (Err Json) answer no_memory other = absurd answer
+Shape-answer d (Err Shape) answer no_memory other = refl
+Shape-answer d (Err Range) answer no_memory other = absurd (other (answer.0, answer.1))
+Shape-answer d (Err Memory) answer no_memory other = absurd (no_memory refl)
+
+-- the answer is that the value has another shape exactly where it has
+pub shape-answer : (bytes : List ℕ) (d : Data) (r : Result Fault FaultTextError) → IsTextOf bytes d → IsAnswerTo d r
+    → r ≢ Err Memory → (r ≡ Err Shape) ↔ HasOtherShape bytes
+shape-answer bytes d r text answer no_memory = (
+  λ is. (d, text, subst (IsAnswerTo d) is answer),
+  λ other. Shape-answer d r answer no_memory (subst (λ (e : Data). ¬ HasShape e) (IsTextOf-unique bytes other.0 d other.1 text) other.2),
+)
 
 -- the answer is that a number is out of range exactly where one is
 pub range-answer : (bytes : List ℕ) (d : Data) (r : Result Fault FaultTextError) → IsTextOf bytes d → IsAnswerTo d r

@@ -19,42 +19,24 @@ fn is_written(alloc: Global, fault: Fault, number: u16, text: &str) -> bool {
         && fault_text(alloc, &fault).is_ok_and(|written| written.as_str() == text)
 }
 
-#[test]
-fn writes_each_scope(rt: HostRuntime) {
-    let alloc = rt.alloc();
-    let fault = wire(WireCode::PastEnd, Scope::Tile, 0, 3);
-    let text = "{\"at\":0,\"code\":105,\"field\":3,\"scope\":\"tile\"}";
-    assert!(rt; is_written(alloc, fault, 105, text));
-    let fault = wire(WireCode::TooLong, Scope::Layer(0), 3, 15);
-    let text = "{\"at\":3,\"code\":102,\"field\":15,\"layer\":0,\"scope\":\"layer\"}";
-    assert!(rt; is_written(alloc, fault, 102, text));
-    let fault = wire(WireCode::OneField, Scope::Value(0, 0), 9, 0);
-    let text = "{\"at\":9,\"code\":109,\"field\":0,\"layer\":0,\"scope\":\"value\",\"value\":0}";
-    assert!(rt; is_written(alloc, fault, 109, text));
-    let fault = wire(WireCode::Ends, Scope::Feature(0, 0), 15, 4);
-    let text =
-        "{\"at\":15,\"code\":101,\"feature\":0,\"field\":4,\"layer\":0,\"scope\":\"feature\"}";
-    assert!(rt; is_written(alloc, fault, 101, text));
+/// Whether this is the number of the cause of a wire fault.
+fn is_wire_code(cause: WireCode, number: u16) -> bool {
+    code(&wire(cause, Scope::Layer(0), 0, 0)) == number
 }
 
 #[test]
 fn numbers_each_cause(rt: HostRuntime) {
-    for (cause, number) in [
-        (WireCode::Ends, 101),
-        (WireCode::TooLong, 102),
-        (WireCode::BadNumber, 103),
-        (WireCode::BadWireType, 104),
-        (WireCode::PastEnd, 105),
-        (WireCode::OtherType, 106),
-        (WireCode::Again, 107),
-        (WireCode::Missing, 108),
-        (WireCode::OneField, 109),
-        (WireCode::NotUtf8, 110),
-        (WireCode::OutOfRange, 111),
-    ] {
-        let fault = wire(cause, Scope::Layer(0), 0, 0);
-        assert!(rt; code(&fault) == number);
-    }
+    assert!(rt; is_wire_code(WireCode::Ends, 101));
+    assert!(rt; is_wire_code(WireCode::TooLong, 102));
+    assert!(rt; is_wire_code(WireCode::BadNumber, 103));
+    assert!(rt; is_wire_code(WireCode::BadWireType, 104));
+    assert!(rt; is_wire_code(WireCode::PastEnd, 105));
+    assert!(rt; is_wire_code(WireCode::OtherType, 106));
+    assert!(rt; is_wire_code(WireCode::Again, 107));
+    assert!(rt; is_wire_code(WireCode::Missing, 108));
+    assert!(rt; is_wire_code(WireCode::OneField, 109));
+    assert!(rt; is_wire_code(WireCode::NotUtf8, 110));
+    assert!(rt; is_wire_code(WireCode::OutOfRange, 111));
 }
 
 fn command(code: CommandCode, layer: usize, feature: usize, index: usize) -> Fault {
@@ -73,77 +55,6 @@ fn tag(code: TagCode, layer: usize, feature: usize, index: usize) -> Fault {
         feature,
         index,
     }
-}
-
-#[test]
-fn writes_each_rule(rt: HostRuntime) {
-    let alloc = rt.alloc();
-    let version = Fault::Version { layer: 0 };
-    assert!(rt; is_written(alloc, version, 201, "{\"code\":201,\"layer\":0}"));
-    let name = Fault::Name {
-        first: 0,
-        second: 1,
-    };
-    assert!(rt; is_written(alloc, name, 202, "{\"code\":202,\"first\":0,\"second\":1}"));
-    let odd_length = tag(TagCode::OddLength, 0, 0, 1);
-    assert!(rt;
-        is_written(
-            alloc,
-            odd_length,
-            301,
-            "{\"code\":301,\"feature\":0,\"index\":1,\"layer\":0}"
-        )
-    );
-    let no_key = tag(TagCode::NoKey, 5, 6, 0);
-    assert!(rt;
-        is_written(
-            alloc,
-            no_key,
-            302,
-            "{\"code\":302,\"feature\":6,\"index\":0,\"layer\":5}"
-        )
-    );
-    let no_value = tag(TagCode::NoValue, 0, 0, 1);
-    assert!(rt;
-        is_written(
-            alloc,
-            no_value,
-            303,
-            "{\"code\":303,\"feature\":0,\"index\":1,\"layer\":0}"
-        )
-    );
-    let repeated = tag(TagCode::Repeated, 0, 0, 2);
-    assert!(rt;
-        is_written(
-            alloc,
-            repeated,
-            304,
-            "{\"code\":304,\"feature\":0,\"index\":2,\"layer\":0}"
-        )
-    );
-}
-
-#[test]
-fn writes_command_faults(rt: HostRuntime) {
-    let alloc = rt.alloc();
-    let unfinished = command(CommandCode::Unfinished, 0, 0, 2);
-    assert!(rt;
-        is_written(
-            alloc,
-            unfinished,
-            403,
-            "{\"code\":403,\"feature\":0,\"index\":2,\"layer\":0}"
-        )
-    );
-    let no_step = command(CommandCode::NoStep, 5, 6, 5);
-    assert!(rt;
-        is_written(
-            alloc,
-            no_step,
-            406,
-            "{\"code\":406,\"feature\":6,\"index\":5,\"layer\":5}"
-        )
-    );
 }
 
 fn ring(code: RingCode, layer: usize, feature: usize, ring: usize) -> Fault {
@@ -190,69 +101,33 @@ fn hole_in_hole(polygon: usize, ring: usize, vertex: usize, other: usize) -> Fau
     }
 }
 
+// Texts of faults of small ordinals are in the tests of the whole gate.
 #[test]
-fn writes_ring_faults(rt: HostRuntime) {
+fn writes_faults(rt: HostRuntime) {
     let alloc = rt.alloc();
-    let fault = ring(RingCode::BeginsWithHole, 0, 0, 0);
-    let text = "{\"code\":503,\"feature\":0,\"layer\":0,\"ring\":0}";
-    assert!(rt; is_written(alloc, fault, 503, text));
-    let fault = ring(RingCode::NoArea, 0, 0, 0);
-    let text = "{\"code\":502,\"feature\":0,\"layer\":0,\"ring\":0}";
-    assert!(rt; is_written(alloc, fault, 502, text));
-    let fault = ring(RingCode::EndsAtItsBeginning, 5, 6, 7);
+    let no_key = tag(TagCode::NoKey, 5, 6, 0);
+    let text = "{\"code\":302,\"feature\":6,\"index\":0,\"layer\":5}";
+    assert!(rt; is_written(alloc, no_key, 302, text));
+    let no_step = command(CommandCode::NoStep, 5, 6, 5);
+    let text = "{\"code\":406,\"feature\":6,\"index\":5,\"layer\":5}";
+    assert!(rt; is_written(alloc, no_step, 406, text));
+    let ends_at_its_beginning = ring(RingCode::EndsAtItsBeginning, 5, 6, 7);
     let text = "{\"code\":501,\"feature\":6,\"layer\":5,\"ring\":7}";
-    assert!(rt; is_written(alloc, fault, 501, text));
+    assert!(rt; is_written(alloc, ends_at_its_beginning, 501, text));
 }
 
 #[test]
-fn writes_meetings(rt: HostRuntime) {
-    let alloc = rt.alloc();
-    let fault = meeting(0, 0, 800, 800, 180);
-    let text =
-        "{\"code\":504,\"feature\":0,\"first\":{\"edge\":0,\"ring\":0},\"layer\":0,\"polygon\":0,\"second\":{\"edge\":2,\"ring\":0},\"w\":\"180\",\"x\":\"800\",\"y\":\"800\"}";
-    assert!(rt; is_written(alloc, fault, 504, text));
-    let number = -6917529020124889090;
-    let fault = meeting(0, 0, number, number, 9223372026117357571);
-    let text =
-        "{\"code\":504,\"feature\":0,\"first\":{\"edge\":0,\"ring\":0},\"layer\":0,\"polygon\":0,\"second\":{\"edge\":2,\"ring\":0},\"w\":\"9223372026117357571\",\"x\":\"-6917529020124889090\",\"y\":\"-6917529020124889090\"}";
-    assert!(rt; is_written(alloc, fault, 504, text));
-}
-
-#[test]
-fn writes_hole_faults(rt: HostRuntime) {
-    let alloc = rt.alloc();
-    let text = "{\"code\":505,\"feature\":0,\"layer\":0,\"polygon\":0,\"ring\":1,\"vertex\":0}";
-    assert!(rt; is_written(alloc, outside(0, 1, 0), 505, text));
-    let text =
-        "{\"code\":506,\"feature\":0,\"layer\":0,\"other\":1,\"polygon\":0,\"ring\":2,\"vertex\":0}";
-    assert!(rt; is_written(alloc, hole_in_hole(0, 2, 0, 1), 506, text));
-}
-
-#[test]
-fn numbers_each_cause_of_commands(rt: HostRuntime) {
-    for (cause, number) in [
-        (CommandCode::OtherCommand, 401),
-        (CommandCode::OtherCount, 402),
-        (CommandCode::Unfinished, 403),
-        (CommandCode::GreatestParameter, 404),
-        (CommandCode::OutOfBounds, 405),
-        (CommandCode::NoStep, 406),
-    ] {
-        assert!(rt; cause.code() == number);
-        assert!(rt; code(&command(cause, 0, 0, 0)) == number);
-    }
-}
-
-#[test]
-fn numbers_each_cause_of_rings(rt: HostRuntime) {
-    for (cause, number) in [
-        (RingCode::EndsAtItsBeginning, 501),
-        (RingCode::NoArea, 502),
-        (RingCode::BeginsWithHole, 503),
-    ] {
-        assert!(rt; cause.code() == number);
-        assert!(rt; code(&ring(cause, 0, 0, 0)) == number);
-    }
+fn numbers_each_cause_of_features(rt: HostRuntime) {
+    assert!(rt; code(&tag(TagCode::OddLength, 0, 0, 0)) == 301);
+    assert!(rt; code(&tag(TagCode::NoValue, 0, 0, 0)) == 303);
+    assert!(rt; code(&tag(TagCode::Repeated, 0, 0, 0)) == 304);
+    assert!(rt; code(&command(CommandCode::OtherCommand, 0, 0, 0)) == 401);
+    assert!(rt; code(&command(CommandCode::OtherCount, 0, 0, 0)) == 402);
+    assert!(rt; code(&command(CommandCode::Unfinished, 0, 0, 0)) == 403);
+    assert!(rt; code(&command(CommandCode::GreatestParameter, 0, 0, 0)) == 404);
+    assert!(rt; code(&command(CommandCode::OutOfBounds, 0, 0, 0)) == 405);
+    assert!(rt; code(&ring(RingCode::NoArea, 0, 0, 0)) == 502);
+    assert!(rt; code(&ring(RingCode::BeginsWithHole, 0, 0, 0)) == 503);
 }
 
 /// Whether these are the numbers of the fault's place.

@@ -110,6 +110,25 @@ module _ (IsBroken : Breaks) where
             let ordered : ComesFirst (place_of (Tag code layer feature index)) (2 ∷ layer ∷ feature ∷ place.0 ∷ place.1) = inr (refl, inr (refl, inr (refl, inl (omega arith)))) in
             subst (ComesFirst (place_of (Tag code layer feature index))) (sym place.3) ordered
 
+    -- with no fault of the tags, the further rule decides
+    module _ (none : (code : TagCode) (place : ℕ) → ¬ TagsBreak code keys values it.tags place) where
+      no_fault_of_tags : (fault : Fault) → ¬ IsFaultOfTags layer_record it layer feature fault
+      no_fault_of_tags fault (tag code index broken) = none code index (same.back code index broken)
+
+      pub rule_sound : (IsKept : Keeps) → ((fault : Fault) → ¬ IsBroken it layer feature fault) → IsKept it → IsSound IsBroken IsKept layer_record it layer feature
+      rule_sound IsKept whole kept = record { faultless = faultless; kept = kept }
+        where
+          faultless : (fault : Fault) → ¬ IsFaultOfFeature IsBroken layer_record it layer feature fault
+          faultless fault (inl broken) = no_fault_of_tags fault broken
+          faultless fault (inr broken) = whole fault broken
+
+      pub rule_decides : (fault : Fault) → IsLeast (IsBroken it layer feature) fault → IsLeast (IsFaultOfFeature IsBroken layer_record it layer feature) fault
+      rule_decides fault first = record { holds = inr first.holds; least = behind }
+        where
+          behind : (other : Fault) → IsFaultOfFeature IsBroken layer_record it layer feature other → ComesFirst (place_of fault) (place_of other)
+          behind other (inl broken) = absurd (no_fault_of_tags other broken)
+          behind other (inr broken) = first.least other broken
+
   -- what is found of the feature that was read, as said of the one that is there
   module _ (bytes : List ℕ) (IsKnown : LayerRecord → Type 0) (layer ordinal : ℕ) (span : Span) (read : FeatureRecord) (reads : (it : FeatureRecord) → IsFeature bytes span it → read ≡ it) where
     pub good_feature : (IsKept : Keeps) → ((layer_record : LayerRecord) → IsKnown layer_record → IsSound IsBroken IsKept layer_record read layer ordinal) → IsGoodFeature IsBroken IsKept bytes IsKnown layer ordinal span

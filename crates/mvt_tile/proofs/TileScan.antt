@@ -1,5 +1,5 @@
 -- A walk over the layers of a tile that keeps their names, and the first fault of their features.
-use Rattle.std.proofs.Common.{◌≡◌, ◌≢◌, ℕ, ◌+◌, List, length, take, Option, Some, IfSome, IfNone, true, false, is_some, slice_get, sym, ◌∙◌, ap, arith, inl, inr}
+use Rattle.std.proofs.Common.{◌≡◌, ◌≢◌, ℕ, ◌+◌, List, length, take, Option, Some, None, IfSome, IfNone, true, false, is_some, slice_get, refl, sym, ◌∙◌, ap, subst, arith, inl, inr}
 use Rattle.std.proofs.lemmas.Option.{IfSome_then, slice_get_within}
 use Rattle.mvt_wire.specs.Field.{Entry}
 use Rattle.mvt_wire.specs.Scope.{Span, span_of, spans_of}
@@ -53,6 +53,15 @@ module _ {IsBroken : Breaks} {IsKept : Keeps} {bytes : List ℕ} {found : Option
     some = IfSome_then found some (λ fault first tile is.
         first_in_tile IsBroken behind_tags IsKept bytes tile is count span fault (CleanWalk-next so_far given own span there is.entries is.whole) first);
   }
+
+-- a layer that was looked at, unless a fault was found in front of it
+pub AreScanned-next : {IsBroken : Breaks} {IsKept : Keeps} {bytes : List ℕ} {old new : Walk} {count : ℕ} (before after : Option Fault) → AreScanned IsBroken IsKept bytes before old count
+    → {entry : Entry} → GivesField old new entry → entry.number ≡ 3 → (span : Span) → span_of entry.content ≡ Some span → AreBehindTags IsBroken → (is_some before ≡ true → after ≡ before)
+    → (is_some before ≡ false → IfNone after (IsGoodLayer IsBroken IsKept bytes count span)) → (is_some before ≡ false → IfSome after (λ fault. IsFirstInLayer IsBroken bytes fault count span))
+    → AreScanned IsBroken IsKept bytes after new (count + 1)
+AreScanned-next None after so_far given own span there behind_tags kept none some = AreScanned-more so_far.none given own span there behind_tags (none refl) (some refl)
+AreScanned-next {IsBroken} {IsKept} {bytes} {old} {new} {count} (Some fault) after so_far given own span there behind_tags kept none some =
+    subst (λ (found : Option Fault). AreScanned IsBroken IsKept bytes found new (count + 1)) (sym (kept refl)) (AreScanned-found so_far refl)
 
 -- the summary is that of the layer in a stretch
 abbrev pub Summarizes : List ℕ → Span → LayerSummary → Type 0

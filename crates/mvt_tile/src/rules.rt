@@ -1,13 +1,13 @@
 //! The rules between the parts of a tile (Mapbox Vector Tile Specification 2.1, sections 4.1, 4.2 and 4.4):
 //! the versions and names of its layers, and the tags of its features; and a further rule on features.
-ghost use Rattle.std.specs.Prelude.{◌≡◌, ℕ, length, IfOk, IfNone, IfSome, OnOk};
+ghost use Rattle.std.specs.Prelude.{◌≡◌, ◌≤◌, ℕ, true, false, is_some, length, IfOk, IfNone, IfSome, OnOk};
 ghost use Rattle.mvt_fault.specs.TrueFaults.{OneFeatureHas};
 ghost use Rattle.mvt_fault.specs.Place.{IsLeast, place_of};
 ghost use Rattle.mvt_fault.specs.declared.fault.Fault.{Fault};
-ghost use Rattle.mvt_wire.specs.Tile.{FeatureRecord, TileRecord, IsTile};
-ghost use Rattle.mvt_tile.specs.FeatureRules.{AllSound, IsFaultOfFeature};
+ghost use Rattle.mvt_wire.specs.Tile.{FeatureRecord, LayerRecord, IsLayer, TileRecord, IsTile};
+ghost use Rattle.mvt_tile.specs.FeatureRules.{AllSound, AllSoundInLayer, IsFaultInLayer, IsFaultOfFeature};
 ghost use Rattle.mvt_tile.specs.PassedLayers.{EndsLayers, passed, PassesLayers};
-ghost use Rattle.mvt_tile.specs.RuleFaults.{IsBehindTags, BreaksAnyRule, KeepsRules};
+ghost use Rattle.mvt_tile.specs.RuleFaults.{IsBehindTags, IsSummary, BreaksAnyRule, KeepsRules};
 
 mod features;
 mod key_marks;
@@ -15,7 +15,7 @@ mod layer_rules;
 mod layer_scan;
 mod layers;
 mod names;
-pub(crate) mod summary;
+mod summary;
 mod tags;
 #[cfg(test)]
 mod tests;
@@ -30,7 +30,7 @@ use mvt_fault::Fault;
 use mvt_wire::Fields;
 use mvt_wire::field_number::LAYERS;
 use std::alloc::{AllocError, Global};
-use summary::summarize;
+use summary::{LayerSummary, summarize};
 pub use tags::check_tags;
 
 /// The first fault of a tile by its rules, or None where it keeps them: its layers have version 2 and different names
@@ -87,20 +87,16 @@ fn walk_layers<'a, R: FeatureRule>(
     'walk: while let Some(field) = next_whole(&mut fields) {
         if field.number == LAYERS {
             let (from, to) = stretch_of(field.body);
-            let summary = if found.is_some() {
-                summarize(bytes, from, to)
-            } else {
-                let (summary, its_fault) = look_at_layer(
-                    bytes,
-                    rule,
-                    layer_index,
-                    from,
-                    to,
-                    &mut room,
-                )?;
-                found = its_fault;
-                summary
-            };
+            let (summary, first) = pass_layer(
+                bytes,
+                rule,
+                layer_index,
+                from,
+                to,
+                &mut room,
+                found,
+            )?;
+            found = first;
             if !layers.note(summary.version, summary.name)? {
                 return Ok(found);
             }
@@ -108,4 +104,34 @@ fn walk_layers<'a, R: FeatureRule>(
         }
     }
     Ok(found)
+}
+
+/// The summary of the layer with an ordinal, which the bytes hold from one offset up to another, and the first fault of
+/// the features so far: `before`, which those of the layers in front of it have, or else that of its own. The only error
+/// is that memory was refused.
+fn pass_layer<'a, R: FeatureRule>(
+    bytes: &'a [u8],
+    rule: &mut R,
+    layer_index: usize,
+    from: usize,
+    to: usize,
+    room: &mut FeatureRoom,
+    before: Option<Fault>,
+) -> Result<(LayerSummary<'a>, Option<Fault>), AllocError>
+    requires forward { from ≤ to }
+    requires within { to ≤ length bytes.now }
+    requires stands { (layer_record : LayerRecord) × IsLayer bytes.now (record { from = from; to = to }) layer_record }
+    requires behind_tags { (feature_record : FeatureRecord) (in_layer feature_index : ℕ) (fault : Fault)
+        → R.IsBroken feature_record in_layer feature_index fault → IsBehindTags in_layer feature_index (place_of fault) }
+    ensures summary { IfOk result (λ found. (layer_record : LayerRecord) → IsLayer bytes.now (record { from = from; to = to }) layer_record → IsSummary found.0 layer_record) }
+    ensures kept { IfOk result (λ found. is_some before ≡ true → found.1 ≡ before) }
+    ensures none { IfOk result (λ found. is_some before ≡ false → IfNone found.1 ((layer_record : LayerRecord) → IsLayer bytes.now (record { from = from; to = to }) layer_record
+        → AllSoundInLayer R.IsBroken R.IsKept layer_record layer_index)) }
+    ensures least { IfOk result (λ found. is_some before ≡ false → IfSome found.1 (λ fault. (layer_record : LayerRecord) → IsLayer bytes.now (record { from = from; to = to }) layer_record
+        → IsLeast (IsFaultInLayer R.IsBroken layer_record layer_index) fault)) }
+{
+    if before.is_some() {
+        return Ok((summarize(bytes, from, to), before));
+    }
+    look_at_layer(bytes, rule, layer_index, from, to, room)
 }

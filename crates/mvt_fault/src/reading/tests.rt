@@ -1,8 +1,4 @@
-use crate::{
-    CommandCode, Fault, FaultTextError, RingCode, RingEdge, Scope, TagCode, fault_from_text,
-    fault_text,
-};
-use mvt_wire::WireCode;
+use crate::{Fault, FaultTextError, RingEdge, fault_from_text};
 use std::alloc::Global;
 use std::test::Fail;
 
@@ -17,92 +13,6 @@ fn meeting(x: i128, y: i128, w: i128) -> Fault {
         y,
         w,
     }
-}
-
-fn wire(scope: Scope, at: usize, field: u32) -> Fault {
-    Fault::Wire {
-        code: WireCode::PastEnd,
-        scope,
-        at,
-        field,
-    }
-}
-
-/// Whether the fault's text is read back as the fault.
-fn is_read_back(alloc: Global, fault: Fault) -> bool {
-    let Ok(text) = fault_text(alloc, &fault) else {
-        return false;
-    };
-    fault_from_text(alloc, text.as_bytes()) == Ok(fault)
-}
-
-// A fault of each scope and variant, with numbers at the bounds of their types among them.
-#[test]
-fn reads_what_is_written(rt: HostRuntime) {
-    let alloc = rt.alloc();
-    assert!(rt; is_read_back(alloc, wire(Scope::Tile, 0, 3)));
-    assert!(rt; is_read_back(alloc, wire(Scope::Layer(4), usize::MAX, u32::MAX)));
-    assert!(rt; is_read_back(alloc, wire(Scope::Value(4, usize::MAX), 7, 0)));
-    assert!(rt; is_read_back(alloc, wire(Scope::Feature(4, 5), 7, 4)));
-    let version = Fault::Version { layer: usize::MAX };
-    assert!(rt; is_read_back(alloc, version));
-    let name = Fault::Name {
-        first: 1,
-        second: 2,
-    };
-    assert!(rt; is_read_back(alloc, name));
-}
-
-#[test]
-fn reads_what_is_written_of_features(rt: HostRuntime) {
-    let alloc = rt.alloc();
-    let layer = 4;
-    let feature = 5;
-    let tag = Fault::Tag {
-        code: TagCode::Repeated,
-        layer,
-        feature,
-        index: 2,
-    };
-    assert!(rt; is_read_back(alloc, tag));
-    let command = Fault::Command {
-        code: CommandCode::NoStep,
-        layer,
-        feature,
-        index: 3,
-    };
-    assert!(rt; is_read_back(alloc, command));
-    let ring = Fault::Ring {
-        code: RingCode::NoArea,
-        layer,
-        feature,
-        ring: 1,
-    };
-    assert!(rt; is_read_back(alloc, ring));
-}
-
-#[test]
-fn reads_what_is_written_of_polygons(rt: HostRuntime) {
-    let alloc = rt.alloc();
-    assert!(rt; is_read_back(alloc, meeting(800, 800, 180)));
-    assert!(rt; is_read_back(alloc, meeting(i128::MIN, i128::MAX, 0)));
-    let outside = Fault::Outside {
-        layer: 4,
-        feature: 5,
-        polygon: 6,
-        ring: 1,
-        vertex: 2,
-    };
-    assert!(rt; is_read_back(alloc, outside));
-    let hole_in_hole = Fault::HoleInHole {
-        layer: 4,
-        feature: 5,
-        polygon: 6,
-        ring: 1,
-        vertex: 2,
-        other: 3,
-    };
-    assert!(rt; is_read_back(alloc, hole_in_hole));
 }
 
 #[test]

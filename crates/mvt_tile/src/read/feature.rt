@@ -5,9 +5,6 @@ ghost use Rattle.mvt_wire.specs.declared.schema.Message.TheVariants as messages;
 ghost use Rattle.mvt_tile.specs.Reading.{TellsFeature};
 ghost use Rattle.mvt_tile.specs.View.{feature_of, kind_number};
 
-#[cfg(test)]
-mod tests;
-
 use super::payload::{number_in, push_numbers};
 use super::walk::next_whole;
 use crate::record::{Feature, Kind};

@@ -1,13 +1,5 @@
-use crate::{Feature, Kind, Layer, ReadFault, Value, read_tile};
-use mvt_fault::{Fault, Scope};
-use mvt_wire::WireCode;
+use crate::{Feature, Kind, Layer, Value, read_tile};
 use std::alloc::Global;
-
-// A layer with one POINT feature, in the order name, version, features and so on. The geometry is a
-// MoveTo to (25, 17), the specification's own example.
-const POINT: [u8; 16] = [
-    0x1a, 0x0e, 0x78, 0x02, 0x0a, 0x01, 0x61, 0x12, 0x07, 0x18, 0x01, 0x22, 0x03, 0x09, 0x32, 0x22,
-];
 
 /// Whether the layer has this name and extent, these keys and values, and version 2.
 fn is_layer(
@@ -38,8 +30,8 @@ fn is_feature(
         && feature.geometry.as_slice() == geometry
 }
 
-/// Whether the bytes are a tile of one layer, named `a`, with this one feature.
-fn is_one(alloc: Global, bytes: &[u8], kind: Kind, geometry: &[u32]) -> bool {
+/// Whether the bytes are a tile of one layer, named `a`, with one point at (25, 17) that has this id and these tags.
+fn is_point(alloc: Global, bytes: &[u8], id: Option<u64>, tags: &[u32]) -> bool {
     let Ok(tile) = read_tile(alloc, bytes) else {
         return false;
     };
@@ -49,86 +41,40 @@ fn is_one(alloc: Global, bytes: &[u8], kind: Kind, geometry: &[u32]) -> bool {
     let [feature] = layer.features.as_slice() else {
         return false;
     };
-    is_layer(layer, "a", 4096, &[], &[]) && is_feature(feature, None, &[], kind, geometry)
+    is_layer(layer, "a", 4096, &[], &[]) && is_feature(feature, id, tags, Kind::Point, &[9, 50, 34])
 }
 
-#[test]
-fn no_bytes(rt: HostRuntime) {
-    assert!(rt; matches!(read_tile(rt.alloc(), &[]), Ok(tile) if tile.layers.is_empty()));
-}
-
-// The same geometry as one packed list, as single numbers, and as both; a version that is spelled
-// longer than it needs.
 #[test]
 fn points(rt: HostRuntime) {
     let alloc = rt.alloc();
-    assert!(rt; is_one(alloc, &POINT, Kind::Point, &[9, 50, 34]));
+    // tags of two packed, then one single, then one single of two bytes; the type and the geometry between
+    // them; an id of seven
     assert!(rt;
-        is_one(
+        is_point(
             alloc,
-            b"\x1a\x0f\x78\x02\x0a\x01\x61\x12\x08\x18\x01\x20\x09\x20\x32\x20\x22",
-            Kind::Point,
-            &[9, 50, 34]
+            b"\x1a\x19\x12\x12\x08\x07\x12\x02\x03\x05\x18\x01\x10\x07\x22\x03\x09\x32\x22\x10\x81\x01\x78\x02\x0a\x01\x61",
+            Some(7),
+            &[3, 5, 7, 129]
         )
     );
+    // packed tags of one, two and five bytes, and an empty list; no id
     assert!(rt;
-        is_one(
+        is_point(
             alloc,
-            b"\x1a\x0f\x78\x02\x0a\x01\x61\x12\x08\x18\x01\x22\x02\x09\x32\x20\x22",
-            Kind::Point,
-            &[9, 50, 34]
+            b"\x1a\x1a\x12\x13\x18\x01\x22\x03\x09\x32\x22\x12\x08\x01\xac\x02\xff\xff\xff\xff\x0f\x12\x00\x78\x02\x0a\x01\x61",
+            None,
+            &[1, 300, 4_294_967_295]
         )
     );
+    // an id of 2^32: it has 64 bits
     assert!(rt;
-        is_one(
+        is_point(
             alloc,
-            b"\x1a\x0f\x78\x82\x00\x0a\x01\x61\x12\x07\x18\x01\x22\x03\x09\x32\x22",
-            Kind::Point,
-            &[9, 50, 34]
+            b"\x1a\x14\x12\x0d\x08\x80\x80\x80\x80\x10\x18\x01\x22\x03\x09\x32\x22\x78\x02\x0a\x01\x61",
+            Some(4_294_967_296),
+            &[]
         )
     );
-}
-
-// An empty packed geometry is present, with no numbers.
-#[test]
-fn empty_geometry(rt: HostRuntime) {
-    let bytes = [
-        0x1a, 0x0b, 0x78, 0x02, 0x0a, 0x01, 0x61, 0x12, 0x04, 0x18, 0x00, 0x22, 0x00,
-    ];
-    assert!(rt; is_one(rt.alloc(), &bytes, Kind::Unknown, &[]));
-}
-
-// A number of five bytes, the greatest that a geometry may have.
-#[test]
-fn greatest_number(rt: HostRuntime) {
-    let bytes = [
-        0x1a, 0x12, 0x78, 0x02, 0x0a, 0x01, 0x61, 0x12, 0x0b, 0x18, 0x01, 0x22, 0x07, 0x09, 0xff,
-        0xff, 0xff, 0xff, 0x0f, 0x00,
-    ];
-    assert!(rt; is_one(rt.alloc(), &bytes, Kind::Point, &[9, 4_294_967_295, 0]));
-}
-
-/// Whether the bytes are a tile of the layer of the next test.
-fn is_usual(alloc: Global, bytes: &[u8]) -> bool {
-    let Ok(tile) = read_tile(alloc, bytes) else {
-        return false;
-    };
-    let [layer] = tile.layers.as_slice() else {
-        return false;
-    };
-    let [feature] = layer.features.as_slice() else {
-        return false;
-    };
-    is_layer(layer, "a", 4096, &["k"], &[Value::Text("v")])
-        && is_feature(feature, Some(7), &[0, 0], Kind::Point, &[9, 50, 34])
-}
-
-// A layer in the order in which writers usually put it: the version last.
-#[test]
-fn usual_order(rt: HostRuntime) {
-    let bytes =
-        b"\x1a\x1f\x0a\x01\x61\x12\x0d\x08\x07\x12\x02\x00\x00\x18\x01\x22\x03\x09\x32\x22\x1a\x01\x6b\x22\x03\x0a\x01\x76\x28\x80\x20\x78\x02";
-    assert!(rt; is_usual(rt.alloc(), bytes));
 }
 
 /// Whether these are the features of the first layer of the next test.
@@ -204,59 +150,4 @@ fn values(rt: HostRuntime) {
         Value::Bool(false),
     ];
     assert!(rt; are_values(rt.alloc(), bytes, &values));
-}
-
-/// Whether the bytes are no tile, and this is their first fault.
-fn is_refused(
-    alloc: Global,
-    bytes: &[u8],
-    code: WireCode,
-    scope: Scope,
-    at: usize,
-    field: u32,
-) -> bool {
-    let fault = Fault::Wire {
-        code,
-        scope,
-        at,
-        field,
-    };
-    read_tile(alloc, bytes) == Err(ReadFault::Wire(fault))
-}
-
-// One fault for each kind of message.
-#[test]
-fn faults(rt: HostRuntime) {
-    let alloc = rt.alloc();
-    assert!(rt; is_refused(alloc, &POINT[..15], WireCode::PastEnd, Scope::Tile, 0, 3));
-    assert!(rt;
-        is_refused(
-            alloc,
-            b"\x1a\x09\x78\x80\x80\x80\x80\x10\x0a\x01\x61",
-            WireCode::OutOfRange,
-            Scope::Layer(0),
-            3,
-            15
-        )
-    );
-    assert!(rt;
-        is_refused(
-            alloc,
-            b"\x1a\x07\x78\x02\x0a\x01\x61\x22\x00",
-            WireCode::OneField,
-            Scope::Value(0, 0),
-            9,
-            0
-        )
-    );
-    assert!(rt;
-        is_refused(
-            alloc,
-            b"\x1a\x0e\x78\x02\x0a\x01\x61\x12\x07\x18\x01\x22\x03\x09\x32\xa2",
-            WireCode::Ends,
-            Scope::Feature(0, 0),
-            15,
-            4
-        )
-    );
 }

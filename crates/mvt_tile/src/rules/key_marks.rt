@@ -1,9 +1,6 @@
 //! Which keys the tags of a feature have.
 ghost use Rattle.std.specs.Prelude.{◌≡◌, ◌<◌, ◌≤◌, ℕ, length, slice_index_or, OnOk};
 
-#[cfg(test)]
-mod tests;
-
 use std::alloc::{AllocError, Global};
 
 /// A set of indices of keys: a mark for each key up to the greatest index that was added. One list of marks serves

@@ -6,9 +6,6 @@ ghost use Rattle.mvt_wire.specs.declared.schema.Message.TheVariants as messages;
 ghost use Rattle.mvt_tile.specs.Reading.{TellsSummary};
 ghost use Rattle.mvt_tile.specs.RuleFaults.{IsSummary};
 
-#[cfg(test)]
-pub(crate) mod tests;
-
 use crate::read::payload::{bytes_in, number_in};
 use crate::read::walk::next_whole;
 use mvt_wire::field_number::{KEYS, LAYER_NAME, VALUES, VERSION};

@@ -70,62 +70,6 @@ fn tag(code: TagCode, layer: usize, feature: usize, index: usize) -> Option<Faul
     })
 }
 
-#[test]
-fn tiles_that_keep_the_rules(rt: HostRuntime) {
-    let alloc = rt.alloc();
-    assert!(rt; is_first_fault(alloc, b"", None));
-    // a field that a tile doesn't know
-    assert!(rt; is_first_fault(alloc, b"\x08\x05", None));
-    // a layer with a name and a version, and nothing else
-    assert!(rt; is_first_fault(alloc, b"\x1a\x05\x78\x02\x0a\x01\x61", None));
-    // one point without tags
-    assert!(rt;
-        is_first_fault(
-            alloc,
-            b"\x1a\x0e\x78\x02\x0a\x01\x61\x12\x07\x18\x01\x22\x03\x09\x32\x22",
-            None
-        )
-    );
-    // a layer as usual writers order it: its key and its value behind its feature
-    assert!(rt;
-        is_first_fault(
-            alloc,
-            b"\x1a\x1f\x0a\x01\x61\x12\x0d\x08\x07\x12\x02\x00\x00\x18\x01\x22\x03\x09\x32\x22\x1a\x01\x6b\x22\x03\x0a\x01\x76\x28\x80\x20\x78\x02",
-            None
-        )
-    );
-}
-
-#[test]
-fn versions_and_names(rt: HostRuntime) {
-    let alloc = rt.alloc();
-    assert!(rt;
-        is_first_fault(
-            alloc,
-            b"\x1a\x05\x78\x01\x0a\x01\x61",
-            Some(Fault::Version { layer: 0 })
-        )
-    );
-    assert!(rt;
-        is_first_fault(
-            alloc,
-            b"\x1a\x0e\x78\x02\x0a\x01\x61\x12\x07\x18\x01\x22\x03\x09\x32\x22\x1a\x0e\x78\x02\x0a\x01\x61\x12\x07\x18\x01\x22\x03\x09\x32\x22",
-            Some(Fault::Name {
-                first: 0,
-                second: 1,
-            })
-        )
-    );
-    // two layers of different names, the second of another version
-    assert!(rt;
-        is_first_fault(
-            alloc,
-            b"\x1a\x05\x78\x02\x0a\x01\x61\x1a\x05\x78\x01\x0a\x01\x62",
-            Some(Fault::Version { layer: 1 })
-        )
-    );
-}
-
 // Layers of one key and two values. The first fault is that of the first feature that has one.
 #[test]
 fn tags_of_several_features(rt: HostRuntime) {
@@ -148,68 +92,6 @@ fn tags_of_several_features(rt: HostRuntime) {
     );
 }
 
-// A feature of the first layer has the tags 0, which is no list of pairs; the second layer's own fault
-// comes first all the same.
-#[test]
-fn layers_before_tags(rt: HostRuntime) {
-    let alloc = rt.alloc();
-    assert!(rt;
-        is_first_fault(
-            alloc,
-            b"\x1a\x1c\x78\x02\x0a\x01\x61\x12\x0a\x12\x01\x00\x18\x01\x22\x03\x09\x32\x22\x1a\x01\x6b\x22\x02\x38\x01\x22\x02\x28\x05\x1a\x05\x78\x01\x0a\x01\x62",
-            Some(Fault::Version { layer: 1 })
-        )
-    );
-    assert!(rt;
-        is_first_fault(
-            alloc,
-            b"\x1a\x1c\x78\x02\x0a\x01\x61\x12\x0a\x12\x01\x00\x18\x01\x22\x03\x09\x32\x22\x1a\x01\x6b\x22\x02\x38\x01\x22\x02\x28\x05\x1a\x05\x78\x02\x0a\x01\x61",
-            Some(Fault::Name {
-                first: 0,
-                second: 1,
-            })
-        )
-    );
-}
-
-// The first feature that has a fault decides, and its tags come before the further rule.
-#[test]
-fn further_rule_behind_tags(rt: HostRuntime) {
-    let alloc = rt.alloc();
-    // a feature of unknown type, and one of unknown type with the tags 0
-    assert!(rt;
-        is_first_fault(
-            alloc,
-            b"\x1a\x14\x78\x02\x0a\x01\x61\x12\x04\x18\x00\x22\x00\x12\x07\x12\x01\x00\x18\x00\x22\x00",
-            command(0, 0)
-        )
-    );
-    // one of unknown type with the tags 0
-    assert!(rt;
-        is_first_fault(
-            alloc,
-            b"\x1a\x0e\x78\x02\x0a\x01\x61\x12\x07\x12\x01\x00\x18\x00\x22\x00",
-            tag(TagCode::OddLength, 0, 0, 1)
-        )
-    );
-    // a point, and in the next layer a point and one of unknown type
-    assert!(rt;
-        is_first_fault(
-            alloc,
-            b"\x1a\x0e\x78\x02\x0a\x01\x61\x12\x07\x18\x01\x22\x03\x09\x32\x22\x1a\x14\x78\x02\x0a\x01\x62\x12\x07\x18\x01\x22\x03\x09\x32\x22\x12\x04\x18\x00\x22\x00",
-            command(1, 1)
-        )
-    );
-    // one of unknown type, and behind it a layer of version 1
-    assert!(rt;
-        is_first_fault(
-            alloc,
-            b"\x1a\x0b\x78\x02\x0a\x01\x61\x12\x04\x18\x00\x22\x00\x1a\x05\x78\x01\x0a\x01\x62",
-            Some(Fault::Version { layer: 1 })
-        )
-    );
-}
-
 // One rule serves the features of all layers, and keeps what it noted: two layers, the first with one point and
 // the second with two.
 #[test]
@@ -219,55 +101,4 @@ fn one_rule_for_all_features(rt: HostRuntime) {
     let mut rule = TypesAreKnown { asked: 0 };
     assert!(rt; first_fault(rt.alloc(), bytes, &mut rule) == Some(None));
     assert!(rt; rule.asked == 3);
-}
-
-// A tag names a key that its layer doesn't have, in front of a feature of unknown type and behind it; the last index is
-// above the layer's bytes.
-#[test]
-fn keys_that_are_missing(rt: HostRuntime) {
-    let alloc = rt.alloc();
-    assert!(rt;
-        is_first_fault(
-            alloc,
-            b"\x1a\x18\x78\x02\x0a\x01\x61\x12\x04\x18\x00\x22\x00\x12\x0b\x12\x02\x01\x00\x18\x01\x22\x03\x09\x32\x22",
-            command(0, 0)
-        )
-    );
-    assert!(rt;
-        is_first_fault(
-            alloc,
-            b"\x1a\x18\x78\x02\x0a\x01\x61\x12\x0b\x12\x02\x01\x00\x18\x01\x22\x03\x09\x32\x22\x12\x04\x18\x00\x22\x00",
-            tag(TagCode::NoKey, 0, 0, 0)
-        )
-    );
-    assert!(rt;
-        is_first_fault(
-            alloc,
-            b"\x1a\x18\x78\x02\x0a\x01\x61\x12\x0b\x12\x02\x7f\x00\x18\x01\x22\x03\x09\x32\x22\x12\x04\x18\x00\x22\x00",
-            tag(TagCode::NoKey, 0, 0, 0)
-        )
-    );
-}
-
-// A feature of the first layer has a fault, and the third layer another version or the first one's name.
-#[test]
-fn faults_of_a_later_layer(rt: HostRuntime) {
-    let alloc = rt.alloc();
-    assert!(rt;
-        is_first_fault(
-            alloc,
-            b"\x1a\x0b\x78\x02\x0a\x01\x61\x12\x04\x18\x00\x22\x00\x1a\x05\x78\x02\x0a\x01\x62\x1a\x05\x78\x01\x0a\x01\x63",
-            Some(Fault::Version { layer: 2 })
-        )
-    );
-    assert!(rt;
-        is_first_fault(
-            alloc,
-            b"\x1a\x0b\x78\x02\x0a\x01\x61\x12\x04\x18\x00\x22\x00\x1a\x05\x78\x02\x0a\x01\x62\x1a\x05\x78\x02\x0a\x01\x61",
-            Some(Fault::Name {
-                first: 0,
-                second: 2,
-            })
-        )
-    );
 }

@@ -1,21 +1,17 @@
-use Rattle.std.proofs.Common.{Option, ◌+◌, refl, sym, subst, arith}
+use Rattle.std.proofs.Common.{refl, arith}
 use Rattle.std.proofs.lemmas.Option.{IfSome_then}
 use Rattle.mvt_wire.specs.Field.{content_of, entry_of}
 use Rattle.mvt_wire.specs.Tile.{IsLayer, TileRecord, IsTile, FitsRule}
 use Rattle.mvt_wire.specs.declared.schema.Message.TheVariants as messages
-use Rattle.mvt_fault.specs.declared.fault.Fault.{Fault}
-use Rattle.mvt_wire.specs.Scope.{stretch}
 use Rattle.mvt_tile.specs.PassedLayers.{EndsLayers}
-use Rattle.mvt_tile.specs.declared.rules.summary.LayerSummary.{LayerSummary}
 use Rattle.mvt_tile.proofs.CleanWalk.{CleanWalk-nothing, CleanWalk-other, CleanWalk-more, CleanWalk-over}
 use Rattle.mvt_tile.proofs.FeatureFaults.{good_tile}
-use Rattle.mvt_wire.proofs.NothingFound.{IfNone_then, IfNone-held, IfNone-any, IfSome-any}
+use Rattle.mvt_wire.proofs.NothingFound.{IfNone_then, IfNone-any, IfSome-any}
 use Rattle.mvt_tile.proofs.ReadingRules.{fits_at, own_type}
 use Rattle.mvt_tile.proofs.ReadingWalk.{IsWalking-defectless, All-given}
 use Rattle.mvt_tile.proofs.Stretches.{Embeds-given, LiesIn-given}
-use Rattle.mvt_tile.proofs.TileScan.{AreScanned, Summarizes, AreScanned-other, AreScanned-found, AreScanned-more, IsNextLayer-given, EndsLayers-over, not_all_passed}
+use Rattle.mvt_tile.proofs.TileScan.{AreScanned-other, AreScanned-next, IsNextLayer-given, EndsLayers-over, not_all_passed}
 use Rattle.mvt_tile.proofs.rules.walk_layers.Goals as goal
-use Rattle.mvt_tile.proofs.rules.walk_layers.Goals.{then-is_some, else-is_some+in_ok-summary}
 
 pub walk-init : goal.walk-init
 walk-init over c = record {
@@ -39,20 +35,11 @@ stretch_of-from-requires-clause-below over c = λ span there.
     let inside = LiesIn-given c.args.bytes.now _ c.walk.invariant.layers.walking c.in-Some.ensures.field span there in
     omega (arith, inside.1)
 
-pub summarize-summary-requires-clause-within : goal.summarize-summary-requires-clause-within
-summarize-summary-requires-clause-within over c = (LiesIn-given c.args.bytes.now _ c.walk.invariant.layers.walking c.in-Some.ensures.field _ c.stretch_of-from.ensures).1
+pub pass_layer-requires-clause-within : goal.pass_layer-requires-clause-within
+pass_layer-requires-clause-within over c = (LiesIn-given c.args.bytes.now _ c.walk.invariant.layers.walking c.in-Some.ensures.field _ c.stretch_of-from.ensures).1
 
-pub summarize-summary-requires-clause-stands : goal.summarize-summary-requires-clause-stands
-summarize-summary-requires-clause-stands over c =
-    let there = c.requires.tile.1 in
-    Embeds-given there.entries c.walk.invariant.layers.walking there.whole c.in-Some.ensures.field 3 (IsLayer c.args.bytes.now) c.requires.tile.0.layers there.layers
-    _ c.if-field-eq-LAYERS.true c.stretch_of-from.ensures
-
-pub look_at_layer-requires-clause-within : goal.look_at_layer-requires-clause-within
-look_at_layer-requires-clause-within over c = (LiesIn-given c.args.bytes.now _ c.walk.invariant.layers.walking c.in-Some.ensures.field _ c.stretch_of-from.ensures).1
-
-pub look_at_layer-requires-clause-stands : goal.look_at_layer-requires-clause-stands
-look_at_layer-requires-clause-stands over c =
+pub pass_layer-requires-clause-stands : goal.pass_layer-requires-clause-stands
+pass_layer-requires-clause-stands over c =
     let there = c.requires.tile.1 in
     Embeds-given there.entries c.walk.invariant.layers.walking there.whole c.in-Some.ensures.field 3 (IsLayer c.args.bytes.now) c.requires.tile.0.layers there.layers
     _ c.if-field-eq-LAYERS.true c.stretch_of-from.ensures
@@ -60,41 +47,28 @@ look_at_layer-requires-clause-stands over c =
 pub returns-then-not-branch : goal.returns-then-not-branch
 returns-then-not-branch over c =
     let so_far = c.walk.invariant in
-    let sums = λ (summary : LayerSummary). Summarizes c.args.bytes.now (stretch c.stretch_of-from.result.0 c.stretch_of-from.result.1) summary in
     let ends : (tile : TileRecord) → IsTile c.args.bytes.now tile → EndsLayers c.note.new.self tile = λ tile is.
     c.in_ok-note.ensures.ends c.if-not-branch.true tile (so_far.passes tile is)
-    (IsNextLayer-given so_far.layers so_far.named is c.in-Some.ensures.field c.if-field-eq-LAYERS.true _ c.stretch_of-from.ensures (elim c.if-is_some.branch [
-      | then-is_some w ↦ subst sums (sym w.summary-is) w.summarize-summary.ensures
-      | else-is_some+in_ok-summary w ↦ subst sums (sym w.summary-is) w.in_ok-summary.ensures.summary
-    ])) in
+    (IsNextLayer-given so_far.layers so_far.named is c.in-Some.ensures.field c.if-field-eq-LAYERS.true _ c.stretch_of-from.ensures c.in_ok-summary.ensures.summary) in
     let other = c.in_ok-note.ensures.other c.if-not-branch.true in
     record {
       ends = ends;
-      none = IfNone-any c.if-is_some.found (λ tile is all. absurd (not_all_passed c.note.new.self tile other (ends tile is) all));
-      least = IfSome-any c.if-is_some.found (λ fault tile is all. absurd (not_all_passed c.note.new.self tile other (ends tile is) all));
+      none = IfNone-any c.in_ok-summary.first (λ tile is all. absurd (not_all_passed c.note.new.self tile other (ends tile is) all));
+      least = IfSome-any c.in_ok-summary.first (λ fault tile is all. absurd (not_all_passed c.note.new.self tile other (ends tile is) all));
     }
 
 pub walk-preserved-then-field-eq-LAYERS : goal.walk-preserved-then-field-eq-LAYERS
 walk-preserved-then-field-eq-LAYERS over c =
     let so_far = c.walk.invariant in
     let given = c.in-Some.ensures.field in
-    let sums = λ (summary : LayerSummary). Summarizes c.args.bytes.now (stretch c.stretch_of-from.result.0 c.stretch_of-from.result.1) summary in
-    let now = λ (found : Option Fault). AreScanned over.R.FeatureRule.IsBroken over.R.FeatureRule.IsKept c.args.bytes.now found c.next_whole.new.fields (c.walk.layer_index + 1) in
+    let told = c.in_ok-summary.ensures in
     record {
       layers = CleanWalk-more so_far.layers given c.if-field-eq-LAYERS.true _ c.stretch_of-from.ensures tt;
       named = omega (arith, so_far.named, c.in_ok-note.ensures.count c.if-not-branch.false);
       passes = λ tile is.
           c.in_ok-note.ensures.passes c.if-not-branch.false tile (so_far.passes tile is)
-          (IsNextLayer-given so_far.layers so_far.named is given c.if-field-eq-LAYERS.true _ c.stretch_of-from.ensures (elim c.if-is_some.branch [
-            | then-is_some w ↦ subst sums (sym w.summary-is) w.summarize-summary.ensures
-            | else-is_some+in_ok-summary w ↦ subst sums (sym w.summary-is) w.in_ok-summary.ensures.summary
-          ]));
-      features = elim c.if-is_some.branch [
-        | then-is_some w ↦ subst now (sym w.found-is) (AreScanned-found so_far.features (sym w.if-is_some.ensures))
-        | else-is_some+in_ok-summary w ↦ subst now (sym w.found-is)
-            (AreScanned-more (IfNone-held c.walk.found (sym w.if-is_some.ensures) so_far.features.none) given c.if-field-eq-LAYERS.true _ c.stretch_of-from.ensures
-            c.requires.behind_tags w.in_ok-summary.ensures.none w.in_ok-summary.ensures.least)
-      ];
+          (IsNextLayer-given so_far.layers so_far.named is given c.if-field-eq-LAYERS.true _ c.stretch_of-from.ensures told.summary);
+      features = AreScanned-next c.walk.found _ so_far.features given c.if-field-eq-LAYERS.true _ c.stretch_of-from.ensures c.requires.behind_tags told.kept told.none told.least;
     }
 
 pub walk-preserved : goal.walk-preserved

@@ -4,78 +4,32 @@ use crate::{check_tags, read_tile};
 use mvt_fault::{Fault, TagCode};
 use std::alloc::Global;
 
-/// Whether the bytes are a tile, and this feature of its first layer has this fault of tags.
-fn is_fault_in(
-    alloc: Global,
-    bytes: &[u8],
-    feature: usize,
-    fault: Option<(TagCode, usize)>,
-) -> bool {
+/// Whether the bytes are a tile, and this feature of its first layer has this fault of tags, where the layer counts as
+/// number 4.
+fn is_fault_in(alloc: Global, bytes: &[u8], feature: usize, fault: Option<Fault>) -> bool {
     let Ok(tile) = read_tile(alloc, bytes) else {
         return false;
     };
     let Some(layer) = tile.layers.first() else {
         return false;
     };
-    feature < layer.features.len()
-        && check_tags(alloc, layer, 4, feature) == Ok(told(fault, 4, feature))
+    feature < layer.features.len() && check_tags(alloc, layer, 4, feature) == Ok(fault)
 }
 
-/// Whether the bytes are a tile, and the first feature of its first layer has this fault of tags.
-fn is_fault(alloc: Global, bytes: &[u8], fault: Option<(TagCode, usize)>) -> bool {
-    is_fault_in(alloc, bytes, 0, fault)
-}
-
-fn told(fault: Option<(TagCode, usize)>, layer: usize, feature: usize) -> Option<Fault> {
-    let (code, index) = fault?;
-    Some(Fault::Tag {
-        code,
-        layer,
-        feature,
-        index,
-    })
-}
-
-// A layer of one key and two values. Its feature has a key twice.
-#[test]
-fn key_twice(rt: HostRuntime) {
-    let bytes =
-        b"\x1a\x1f\x78\x02\x0a\x01\x61\x12\x0d\x12\x04\x00\x00\x00\x01\x18\x01\x22\x03\x09\x32\x22\x1a\x01\x6b\x22\x02\x38\x01\x22\x02\x28\x05";
-    assert!(rt; is_fault(rt.alloc(), bytes, Some((TagCode::Repeated, 2))));
-}
-
-// The same layer, with a pair that is right, a key out of range, and a value out of range.
-#[test]
-fn one_pair(rt: HostRuntime) {
-    let bytes =
-        b"\x1a\x1d\x78\x02\x0a\x01\x61\x12\x0b\x12\x02\x00\x00\x18\x01\x22\x03\x09\x32\x22\x1a\x01\x6b\x22\x02\x38\x01\x22\x02\x28\x05";
-    assert!(rt; is_fault(rt.alloc(), bytes, None));
-    let bytes =
-        b"\x1a\x1d\x78\x02\x0a\x01\x61\x12\x0b\x12\x02\x01\x00\x18\x01\x22\x03\x09\x32\x22\x1a\x01\x6b\x22\x02\x38\x01\x22\x02\x28\x05";
-    assert!(rt; is_fault(rt.alloc(), bytes, Some((TagCode::NoKey, 0))));
-    let bytes =
-        b"\x1a\x1d\x78\x02\x0a\x01\x61\x12\x0b\x12\x02\x00\x02\x18\x01\x22\x03\x09\x32\x22\x1a\x01\x6b\x22\x02\x38\x01\x22\x02\x28\x05";
-    assert!(rt; is_fault(rt.alloc(), bytes, Some((TagCode::NoValue, 1))));
-}
-
-// The same layer, with a pair that is right in its first feature, and a value out of range in its second.
+// A layer of one key and two values, with a pair that is right in its first feature, and a value out of range in its
+// second.
 #[test]
 fn tags_of_the_second_feature(rt: HostRuntime) {
     let bytes =
         b"\x1a\x2a\x78\x02\x0a\x01\x62\x12\x0b\x12\x02\x00\x00\x18\x01\x22\x03\x09\x32\x22\x12\x0b\x12\x02\x00\x02\x18\x01\x22\x03\x09\x32\x22\x1a\x01\x6b\x22\x02\x38\x01\x22\x02\x28\x05";
+    let fault = Fault::Tag {
+        code: TagCode::NoValue,
+        layer: 4,
+        feature: 1,
+        index: 1,
+    };
     assert!(rt; is_fault_in(rt.alloc(), bytes, 0, None));
-    assert!(rt; is_fault_in(rt.alloc(), bytes, 1, Some((TagCode::NoValue, 1))));
-}
-
-// The same layer, with half a pair, and with no tags.
-#[test]
-fn no_pair(rt: HostRuntime) {
-    let bytes =
-        b"\x1a\x1c\x78\x02\x0a\x01\x61\x12\x0a\x12\x01\x00\x18\x01\x22\x03\x09\x32\x22\x1a\x01\x6b\x22\x02\x38\x01\x22\x02\x28\x05";
-    assert!(rt; is_fault(rt.alloc(), bytes, Some((TagCode::OddLength, 1))));
-    let bytes =
-        b"\x1a\x19\x78\x02\x0a\x01\x61\x12\x07\x18\x01\x22\x03\x09\x32\x22\x1a\x01\x6b\x22\x02\x38\x01\x22\x02\x28\x05";
-    assert!(rt; is_fault(rt.alloc(), bytes, None));
+    assert!(rt; is_fault_in(rt.alloc(), bytes, 1, Some(fault)));
 }
 
 /// Whether tags have this fault, in a layer of so many keys and values.
@@ -98,27 +52,22 @@ fn lists_of_tags(rt: HostRuntime) {
     assert!(rt; is_fault_of(marks, &[0, 0, 1, 0, 1, 0], 1, 2, Some((TagCode::NoKey, 2))));
     // a value out of range before a key that comes again
     assert!(rt; is_fault_of(marks, &[0, 2, 0, 0], 1, 2, Some((TagCode::NoValue, 1))));
+    // a key that comes again far away
+    assert!(rt;
+        is_fault_of(
+            marks,
+            &[999, 0, 0, 0, 5, 0, 999, 0],
+            1000,
+            1,
+            Some((TagCode::Repeated, 6))
+        )
+    );
 }
 
-// Features one after another, which share keys: what one has is not there for the next, even behind a fault.
-#[test]
-fn one_feature_after_another(rt: HostRuntime) {
-    let marks = &mut KeyMarks::new(rt.alloc());
-    assert!(rt; is_fault_of(marks, &[2, 0, 1, 0, 0, 0], 1000, 1, None));
-    // a key that comes again far away, and again behind lesser ones
-    let repeated = Some((TagCode::Repeated, 6));
-    assert!(rt; is_fault_of(marks, &[999, 0, 0, 0, 5, 0, 999, 0], 1000, 1, repeated));
-    assert!(rt; is_fault_of(marks, &[999, 0, 0, 0, 5, 0], 1000, 1, None));
-    let no_key = Some((TagCode::NoKey, 2));
-    assert!(rt; is_fault_of(marks, &[5, 0, 1000, 0, 0, 0], 1000, 1, no_key));
-    assert!(rt; is_fault_of(marks, &[7, 0, 5, 0, 0, 0], 1000, 1, None));
-}
-
+// The contract has them large enough, and not that they are no larger.
 #[test]
 fn needs_of_tags(rt: HostRuntime) {
     let mut needs = TagNeeds::none();
-    needs.add(&[]);
-    assert!(rt; (needs.keys, needs.values) == (0, 0));
     needs.add(&[0, 3, 4, 1]);
     assert!(rt; (needs.keys, needs.values) == (5, 4));
     needs.add(&[2, u32::MAX]);
