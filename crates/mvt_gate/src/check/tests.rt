@@ -163,27 +163,29 @@ fn is_line(bytes: &[u8], line: &str) -> bool {
     bytes.strip_suffix(b"\n") == Some(line.as_bytes())
 }
 
-/// Whether the line is what `judge` says of the bytes, and what the engine writes and answers.
-fn is_answer(rt: &HostRuntime, text: &str, line: &str) -> Result<bool, Fail> {
-    let bytes = bytes_of(rt, text)?;
-    let verdict = judge(rt.alloc(), &bytes)?;
-    let said = judge_and_confirm(rt.alloc(), &bytes, &OTHER_FAULT)?;
+/// Whether the line is what `judge` says of the bytes.
+fn is_judged(rt: &HostRuntime, bytes: &[u8], line: &str) -> Result<bool, Fail> {
+    let verdict = judge(rt.alloc(), bytes)?;
+    let said = judge_and_confirm(rt.alloc(), bytes, &OTHER_FAULT)?;
     let is_agreed = said.verdict == verdict
         && said.is_confirmed == (line != OK)
-        && !said.is_other_confirmed
-        && is_read_back(rt, verdict, line)?;
+        && !said.is_other_confirmed;
+    Ok(is_agreed && is_read_back(rt, verdict, line)? && line_of(rt, verdict)?.as_str() == line)
+}
 
-    let mut reader = Tally::new(bytes.as_slice());
+/// Whether the line is what the engine writes and answers on the bytes.
+fn is_written(rt: &HostRuntime, bytes: &[u8], line: &str) -> Result<bool, Fail> {
+    let mut reader = Tally::new(bytes);
     let mut sink = Device::new(rt.alloc(), &[], Manner::CALM);
     let mut writer = Tally::new(&mut sink);
     let outcome = check_stream(rt.alloc(), &mut reader, &mut writer)?;
+    Ok((outcome == Outcome::Yes) == (line == OK) && is_line(&sink.taken, line))
+}
 
-    Ok(
-        is_agreed
-            && line_of(rt, verdict)?.as_str() == line
-            && (outcome == Outcome::Yes) == (line == OK)
-            && is_line(&sink.taken, line),
-    )
+/// Whether the line is what `judge` says of the bytes that a text spells, and what the engine writes and answers.
+fn is_answer(rt: &HostRuntime, text: &str, line: &str) -> Result<bool, Fail> {
+    let bytes = bytes_of(rt, text)?;
+    Ok(is_judged(rt, &bytes, line)? && is_written(rt, &bytes, line)?)
 }
 
 #[test]

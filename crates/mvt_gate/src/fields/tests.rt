@@ -1,6 +1,6 @@
 use super::fields_stream;
 use crate::device::{Device, Manner};
-use crate::engine::{EngineFault, INPUT_LIMIT, Outcome};
+use crate::engine::{EngineFault, Outcome};
 use crate::tally::Tally;
 
 /// A tile of one layer with one point.
@@ -97,21 +97,17 @@ fn tells_what_a_device_failed_at(rt: HostRuntime) {
     assert!(rt; ends_so(&rt, CALM, fails(2), write, LINE.len()));
 }
 
-#[test]
-fn counts_what_the_devices_did(rt: HostRuntime) {
-    let endless = Manner {
-        is_endless: true,
-        ..Manner::CALM
-    };
-    let mut source = Device::new(rt.alloc(), &[], endless);
-    let mut sink = Device::new(rt.alloc(), &[], Manner::CALM);
-    let mut reader = Tally::new(&mut source);
-    let mut writer = Tally::new(&mut sink);
-    let got = fields_stream(rt.alloc(), &mut reader, &mut writer);
-    assert!(rt; got == Err(EngineFault::TooLarge));
-    assert!(rt; Tally::bytes(&reader) > INPUT_LIMIT as u64);
-    assert!(rt; reader.failed() == 0 && reader.interrupted() == 0);
-    assert!(rt; Tally::bytes(&writer) == 0);
+/// Whether a run ends so: its result, and what the tallies of the reader and of the writer count.
+fn counts_so(
+    rt: &HostRuntime,
+    reader: &mut Tally<&mut Device<'_>>,
+    writer: &mut Tally<&mut Device<'_>>,
+    want: Result<Outcome, EngineFault>,
+    of_reader: (u64, u64, u64),
+    of_writer: (u64, u64, u64),
+) -> bool {
+    let got = fields_stream(rt.alloc(), reader, writer);
+    got == want && counts(reader) == of_reader && counts(writer) == of_writer
 }
 
 /// An engine sets its tallies to zero first: what a run before it counted changes nothing.
@@ -127,16 +123,22 @@ fn counts_each_run_alone(rt: HostRuntime) {
     let mut reader = Tally::new(&mut source);
     let mut writer = Tally::new(&mut sink);
     // what the reader moved, failed at and was interrupted at, and then the writer
-    let got = fields_stream(rt.alloc(), &mut reader, &mut writer);
-    assert!(rt; got == Err(EngineFault::Read));
-    assert!(rt; counts(&reader) == (0, 1, 600) && counts(&writer) == (0, 0, 0));
-    let got = fields_stream(rt.alloc(), &mut reader, &mut writer);
-    assert!(rt; got == Err(EngineFault::Write));
-    assert!(rt; counts(&reader) == (16, 0, 0) && counts(&writer) == (0, 1, 600));
+    let read = Err(EngineFault::Read);
+    assert!(rt; counts_so(&rt, &mut reader, &mut writer, read, (0, 1, 600), (0, 0, 0)));
+    let write = Err(EngineFault::Write);
+    assert!(rt;
+        counts_so(
+            &rt,
+            &mut reader,
+            &mut writer,
+            write,
+            (16, 0, 0),
+            (0, 1, 600)
+        )
+    );
     // the reader has nothing left to give
-    let got = fields_stream(rt.alloc(), &mut reader, &mut writer);
-    assert!(rt; got == Ok(Outcome::Yes));
-    assert!(rt; counts(&reader) == (0, 0, 0) && counts(&writer) == (14, 0, 0));
+    let yes = Ok(Outcome::Yes);
+    assert!(rt; counts_so(&rt, &mut reader, &mut writer, yes, (0, 0, 0), (14, 0, 0)));
     assert!(rt; sink.taken.as_slice() == b"{\"fields\":[]}\n".as_slice());
 }
 
