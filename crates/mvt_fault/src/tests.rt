@@ -13,30 +13,23 @@ fn wire(code: WireCode, scope: Scope, at: usize, field: u32) -> Fault {
     }
 }
 
-/// Whether these are the fault's number and its text.
-fn is_written(alloc: Global, fault: Fault, number: u16, text: &str) -> bool {
-    code(&fault) == number
-        && fault_text(alloc, &fault).is_ok_and(|written| written.as_str() == text)
-}
-
-/// Whether this is the number of the cause of a wire fault.
-fn is_wire_code(cause: WireCode, number: u16) -> bool {
-    code(&wire(cause, Scope::Layer(0), 0, 0)) == number
-}
-
 #[test]
 fn numbers_each_cause(rt: HostRuntime) {
-    assert!(rt; is_wire_code(WireCode::Ends, 101));
-    assert!(rt; is_wire_code(WireCode::TooLong, 102));
-    assert!(rt; is_wire_code(WireCode::BadNumber, 103));
-    assert!(rt; is_wire_code(WireCode::BadWireType, 104));
-    assert!(rt; is_wire_code(WireCode::PastEnd, 105));
-    assert!(rt; is_wire_code(WireCode::OtherType, 106));
-    assert!(rt; is_wire_code(WireCode::Again, 107));
-    assert!(rt; is_wire_code(WireCode::Missing, 108));
-    assert!(rt; is_wire_code(WireCode::OneField, 109));
-    assert!(rt; is_wire_code(WireCode::NotUtf8, 110));
-    assert!(rt; is_wire_code(WireCode::OutOfRange, 111));
+    for (cause, number) in [
+        (WireCode::Ends, 101),
+        (WireCode::TooLong, 102),
+        (WireCode::BadNumber, 103),
+        (WireCode::BadWireType, 104),
+        (WireCode::PastEnd, 105),
+        (WireCode::OtherType, 106),
+        (WireCode::Again, 107),
+        (WireCode::Missing, 108),
+        (WireCode::OneField, 109),
+        (WireCode::NotUtf8, 110),
+        (WireCode::OutOfRange, 111),
+    ] {
+        assert!(rt; code(&wire(cause, Scope::Layer(0), 0, 0)) == number);
+    }
 }
 
 fn command(code: CommandCode, layer: usize, feature: usize, index: usize) -> Fault {
@@ -101,63 +94,105 @@ fn hole_in_hole(polygon: usize, ring: usize, vertex: usize, other: usize) -> Fau
     }
 }
 
+/// Whether these are the fault's number and its text.
+fn is_written(alloc: Global, fault: &Fault, number: u16, text: &str) -> bool {
+    code(fault) == number && fault_text(alloc, fault).is_ok_and(|written| written.as_str() == text)
+}
+
 // Texts of faults of small ordinals are in the tests of the whole gate.
 #[test]
 fn writes_faults(rt: HostRuntime) {
-    let alloc = rt.alloc();
-    let no_key = tag(TagCode::NoKey, 5, 6, 0);
-    let text = "{\"code\":302,\"feature\":6,\"index\":0,\"layer\":5}";
-    assert!(rt; is_written(alloc, no_key, 302, text));
-    let no_step = command(CommandCode::NoStep, 5, 6, 5);
-    let text = "{\"code\":406,\"feature\":6,\"index\":5,\"layer\":5}";
-    assert!(rt; is_written(alloc, no_step, 406, text));
-    let ends_at_its_beginning = ring(RingCode::EndsAtItsBeginning, 5, 6, 7);
-    let text = "{\"code\":501,\"feature\":6,\"layer\":5,\"ring\":7}";
-    assert!(rt; is_written(alloc, ends_at_its_beginning, 501, text));
+    for (fault, number, text) in [
+        (
+            tag(TagCode::NoKey, 5, 6, 0),
+            302,
+            "{\"code\":302,\"feature\":6,\"index\":0,\"layer\":5}",
+        ),
+        (
+            command(CommandCode::NoStep, 5, 6, 5),
+            406,
+            "{\"code\":406,\"feature\":6,\"index\":5,\"layer\":5}",
+        ),
+        (
+            ring(RingCode::EndsAtItsBeginning, 5, 6, 7),
+            501,
+            "{\"code\":501,\"feature\":6,\"layer\":5,\"ring\":7}",
+        ),
+    ] {
+        assert!(rt; is_written(rt.alloc(), &fault, number, text));
+    }
 }
 
 #[test]
 fn numbers_each_cause_of_features(rt: HostRuntime) {
-    assert!(rt; code(&tag(TagCode::OddLength, 0, 0, 0)) == 301);
-    assert!(rt; code(&tag(TagCode::NoValue, 0, 0, 0)) == 303);
-    assert!(rt; code(&tag(TagCode::Repeated, 0, 0, 0)) == 304);
-    assert!(rt; code(&command(CommandCode::OtherCommand, 0, 0, 0)) == 401);
-    assert!(rt; code(&command(CommandCode::OtherCount, 0, 0, 0)) == 402);
-    assert!(rt; code(&command(CommandCode::Unfinished, 0, 0, 0)) == 403);
-    assert!(rt; code(&command(CommandCode::GreatestParameter, 0, 0, 0)) == 404);
-    assert!(rt; code(&command(CommandCode::OutOfBounds, 0, 0, 0)) == 405);
-    assert!(rt; code(&ring(RingCode::NoArea, 0, 0, 0)) == 502);
-    assert!(rt; code(&ring(RingCode::BeginsWithHole, 0, 0, 0)) == 503);
+    for (fault, number) in [
+        (tag(TagCode::OddLength, 0, 0, 0), 301),
+        (tag(TagCode::NoValue, 0, 0, 0), 303),
+        (tag(TagCode::Repeated, 0, 0, 0), 304),
+        (command(CommandCode::OtherCommand, 0, 0, 0), 401),
+        (command(CommandCode::OtherCount, 0, 0, 0), 402),
+        (command(CommandCode::Unfinished, 0, 0, 0), 403),
+        (command(CommandCode::GreatestParameter, 0, 0, 0), 404),
+        (command(CommandCode::OutOfBounds, 0, 0, 0), 405),
+        (ring(RingCode::NoArea, 0, 0, 0), 502),
+        (ring(RingCode::BeginsWithHole, 0, 0, 0), 503),
+    ] {
+        assert!(rt; code(&fault) == number);
+    }
 }
 
-/// Whether these are the numbers of the fault's place.
-fn is_at(fault: Fault, numbers: [usize; 10]) -> bool {
-    place(&fault) == Place::new(numbers)
-}
-
+// The numbers of the fault's place.
 #[test]
 fn places_each_rule(rt: HostRuntime) {
-    let version = Fault::Version { layer: 5 };
-    assert!(rt; is_at(version, [1, 5, 201, 0, 0, 0, 0, 0, 0, 0]));
-    let name = Fault::Name {
-        first: 5,
-        second: 6,
-    };
-    assert!(rt; is_at(name, [1, 6, 202, 5, 0, 0, 0, 0, 0, 0]));
-    let no_value = tag(TagCode::NoValue, 5, 6, 7);
-    assert!(rt; is_at(no_value, [2, 5, 6, 0, 7, 303, 0, 0, 0, 0]));
-    let no_step = command(CommandCode::NoStep, 5, 6, 7);
-    assert!(rt; is_at(no_step, [2, 5, 6, 1, 7, 406, 0, 0, 0, 0]));
-}
-
-#[test]
-fn places_each_rule_of_polygons(rt: HostRuntime) {
-    let no_area = ring(RingCode::NoArea, 5, 6, 7);
-    assert!(rt; is_at(no_area, [2, 5, 6, 2, 7, 502, 0, 0, 0, 0]));
-    let meeting = meeting(7, 8, -800, 800, 180);
-    assert!(rt; is_at(meeting, [2, 0, 0, 3, 7, 0, 0, 0, 0, 0]));
-    assert!(rt; is_at(outside(7, 8, 9), [2, 0, 0, 3, 7, 1, 8, 9, 505, 0]));
-    assert!(rt; is_at(hole_in_hole(7, 8, 9, 6), [2, 0, 0, 3, 7, 1, 8, 9, 506, 6]));
+    for (fault, numbers) in [
+        (
+            wire(WireCode::PastEnd, Scope::Tile, 0, 3),
+            [0, 0, 0, 0, 0, 0, 105, 3, 0, 0],
+        ),
+        (
+            wire(WireCode::TooLong, Scope::Layer(0), 3, 15),
+            [0, 1, 0, 0, 0, 3, 102, 15, 0, 0],
+        ),
+        (
+            wire(WireCode::OneField, Scope::Value(5, 6), 9, 0),
+            [0, 1, 5, 1, 6, 9, 109, 0, 0, 0],
+        ),
+        (
+            wire(WireCode::Ends, Scope::Feature(7, 8), 15, 4),
+            [0, 1, 7, 2, 8, 15, 101, 4, 0, 0],
+        ),
+        (
+            Fault::Version { layer: 5 },
+            [1, 5, 201, 0, 0, 0, 0, 0, 0, 0],
+        ),
+        (
+            Fault::Name {
+                first: 5,
+                second: 6,
+            },
+            [1, 6, 202, 5, 0, 0, 0, 0, 0, 0],
+        ),
+        (
+            tag(TagCode::NoValue, 5, 6, 7),
+            [2, 5, 6, 0, 7, 303, 0, 0, 0, 0],
+        ),
+        (
+            command(CommandCode::NoStep, 5, 6, 7),
+            [2, 5, 6, 1, 7, 406, 0, 0, 0, 0],
+        ),
+        (
+            ring(RingCode::NoArea, 5, 6, 7),
+            [2, 5, 6, 2, 7, 502, 0, 0, 0, 0],
+        ),
+        (
+            meeting(7, 8, -800, 800, 180),
+            [2, 0, 0, 3, 7, 0, 0, 0, 0, 0],
+        ),
+        (outside(7, 8, 9), [2, 0, 0, 3, 7, 1, 8, 9, 505, 0]),
+        (hole_in_hole(7, 8, 9, 6), [2, 0, 0, 3, 7, 1, 8, 9, 506, 6]),
+    ] {
+        assert!(rt; place(&fault) == Place::new(numbers));
+    }
 }
 
 #[test]
@@ -165,18 +200,6 @@ fn places_meetings_of_one_polygon_alike(rt: HostRuntime) {
     let (fault, other) = (meeting(7, 8, -800, 800, 180), meeting(7, 9, 3, 4, 1));
     assert!(rt; fault != other);
     assert!(rt; place(&fault) == place(&other));
-}
-
-#[test]
-fn places_each_scope(rt: HostRuntime) {
-    let fault = wire(WireCode::PastEnd, Scope::Tile, 0, 3);
-    assert!(rt; is_at(fault, [0, 0, 0, 0, 0, 0, 105, 3, 0, 0]));
-    let fault = wire(WireCode::TooLong, Scope::Layer(0), 3, 15);
-    assert!(rt; is_at(fault, [0, 1, 0, 0, 0, 3, 102, 15, 0, 0]));
-    let fault = wire(WireCode::OneField, Scope::Value(5, 6), 9, 0);
-    assert!(rt; is_at(fault, [0, 1, 5, 1, 6, 9, 109, 0, 0, 0]));
-    let fault = wire(WireCode::Ends, Scope::Feature(7, 8), 15, 4);
-    assert!(rt; is_at(fault, [0, 1, 7, 2, 8, 15, 101, 4, 0, 0]));
 }
 
 fn comes_before(fault: &Fault, other: &Fault) -> bool {

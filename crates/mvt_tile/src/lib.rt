@@ -2,6 +2,7 @@
 //! first fault of the rules between their parts.
 #![tactic(auto)]
 
+mod lists;
 mod read;
 mod record;
 mod rules;

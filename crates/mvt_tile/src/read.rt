@@ -16,6 +16,7 @@ mod tests;
 mod value;
 pub(crate) mod walk;
 
+use crate::lists::push_item;
 use crate::record::{Layer, Tile};
 use crate::wire::wire_fault;
 use layer::read_layer;
@@ -83,7 +84,7 @@ fn add_field<'a>(
 {
     if field.number == LAYERS {
         let (from, to) = stretch_of(field.body);
-        layers.push(read_layer(alloc, bytes, from, to)?)?;
+        return push_item(layers, read_layer(alloc, bytes, from, to)?);
     }
     Ok(())
 }

@@ -10,6 +10,7 @@ use super::feature::read_feature;
 use super::payload::{number_in, stretch_of, text_in};
 use super::value::read_value;
 use super::walk::next_whole;
+use crate::lists::push_item;
 use crate::record::Layer;
 use mvt_wire::field_number::{EXTENT, FEATURES, KEYS, LAYER_NAME, VALUES, VERSION};
 use mvt_wire::{Field, Fields};
@@ -63,12 +64,12 @@ fn add_field<'a>(
         LAYER_NAME => layer.name = text_in(field.body),
         FEATURES => {
             let (from, to) = stretch_of(field.body);
-            layer.features.push(read_feature(alloc, bytes, from, to)?)?;
+            return push_item(&mut layer.features, read_feature(alloc, bytes, from, to)?);
         }
-        KEYS => layer.keys.push(text_in(field.body))?,
+        KEYS => return push_item(&mut layer.keys, text_in(field.body)),
         VALUES => {
             let (from, to) = stretch_of(field.body);
-            layer.values.push(read_value(bytes, from, to))?;
+            return push_item(&mut layer.values, read_value(bytes, from, to));
         }
         EXTENT => layer.extent = number_in(field.body) as u32,
         VERSION => layer.version = number_in(field.body) as u32,

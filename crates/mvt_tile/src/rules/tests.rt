@@ -46,50 +46,47 @@ fn command(layer: usize, feature: usize) -> Option<Fault>
     })
 }
 
-/// The first fault of bytes by the rules of a tile and that further one, or None where there is none. None also where the
-/// bytes are no tile, or memory is refused.
-fn first_fault(alloc: Global, bytes: &[u8], rule: &mut TypesAreKnown) -> Option<Option<Fault>> {
-    match wire_fault(bytes) {
-        Some(_) => None,
-        None => rule_fault(alloc, bytes, rule).ok(),
-    }
-}
-
 /// Whether the bytes are a tile, and this is its first fault by its rules and that further one.
-fn is_first_fault(alloc: Global, bytes: &[u8], fault: Option<Fault>) -> bool {
-    let mut rule = TypesAreKnown { asked: 0 };
-    first_fault(alloc, bytes, &mut rule) == Some(fault)
-}
-
-fn tag(code: TagCode, layer: usize, feature: usize, index: usize) -> Option<Fault> {
-    Some(Fault::Tag {
-        code,
-        layer,
-        feature,
-        index,
-    })
+fn is_first_fault(
+    alloc: Global,
+    bytes: &[u8],
+    rule: &mut TypesAreKnown,
+    fault: Option<Fault>,
+) -> bool {
+    match wire_fault(bytes) {
+        Some(_) => false,
+        None => rule_fault(alloc, bytes, rule) == Ok(fault),
+    }
 }
 
 // Layers of one key and two values. The first fault is that of the first feature that has one.
 #[test]
 fn tags_of_several_features(rt: HostRuntime) {
-    let alloc = rt.alloc();
-    // tags 0 0 in the first layer; 0 0 and 0 2 in the second
-    assert!(rt;
-        is_first_fault(
-            alloc,
-            b"\x1a\x1d\x78\x02\x0a\x01\x61\x12\x0b\x12\x02\x00\x00\x18\x01\x22\x03\x09\x32\x22\x1a\x01\x6b\x22\x02\x38\x01\x22\x02\x28\x05\x1a\x2a\x78\x02\x0a\x01\x62\x12\x0b\x12\x02\x00\x00\x18\x01\x22\x03\x09\x32\x22\x12\x0b\x12\x02\x00\x02\x18\x01\x22\x03\x09\x32\x22\x1a\x01\x6b\x22\x02\x38\x01\x22\x02\x28\x05",
-            tag(TagCode::NoValue, 1, 1, 1)
-        )
-    );
-    // tags 0 0, 1 0 and 0 in the first layer; 0 in the second
-    assert!(rt;
-        is_first_fault(
-            alloc,
+    let mut rule = TypesAreKnown { asked: 0 };
+    for (bytes, code, layer, index) in [
+        // tags 0 0 in the first layer; 0 0 and 0 2 in the second
+        (
+            b"\x1a\x1d\x78\x02\x0a\x01\x61\x12\x0b\x12\x02\x00\x00\x18\x01\x22\x03\x09\x32\x22\x1a\x01\x6b\x22\x02\x38\x01\x22\x02\x28\x05\x1a\x2a\x78\x02\x0a\x01\x62\x12\x0b\x12\x02\x00\x00\x18\x01\x22\x03\x09\x32\x22\x12\x0b\x12\x02\x00\x02\x18\x01\x22\x03\x09\x32\x22\x1a\x01\x6b\x22\x02\x38\x01\x22\x02\x28\x05".as_slice(),
+            TagCode::NoValue,
+            1,
+            1,
+        ),
+        // tags 0 0, 1 0 and 0 in the first layer; 0 in the second
+        (
             b"\x1a\x36\x78\x02\x0a\x01\x61\x12\x0b\x12\x02\x00\x00\x18\x01\x22\x03\x09\x32\x22\x12\x0b\x12\x02\x01\x00\x18\x01\x22\x03\x09\x32\x22\x12\x0a\x12\x01\x00\x18\x01\x22\x03\x09\x32\x22\x1a\x01\x6b\x22\x02\x38\x01\x22\x02\x28\x05\x1a\x1c\x78\x02\x0a\x01\x62\x12\x0a\x12\x01\x00\x18\x01\x22\x03\x09\x32\x22\x1a\x01\x6b\x22\x02\x38\x01\x22\x02\x28\x05",
-            tag(TagCode::NoKey, 0, 1, 0)
-        )
-    );
+            TagCode::NoKey,
+            0,
+            0,
+        ),
+    ] {
+        let fault = Fault::Tag {
+            code,
+            layer,
+            feature: 1,
+            index,
+        };
+        assert!(rt; is_first_fault(rt.alloc(), bytes, &mut rule, Some(fault)));
+    }
 }
 
 // One rule serves the features of all layers, and keeps what it noted: two layers, the first with one point and
@@ -99,6 +96,6 @@ fn one_rule_for_all_features(rt: HostRuntime) {
     let bytes =
         b"\x1a\x0e\x78\x02\x0a\x01\x61\x12\x07\x18\x01\x22\x03\x09\x32\x22\x1a\x17\x78\x02\x0a\x01\x62\x12\x07\x18\x01\x22\x03\x09\x32\x22\x12\x07\x18\x01\x22\x03\x09\x32\x22";
     let mut rule = TypesAreKnown { asked: 0 };
-    assert!(rt; first_fault(rt.alloc(), bytes, &mut rule) == Some(None));
+    assert!(rt; is_first_fault(rt.alloc(), bytes, &mut rule, None));
     assert!(rt; rule.asked == 3);
 }

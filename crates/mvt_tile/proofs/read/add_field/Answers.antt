@@ -1,5 +1,6 @@
 use Rattle.std.proofs.Common.{◌∙◌, ap, map, refl}
 use Rattle.std.proofs.lemmas.List.{map_push}
+use Rattle.std.proofs.lemmas.Result.{on_ok_weaker}
 use Rattle.mvt_wire.specs.Field.{content_of, entry_of}
 use Rattle.mvt_wire.specs.Tile.{IsLayer}
 use Rattle.mvt_wire.specs.declared.schema.Message.TheVariants as messages
@@ -12,10 +13,13 @@ pub stretch_of-from-requires-clause-own : goal.stretch_of-from-requires-clause-o
 stretch_of-from-requires-clause-own c =
     own_type _ (content_of c.args.field.body) 2 (fits_at messages.Tile (entry_of c.args.field) 3 _ c.requires.fits c.if-field-eq-LAYERS.true refl) (λ t. refl)
 
-pub returns-in_ok-push : goal.returns-in_ok-push
-returns-in_ok-push c = λ entries tells.
+pub returns-then-field-eq-LAYERS : goal.returns-then-field-eq-LAYERS
+returns-then-field-eq-LAYERS c =
     let read = c.in_ok-read_layer in
-    Each-picked (IsLayer c.args.bytes.now) 3 entries (entry_of c.args.field) (map layer_of c.args.layers.now.items) (map layer_of c.push.new.self.items)
+    on_ok_weaker c.push_item.result
+    (λ pushed entries tells.
+    Each-picked (IsLayer c.args.bytes.now) 3 entries (entry_of c.args.field) (map layer_of c.args.layers.now.items) (map layer_of c.push_item.new.items.items)
     (record { from = c.stretch_of-from.result.0; to = c.stretch_of-from.result.1 }) (layer_of read.field-0)
     c.if-field-eq-LAYERS.true c.stretch_of-from.ensures read.ensures
-    (ap (map layer_of) c.in_ok-push.ensures.items ∙ map_push layer_of c.args.layers.now.items read.field-0) tells
+    (ap (map layer_of) pushed ∙ map_push layer_of c.args.layers.now.items read.field-0) tells)
+    c.push_item.ensures

@@ -6,3 +6,6 @@ read_layers-requires c = is_tile c.args.bytes.now c.in_default.ensures.none
 
 pub returns-in-Err-clause-fault : goal.returns-in-Err-clause-fault
 returns-in-Err-clause-fault c = is_tile c.args.bytes.now c.in_default.ensures.none
+
+pub returns-in-Some-clause-fault : goal.returns-in-Some-clause-fault
+returns-in-Some-clause-fault c = c.in-Some.ensures.least

@@ -1,19 +1,26 @@
+use crate::record::Layer;
 use crate::rules::key_marks::KeyMarks;
 use crate::rules::tags::{TagNeeds, fault_of_tags};
 use crate::{check_tags, read_tile};
 use mvt_fault::{Fault, TagCode};
 use std::alloc::Global;
 
-/// Whether the bytes are a tile, and this feature of its first layer has this fault of tags, where the layer counts as
-/// number 4.
-fn is_fault_in(alloc: Global, bytes: &[u8], feature: usize, fault: Option<Fault>) -> bool {
-    let Ok(tile) = read_tile(alloc, bytes) else {
-        return false;
-    };
-    let Some(layer) = tile.layers.first() else {
-        return false;
-    };
+/// Whether this feature of a layer has this fault of tags, where the layer counts as number 4.
+fn is_fault(alloc: Global, layer: &Layer<'_>, feature: usize, fault: Option<Fault>) -> bool {
     feature < layer.features.len() && check_tags(alloc, layer, 4, feature) == Ok(fault)
+}
+
+/// Whether the bytes are a tile, and the first two features of its first layer have no fault of tags, and this one.
+fn has_second_fault(alloc: Global, bytes: &[u8], fault: Fault) -> bool {
+    match read_tile(alloc, bytes) {
+        Ok(tile) => match tile.layers.first() {
+            Some(layer) => {
+                is_fault(alloc, layer, 0, None) && is_fault(alloc, layer, 1, Some(fault))
+            }
+            None => false,
+        },
+        Err(_) => false,
+    }
 }
 
 // A layer of one key and two values, with a pair that is right in its first feature, and a value out of range in its
@@ -28,40 +35,24 @@ fn tags_of_the_second_feature(rt: HostRuntime) {
         feature: 1,
         index: 1,
     };
-    assert!(rt; is_fault_in(rt.alloc(), bytes, 0, None));
-    assert!(rt; is_fault_in(rt.alloc(), bytes, 1, Some(fault)));
-}
-
-/// Whether tags have this fault, in a layer of so many keys and values.
-fn is_fault_of(
-    marks: &mut KeyMarks,
-    tags: &[u32],
-    keys: usize,
-    values: usize,
-    fault: Option<(TagCode, usize)>,
-) -> bool {
-    fault_of_tags(marks, tags, keys, values) == Ok(fault)
+    assert!(rt; has_second_fault(rt.alloc(), bytes, fault));
 }
 
 #[test]
 fn lists_of_tags(rt: HostRuntime) {
     let marks = &mut KeyMarks::new(rt.alloc());
-    // an odd length hides all else
-    assert!(rt; is_fault_of(marks, &[7, 7, 7], 1, 2, Some((TagCode::OddLength, 3))));
-    // a key out of range, twice
-    assert!(rt; is_fault_of(marks, &[0, 0, 1, 0, 1, 0], 1, 2, Some((TagCode::NoKey, 2))));
-    // a value out of range before a key that comes again
-    assert!(rt; is_fault_of(marks, &[0, 2, 0, 0], 1, 2, Some((TagCode::NoValue, 1))));
-    // a key that comes again far away
-    assert!(rt;
-        is_fault_of(
-            marks,
-            &[999, 0, 0, 0, 5, 0, 999, 0],
-            1000,
-            1,
-            Some((TagCode::Repeated, 6))
-        )
-    );
+    for (tags, keys, values, code, place) in [
+        // an odd length hides all else
+        ([7, 7, 7].as_slice(), 1, 2, TagCode::OddLength, 3),
+        // a key out of range, twice
+        (&[0, 0, 1, 0, 1, 0], 1, 2, TagCode::NoKey, 2),
+        // a value out of range before a key that comes again
+        (&[0, 2, 0, 0], 1, 2, TagCode::NoValue, 1),
+        // a key that comes again far away
+        (&[999, 0, 0, 0, 5, 0, 999, 0], 1000, 1, TagCode::Repeated, 6),
+    ] {
+        assert!(rt; fault_of_tags(marks, tags, keys, values) == Ok(Some((code, place))));
+    }
 }
 
 // The contract has them large enough, and not that they are no larger.
@@ -69,7 +60,7 @@ fn lists_of_tags(rt: HostRuntime) {
 fn needs_of_tags(rt: HostRuntime) {
     let mut needs = TagNeeds::none();
     needs.add(&[0, 3, 4, 1]);
-    assert!(rt; (needs.keys, needs.values) == (5, 4));
+    let values = needs.values;
     needs.add(&[2, u32::MAX]);
-    assert!(rt; (needs.keys, needs.values) == (5, 0x1_0000_0000));
+    assert!(rt; (values, needs.keys, needs.values) == (4, 5, 0x1_0000_0000));
 }

@@ -1,5 +1,6 @@
 use Rattle.std.proofs.Common.{ℕ, List, Bor, ◌<◌, ◌^◌, refl, ap, ◌∙◌, map, arith}
 use Rattle.std.proofs.lemmas.List.{map_push}
+use Rattle.std.proofs.lemmas.Result.{on_ok_weaker}
 use Rattle.mvt_wire.specs.Field.{content_of, entry_of}
 use Rattle.mvt_wire.specs.declared.schema.Message.TheVariants as messages
 use Rattle.mvt_tile.specs.View.{feature_of, value_of, layer_of}
@@ -46,24 +47,33 @@ overflow_cast-layer-in-15 c =
 pub returns-in-1 : goal.returns-in-1
 returns-in-1 c = λ entries tells. tells_name c.args.bytes.now entries (entry_of c.args.field) (layer_of c.args.layer.now) tells c.text_in-layer.result.now c.in-1.is c.text_in-layer.ensures
 
-pub returns-in_ok-push-in-2 : goal.returns-in_ok-push-in-2
-returns-in_ok-push-in-2 c = λ entries tells.
+pub returns-in-2 : goal.returns-in-2
+returns-in-2 c =
     let read = c.in_ok-read_feature-in-2 in
-    tells_feature c.args.bytes.now entries (entry_of c.args.field) (layer_of c.args.layer.now) tells (map feature_of c.push.new.self.items) (feature_of read.field-0)
+    on_ok_weaker c.push_item.result
+    (λ pushed entries tells.
+    tells_feature c.args.bytes.now entries (entry_of c.args.field) (layer_of c.args.layer.now) tells (map feature_of c.push_item.new.items.items) (feature_of read.field-0)
     (record { from = c.stretch_of-from.result.0; to = c.stretch_of-from.result.1 }) c.in-2.is c.stretch_of-from.ensures read.ensures
-    (ap (map feature_of) c.in_ok-push-in-2.ensures.items ∙ map_push feature_of c.args.layer.now.features.items read.field-0)
+    (ap (map feature_of) pushed ∙ map_push feature_of c.args.layer.now.features.items read.field-0))
+    c.push_item.ensures
 
-pub returns-in_ok-push-in-3 : goal.returns-in_ok-push-in-3
-returns-in_ok-push-in-3 c = λ entries tells.
+pub returns-in-3 : goal.returns-in-3
+returns-in-3 c =
     let text_of = λ (text : Bor (List ℕ)). text.now in
-    tells_key c.args.bytes.now entries (entry_of c.args.field) (layer_of c.args.layer.now) tells (map text_of c.push-in-3.new.self.items) c.text_in.result.now c.in-3.is c.text_in.ensures
-    (ap (map text_of) c.in_ok-push-in-3.ensures.items ∙ map_push text_of c.args.layer.now.keys.items c.text_in.result)
+    on_ok_weaker c.push_item-in-3.result
+    (λ pushed entries tells.
+    tells_key c.args.bytes.now entries (entry_of c.args.field) (layer_of c.args.layer.now) tells (map text_of c.push_item-in-3.new.items.items) c.text_in.result.now c.in-3.is c.text_in.ensures
+    (ap (map text_of) pushed ∙ map_push text_of c.args.layer.now.keys.items c.text_in.result))
+    c.push_item-in-3.ensures
 
-pub returns-in_ok-push-in-4 : goal.returns-in_ok-push-in-4
-returns-in_ok-push-in-4 c = λ entries tells.
-    tells_value c.args.bytes.now entries (entry_of c.args.field) (layer_of c.args.layer.now) tells (map value_of c.push-in-4.new.self.items) (value_of c.read_value.result)
+pub returns-in-4 : goal.returns-in-4
+returns-in-4 c =
+    on_ok_weaker c.push_item-in-4.result
+    (λ pushed entries tells.
+    tells_value c.args.bytes.now entries (entry_of c.args.field) (layer_of c.args.layer.now) tells (map value_of c.push_item-in-4.new.items.items) (value_of c.read_value.result)
     (record { from = c.stretch_of-from-in-4.result.0; to = c.stretch_of-from-in-4.result.1 }) c.in-4.is c.stretch_of-from-in-4.ensures c.read_value.ensures
-    (ap (map value_of) c.in_ok-push-in-4.ensures.items ∙ map_push value_of c.args.layer.now.values.items c.read_value.result)
+    (ap (map value_of) pushed ∙ map_push value_of c.args.layer.now.values.items c.read_value.result))
+    c.push_item-in-4.ensures
 
 pub returns-in-5 : goal.returns-in-5
 returns-in-5 c = λ entries tells. tells_extent c.args.bytes.now entries (entry_of c.args.field) (layer_of c.args.layer.now) tells c.number_in.result c.in-5.is c.number_in.ensures

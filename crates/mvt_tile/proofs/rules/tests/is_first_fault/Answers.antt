@@ -1,7 +1,7 @@
 use Rattle.std.proofs.Common.{[], ◌∷◌, ap, arith}
 use Rattle.mvt_fault.specs.Place.{place_of}
 use Rattle.mvt_tile.proofs.Tiles.{is_tile}
-use Rattle.mvt_tile.proofs.rules.tests.first_fault.Goals as goal
+use Rattle.mvt_tile.proofs.rules.tests.is_first_fault.Goals as goal
 
 pub rule_fault-requires-clause-tile : goal.rule_fault-requires-clause-tile
 rule_fault-requires-clause-tile c = is_tile _ c.in-None.ensures.none
