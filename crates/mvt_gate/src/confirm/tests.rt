@@ -17,11 +17,7 @@ const READ: Result<Outcome, EngineFault> = Err(EngineFault::Read);
 
 const WRITE: Result<Outcome, EngineFault> = Err(EngineFault::Write);
 
-const NOT_JSON: Result<Outcome, EngineFault> = Err(EngineFault::NotJson);
-
 const NOT_A_FAULT: Result<Outcome, EngineFault> = Err(EngineFault::NotAFault);
-
-const FAULT_RANGE: Result<Outcome, EngineFault> = Err(EngineFault::FaultRange);
 
 /// The manners of the tile's device, the claim's and the writer's.
 type Manners = [Manner; 3];
@@ -73,37 +69,41 @@ const CUT: &str = r#"{"at":0,"code":101,"field":0,"scope":"tile"}"#;
 
 const SPACED: &str = " {\"scope\":\"tile\", \"field\":0, \"code\":101, \"at\":0}\n";
 
-/// Tiles in hexadecimal, claims, results and lines. The last claims are no faults.
-const ANSWERS: [(&str, &str, Result<Outcome, EngineFault>, &str); 10] = [
-    (CROSSED, CROSSING, YES, TRUE),
-    (TRIANGLE, CROSSING, NO, FALSE),
-    ("80", CUT, YES, TRUE),
-    ("", CUT, NO, FALSE),
-    ("80", SPACED, YES, TRUE),
-    ("80", "", NOT_JSON, ""),
-    ("80", "{", NOT_JSON, ""),
-    ("80", r#"{"ok":true}"#, NOT_A_FAULT, ""),
-    (
-        "80",
-        r#"{"at":0,"code":101,"field":0,"layer":0,"scope":"tile"}"#,
-        NOT_A_FAULT,
-        "",
-    ),
-    (
-        "80",
-        r#"{"at":0,"code":101,"field":4294967296,"scope":"tile"}"#,
-        FAULT_RANGE,
-        "",
-    ),
-];
+/// The same of a tile in hexadecimal.
+fn says_of(
+    rt: &HostRuntime,
+    (tile, claim): (&str, &str),
+    want: Result<Outcome, EngineFault>,
+    line: &str,
+) -> Result<bool, Fail> {
+    let bytes = bytes_of(rt, tile)?;
+    Ok(says(rt, (&bytes, claim), want, line))
+}
 
 #[test]
 fn says_whether_a_fault_is_true(rt: HostRuntime) -> Result<(), Fail> {
-    for (tile, claim, want, line) in ANSWERS {
-        let bytes = bytes_of(&rt, tile)?;
-        assert!(rt; says(&rt, (&bytes, claim), want, line), "for {claim}");
-    }
+    assert!(rt; says_of(&rt, (CROSSED, CROSSING), YES, TRUE)?);
+    assert!(rt; says_of(&rt, (TRIANGLE, CROSSING), NO, FALSE)?);
+    assert!(rt; says(&rt, (b"\x80", CUT), YES, TRUE));
+    assert!(rt; says(&rt, (b"", CUT), NO, FALSE));
+    assert!(rt; says(&rt, (b"\x80", SPACED), YES, TRUE));
     Ok(())
+}
+
+/// Whether a claim on a tile of one byte is refused so, with nothing written.
+fn refuses(rt: &HostRuntime, claim: &str, want: EngineFault) -> bool {
+    says(rt, (b"\x80", claim), Err(want), "")
+}
+
+#[test]
+fn refuses_what_is_no_fault(rt: HostRuntime) {
+    assert!(rt; refuses(&rt, "", EngineFault::NotJson));
+    assert!(rt; refuses(&rt, "{", EngineFault::NotJson));
+    assert!(rt; refuses(&rt, r#"{"ok":true}"#, EngineFault::NotAFault));
+    let more = r#"{"at":0,"code":101,"field":0,"layer":0,"scope":"tile"}"#;
+    assert!(rt; refuses(&rt, more, EngineFault::NotAFault));
+    let large = r#"{"at":0,"code":101,"field":4294967296,"scope":"tile"}"#;
+    assert!(rt; refuses(&rt, large, EngineFault::FaultRange));
 }
 
 /// Whether a run on a tile of one byte ends so: its result, what goes out, and what comes in.
