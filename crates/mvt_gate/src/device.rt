@@ -1,5 +1,4 @@
-//! A device for tests: a reader and a writer over memory, which can be set to fail. And bytes for it.
-use std::alloc::Global;
+//! Devices for tests: a reader and a writer over memory, which can be set to fail. And bytes for them.
 use std::io;
 use std::io::{ErrorKind, Read, Write};
 use std::test::Fail;
@@ -29,43 +28,53 @@ pub struct Manner {
     pub is_endless: bool,
 }
 
-impl Manner {
-    /// Every call moves all that it can.
-    pub const CALM: Manner = Manner {
-        step: usize::MAX,
-        interrupted_from: 1,
-        interruptions: 0,
-        fails_at: 0,
-        failure: ErrorKind::BrokenPipe,
-        is_endless: false,
-    };
+/// Every call moves all that it can.
+pub const CALM: Manner = Manner {
+    step: usize::MAX,
+    interrupted_from: 1,
+    interruptions: 0,
+    fails_at: 0,
+    failure: ErrorKind::BrokenPipe,
+    is_endless: false,
+};
+
+/// A device that moves three bytes a call, and fails at a call; at 0 it does not fail.
+pub fn fails(at: u64) -> Manner {
+    Manner {
+        step: 3,
+        fails_at: at,
+        ..CALM
+    }
 }
 
+/// A device that is interrupted from a call on, so many times.
+pub fn interrupted((from, times): (u64, u64)) -> Manner {
+    Manner {
+        interrupted_from: from,
+        interruptions: times,
+        ..CALM
+    }
+}
+
+/// The calls of a device.
 #[derive(Drop)]
-pub struct Device<'a> {
+struct Calls {
     manner: Manner,
-    calls: u64,
-    given: &'a [u8],
-    pub taken: Vec<u8>,
+    begun: u64,
 }
 
-impl<'a> Device<'a> {
-    pub fn new(alloc: Global, given: &'a [u8], manner: Manner) -> Self {
-        Device {
-            manner,
-            calls: 0,
-            given,
-            taken: Vec::new(alloc),
-        }
+impl Calls {
+    fn new(manner: Manner) -> Self {
+        Calls { manner, begun: 0 }
     }
 
     /// Numbers a call, and says whether it is to fail.
-    fn begin_call(&mut self) -> io::Result<()> {
-        self.calls = self.calls.saturating_add(1);
-        if self.calls == self.manner.fails_at {
+    fn begin(&mut self) -> io::Result<()> {
+        self.begun = self.begun.saturating_add(1);
+        if self.begun == self.manner.fails_at {
             return Err(io::Error::from(self.manner.failure));
         }
-        if self.calls >= self.manner.interrupted_from && self.manner.interruptions > 0 {
+        if self.begun >= self.manner.interrupted_from && self.manner.interruptions > 0 {
             self.manner.interruptions -= 1;
             return Err(io::Error::from(ErrorKind::Interrupted));
         }
@@ -73,13 +82,29 @@ impl<'a> Device<'a> {
     }
 }
 
-impl Read for Device<'_> {
+/// A reader of bytes.
+#[derive(Drop)]
+pub struct Source<'a> {
+    calls: Calls,
+    given: &'a [u8],
+}
+
+impl<'a> Source<'a> {
+    pub fn new(given: &'a [u8], manner: Manner) -> Self {
+        Source {
+            calls: Calls::new(manner),
+            given,
+        }
+    }
+}
+
+impl Read for Source<'_> {
     fn read(&mut self, buf: &mut [u8]) -> io::Result<usize> {
-        self.begin_call()?;
-        if self.manner.is_endless {
+        self.calls.begin()?;
+        if self.calls.manner.is_endless {
             return Ok(buf.len());
         }
-        let n = self.manner.step.min(buf.len()).min(self.given.len());
+        let n = self.calls.manner.step.min(buf.len()).min(self.given.len());
         let (front, rest) = self.given.split_at(n);
         buf[..n].copy_from_slice(front);
         self.given = rest;
@@ -87,15 +112,31 @@ impl Read for Device<'_> {
     }
 }
 
-impl Write for Device<'_> {
+/// A writer that puts what it takes behind other bytes.
+#[derive(Drop)]
+pub struct Sink<'a> {
+    calls: Calls,
+    taken: &'a mut Vec<u8>,
+}
+
+impl<'a> Sink<'a> {
+    pub fn new(taken: &'a mut Vec<u8>, manner: Manner) -> Self {
+        Sink {
+            calls: Calls::new(manner),
+            taken,
+        }
+    }
+}
+
+impl Write for Sink<'_> {
     fn write(&mut self, buf: &[u8]) -> io::Result<usize> {
-        self.begin_call()?;
-        let n = self.manner.step.min(buf.len());
+        self.calls.begin()?;
+        let n = self.calls.manner.step.min(buf.len());
         self.taken.extend_from_slice(&buf[..n])?;
         Ok(n)
     }
 
     fn flush(&mut self) -> io::Result<()> {
-        self.begin_call()
+        self.calls.begin()
     }
 }

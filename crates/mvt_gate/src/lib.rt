@@ -12,6 +12,8 @@ mod fields;
 mod geometry;
 pub mod laws;
 mod polygons;
+#[cfg(test)]
+mod runs;
 mod tally;
 mod verdict;
 

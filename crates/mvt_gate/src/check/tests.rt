@@ -1,10 +1,9 @@
-use super::check_stream;
-use crate::agreement::judge_and_confirm;
-use crate::device::{Device, Manner, bytes_of};
+use crate::agreement::{Agreement, judge_and_confirm};
+use crate::device::{bytes_of, fails};
 use crate::engine::{EngineFault, Outcome};
-use crate::tally::Tally;
+use crate::runs::{Engine, ends_so, writes};
 use crate::verdict::{Verdict, judge};
-use mvt_fault::{Fault, fault_from_text, fault_text};
+use mvt_fault::{Fault, fault_from_text};
 use std::test::Fail;
 
 const OK: &str = r#"{"ok":true}"#;
@@ -13,47 +12,47 @@ const OK: &str = r#"{"ok":true}"#;
 const EQUAL_LAYERS: &str =
     "1a 0e 78 02 0a 01 61 12 07 18 01 22 03 09 32 22 1a 0e 78 02 0a 01 61 12 07 18 01 22 03 09 32 22";
 
-/// Tiles in hexadecimal that keep every rule, each in a line behind the word `tile`.
+/// Tiles in hexadecimal that keep every rule, and the line for each.
 const TILES: &str = r#"
 # no layer, and layers with no feature
-tile
-tile 1a 05 78 02 0a 01 61
-tile 1a 0b 78 02 0a 01 61 1a 01 6b 1a 01 6b
+ => {"ok":true}
+1a 05 78 02 0a 01 61 => {"ok":true}
+1a 0b 78 02 0a 01 61 1a 01 6b 1a 01 6b => {"ok":true}
 # a point, with packed numbers, with single ones, and with both
-tile 1a 0e 78 02 0a 01 61 12 07 18 01 22 03 09 32 22
-tile 1a 0f 78 02 0a 01 61 12 08 18 01 20 09 20 32 20 22
-tile 1a 0f 78 02 0a 01 61 12 08 18 01 22 02 09 32 20 22
+1a 0e 78 02 0a 01 61 12 07 18 01 22 03 09 32 22 => {"ok":true}
+1a 0f 78 02 0a 01 61 12 08 18 01 20 09 20 32 20 22 => {"ok":true}
+1a 0f 78 02 0a 01 61 12 08 18 01 22 02 09 32 20 22 => {"ok":true}
 # its version in two bytes
-tile 1a 0f 78 82 00 0a 01 61 12 07 18 01 22 03 09 32 22
+1a 0f 78 82 00 0a 01 61 12 07 18 01 22 03 09 32 22 => {"ok":true}
 # fields that no message knows
-tile 08 05
-tile 09 00 00 00 00 00 00 00 00 15 01 02 03 04
-tile 1a 08 78 02 0a 01 61 80 01 05
+08 05 => {"ok":true}
+09 00 00 00 00 00 00 00 00 15 01 02 03 04 => {"ok":true}
+1a 08 78 02 0a 01 61 80 01 05 => {"ok":true}
 # a feature of unknown type, with any numbers
-tile 1a 0c 78 02 0a 01 61 12 05 18 00 22 01 63
-tile 1a 0b 78 02 0a 01 61 12 04 18 00 22 00
-tile 1a 16 78 02 0a 01 61 12 0f 18 00 22 0b 09 00 10 1a 14 0f 00 14 13 13 0f
+1a 0c 78 02 0a 01 61 12 05 18 00 22 01 63 => {"ok":true}
+1a 0b 78 02 0a 01 61 12 04 18 00 22 00 => {"ok":true}
+1a 16 78 02 0a 01 61 12 0f 18 00 22 0b 09 00 10 1a 14 0f 00 14 13 13 0f => {"ok":true}
 # the fields of a layer in the order of usual writers, and in another
-tile 1a 1f 0a 01 61 12 0d 08 07 12 02 00 00 18 01 22 03 09 32 22 1a 01 6b 22 03 0a 01 76 28 80 20 78 02
-tile 1a 1d 78 02 0a 01 61 12 0b 12 02 00 00 18 01 22 03 09 32 22 1a 01 6b 22 02 38 01 22 02 28 05
+1a 1f 0a 01 61 12 0d 08 07 12 02 00 00 18 01 22 03 09 32 22 1a 01 6b 22 03 0a 01 76 28 80 20 78 02 => {"ok":true}
+1a 1d 78 02 0a 01 61 12 0b 12 02 00 00 18 01 22 03 09 32 22 1a 01 6b 22 02 38 01 22 02 28 05 => {"ok":true}
 # two features of one id
-tile 1a 1b 78 02 0a 01 61 12 09 08 07 18 01 22 03 09 32 22 12 09 08 07 18 01 22 03 09 32 22
+1a 1b 78 02 0a 01 61 12 09 08 07 18 01 22 03 09 32 22 12 09 08 07 18 01 22 03 09 32 22 => {"ok":true}
 # points, the least and the greatest coordinates among them
-tile 1a 10 78 02 0a 01 61 12 09 18 01 22 05 11 0a 0e 03 09
-tile 1a 12 78 02 0a 01 61 12 0b 18 01 22 07 09 80 80 80 80 08 00
-tile 1a 12 78 02 0a 01 61 12 0b 18 01 22 07 09 ff ff ff ff 07 00
+1a 10 78 02 0a 01 61 12 09 18 01 22 05 11 0a 0e 03 09 => {"ok":true}
+1a 12 78 02 0a 01 61 12 0b 18 01 22 07 09 80 80 80 80 08 00 => {"ok":true}
+1a 12 78 02 0a 01 61 12 0b 18 01 22 07 09 ff ff ff ff 07 00 => {"ok":true}
 # lines
-tile 1a 13 78 02 0a 01 61 12 0c 18 02 22 08 09 04 04 12 00 10 10 00
-tile 1a 19 78 02 0a 01 61 12 12 18 02 22 0e 09 04 04 12 00 10 10 00 09 11 11 0a 04 08
+1a 13 78 02 0a 01 61 12 0c 18 02 22 08 09 04 04 12 00 10 10 00 => {"ok":true}
+1a 19 78 02 0a 01 61 12 12 18 02 22 0e 09 04 04 12 00 10 10 00 09 11 11 0a 04 08 => {"ok":true}
 # polygons
-tile 1a 14 78 02 0a 01 61 12 0d 18 03 22 09 09 06 0c 12 0a 0c 18 2c 0f
-tile 1a 2c 78 02 0a 01 61 12 25 18 03 22 21 09 00 00 1a 14 00 00 14 13 00 0f 09 16 02 1a 12 00 00 12 11 00 0f 09 04 0d 1a 00 08 08 00 00 07 0f
-tile 1a 21 78 02 0a 01 61 12 1a 18 03 22 16 09 00 00 1a 14 00 00 14 13 00 0f 09 0a 09 1a 14 00 00 14 13 00 0f
-tile 1a 21 78 02 0a 01 61 12 1a 18 03 22 16 09 00 14 1a 3c 00 00 14 3b 00 0f 09 14 27 1a 14 00 00 3c 13 00 0f
-tile 1a 25 78 02 0a 01 61 12 1e 18 03 22 1a 09 00 00 1a c8 01 00 00 c8 01 c7 01 00 0f 09 28 9f 01 1a 14 00 00 14 13 00 0f
-tile 1a 34 78 02 0a 01 61 12 2d 18 03 22 29 09 00 00 1a c8 01 00 00 c8 01 c7 01 00 0f 09 14 b3 01 1a 00 a0 01 a0 01 00 00 9f 01 0f 09 8b 01 14 1a 14 00 00 14 13 00 0f
-tile 1a 21 78 02 0a 01 61 12 1a 18 03 22 16 09 00 00 1a 14 00 00 14 13 00 0f 09 14 13 1a 14 00 00 14 13 00 0f
-tile 1a 42 78 02 0a 01 61 12 3b 18 03 22 37 09 ff ff ff ff 07 ff ff ff ff 07 3a 80 80 80 80 08 00 80 80 80 80 08 00 00 80 80 80 80 08 00 80 80 80 80 08 ff ff ff ff 07 00 ff ff ff ff 07 00 00 ff ff ff ff 07 0f
+1a 14 78 02 0a 01 61 12 0d 18 03 22 09 09 06 0c 12 0a 0c 18 2c 0f => {"ok":true}
+1a 2c 78 02 0a 01 61 12 25 18 03 22 21 09 00 00 1a 14 00 00 14 13 00 0f 09 16 02 1a 12 00 00 12 11 00 0f 09 04 0d 1a 00 08 08 00 00 07 0f => {"ok":true}
+1a 21 78 02 0a 01 61 12 1a 18 03 22 16 09 00 00 1a 14 00 00 14 13 00 0f 09 0a 09 1a 14 00 00 14 13 00 0f => {"ok":true}
+1a 21 78 02 0a 01 61 12 1a 18 03 22 16 09 00 14 1a 3c 00 00 14 3b 00 0f 09 14 27 1a 14 00 00 3c 13 00 0f => {"ok":true}
+1a 25 78 02 0a 01 61 12 1e 18 03 22 1a 09 00 00 1a c8 01 00 00 c8 01 c7 01 00 0f 09 28 9f 01 1a 14 00 00 14 13 00 0f => {"ok":true}
+1a 34 78 02 0a 01 61 12 2d 18 03 22 29 09 00 00 1a c8 01 00 00 c8 01 c7 01 00 0f 09 14 b3 01 1a 00 a0 01 a0 01 00 00 9f 01 0f 09 8b 01 14 1a 14 00 00 14 13 00 0f => {"ok":true}
+1a 21 78 02 0a 01 61 12 1a 18 03 22 16 09 00 00 1a 14 00 00 14 13 00 0f 09 14 13 1a 14 00 00 14 13 00 0f => {"ok":true}
+1a 42 78 02 0a 01 61 12 3b 18 03 22 37 09 ff ff ff ff 07 ff ff ff ff 07 3a 80 80 80 80 08 00 80 80 80 80 08 00 00 80 80 80 80 08 00 80 80 80 80 08 ff ff ff ff 07 00 ff ff ff ff 07 00 00 ff ff ff ff 07 0f => {"ok":true}
 "#;
 
 /// Bytes in hexadecimal that are no tile, or one that breaks a rule, and the line of their first fault.
@@ -139,116 +138,77 @@ const FAULTS: &str = r#"
 1a 0c 78 02 0a 01 61 12 05 18 01 22 01 01 80 => {"at":14,"code":101,"field":0,"scope":"tile"}
 "#;
 
-/// The line of what `judge` says.
-fn line_of(rt: &HostRuntime, verdict: Verdict) -> Result<String, Fail> {
-    Ok(match verdict {
-        Verdict::Yes => String::from_str(rt.alloc(), OK)?,
-        Verdict::No(fault) => fault_text(rt.alloc(), &fault)?,
-    })
+/// The verdict whose line this is.
+fn verdict_of(rt: &HostRuntime, line: &str) -> Result<Verdict, Fail> {
+    if line == OK {
+        return Ok(Verdict::Yes);
+    }
+    Ok(Verdict::No(fault_from_text(rt.alloc(), line.as_bytes())?))
 }
 
 /// A fault that is true of none of the tiles, which have fewer layers.
 const OTHER_FAULT: Fault = Fault::Version { layer: 7 };
 
-/// Whether the line of a verdict's fault reads back to it.
-fn is_read_back(rt: &HostRuntime, verdict: Verdict, line: &str) -> Result<bool, Fail> {
-    Ok(match verdict {
-        Verdict::Yes => true,
-        Verdict::No(fault) => fault_from_text(rt.alloc(), line.as_bytes())? == fault,
-    })
-}
-
-/// Whether these bytes are the line, with its LF.
-fn is_line(bytes: &[u8], line: &str) -> bool {
-    bytes.strip_suffix(b"\n") == Some(line.as_bytes())
-}
-
-/// Whether the line is what `judge` says of the bytes.
-fn is_judged(rt: &HostRuntime, bytes: &[u8], line: &str) -> Result<bool, Fail> {
-    let verdict = judge(rt.alloc(), bytes)?;
-    let said = judge_and_confirm(rt.alloc(), bytes, &OTHER_FAULT)?;
-    let is_agreed = said.verdict == verdict
-        && said.is_confirmed == (line != OK)
-        && !said.is_other_confirmed;
-    Ok(is_agreed && is_read_back(rt, verdict, line)? && line_of(rt, verdict)?.as_str() == line)
-}
-
-/// Whether the line is what the engine writes and answers on the bytes.
-fn is_written(rt: &HostRuntime, bytes: &[u8], line: &str) -> Result<bool, Fail> {
-    let mut reader = Tally::new(bytes);
-    let mut sink = Device::new(rt.alloc(), &[], Manner::CALM);
-    let mut writer = Tally::new(&mut sink);
-    let outcome = check_stream(rt.alloc(), &mut reader, &mut writer)?;
-    Ok((outcome == Outcome::Yes) == (line == OK) && is_line(&sink.taken, line))
+/// Whether the verdict is what `judge` says of the bytes, and the checker says the same.
+fn is_judged(rt: &HostRuntime, bytes: &[u8], verdict: Verdict) -> Result<bool, Fail> {
+    let agreement = Agreement {
+        verdict,
+        is_confirmed: verdict != Verdict::Yes,
+        is_other_confirmed: false,
+    };
+    let said = judge(rt.alloc(), bytes)?;
+    Ok(said == verdict && judge_and_confirm(rt.alloc(), bytes, &OTHER_FAULT)? == agreement)
 }
 
 /// Whether the line is what `judge` says of the bytes that a text spells, and what the engine writes and answers.
 fn is_answer(rt: &HostRuntime, text: &str, line: &str) -> Result<bool, Fail> {
     let bytes = bytes_of(rt, text)?;
-    Ok(is_judged(rt, &bytes, line)? && is_written(rt, &bytes, line)?)
+    let verdict = verdict_of(rt, line)?;
+    Ok(is_judged(rt, &bytes, verdict)? && writes(rt, Engine::Check, &bytes, line))
 }
 
-#[test]
-fn says_yes_to_a_tile(rt: HostRuntime) -> Result<(), Fail> {
-    let mut tiles = 0_u32;
-    for line in TILES.lines() {
-        if let Some(text) = line.strip_prefix("tile") {
-            assert!(rt; is_answer(&rt, text, OK)?, "for {text}");
-            tiles = tiles.saturating_add(1);
-        }
-    }
-    assert!(rt; tiles == 29);
-    Ok(())
-}
-
-#[test]
-fn tells_the_first_fault(rt: HostRuntime) -> Result<(), Fail> {
-    let mut faults = 0_u32;
-    for row in FAULTS.lines() {
+/// How many rows of a table hold before the first that does not, if any.
+fn rows_held(rt: &HostRuntime, rows: &str) -> Result<u32, Fail> {
+    let mut held = 0_u32;
+    for row in rows.lines() {
         if let Some((text, line)) = row.split_once(" => ") {
-            assert!(rt; is_answer(&rt, text, line)?, "for {text}");
-            faults = faults.saturating_add(1);
+            if !is_answer(rt, text, line)? {
+                break;
+            }
+            held = held.saturating_add(1);
         }
     }
-    assert!(rt; faults == 58);
+    Ok(held)
+}
+
+#[test]
+fn judges_tiles(rt: HostRuntime) -> Result<(), Fail> {
+    assert_eq!(rt; rows_held(&rt, TILES)?, 29);
+    assert_eq!(rt; rows_held(&rt, FAULTS)?, 58);
     Ok(())
 }
 
-/// Whether a run on these bytes ends so where the reader and the writer have these manners: its result, and what goes
+/// The call that fails of a reader's and of a writer's, if any does, how a run on the two layers ends, and what goes
 /// out.
-fn ends_so(
-    rt: &HostRuntime,
-    bytes: &[u8],
-    (reads, writes): (Manner, Manner),
-    want: Result<Outcome, EngineFault>,
-    went_out: &[u8],
-) -> bool {
-    let mut source = Device::new(rt.alloc(), bytes, reads);
-    let mut sink = Device::new(rt.alloc(), &[], writes);
-    let mut reader = Tally::new(&mut source);
-    let mut writer = Tally::new(&mut sink);
-    let got = check_stream(rt.alloc(), &mut reader, &mut writer);
-    got == want && sink.taken.as_slice() == went_out
-}
+type Run = (u64, u64, Result<Outcome, EngineFault>, &'static [u8]);
+
+const RUNS: [Run; 3] = [
+    (
+        0,
+        0,
+        Ok(Outcome::No),
+        b"{\"code\":202,\"first\":0,\"second\":1}\n",
+    ),
+    (1, 0, Err(EngineFault::Read), b""),
+    (0, 2, Err(EngineFault::Write), b"{\"c"),
+];
 
 #[test]
 fn bears_devices_that_fail(rt: HostRuntime) -> Result<(), Fail> {
-    let calm = Manner::CALM;
-    let late = Manner {
-        step: 3,
-        fails_at: 2,
-        ..calm
-    };
-    let first = Manner {
-        fails_at: 1,
-        ..calm
-    };
-    let line = b"{\"code\":202,\"first\":0,\"second\":1}\n";
     let bytes = bytes_of(&rt, EQUAL_LAYERS)?;
-    assert!(rt; ends_so(&rt, &bytes, (calm, calm), Ok(Outcome::No), line));
-    let read = Err(EngineFault::Read);
-    assert!(rt; ends_so(&rt, &bytes, (first, calm), read, b""));
-    let write = Err(EngineFault::Write);
-    assert!(rt; ends_so(&rt, &bytes, (calm, late), write, b"{\"c"));
+    for (read, write, want, went_out) in RUNS {
+        let manners = [fails(read), fails(write)];
+        assert!(rt; ends_so(&rt, Engine::Check, &bytes, manners, want, went_out));
+    }
     Ok(())
 }

@@ -72,18 +72,34 @@ pub fn run_on_claim<T: ClaimTask, R: Read, Q: Read, W: Write>(
     writer.reset();
     let input = read_whole(alloc, tile, 0)?;
     let claimed = read_whole(alloc, claim, tile.interrupted())?;
-    match task.answer(alloc, &input, &claimed) {
-        Ok((outcome, line)) => {
-            let others = tile.interrupted() + claim.interrupted();
-            write_whole(writer, line.as_bytes(), others)?;
-            Ok(outcome)
-        }
+    let (outcome, line) = answer_of(alloc, task, &input, &claimed)?;
+    let others = tile.interrupted() + claim.interrupted();
+    write_whole(writer, line.as_bytes(), others)?;
+    Ok(outcome)
+}
+
+/// The task's answer, or the fault of an engine that has none.
+fn answer_of<T: ClaimTask>(
+    alloc: Global,
+    task: &T,
+    tile: &[u8],
+    claim: &[u8],
+) -> Result<(Outcome, String), EngineFault>
+    ensures answer { IfOk result (λ r. T.IsAnswer task.now tile.now claim.now r.0 (string_bytes r.1)) }
+
+    ensures not_json { result ≡ Err EngineFault.NotJson → T.IsRefused task.now claim.now FaultTextError.Json }
+    ensures not_a_fault { result ≡ Err EngineFault.NotAFault → T.IsRefused task.now claim.now FaultTextError.Shape }
+    ensures fault_range { result ≡ Err EngineFault.FaultRange → T.IsRefused task.now claim.now FaultTextError.Range }
+    // No device is called.
+    ensures no_read { result ≢ Err EngineFault.Read }
+    ensures no_too_large { result ≢ Err EngineFault.TooLarge }
+    ensures no_write { result ≢ Err EngineFault.Write }
+{
+    match task.answer(alloc, tile, claim) {
+        Ok(answer) => Ok(answer),
         Err(FaultTextError::Json) => Err(EngineFault::NotJson),
         Err(FaultTextError::Shape) => Err(EngineFault::NotAFault),
         Err(FaultTextError::Range) => Err(EngineFault::FaultRange),
         Err(FaultTextError::Memory) => Err(EngineFault::Memory),
     }
 }
-
-#[cfg(test)]
-mod tests;

@@ -1,5 +1,25 @@
 use super::EngineFault;
 
+/// Each fault and its text.
+const TEXTS: [(EngineFault, &str); 7] = [
+    (EngineFault::Read, "mvtgate: cannot read the input"),
+    (
+        EngineFault::TooLarge,
+        "mvtgate: the input is larger than 67108864 bytes",
+    ),
+    (EngineFault::Write, "mvtgate: cannot write the output"),
+    (EngineFault::NotJson, "mvtgate: the fault file is not JSON"),
+    (
+        EngineFault::NotAFault,
+        "mvtgate: the fault file holds no fault",
+    ),
+    (
+        EngineFault::FaultRange,
+        "mvtgate: a number of the fault is out of range",
+    ),
+    (EngineFault::Memory, "mvtgate: out of memory"),
+];
+
 /// Whether this is the fault's text.
 fn is_text(rt: &HostRuntime, fault: EngineFault, text: &str) -> bool {
     match fault.to_string(rt.alloc()) {
@@ -10,15 +30,7 @@ fn is_text(rt: &HostRuntime, fault: EngineFault, text: &str) -> bool {
 
 #[test]
 fn tells_each_fault(rt: HostRuntime) {
-    assert!(rt; is_text(&rt, EngineFault::Read, "mvtgate: cannot read the input"));
-    let large = "mvtgate: the input is larger than 67108864 bytes";
-    assert!(rt; is_text(&rt, EngineFault::TooLarge, large));
-    assert!(rt; is_text(&rt, EngineFault::Write, "mvtgate: cannot write the output"));
-    let not_json = "mvtgate: the fault file is not JSON";
-    assert!(rt; is_text(&rt, EngineFault::NotJson, not_json));
-    let no_fault = "mvtgate: the fault file holds no fault";
-    assert!(rt; is_text(&rt, EngineFault::NotAFault, no_fault));
-    let range = "mvtgate: a number of the fault is out of range";
-    assert!(rt; is_text(&rt, EngineFault::FaultRange, range));
-    assert!(rt; is_text(&rt, EngineFault::Memory, "mvtgate: out of memory"));
+    for (fault, text) in TEXTS {
+        assert!(rt; is_text(&rt, fault, text), "for {text}");
+    }
 }

@@ -44,10 +44,6 @@ const CROSSING_HOLES: [&str; 2] = [
     "1a 1f 78 02 0a 01 61 12 18 18 03 22 14 09 00 00 1a 14 00 00 14 13 00 0f 09 0a 09 12 00 04 1e 01 0f",
 ];
 
-/// The parts of a ring of 316 vertices, a comb on either side: its beginning, a tooth below, the way to the
-/// other side, a tooth above, and its end.
-const COMB: &str = "1a 89 05 78 02 0a 01 61 12 81 05 18 03 22 fc 04 09 00 27 da 13";
-
 const TOOTH_BELOW: &str = "04 00 00 14 04 00 00 13";
 
 const WAY_ABOVE: &str = "04 00 00 50";
@@ -59,25 +55,35 @@ const COMB_END: &str = "03 00 0f";
 /// A tooth above with a vertex that was moved, so that it crosses a tooth below.
 const MOVED_TOOTH: &str = "09 09 06 09 03 00 00 14";
 
-/// The comb, whose tooth in the middle above is this one.
-fn comb(rt: &HostRuntime, middle: &str) -> Result<Vec<u8>, Fail> {
-    let mut text = String::from_str(rt.alloc(), COMB)?;
-    for _ in 0..39 {
-        push_part(&mut text, TOOTH_BELOW)?;
+/// The tile of a ring, a comb on either side, of its parts, each with how often it comes: its beginning, the teeth of the
+/// one comb, the way to the other, the teeth of that one, and its end.
+fn tile_of(rt: &HostRuntime, comb: &[(&str, u32)]) -> Result<Vec<u8>, Fail> {
+    let mut tile = Vec::new(rt.alloc());
+    for (part, times) in comb {
+        let bytes = bytes_of(rt, part)?;
+        for _ in 0..*times {
+            tile.extend_from_slice(&bytes)?;
+        }
     }
-    push_part(&mut text, WAY_ABOVE)?;
-    for tooth in 0..39 {
-        push_part(&mut text, if tooth == 19 { middle } else { TOOTH_ABOVE })?;
-    }
-    push_part(&mut text, COMB_END)?;
-    bytes_of(rt, text.as_str())
+    Ok(tile)
 }
 
-/// Puts a part behind a text.
-fn push_part(text: &mut String, part: &str) -> Result<(), Fail> {
-    text.push(' ')?;
-    text.push_str(part)?;
-    Ok(())
+/// What `judge` says of a ring of 316 vertices, whose tooth in the middle above is this one.
+fn verdict_of_comb(rt: &HostRuntime, middle: &str) -> Result<Verdict, Fail> {
+    let comb = [
+        (
+            "1a 89 05 78 02 0a 01 61 12 81 05 18 03 22 fc 04 09 00 27 da 13",
+            1,
+        ),
+        (TOOTH_BELOW, 39),
+        (WAY_ABOVE, 1),
+        (TOOTH_ABOVE, 19),
+        (middle, 1),
+        (TOOTH_ABOVE, 19),
+        (COMB_END, 1),
+    ];
+    let tile = tile_of(rt, &comb)?;
+    Ok(judge(rt.alloc(), &tile)?)
 }
 
 /// Whether these edges have the edge.
@@ -110,33 +116,30 @@ fn is_meeting(verdict: Verdict) -> bool {
     matches!(verdict, Verdict::No(Fault::Meeting { .. }))
 }
 
+/// What `judge` says of the bytes that a text spells in hexadecimal.
+fn verdict_of(rt: &HostRuntime, text: &str) -> Result<Verdict, Fail> {
+    let bytes = bytes_of(rt, text)?;
+    Ok(judge(rt.alloc(), &bytes)?)
+}
+
 #[test]
-fn tells_where_edges_touch(rt: HostRuntime) -> Result<(), Fail> {
+fn tells_a_meeting(rt: HostRuntime) -> Result<(), Fail> {
     for touch in &TOUCHES {
-        let bytes = bytes_of(&rt, touch.tile)?;
         assert!(rt;
-            is_touch(judge(rt.alloc(), &bytes)?, touch),
+            is_touch(verdict_of(&rt, touch.tile)?, touch),
             "for {}",
             touch.tile
         );
     }
-    Ok(())
-}
-
-#[test]
-fn tells_a_meeting_before_holes(rt: HostRuntime) -> Result<(), Fail> {
     for tile in CROSSING_HOLES {
-        let bytes = bytes_of(&rt, tile)?;
-        assert!(rt; is_meeting(judge(rt.alloc(), &bytes)?), "for {tile}");
+        assert!(rt; is_meeting(verdict_of(&rt, tile)?), "for {tile}");
     }
     Ok(())
 }
 
 #[test]
 fn judges_a_long_ring(rt: HostRuntime) -> Result<(), Fail> {
-    let whole = comb(&rt, TOOTH_ABOVE)?;
-    assert_eq!(rt; judge(rt.alloc(), &whole)?, Verdict::Yes);
-    let crossed = comb(&rt, MOVED_TOOTH)?;
-    assert!(rt; is_meeting(judge(rt.alloc(), &crossed)?));
+    assert!(rt; verdict_of_comb(&rt, TOOTH_ABOVE)? == Verdict::Yes);
+    assert!(rt; is_meeting(verdict_of_comb(&rt, MOVED_TOOTH)?));
     Ok(())
 }
