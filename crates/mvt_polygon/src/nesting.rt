@@ -9,7 +9,7 @@ pub(crate) mod around;
 pub(crate) mod noted;
 mod once;
 #[cfg(test)]
-mod tests;
+pub(crate) mod tests;
 
 use mvt_plane::{Point, inside};
 pub use once::check_nesting_once;

@@ -1,11 +1,11 @@
 use super::{RingFault, check_rings};
 use mvt_fault::RingCode;
 use mvt_plane::Point;
-use std::alloc::{AllocError, Global};
+use std::alloc::Global;
 use std::process::Abort;
 
 /// The vertices of a ring.
-type Coordinates = &'static [(i32, i32)];
+pub(crate) type Coordinates = &'static [(i32, i32)];
 
 pub(crate) const SQUARE: Coordinates = &[(0, 0), (10, 0), (10, 10), (0, 10)];
 /// It goes round as holes do, and lies beside the square.
@@ -34,21 +34,18 @@ pub(crate) const NOTCHED: Coordinates = &[
 
 pub(crate) const HOLE_ACROSS: Coordinates = &[(5, 20), (25, 20), (15, 5)];
 
-const FRAME: Coordinates = &[(11, 11), (20, 11), (20, 20), (11, 20)];
+pub(crate) const FRAME: Coordinates = &[(11, 11), (20, 11), (20, 20), (11, 20)];
 
-const HOLE_OF_FRAME: Coordinates = &[(13, 13), (13, 17), (17, 17), (17, 13)];
+pub(crate) const HOLE_OF_FRAME: Coordinates = &[(13, 13), (13, 17), (17, 17), (17, 13)];
 
 /// A ring through points at these coordinates, all of which are in range.
-pub(crate) fn ring_at(
-    rt: &impl Abort,
-    alloc: Global,
-    coordinates: &[(i32, i32)],
-) -> Result<Vec<Point>, AllocError> {
+pub(crate) fn ring_at(rt: &impl Abort, alloc: Global, coordinates: &[(i32, i32)]) -> Vec<Point> {
     let mut vertices = Vec::new(alloc);
     for &(x, y) in coordinates {
-        vertices.push(Point::new(x, y).expect(rt, "a position"))?;
+        let vertex = Point::new(x, y).expect(rt, "a position");
+        vertices.push(vertex).expect(rt, "memory");
     }
-    Ok(vertices)
+    vertices
 }
 
 /// Several such rings.
@@ -56,36 +53,34 @@ pub(crate) fn rings_at(
     rt: &impl Abort,
     alloc: Global,
     coordinates: &[&[(i32, i32)]],
-) -> Result<Vec<Vec<Point>>, AllocError> {
+) -> Vec<Vec<Point>> {
     let mut rings = Vec::new(alloc);
     for ring in coordinates {
-        rings.push(ring_at(rt, alloc, ring)?)?;
+        rings.push(ring_at(rt, alloc, ring)).expect(rt, "memory");
     }
-    Ok(rings)
+    rings
 }
 
-/// The fault of rings through these coordinates.
-fn fault_at(rt: &impl Abort, alloc: Global, coordinates: &[&[(i32, i32)]]) -> Option<RingFault> {
-    check_rings(&rings_at(rt, alloc, coordinates).expect(rt, "memory"))
-}
-
-/// The fault of this code of the first ring.
-fn of_first(code: RingCode) -> Option<RingFault> {
-    Some(RingFault { code, ring: 0 })
-}
+/// Rings, and the code of their first ring's fault: those of polygons, one that ends where it begins, one along a line,
+/// and a hole that comes first.
+const RINGS: &[(&[Coordinates], Option<RingCode>)] = &[
+    (TWO_POLYGONS, None),
+    (
+        &[&[(0, 0), (10, 0), (10, 10), (0, 0)]],
+        Some(RingCode::EndsAtItsBeginning),
+    ),
+    (&[&[(0, 0), (5, 5), (10, 10)]], Some(RingCode::NoArea)),
+    (&[HOLE_BESIDE], Some(RingCode::BeginsWithHole)),
+];
 
 #[test]
-fn rings_of_polygons(rt: HostRuntime) {
-    assert!(rt; fault_at(&rt, rt.alloc(), TWO_POLYGONS).is_none());
-}
-
-// One that ends where it begins, one along a line, and a hole that comes first.
-#[test]
-fn rings_with_faults(rt: HostRuntime) {
-    let closed = fault_at(&rt, rt.alloc(), &[&[(0, 0), (10, 0), (10, 10), (0, 0)]]);
-    assert!(rt; closed == of_first(RingCode::EndsAtItsBeginning));
-    let flat = fault_at(&rt, rt.alloc(), &[&[(0, 0), (5, 5), (10, 10)]]);
-    assert!(rt; flat == of_first(RingCode::NoArea));
-    let hole = fault_at(&rt, rt.alloc(), &[HOLE_BESIDE]);
-    assert!(rt; hole == of_first(RingCode::BeginsWithHole));
+fn faults_of_rings(rt: HostRuntime) {
+    for &(coordinates, code) in RINGS {
+        let rings = rings_at(&rt, rt.alloc(), coordinates);
+        let wanted = match code {
+            Some(code) => Some(RingFault { code, ring: 0 }),
+            None => None,
+        };
+        assert!(rt; check_rings(&rings) == wanted);
+    }
 }
