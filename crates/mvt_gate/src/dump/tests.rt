@@ -36,8 +36,9 @@ fn is_dump(rt: &HostRuntime, bytes: &[u8], dump: &str) -> bool {
 
 #[test]
 fn shows_a_tile(rt: HostRuntime) {
-    let bytes = b"\x1a\x05\x78\x02\x0a\x01\x61";
+    let bytes =
+        b"\x1a\x1f\x0a\x01\x61\x12\x0d\x08\x07\x12\x02\x00\x00\x18\x01\x22\x03\x09\x32\x22\x1a\x01\x6b\x22\x03\x0a\x01\x76\x28\x80\x20\x78\x02";
     let dump =
-        r#"{"layers":[{"extent":4096,"features":[],"keys":[],"name":"a","values":[],"version":2}]}"#;
+        r#"{"layers":[{"extent":4096,"features":[{"geometry":[9,50,34],"id":7,"tags":[0,0],"type":1}],"keys":["k"],"name":"a","values":[{"string":"v"}],"version":2}]}"#;
     assert!(rt; is_dump(&rt, bytes, dump));
 }

@@ -68,21 +68,34 @@ pub(crate) fn are_drawn(rings: &[Vec<Point>]) -> bool
 /// Two edges, each by ring and edge.
 type Edges = ((usize, usize), (usize, usize));
 
-/// What is found in drawn rings, and the work of it: by `find_meeting` (call 0), and by the sweep over a tree (1) and
-/// over a vector (2).
+/// A way to look for a meeting.
+#[derive(Clone, Copy)]
+enum Way {
+    Whole,
+    SweepOverTree,
+    SweepOverVector,
+}
+
+const WAYS: [Way; 3] = [Way::Whole, Way::SweepOverTree, Way::SweepOverVector];
+
+/// What is found in drawn rings in this way, and the work of it.
 fn found_in(
     rt: &impl Abort,
     alloc: Global,
     rings: &[Vec<Point>],
-    call: u8,
+    way: Way,
 ) -> (Option<Meeting>, Count)
     requires { AreProperRings (rings_of rings.now) }
 {
     let mut count = Count::new();
-    let found = match call {
-        0 => find_meeting(alloc, rings, &mut count),
-        1 => find_meeting_with(alloc, rings, &mut TreeStatus::new(alloc), &mut count),
-        _ => find_meeting_with(alloc, rings, &mut VecStatus::new(alloc), &mut count),
+    let found = match way {
+        Way::Whole => find_meeting(alloc, rings, &mut count),
+        Way::SweepOverTree => {
+            find_meeting_with(alloc, rings, &mut TreeStatus::new(alloc), &mut count)
+        }
+        Way::SweepOverVector => {
+            find_meeting_with(alloc, rings, &mut VecStatus::new(alloc), &mut count)
+        }
     };
     (found.expect(rt, "memory"), count)
 }
@@ -92,24 +105,24 @@ fn found_at(
     rt: &impl Abort,
     alloc: Global,
     coordinates: &[&[(i32, i32)]],
-    call: u8,
+    way: Way,
 ) -> (Option<Meeting>, Count) {
     let rings = rings_at(rt, alloc, coordinates);
     assert!(rt; are_drawn(&rings));
-    found_in(rt, alloc, &rings, call)
+    found_in(rt, alloc, &rings, way)
 }
 
-/// Whether nothing is found in rings through these coordinates, or whether each call finds a meeting there.
-fn is_clear(rt: &impl Abort, alloc: Global, coordinates: &[&[(i32, i32)]], clear: bool) -> bool {
-    for call in 0..3 {
-        if found_at(rt, alloc, coordinates, call).0.is_none() != clear {
+/// Whether a meeting is found in rings through these coordinates in each way, or where `is_clear` in none.
+fn agree(rt: &impl Abort, alloc: Global, coordinates: &[&[(i32, i32)]], is_clear: bool) -> bool {
+    for way in WAYS {
+        if found_at(rt, alloc, coordinates, way).0.is_none() != is_clear {
             return false;
         }
     }
     true
 }
 
-/// Whether each call finds a meeting of one of these pairs of edges, with this point, in rings through these
+/// Whether each way finds a meeting of one of these pairs of edges, with this point, in rings through these
 /// coordinates.
 fn meets(
     rt: &impl Abort,
@@ -118,8 +131,8 @@ fn meets(
     pairs: &[Edges],
     point: (i128, i128, i128),
 ) -> bool {
-    for call in 0..3 {
-        if !is_one_of(found_at(rt, alloc, coordinates, call).0, pairs, point) {
+    for way in WAYS {
+        if !is_one_of(found_at(rt, alloc, coordinates, way).0, pairs, point) {
             return false;
         }
     }
@@ -220,10 +233,10 @@ const MEETINGS: &[(&[Coordinates], &[Edges], (i128, i128, i128))] = &[
 #[test]
 fn rings_with_and_without_meetings(rt: HostRuntime) {
     for rings in CLEAR {
-        assert!(rt; is_clear(&rt, rt.alloc(), rings, true));
+        assert!(rt; agree(&rt, rt.alloc(), rings, true));
     }
     for rings in WRONG {
-        assert!(rt; is_clear(&rt, rt.alloc(), rings, false));
+        assert!(rt; agree(&rt, rt.alloc(), rings, false));
     }
 }
 
@@ -267,16 +280,18 @@ pub(crate) fn is_some_work(ticks: u64, most: u64) -> bool {
     0 < ticks && ticks <= most
 }
 
-/// Whether the work of each call in the ring is at most 3 tests, 20 probes and 180 visits for each of 316 vertices; a
+/// Whether the work of each way in the ring is at most 3 tests, 20 probes and 180 visits for each of 316 vertices; a
 /// status in a vector has no nodes.
 fn is_work_of_combs(rt: &impl Abort, alloc: Global, ring: &[(i32, i32)]) -> bool {
-    for call in 0..3 {
-        let (_, count) = found_at(rt, alloc, &[ring], call);
-        let visits = if call == 2 { 0 } else { 56880 };
+    for way in WAYS {
+        let (_, count) = found_at(rt, alloc, &[ring], way);
+        let are_right_visits = match way {
+            Way::SweepOverVector => count.visits() == 0,
+            _ => is_some_work(count.visits(), 56880),
+        };
         if !(is_some_work(count.tests(), 948)
             && is_some_work(count.probes(), 6320)
-            && (call == 2 || 0 < count.visits())
-            && count.visits() <= visits)
+            && are_right_visits)
         {
             return false;
         }
@@ -290,17 +305,17 @@ fn two_combs(rt: HostRuntime) {
     let alloc = rt.alloc();
     let ring = combs(&rt, alloc, 158, (80, 20));
     assert!(rt; ring.len() == 316);
-    assert!(rt; is_clear(&rt, alloc, &[&ring], true));
+    assert!(rt; agree(&rt, alloc, &[&ring], true));
     assert!(rt; is_work_of_combs(&rt, alloc, &ring));
     let crossed = combs(&rt, alloc, 158, (77, 15));
-    assert!(rt; is_clear(&rt, alloc, &[&crossed], false));
+    assert!(rt; agree(&rt, alloc, &[&crossed], false));
 }
 
 // No edges, so no work.
 #[test]
 fn no_rings(rt: HostRuntime) {
-    for call in 0..3 {
-        let (_, count) = found_at(&rt, rt.alloc(), &[], call);
+    for way in WAYS {
+        let (_, count) = found_at(&rt, rt.alloc(), &[], way);
         assert!(rt; count.tests() == 0 && count.probes() == 0);
     }
 }

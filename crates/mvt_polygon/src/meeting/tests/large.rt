@@ -1,5 +1,5 @@
 //! A ring of a million vertices: few pairs of its edges are tested, and the answer comes within two minutes.
-use super::{combs, found_at, is_some_work};
+use super::{Way, combs, found_at, is_some_work};
 use std::alloc::Global;
 use std::process::Abort;
 use std::time::{Clock, Duration, Instant};
@@ -9,7 +9,7 @@ use std::time::{Clock, Duration, Instant};
 /// (`rt ci` and `rt test` end a test after one minute, which fails it too, but `rt test` has a flag to wait longer.)
 fn is_soon_clear(rt: &(impl Abort + Clock), alloc: Global, ring: &[(i32, i32)]) -> bool {
     let start = Instant::now(rt).expect(rt, "a clock");
-    let (found, count) = found_at(rt, alloc, &[ring], 0);
+    let (found, count) = found_at(rt, alloc, &[ring], Way::Whole);
     let time = start.elapsed(rt).expect(rt, "a clock");
     found.is_none() && is_some_work(count.tests(), 2_999_988) && time <= Duration::from_secs(120)
 }
