@@ -122,13 +122,17 @@ pub fn command_words<R: Env + Eprint + AllocGlobal>(rt: &R) -> Result<Vec<String
 }
 
 fn command_line<'a>(alloc: Global) -> Result<Command<'a>, AllocError> {
-    let fields = tile_command(alloc, "fields", "Lists the outermost fields of a tile")?;
-    let check = tile_command(
-        alloc,
-        "check",
-        "Says whether a tile is valid, and else names its first fault",
-    )?;
-    let dump = tile_command(alloc, "dump", "Lists what a tile holds")?;
+    let command = program(alloc);
+    let fields = "Lists the outermost fields of a tile";
+    let command = with_tile_command(alloc, command, "fields", fields)?;
+    let check = "Says whether a tile is valid, and else names its first fault";
+    let command = with_tile_command(alloc, command, "check", check)?;
+    let command = with_tile_command(alloc, command, "dump", "Lists what a tile holds")?;
+    command.subcommand(confirm_command(alloc)?)
+}
+
+/// The program, with no command yet.
+fn program<'a>(alloc: Global) -> Command<'a> {
     Command::new(alloc, "mvtgate")
         .version(VERSION)
         .about(
@@ -136,20 +140,18 @@ fn command_line<'a>(alloc: Global) -> Result<Command<'a>, AllocError> {
         )
         .after_help(STATUSES)
         .subcommand_required(true)
-        .subcommand(fields)?
-        .subcommand(check)?
-        .subcommand(dump)?
-        .subcommand(confirm_command(alloc)?)
 }
 
-/// A command that reads one tile.
-fn tile_command<'a>(
+/// The same with one more command, which reads one tile.
+fn with_tile_command<'a>(
     alloc: Global,
+    command: Command<'a>,
     name: &'a str,
     about: &'a str,
 ) -> Result<Command<'a>, AllocError> {
     let file = Arg::new(alloc, "FILE").help("The tile; without it standard input");
-    Command::new(alloc, name).about(about).arg(file)
+    let one = Command::new(alloc, name).about(about).arg(file)?;
+    command.subcommand(one)
 }
 
 /// The command that reads a tile and a fault.
