@@ -43,6 +43,19 @@ digit_less : (half number digits : ℕ) → 0 < number → half * 2 ≤ number �
 digit_less half number zero above no_more within = absurd (omega arith)
 digit_less half number (suc digits) above no_more within = omega (arith, least_digits half digits (omega (arith, pow-suc 2 digits)))
 
+-- a number has at most a digit more than one that is, but for one, half of it or more
+pub digits_of_double : (half number : ℕ) → number ≤ half * 2 + 2 → bits (suc number) ≤ bits (suc half) + 1
+digits_of_double half number no_more =
+    omega (arith, least_digits (suc number) (suc (bits (suc half))) (omega (arith, within_digits (suc half), pow-suc 2 (bits (suc half)))))
+
+-- one has one digit
+pub digits_of_one : bits 1 ≤ 1
+digits_of_one = least_digits 1 1 (omega arith)
+
+-- what is more than one has two or more
+pub two_digits : (number : ℕ) → 0 < number → 2 ≤ bits (suc number)
+two_digits number above = lesser_exponent 1 (bits (suc number)) (omega (arith, within_digits (suc number)))
+
 -- half of a number has a digit less
 pub digits_of_half : (half number : ℕ) → 0 < number → half * 2 ≤ number → bits half + 1 ≤ bits number
 digits_of_half half number above no_more = digit_less half number (bits number) above no_more (within_digits number)

@@ -1,11 +1,11 @@
 -- A search for a split point, which halves the part of the list where it is.
-use Rattle.std.proofs.Common.{◌≡◌, ℕ, ◌+◌, ◌*◌, ◌<◌, ◌≤◌, Bool, true, false, true≢false, List, length, slice_index, slice_index_or, ap, refl, sym, ◌∙◌, subst, inl, inr, arith}
+use Rattle.std.proofs.Common.{◌≡◌, ℕ, suc, ◌+◌, ◌-◌, ◌*◌, ◌<◌, ◌≤◌, Bool, true, false, true≢false, List, length, slice_index, slice_index_or, ap, refl, sym, ◌∙◌, subst, inl, inr, arith}
 use Rattle.std.proofs.lemmas.Bool.{cases_lt}
 use Rattle.std.proofs.lemmas.List.{get_or_read}
-use Rattle.mvt_plane.specs.Counted.{Counted}
-use Rattle.mvt_status.specs.Counts.{AddsAtMost, bits}
+use Rattle.mvt_plane.specs.Counted.{Counted, ticked}
+use Rattle.mvt_status.specs.Counts.{AddsAtMost, bits, raised}
 use Rattle.mvt_status.specs.Split.{IsSplit}
-use Rattle.mvt_status.proofs.BinaryDigits.{digits_of_half}
+use Rattle.mvt_status.proofs.BinaryDigits.{digits_of_double, digits_of_half, digits_of_one, two_digits}
 
 -- each split point is in a part of the list
 pub record SplitsWithin (answers : ℕ → Bool → Type 0) (edges : List ℕ) (from to : ℕ) : Type 0 where
@@ -17,11 +17,13 @@ pub record SplitsWithin (answers : ℕ → Bool → Type 0) (edges : List ℕ) (
 pub there : (items edges : List ℕ) (at edge : ℕ) → items ≡ edges → at < length edges → edge ≡ slice_index_or items at edge → edge ≡ slice_index edges at
 there items edges at edge same within is = subst (λ (read : List ℕ). edge ≡ slice_index read at) same (get_or_read items at edge (omega (arith, ap length same)) is 0)
 
--- with as many probes to come as the part's length has digits, there are no more than the whole list's has
+-- With as many probes to come as the part's length has digits, there are no more than the whole list's has. With one
+-- fewer than the next number has, there are no fewer than so many for the whole list.
 pub record ProbesLeft (left all : ℕ) (before now : Counted) : Type 0 where
   pub tests : now.tests ≡ before.tests
   pub no_fewer : before.probes ≤ now.probes
   pub probes : now.probes + bits left ≤ before.probes + bits all
+  pub least : raised (bits (suc all) - 1) before.probes ≤ raised (bits (suc left) - 1) now.probes
   pub visits : now.visits ≡ before.visits
 
 -- at first this is the whole list
@@ -72,16 +74,18 @@ none_yet left all before same = record {
   tests = refl;
   no_fewer = omega arith;
   probes = subst (λ (left : ℕ). before.probes + bits left ≤ before.probes + bits all) (sym same) (omega arith);
+  least = subst (λ (left : ℕ). raised (bits (suc all) - 1) before.probes ≤ raised (bits (suc left) - 1) before.probes) (sym same) (omega arith);
   visits = refl;
 }
 
 -- with a probe more, half of the part is left
-pub probes_half : (left half all : ℕ) (before now after : Counted) → ProbesLeft left all before now → AddsAtMost 1 0 now after → 0 < left → half * 2 ≤ left
-    → ProbesLeft half all before after
-probes_half left half all before now after so_far more some no_more = record {
+pub probes_half : (left half all : ℕ) (before now after : Counted) → ProbesLeft left all before now → AddsAtMost 1 0 now after → after.probes ≡ ticked now.probes
+    → 0 < left → half * 2 ≤ left → left ≤ half * 2 + 2 → ProbesLeft half all before after
+probes_half left half all before now after so_far more probed some no_more no_less = record {
   tests = more.tests ∙ so_far.tests;
   no_fewer = omega (arith, so_far.no_fewer, more.no_fewer_probes);
   probes = omega (arith, so_far.probes, more.probes_added, digits_of_half half left some no_more);
+  least = omega (arith, so_far.least, probed, digits_of_double half left no_less);
   visits = omega (arith, more.no_fewer_visits, more.visits_added, so_far.visits);
 }
 
@@ -94,3 +98,13 @@ added left all before now so_far = record {
   no_fewer_visits = omega (arith, so_far.visits);
   visits_added = omega (arith, so_far.visits);
 }
+
+-- as many at least
+pub added_at_least : (left all : ℕ) (before now : Counted) → left ≡ 0 → ProbesLeft left all before now → raised (bits (suc all) - 1) before.probes ≤ now.probes
+added_at_least left all before now none so_far =
+    let last : bits (suc left) ≤ 1 = subst (λ (left : ℕ). bits (suc left) ≤ 1) (sym none) digits_of_one in
+    omega (arith, so_far.least)
+
+-- of a list with an edge one at least
+pub one_at_least : (all before now : ℕ) → 0 < all → raised (bits (suc all) - 1) before ≤ now → ticked before ≤ now
+one_at_least all before now some least = omega (arith, two_digits all some)

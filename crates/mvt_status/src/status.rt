@@ -1,4 +1,5 @@
 ghost use Rattle.std.specs.Prelude.{◌≡◌, ℕ, suc, ◌*◌, ◌<◌, ◌≤◌, List, All, if◌then◌else◌, insert, is_ok, length, remove, slice_index};
+ghost use Rattle.mvt_plane.specs.Counted.{ticked};
 ghost use Rattle.mvt_status.specs.Counts.{AddsAtMost, bits};
 ghost use Rattle.mvt_status.specs.Split.{AreBeside, IsSplit};
 
@@ -81,12 +82,13 @@ pub trait Status {
     }
 
     /// How many edges are at the front of the list of which `below` is true, where it is false of all others.
-    /// Each call of `below` counts as a probe.
+    /// Each call of `below` counts as a probe; of a list with an edge there is one at least.
     fn split_point<F: Fn(usize) -> bool>(&self, below: &F, count: &mut Count) -> usize
         requires callable { All (F.pre below.now) (edges self.now) }
         requires splits { (point : ℕ) × IsSplit (F.post below.now) (edges self.now) point }
         ensures split { IsSplit (F.post below.now) (edges self.now) result }
-        ensures counted { AddsAtMost (2 * bits (length (edges self.now))) (2 * bits (length (edges self.now))) count.old count.new };
+        ensures counted { AddsAtMost (2 * bits (length (edges self.now))) (2 * bits (length (edges self.now))) count.old count.new }
+        ensures probed { 0 < length (edges self.now) → ticked count.old.probes ≤ count.new.probes };
 
     /// The split point, as `split_point` answers it, with the edges in front of it and behind it.
     fn split_around<F: Fn(usize) -> bool>(&self, below: &F, count: &mut Count) -> Split
@@ -95,6 +97,7 @@ pub trait Status {
         ensures split { IsSplit (F.post below.now) (edges self.now) result.point }
         ensures beside { AreBeside (edges self.now) result }
         ensures counted { AddsAtMost (2 * bits (length (edges self.now))) (6 * bits (length (edges self.now))) count.old count.new }
+        ensures probed { 0 < length (edges self.now) → ticked count.old.probes ≤ count.new.probes }
     {
         let point = self.split_point(below, count);
         let front = if 0 < point {

@@ -1,4 +1,5 @@
-ghost use Rattle.std.specs.Prelude.{◌≡◌, ℕ, suc, ◌*◌, ◌<◌, ◌≤◌, All, [], IsOk, if◌then◌else◌, insert, is_ok, length, remove, slice_index};
+ghost use Rattle.std.specs.Prelude.{◌≡◌, ℕ, suc, ◌*◌, ◌<◌, ◌≤◌, All, [], IsOk, OnOk, if◌then◌else◌, insert, is_ok, length, remove, slice_index};
+ghost use Rattle.mvt_plane.specs.Counted.{ticked};
 ghost use Rattle.mvt_status.specs.Counts.{AddsAtMost, bits};
 ghost use Rattle.mvt_status.specs.Split.{AreBeside, IsSplit};
 
@@ -56,6 +57,7 @@ impl Status for TreeStatus {
         requires { at < length self.now }
         ensures value { result ≡ slice_index self.now at }
         ensures counted { AddsAtMost 0 (2 * bits (length self.now)) count.old count.new }
+        ensures visited { ticked count.old.visits ≤ count.new.visits }
     {
         edge_at(&self.root, at, count)
     }
@@ -64,6 +66,7 @@ impl Status for TreeStatus {
         requires { at ≤ length self.old }
         ensures list { self.new ≡ (if is_ok result then insert self.old at edge else self.old) }
         ensures counted { AddsAtMost 0 (2 * bits (length self.old)) count.old count.new }
+        ensures visited { OnOk result (0 < length self.old → ticked count.old.visits ≤ count.new.visits) }
     {
         if self.len() == usize::MAX {
             return Err(AllocError);
@@ -83,6 +86,7 @@ impl Status for TreeStatus {
         requires { at ≤ length self.old }
         ensures list { self.new ≡ (if is_ok result then insert (insert self.old at upper) at lower else self.old) }
         ensures counted { AddsAtMost 0 (2 * bits (suc (length self.old))) count.old count.new }
+        ensures visited { OnOk result (0 < length self.old → ticked count.old.visits ≤ count.new.visits) }
     {
         if self.len() >= usize::MAX - 1 {
             return Err(AllocError);
@@ -97,6 +101,7 @@ impl Status for TreeStatus {
         ensures value { result ≡ slice_index self.old at }
         ensures list { self.new ≡ remove self.old at }
         ensures counted { AddsAtMost 0 (2 * bits (length self.old)) count.old count.new }
+        ensures visited { ticked count.old.visits ≤ count.new.visits }
     {
         remove_from(&mut self.root, at, &mut self.spare, count)
     }
@@ -106,6 +111,7 @@ impl Status for TreeStatus {
         ensures never_refused { IsOk result }
         ensures list { self.new ≡ insert (remove self.old at) at edge }
         ensures counted { AddsAtMost 0 (2 * bits (length self.old)) count.old count.new }
+        ensures visited { ticked count.old.visits ≤ count.new.visits }
     {
         replace_in(&mut self.root, at, edge, count);
         Ok(())
@@ -116,6 +122,8 @@ impl Status for TreeStatus {
         requires splits { (point : ℕ) × IsSplit (F.post below.now) self.now point }
         ensures split { IsSplit (F.post below.now) self.now result }
         ensures counted { AddsAtMost (2 * bits (length self.now)) (2 * bits (length self.now)) count.old count.new }
+        ensures probed { 0 < length self.now → ticked count.old.probes ≤ count.new.probes }
+        ensures visited { 0 < length self.now → ticked count.old.visits ≤ count.new.visits }
     {
         split_of(&self.root, below, count).point
     }
@@ -126,6 +134,8 @@ impl Status for TreeStatus {
         ensures split { IsSplit (F.post below.now) self.now result.point }
         ensures beside { AreBeside self.now result }
         ensures counted { AddsAtMost (2 * bits (length self.now)) (2 * bits (length self.now)) count.old count.new }
+        ensures probed { 0 < length self.now → ticked count.old.probes ≤ count.new.probes }
+        ensures visited { 0 < length self.now → ticked count.old.visits ≤ count.new.visits }
     {
         split_of(&self.root, below, count)
     }

@@ -1,9 +1,10 @@
-ghost use Rattle.std.specs.Prelude.{◌≡◌, ℕ, ◌<◌, ◌≤◌, All, [], if◌then◌else◌, insert, is_ok, length, remove, slice_index};
-ghost use Rattle.mvt_status.specs.Counts.{AddsAtMost, bits};
-ghost use Rattle.mvt_status.specs.Split.{IsSplit};
+ghost use Rattle.std.specs.Prelude.{◌≡◌, ℕ, ◌-◌, ◌<◌, ◌≤◌, suc, All, [], IsOk, if◌then◌else◌, insert, is_ok, length, remove, slice_index};
+ghost use Rattle.mvt_plane.specs.Counted.{ticked};
+ghost use Rattle.mvt_status.specs.Counts.{AddsAtMost, bits, raised};
+ghost use Rattle.mvt_status.specs.Split.{AreBeside, IsSplit};
 
-use crate::Status;
 use crate::search::split_in;
+use crate::{Split, Status};
 use mvt_plane::Count;
 use std::alloc::{AllocError, Global};
 use std::marker::Model;
@@ -11,7 +12,8 @@ use std::marker::Model;
 #[cfg(test)]
 mod tests;
 
-/// A status in a vector, where a place is found by halves. An edge that comes or goes moves all edges behind it.
+/// A status in a vector, where a place is found by halves. An edge that comes or goes moves all edges behind it. It has
+/// no nodes, so no call counts a visit.
 #[derive(Drop)]
 pub struct VecStatus {
     edges: Vec<usize>,
@@ -60,6 +62,25 @@ impl Status for VecStatus {
         Ok(())
     }
 
+    fn insert_two(
+        &mut self,
+        at: usize,
+        lower: usize,
+        upper: usize,
+        count: &mut Count,
+    ) -> Result<(), AllocError>
+        requires { at ≤ length self.old }
+        ensures list { self.new ≡ (if is_ok result then insert (insert self.old at upper) at lower else self.old) }
+        ensures counted { AddsAtMost 0 0 count.old count.new }
+    {
+        self.insert(at, upper, count)?;
+        let placed = self.insert(at, lower, count);
+        if placed.is_err() {
+            self.remove(at, count);
+        }
+        placed
+    }
+
     fn remove(&mut self, at: usize, _count: &mut Count) -> usize
         requires { at < length self.old }
         ensures value { result ≡ slice_index self.old at }
@@ -69,12 +90,47 @@ impl Status for VecStatus {
         self.edges.remove(at)
     }
 
+    fn replace(&mut self, at: usize, edge: usize, _count: &mut Count) -> Result<(), AllocError>
+        requires { at < length self.old }
+        ensures never_refused { IsOk result }
+        ensures list { self.new ≡ insert (remove self.old at) at edge }
+        ensures counted { AddsAtMost 0 0 _count.old _count.new }
+    {
+        let edges = &mut self.edges;
+        edges[at] = edge;
+        Ok(())
+    }
+
     fn split_point<F: Fn(usize) -> bool>(&self, below: &F, count: &mut Count) -> usize
         requires callable { All (F.pre below.now) self.now }
         requires splits { (point : ℕ) × IsSplit (F.post below.now) self.now point }
         ensures split { IsSplit (F.post below.now) self.now result }
         ensures counted { AddsAtMost (bits (length self.now)) 0 count.old count.new }
+        ensures probed { 0 < length self.now → ticked count.old.probes ≤ count.new.probes }
+        ensures halved { raised (bits (suc (length self.now)) - 1) count.old.probes ≤ count.new.probes }
     {
         split_in(&self.edges, below, count)
+    }
+
+    fn split_around<F: Fn(usize) -> bool>(&self, below: &F, count: &mut Count) -> Split
+        requires callable { All (F.pre below.now) self.now }
+        requires splits { (point : ℕ) × IsSplit (F.post below.now) self.now point }
+        ensures split { IsSplit (F.post below.now) self.now result.point }
+        ensures beside { AreBeside self.now result }
+        ensures counted { AddsAtMost (bits (length self.now)) 0 count.old count.new }
+        ensures probed { 0 < length self.now → ticked count.old.probes ≤ count.new.probes }
+        ensures halved { raised (bits (suc (length self.now)) - 1) count.old.probes ≤ count.new.probes }
+    {
+        let point = split_in(&self.edges, below, count);
+        let front = if 0 < point {
+            Some(self.edges[point - 1])
+        } else {
+            None
+        };
+        Split {
+            point,
+            front,
+            behind: self.edges.get(point).copied(),
+        }
     }
 }

@@ -1,7 +1,7 @@
 //! What a tree answers without a change: the edge at a place, and where its edges split.
 ghost use Rattle.std.specs.Prelude.{◌≡◌, ℕ, ◌+◌, ◌-◌, ◌*◌, ◌<◌, ◌≤◌, ◌==◌, suc, All, if◌then◌else◌, IfSome, Some, length, slice_get, slice_index};
 ghost use Rattle.mvt_plane.specs.Counted.{ticked};
-ghost use Rattle.mvt_status.specs.Counts.{AddsAtMost, bits};
+ghost use Rattle.mvt_status.specs.Counts.{AddsAtMost, bits, raised};
 ghost use Rattle.mvt_status.specs.Split.{AreBeside, IsSplit};
 ghost use Rattle.mvt_status.specs.Tree.{edges_of, fewest, height_of};
 
@@ -107,6 +107,7 @@ fn split_behind_first<F: Fn(usize) -> bool>(edges: &[usize], below: &F, count: &
     ensures split { IsSplit (F.post below.now) edges.now result }
     ensures some { 0 < result }
     ensures counted { AddsAtMost (bits (length edges.now - 1)) 0 count.old count.new }
+    ensures probed { raised (bits (length edges.now) - 1) count.old.probes ≤ count.new.probes }
 {
     1 + split_in(&edges[1..], below, count)
 }

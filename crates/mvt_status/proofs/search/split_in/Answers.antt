@@ -1,5 +1,5 @@
 use Rattle.std.proofs.Common.{ℕ, ◌+◌, ◌-◌, ◌/◌, ◌<◌, length, refl, of_calls, arith}
-use Rattle.mvt_status.proofs.Halves.{whole_part, none_yet, split_behind, split_before, split_found, probes_half, added}
+use Rattle.mvt_status.proofs.Halves.{whole_part, none_yet, split_behind, split_before, split_found, probes_half, added, added_at_least}
 use Rattle.mvt_status.proofs.search.split_in.Goals as goal
 
 pub halves-init : goal.halves-init
@@ -21,7 +21,7 @@ halves-preserved-then-below g c =
       part = split_behind (goal.F-post g c.args.below.now) c.args.edges.now c.halves.from c.halves.to middle c.halves.invariant.part before
           _ c.below.result refl c.below.ensures c.if-below.true;
       probes = probes_half (c.halves.to - c.halves.from) (c.halves.to - (middle + 1)) (length c.args.edges.now) c.args.count.now c.halves.count c.probe.new.count
-          c.halves.invariant.probes c.probe.ensures.counted (omega (arith, c.halves-test.true)) (omega (arith, c.halves-test.true));
+          c.halves.invariant.probes c.probe.ensures.counted c.probe.ensures.probed (omega (arith, c.halves-test.true)) (omega (arith, c.halves-test.true)) (omega (arith, c.halves-test.true));
     }
 
 pub halves-preserved : goal.halves-preserved
@@ -32,7 +32,7 @@ halves-preserved g c =
       part = split_before (goal.F-post g c.args.below.now) c.args.edges.now c.halves.from c.halves.to middle c.halves.invariant.part before
           _ c.below.result refl c.below.ensures c.if-below.false;
       probes = probes_half (c.halves.to - c.halves.from) (middle - c.halves.from) (length c.args.edges.now) c.args.count.now c.halves.count c.probe.new.count
-          c.halves.invariant.probes c.probe.ensures.counted (omega (arith, c.halves-test.true)) (omega (arith, c.halves-test.true));
+          c.halves.invariant.probes c.probe.ensures.counted c.probe.ensures.probed (omega (arith, c.halves-test.true)) (omega (arith, c.halves-test.true)) (omega (arith, c.halves-test.true));
     }
 
 pub returns-clause-split : goal.returns-clause-split
@@ -41,3 +41,6 @@ returns-clause-split g c =
 
 pub returns-clause-counted : goal.returns-clause-counted
 returns-clause-counted g c = added (c.halves.to - c.halves.from) (length c.args.edges.now) c.args.count.now c.halves.count c.halves.invariant.probes
+
+pub returns-clause-probed : goal.returns-clause-probed
+returns-clause-probed g c = added_at_least (c.halves.to - c.halves.from) (length c.args.edges.now) c.args.count.now c.halves.count (omega (arith, c.halves-test.false)) c.halves.invariant.probes

@@ -1,14 +1,9 @@
-use Rattle.std.proofs.Common.{◌≡◌, ℕ, suc, ◌≤◌, Bool, true, false, true≢false, List, if◌then◌else◌, insert, is_ok, length, remove, ap, ◌∙◌, arith, rules}
+use Rattle.std.proofs.Common.{◌≡◌, ℕ, suc, ◌≤◌, List, insert, is_ok, length, remove, ap, ◌∙◌, arith, rules}
 use Rattle.std.proofs.lemmas.List.Edits.{length-insert}
 use Rattle.mvt_status.specs.Counts.{bits}
 use Rattle.mvt_status.proofs.BinaryDigits.{no_more_digits}
-use Rattle.mvt_status.proofs.ListEdits.{remove_inserted}
+use Rattle.mvt_status.proofs.ListEdits.{refused, remove_inserted}
 use Rattle.mvt_status.proofs.status.Status.insert_two.Goals as goal
-
--- the list where the second edge was refused
-refused : (placed : Bool) (list more most : List ℕ) → placed ≡ false → list ≡ (if placed then most else more) → list ≡ more
-refused true list more most is holds = absurd (true≢false is)
-refused false list more most is holds = holds
 
 -- the digits of the list's length with one more in it
 digits_of_more : (list more : List ℕ) (at edge : ℕ) → at ≤ length list → more ≡ insert list at edge → bits (length more) ≤ bits (suc (length list))
