@@ -9,6 +9,7 @@ pub mod EdgeNumbers
 pub mod FrontEdges
 pub mod FrontParity
 pub mod FrontRings
+pub mod LeastWork
 pub mod MeetingsFound
 pub mod NestFaults
 pub mod NestOnce

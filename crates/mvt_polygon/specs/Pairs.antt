@@ -1,9 +1,14 @@
 -- Pairs of edges that are to be tested, in place of all that there are.
-use Rattle.std.specs.Prelude.{◌≡◌, ◌⊎◌, ℕ, ◌*◌, ◌<◌, ◌≤◌, All, List, length, ℤ, ◌<ℤ◌}
+use Rattle.std.specs.Prelude.{◌≡◌, ◌⊎◌, ℕ, zero, suc, ◌+◌, ◌*◌, ◌<◌, ◌≤◌, All, List, length, ℤ, ◌<ℤ◌}
 use Rattle.mvt_plane.specs.declared.edge.Edge.{Edge}
 use Rattle.mvt_polygon.specs.Corners.{plan_of}
 use Rattle.mvt_polygon.specs.Sweep.{Tested}
 use Rattle.mvt_polygon.specs.declared.sweep.corners.Corner.{Corner}
+
+-- how many pairs so many edges have
+unfoldable pub pairs_of : ℕ → ℕ
+pairs_of zero = 0
+pairs_of (suc edges) = pairs_of edges + edges
 
 -- two different edges, the lesser number first
 pub record IsPair (corners : List Corner) (first second : ℕ) : Type 0 where

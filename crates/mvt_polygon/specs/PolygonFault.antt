@@ -3,9 +3,16 @@ use Rattle.std.specs.Prelude.{List, Option, Some, None}
 use Rattle.mvt_plane.specs.Position.{Position}
 use Rattle.mvt_polygon.specs.Meeting.{IsMeetingOf, NoMeeting}
 use Rattle.mvt_polygon.specs.Nesting.{IsFirstNestFault, IsNestFault}
+use Rattle.mvt_polygon.specs.declared.meeting.Meeting.{Meeting as MeetingOf}
 use Rattle.mvt_polygon.specs.declared.nesting.NestFault.{NestFault}
 use Rattle.mvt_polygon.specs.declared.polygon.PolygonFault.{PolygonFault}
 use Rattle.mvt_polygon.specs.declared.polygon.PolygonFault.TheVariants.{Meeting, Nesting}
+
+-- the meeting that is answered, if any
+abbrev pub meeting_in : Option PolygonFault → Option MeetingOf
+meeting_in (Some (Meeting meeting)) = Some meeting
+meeting_in (Some (Nesting fault)) = None
+meeting_in None = None
 
 -- the answer is a meeting; or, where no edges meet wrongly, the first fault of a hole; or nothing, where there is
 -- neither

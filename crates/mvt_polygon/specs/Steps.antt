@@ -31,6 +31,12 @@ abbrev pub after_an_end : Option Pair → Step
 after_an_end (Some pair) = Meets pair
 after_an_end None = Ends
 
+-- the meeting that a step came to, if any
+abbrev pub met_by : Step → Option Pair
+met_by (Meets pair) = Some pair
+met_by (Begins place) = None
+met_by Ends = None
+
 -- the step over the corner came to this
 abbrev pub IsStep : List Corner → ℕ → List ℕ → List ℕ → Step → Type 0
 IsStep corners number before after (Meets pair) = IsMeetingAt corners pair

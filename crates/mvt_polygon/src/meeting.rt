@@ -1,12 +1,11 @@
 //! Edges that meet wrongly.
 ghost use Rattle.std.specs.Prelude.{◌≡◌, ◌+◌, ◌*◌, ◌<◌, IfOk, IfNone, IfSome, None, Some, []};
-ghost use Rattle.mvt_polygon.specs.CornerOrder.{AddsWork};
+ghost use Rattle.mvt_polygon.specs.CornerOrder.{AddsWork, IsCounted};
 ghost use Rattle.mvt_polygon.specs.Corners.{AreCorners, IsNumbered, IsNamedMeeting, vertex_count};
 ghost use Rattle.mvt_polygon.specs.Meeting.{IsMeetingOf, NoMeeting};
 ghost use Rattle.mvt_polygon.specs.Rings.{rings_of, AreProperRings};
 ghost use Rattle.mvt_status.specs.Counts.{bits};
 
-use crate::pairs::{Pairs, find_pairs, meeting_among};
 use crate::sweep::{
     Corner, Pair, corners_of, meeting_at, numbers_of, one_position, order_of, sweep,
 };
@@ -38,8 +37,8 @@ pub struct Meeting {
 /// Each ring is to have three vertices or more, none at the position of the next one. `count` counts the
 /// work: of n vertices at most 3 * n tests of two edges, n * (2 * bits(n) + 2) comparisons of an edge with a vertex and
 /// n * 20 * bits(n) nodes of the status that are visited, where bits(n) is the number of n's binary digits; none of its
-/// numbers falls. Of at most 16 edges all pairs are looked at, unless more than three for each edge need a test;
-/// otherwise the edges are swept over. The only error is that memory was refused.
+/// numbers falls. Where a meeting is found, there is a test at least, and where none is, n comparisons. The edges are
+/// swept over. The only error is that memory was refused.
 pub fn find_meeting(
     alloc: Global,
     rings: &[Vec<Point>],
@@ -49,16 +48,12 @@ pub fn find_meeting(
     ensures none { IfOk result (λ found. IfNone found (NoMeeting (rings_of rings.now))) }
     ensures some { IfOk result (λ found. IfSome found (IsMeetingOf (rings_of rings.now))) }
     ensures counted { let vertices = vertex_count (rings_of rings.now) in AddsWork (3 * vertices) (vertices * (2 * bits vertices + 2)) (vertices * (20 * bits vertices)) count.old count.new }
+    ensures least { IfOk result (IsCounted (vertex_count (rings_of rings.now)) count.old count.new) }
 {
-    let corners = corners_of(alloc, rings)?;
-    let mut pairs = Pairs::new();
-    if find_pairs(&corners, &mut pairs) {
-        return Ok(named_meeting(rings, meeting_among(&corners, &pairs, count)));
-    }
-    meeting_by_sweep(alloc, rings, &corners, &mut TreeStatus::new(alloc), count)
+    find_meeting_with(alloc, rings, &mut TreeStatus::new(alloc), count)
 }
 
-/// The same, always by a sweep, over a status of the caller's that is empty at the call. Where the status is refused
+/// The same, over a status of the caller's that is empty at the call. Where the status is refused
 /// memory, the call returns the error.
 pub fn find_meeting_with<S: Status>(
     alloc: Global,
@@ -71,13 +66,14 @@ pub fn find_meeting_with<S: Status>(
     ensures none { IfOk result (λ found. IfNone found (NoMeeting (rings_of rings.now))) }
     ensures some { IfOk result (λ found. IfSome found (IsMeetingOf (rings_of rings.now))) }
     ensures counted { let vertices = vertex_count (rings_of rings.now) in AddsWork (3 * vertices) (vertices * (2 * bits vertices + 2)) (vertices * (20 * bits vertices)) count.old count.new }
+    ensures least { IfOk result (IsCounted (vertex_count (rings_of rings.now)) count.old count.new) }
 {
     let corners = corners_of(alloc, rings)?;
     meeting_by_sweep(alloc, rings, &corners, status, count)
 }
 
 /// The same, where the corners of the rings are given.
-fn meeting_by_sweep<S: Status>(
+pub(crate) fn meeting_by_sweep<S: Status>(
     alloc: Global,
     rings: &[Vec<Point>],
     corners: &[Corner],
@@ -90,6 +86,7 @@ fn meeting_by_sweep<S: Status>(
     ensures none { IfOk result (λ found. IfNone found (NoMeeting (rings_of rings.now))) }
     ensures some { IfOk result (λ found. IfSome found (IsMeetingOf (rings_of rings.now))) }
     ensures counted { let vertices = vertex_count (rings_of rings.now) in AddsWork (3 * vertices) (vertices * (2 * bits vertices + 2)) (vertices * (20 * bits vertices)) count.old count.new }
+    ensures least { IfOk result (IsCounted (vertex_count (rings_of rings.now)) count.old count.new) }
 {
     let order = order_of(alloc, corners)?;
     if let Some((first, second)) = one_position(corners, &order) {

@@ -1,10 +1,12 @@
 //! Few edges: of all their pairs those are found that may meet, and only these are tested. It takes no memory, and no
 //! order of the vertices.
-ghost use Rattle.std.specs.Prelude.{◌≡◌, ◌<◌, IfNone, IfSome, IsTrue, false, [], length};
-ghost use Rattle.mvt_polygon.specs.CornerOrder.{AddsWork};
+ghost use Rattle.std.specs.Prelude.{◌≡◌, ◌*◌, ◌<◌, ◌≤◌, IfNone, IfSome, IsTrue, false, [], length};
+ghost use Rattle.mvt_plane.specs.Counted.{ticked};
+ghost use Rattle.mvt_polygon.specs.CornerOrder.{AddsWork, IsCounted};
 ghost use Rattle.mvt_polygon.specs.Corners.{AreLinked, IsMeetingAt, NoneWrong, plan_of};
-ghost use Rattle.mvt_polygon.specs.Pairs.{AreBoxesApart, AreEnough, AreEnoughForAll, AreLess};
+ghost use Rattle.mvt_polygon.specs.Pairs.{AreBoxesApart, AreEnough, AreEnoughForAll, AreLess, pairs_of};
 ghost use Rattle.mvt_polygon.specs.Sweep.{Tested};
+ghost use Rattle.mvt_status.specs.Counts.{raised};
 
 use crate::sweep::{Corner, Pair, edge_at, meeting_at, next_of};
 use arrayvec::ArrayVec;
@@ -20,17 +22,20 @@ const MOST_PAIRS: usize = 48;
 pub(crate) type Pairs = ArrayVec<(usize, usize), MOST_PAIRS>;
 
 /// Finds the pairs of edges that may meet wrongly, and answers whether these are all. It gives up where the edges are
-/// many, or such pairs more than three times as many as the edges.
-pub(crate) fn find_pairs(corners: &[Corner], pairs: &mut Pairs) -> bool
+/// many, or such pairs more than three times as many as the edges. Ticks a probe for each pair that it looks at: for all
+/// pairs where it doesn't give up, and at most eight for each edge.
+pub(crate) fn find_pairs(corners: &[Corner], pairs: &mut Pairs, count: &mut Count) -> bool
     requires linked { AreLinked corners.now }
     requires empty { pairs.old.items ≡ [] }
-    ensures { IsTrue result → AreEnoughForAll corners.now pairs.new.items }
+    ensures enough { IsTrue result → AreEnoughForAll corners.now pairs.new.items }
+    ensures counted { AddsWork 0 (8 * length corners.now) 0 count.old count.new }
+    ensures probed { IsTrue result → raised (pairs_of (length corners.now)) count.old.probes ≤ count.new.probes }
 {
     if corners.len() > MOST_EDGES {
         return false;
     }
     for second in 0..corners.len() {
-        if !add_pairs(corners, second, pairs) {
+        if !add_pairs(corners, second, pairs, count) {
             return false;
         }
     }
@@ -38,15 +43,18 @@ pub(crate) fn find_pairs(corners: &[Corner], pairs: &mut Pairs) -> bool
 }
 
 /// Adds the pairs of an edge with those of lesser numbers that it may meet wrongly, and answers whether there was room.
-fn add_pairs(corners: &[Corner], second: usize, pairs: &mut Pairs) -> bool
+/// Ticks a probe for each pair that it looks at.
+fn add_pairs(corners: &[Corner], second: usize, pairs: &mut Pairs, count: &mut Count) -> bool
     requires linked { AreLinked corners.now }
     requires few { length corners.now < 17 }
     requires known { second < length corners.now }
     requires before { AreEnough corners.now pairs.old.items second 0 }
-    ensures { IsTrue result → AreEnough corners.now pairs.new.items second second }
+    ensures enough { IsTrue result → AreEnough corners.now pairs.new.items second second }
+    ensures counted { AddsWork 0 second 0 count.old count.new }
+    ensures probed { IsTrue result → raised second count.old.probes ≤ count.new.probes }
 {
     for first in 0..second {
-        if may_meet(corners, first, second) {
+        if may_meet(corners, first, second, count) {
             if pairs.len() >= 3 * corners.len() {
                 return false;
             }
@@ -57,14 +65,17 @@ fn add_pairs(corners: &[Corner], second: usize, pairs: &mut Pairs) -> bool
 }
 
 /// Whether two edges may meet wrongly: neighbours in a ring where they lie along one line, others where the boxes
-/// around them overlap.
+/// around them overlap. Ticks a probe.
 #[inline]
-fn may_meet(corners: &[Corner], first: usize, second: usize) -> bool
+fn may_meet(corners: &[Corner], first: usize, second: usize, count: &mut Count) -> bool
     requires linked { AreLinked corners.now }
     requires first { first < length corners.now }
     requires second { second < length corners.now }
-    ensures { result ≡ false → Tested (plan_of corners.now) first second }
+    ensures clear { result ≡ false → Tested (plan_of corners.now) first second }
+    ensures counted { AddsWork 0 1 0 count.old count.new }
+    ensures probed { count.new.probes ≡ ticked count.old.probes }
 {
+    count.tick_probe();
     let one = edge_at(corners, first);
     let other = edge_at(corners, second);
     if next_of(corners, first) == second {
@@ -100,7 +111,8 @@ fn is_under(one: &Edge, other: &Edge) -> bool
     one.a.y().max(one.b.y()) < other.a.y().min(other.b.y())
 }
 
-/// The first wrong meeting of edges of which these pairs are to be tested.
+/// The first wrong meeting of edges of which these pairs are to be tested. Makes one test for each pair, up to the one
+/// that it answers.
 pub(crate) fn meeting_among(
     corners: &[Corner],
     pairs: &[(usize, usize)],
@@ -111,6 +123,8 @@ pub(crate) fn meeting_among(
     ensures none { IfNone result (NoneWrong corners.now) }
     ensures some { IfSome result (IsMeetingAt corners.now) }
     ensures counted { AddsWork (length pairs.now) 0 0 count.old count.new }
+    ensures least { IsCounted 0 count.old count.new result }
+    ensures tested { IfNone result (raised (length pairs.now) count.old.tests ≤ count.new.tests) }
 {
     for at in 0..pairs.len() {
         let (first, second) = pairs[at];

@@ -1,7 +1,7 @@
 //! A sweep that finds edges that meet wrongly: a line goes over the plane from corner to corner, and of all edges
 //! only those are tested that become neighbours along it.
 ghost use Rattle.std.specs.Prelude.{◌≡◌, ◌+◌, ◌*◌, IfNone, IfSome, IfOk, [], length};
-ghost use Rattle.mvt_polygon.specs.CornerOrder.{AddsWork, IsOrder, IsStrict, with_keys};
+ghost use Rattle.mvt_polygon.specs.CornerOrder.{AddsWork, IsCounted, IsOrder, IsStrict, with_keys};
 ghost use Rattle.mvt_polygon.specs.Corners.{AreInRange, AreLinked, IsMeetingAt, NoneWrong};
 ghost use Rattle.mvt_status.specs.Counts.{bits};
 
@@ -40,6 +40,7 @@ pub(crate) fn sweep<S: Status>(
     ensures none { IfOk result (λ found. IfNone found (NoneWrong corners.now)) }
     ensures some { IfOk result (λ found. IfSome found (IsMeetingAt corners.now)) }
     ensures counted { AddsWork (3 * length order.now) (length order.now * (2 * bits (length corners.now) + 2)) (length order.now * (12 * bits (length corners.now))) count.old count.new }
+    ensures least { IfOk result (IsCounted (length order.now) count.old count.new) }
 {
     for at in 0..order.len() {
         if let Step::Meets(pair) = go_over(corners, order[at], status, count)? {

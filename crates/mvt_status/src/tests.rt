@@ -114,3 +114,36 @@ pub(crate) fn split_of_many<S: Status>(
         visits_to_insert,
     })
 }
+
+/// The visits to get the edge at a place.
+fn visits_to_get<S: Status>(status: &S, at: usize) -> u64
+    requires { at < length (S.edges status.now) }
+{
+    let mut count = Count::new();
+    status.get(at, &mut count);
+    count.visits()
+}
+
+/// The visits to put two edges in at a place.
+fn visits_to_insert_two<S: Status>(status: &mut S, at: usize) -> Result<u64, AllocError>
+    requires { at ≤ length (S.edges status.old) }
+{
+    let mut count = Count::new();
+    status.insert_two(at, 0, 1, &mut count)?;
+    Ok(count.visits())
+}
+
+/// The visits at both ends of a status that counts up, and is empty at first: to get its first edge and its last one,
+/// and to put two edges in front of all and behind them.
+pub(crate) fn visits_at_ends<S: Status>(status: &mut S, many: usize) -> Result<[u64; 4], AllocError>
+    requires empty { S.edges status.old ≡ [] }
+    requires some { 0 < many }
+{
+    count_up(status, many, &mut Count::new())?;
+    Ok([
+        visits_to_get(status, 0),
+        visits_to_get(status, many - 1),
+        visits_to_insert_two(status, 0)?,
+        visits_to_insert_two(status, many)?,
+    ])
+}

@@ -66,7 +66,7 @@ pub(crate) fn are_drawn(rings: &[Vec<Point>]) -> bool
 }
 
 /// Two edges, each by ring and edge.
-type Edges = ((usize, usize), (usize, usize));
+pub(crate) type Edges = ((usize, usize), (usize, usize));
 
 /// A way to look for a meeting.
 #[derive(Clone, Copy)]
@@ -140,7 +140,11 @@ fn meets(
 }
 
 /// Whether a meeting is that of one of these pairs of edges, with this point.
-fn is_one_of(found: Option<Meeting>, pairs: &[Edges], point: (i128, i128, i128)) -> bool {
+pub(crate) fn is_one_of(
+    found: Option<Meeting>,
+    pairs: &[Edges],
+    point: (i128, i128, i128),
+) -> bool {
     match found {
         Some(meeting) => {
             let first = (meeting.first_ring, meeting.first_edge);
@@ -170,7 +174,7 @@ const WRONG: &[&[Coordinates]] = &[
 ];
 
 /// Rings, the pairs of edges of which any may be found, and the point.
-const MEETINGS: &[(&[Coordinates], &[Edges], (i128, i128, i128))] = &[
+pub(crate) const MEETINGS: &[(&[Coordinates], &[Edges], (i128, i128, i128))] = &[
     // Crossings in one ring, also at the greatest coordinates.
     (
         &[&[(0, 8), (10, 0), (10, 10), (0, 0)]],
@@ -309,6 +313,16 @@ fn two_combs(rt: HostRuntime) {
     assert!(rt; is_work_of_combs(&rt, alloc, &ring));
     let crossed = combs(&rt, alloc, 158, (77, 15));
     assert!(rt; agree(&rt, alloc, &[&crossed], false));
+}
+
+// Each of a square's edges begins or ends in a corner, where it is compared with another one or with a neighbour.
+#[test]
+fn work_of_a_square(rt: HostRuntime) {
+    for way in WAYS {
+        let (found, count) = found_at(&rt, rt.alloc(), &[SQUARE], way);
+        assert!(rt; found.is_none());
+        assert!(rt; is_some_work(count.tests(), 12) && 4 <= count.probes() && count.probes() <= 32);
+    }
 }
 
 // No edges, so no work.

@@ -1,5 +1,6 @@
 use super::{PolygonFault, check_polygon};
-use crate::meeting::tests::{are_drawn, is_some_work};
+use crate::meeting::Meeting;
+use crate::meeting::tests::{MEETINGS, are_drawn, is_one_of, is_some_work};
 use crate::nesting::NestFault;
 use crate::nesting::tests::PLACES;
 use crate::rings::tests::{Coordinates, SQUARE, ring_at, rings_at};
@@ -20,17 +21,39 @@ fn fault_at(rt: &impl Abort, alloc: Global, coordinates: &[&[(i32, i32)]]) -> Op
     fault_in(rt, alloc, &rings_at(rt, alloc, coordinates)).0
 }
 
-/// Edges that cross in one ring, and a hole that touches its exterior.
-const MEETINGS: &[&[Coordinates]] = &[
-    &[&[(0, 8), (10, 0), (10, 10), (0, 0)]],
-    &[SQUARE, &[(0, 5), (3, 7), (3, 3)]],
-];
+/// The meeting in a fault, if it is one.
+fn meeting_of(fault: Option<PolygonFault>) -> Option<Meeting> {
+    match fault {
+        Some(PolygonFault::Meeting(meeting)) => Some(meeting),
+        _ => None,
+    }
+}
 
 #[test]
 fn meetings(rt: HostRuntime) {
-    for rings in MEETINGS {
-        let fault = fault_at(&rt, rt.alloc(), rings);
-        assert!(rt; matches!(fault, Some(PolygonFault::Meeting(_))));
+    for &(rings, pairs, point) in MEETINGS {
+        let meeting = meeting_of(fault_at(&rt, rt.alloc(), rings));
+        assert!(rt; is_one_of(meeting, pairs, point));
+    }
+}
+
+/// Rings of few edges, and how many pairs of edges need a test up to the first that meets. Of a square none does: edges
+/// that follow each other make a turn, and others have boxes that are apart. Of the other two one does, which crosses or
+/// goes back.
+const FEW_EDGES: [(Coordinates, u64, u64); 3] = [
+    (SQUARE, 6, 0),
+    (&[(0, 8), (10, 0), (10, 10), (0, 0)], 6, 1),
+    (&[(0, 0), (10, 0), (5, 0)], 3, 1),
+];
+
+// All pairs of edges are looked at, and no status is needed.
+#[test]
+fn all_pairs_of_few_edges(rt: HostRuntime) {
+    for (ring, pairs, tests) in FEW_EDGES {
+        let rings = rings_at(&rt, rt.alloc(), &[ring]);
+        let (fault, count) = fault_in(&rt, rt.alloc(), &rings);
+        assert!(rt; fault.is_some() == (tests == 1));
+        assert!(rt; (count.tests(), count.probes(), count.visits()) == (tests, pairs, 0));
     }
 }
 

@@ -1,8 +1,9 @@
 //! What happens where the line of a sweep comes to a corner in which both of its edges begin.
 ghost use Rattle.std.specs.Prelude.{◌≡◌, ◌<◌, ◌⊎◌, IfNone, IfSome, IfOk, length};
-ghost use Rattle.mvt_polygon.specs.CornerOrder.{AddsStep, AddsWork, IsNextCorner, IsSweptOver};
+ghost use Rattle.mvt_plane.specs.Counted.{ticked};
+ghost use Rattle.mvt_polygon.specs.CornerOrder.{AddsStep, AddsWork, IsCounted, IsNextCorner, IsSweptOver};
 ghost use Rattle.mvt_polygon.specs.Corners.{AreInRange, AreLinked, IsMeetingAt, plan_of, position_at, previous_at};
-ghost use Rattle.mvt_polygon.specs.Steps.{IsStep};
+ghost use Rattle.mvt_polygon.specs.Steps.{IsStep, met_by};
 ghost use Rattle.mvt_polygon.specs.Sweep.{BeginThere, BothBegin, Tested};
 
 use crate::sweep::corners::{Corner, meeting_at, next_of, previous_of};
@@ -27,6 +28,7 @@ pub(crate) fn begin<S: Status>(
     requires begin { BeginThere (plan_of corners.now) (position_at corners.now number) (previous_at corners.now number) number }
     ensures step { IfOk result (IsStep corners.now number (S.edges status.old) (S.edges status.new)) }
     ensures counted { AddsStep 3 (length corners.now) count.old count.new }
+    ensures least { IfOk result (λ step. IsCounted 1 count.old count.new (met_by step)) }
 {
     let previous = previous_of(corners, number);
     if let Some(pair) = meeting_at(corners, previous, number, count) {
@@ -55,6 +57,7 @@ fn in_order(corners: &[Corner], number: usize, count: &mut Count) -> (usize, usi
     ensures pair { (result ≡ (previous_at corners.now number, number)) ⊎ (result ≡ (number, previous_at corners.now number)) }
     ensures begin { BothBegin (plan_of corners.now) (position_at corners.now number) result.0 result.1 }
     ensures counted { AddsWork 0 1 0 count.old count.new }
+    ensures probed { count.new.probes ≡ ticked count.old.probes }
 {
     let previous = previous_of(corners, number);
     let position = corners[number].position;

@@ -1,5 +1,6 @@
 //! The vertices of rings in one list, each with the edge that begins in it.
 ghost use Rattle.std.specs.Prelude.{◌≡◌, ◌≢◌, ◌<◌, ◌^◌, IfOk, IfNone, IfSome, OnOk, suc, length, take};
+ghost use Rattle.mvt_plane.specs.Counted.{ticked};
 ghost use Rattle.mvt_polygon.specs.CornerOrder.{AddsWork};
 ghost use Rattle.mvt_polygon.specs.Corners.{AreCorners, AreLinked, IsMeetingAt, edge_at, far_end_of, next_at, plan_of, previous_at, shared_at, vertex_count};
 ghost use Rattle.mvt_polygon.specs.Rings.{rings_of};
@@ -134,6 +135,7 @@ pub(crate) fn meeting_at(
     ensures none { IfNone result (Tested (plan_of corners.now) one other × Tested (plan_of corners.now) other one) }
     ensures some { IfSome result (IsMeetingAt corners.now) }
     ensures counted { AddsWork 1 0 0 count.old count.new }
+    ensures tested { count.new.tests ≡ ticked count.old.tests }
 {
     if one < other {
         meeting_in_order(corners, one, other, count)
@@ -155,6 +157,7 @@ fn meeting_in_order(
     ensures none { IfNone result (Tested (plan_of corners.now) first second) }
     ensures some { IfSome result (IsMeetingAt corners.now) }
     ensures counted { AddsWork 1 0 0 count.old count.new }
+    ensures tested { count.new.tests ≡ ticked count.old.tests }
 {
     let shared = shared_at(corners, first, second);
     let point = common(

@@ -1,7 +1,7 @@
 //! What happens where the line of a sweep comes to a corner: one edge of the corner goes over into the other, or
 //! both end.
 ghost use Rattle.std.specs.Prelude.{◌<◌, IfNone, IfSome, IfOk, length};
-ghost use Rattle.mvt_polygon.specs.CornerOrder.{AddsStep, IsNextCorner, IsSweptOver};
+ghost use Rattle.mvt_polygon.specs.CornerOrder.{AddsStep, IsCounted, IsNextCorner, IsSweptOver};
 ghost use Rattle.mvt_polygon.specs.Corners.{AreInRange, AreLinked, IsMeetingAt, plan_of, position_at, previous_at};
 ghost use Rattle.mvt_polygon.specs.Sweep.{BothEnd, PassesOn};
 
@@ -29,6 +29,7 @@ pub(crate) fn pass<S: Status>(
     ensures none { IfOk result (λ found. IfNone found (IsSweptOver corners.now number (S.edges status.new))) }
     ensures some { IfOk result (λ found. IfSome found (IsMeetingAt corners.now)) }
     ensures counted { AddsStep 2 (length corners.now) count.old count.new }
+    ensures least { IfOk result (IsCounted 1 count.old count.new) }
 {
     let place = place_of(corners, number, status, count);
     if let Some(pair) = meeting_with(corners, beginning, place.front, count) {
@@ -58,6 +59,7 @@ pub(crate) fn end<S: Status>(
     ensures none { IfNone result (IsSweptOver corners.now number (S.edges status.new)) }
     ensures some { IfSome result (IsMeetingAt corners.now) }
     ensures counted { AddsStep 1 (length corners.now) count.old count.new }
+    ensures least { IsCounted 1 count.old count.new result }
 {
     let place = place_of(corners, number, status, count);
     status.remove(place.point, count);

@@ -1,5 +1,6 @@
 //! Tests of edges that became neighbours in the status.
 ghost use Rattle.std.specs.Prelude.{◌≡◌, ◌≢◌, ◌*◌, ◌<◌, ◌≤◌, IfNone, IfSome, drop, length, take};
+ghost use Rattle.mvt_plane.specs.Counted.{ticked};
 ghost use Rattle.mvt_polygon.specs.Chain.{Each, Head, Joined, Ordered};
 ghost use Rattle.mvt_polygon.specs.CornerOrder.{AddsWork};
 ghost use Rattle.mvt_polygon.specs.Corners.{AreLinked, IsMeetingAt, plan_of};
@@ -24,6 +25,7 @@ pub(crate) fn meeting_with(
     ensures none { IfNone result (IfSome beside (λ other. Tested (plan_of corners.now) edge other × Tested (plan_of corners.now) other edge)) }
     ensures some { IfSome result (IsMeetingAt corners.now) }
     ensures counted { AddsWork 1 0 0 count.old count.new }
+    ensures tested { IfSome result (λ _. ticked count.old.tests ≤ count.new.tests) }
 {
     meeting_at(corners, edge, beside?, count)
 }
@@ -44,6 +46,7 @@ pub(crate) fn meeting_above<S: Status>(
     ensures none { IfNone result (Head (Tested (plan_of corners.now)) edge (drop place (S.edges status.now))) }
     ensures some { IfSome result (IsMeetingAt corners.now) }
     ensures counted { AddsWork 1 0 (2 * bits (length corners.now)) count.old count.new }
+    ensures tested { IfSome result (λ _. ticked count.old.tests ≤ count.new.tests) }
 {
     if place == status.len() {
         return None;
@@ -69,6 +72,7 @@ pub(crate) fn meeting_across<S: Status>(
     ensures none { IfNone result (Joined (Tested (plan_of corners.now)) (take place (S.edges status.now)) (drop place (S.edges status.now))) }
     ensures some { IfSome result (IsMeetingAt corners.now) }
     ensures counted { AddsWork 1 0 (2 * bits (length corners.now)) count.old count.new }
+    ensures tested { IfSome result (λ _. ticked count.old.tests ≤ count.new.tests) }
 {
     let below = below?;
     if place == status.len() {

@@ -1,5 +1,6 @@
 //! The place of a corner among the edges that the line of a sweep meets.
 ghost use Rattle.std.specs.Prelude.{◌≡◌, ◌↔◌, ◌*◌, ◌<◌, ◌≤◌, IsTrue, List, ℕ, drop, length, take};
+ghost use Rattle.mvt_plane.specs.Counted.{ticked};
 ghost use Rattle.mvt_polygon.specs.Chain.{Each};
 ghost use Rattle.mvt_polygon.specs.CornerOrder.{AddsWork};
 ghost use Rattle.mvt_polygon.specs.Corners.{AreInRange, AreLinked, plan_of, position_at};
@@ -29,6 +30,7 @@ pub(crate) fn place_of<S: Status>(
     ensures cut { IsCut (plan_of corners.now) (position_at corners.now number) (S.edges status.now) (take result.point (S.edges status.now)) (drop result.point (S.edges status.now)) }
     ensures beside { AreBeside (S.edges status.now) result }
     ensures counted { AddsWork 0 (2 * bits (length corners.now)) (6 * bits (length corners.now)) count.old count.new }
+    ensures probed { 0 < length (S.edges status.now) → ticked count.old.probes ≤ count.new.probes }
 {
     let position = corners[number].position;
     let below = |edge: usize| -> bool

@@ -1,6 +1,6 @@
 //! A sweep that also notes which rings are around each ring.
 ghost use Rattle.std.specs.Prelude.{◌≡◌, ◌+◌, ◌*◌, [], length, IfOk};
-ghost use Rattle.mvt_polygon.specs.CornerOrder.{AddsWork, IsOrder, IsStrict, with_keys};
+ghost use Rattle.mvt_polygon.specs.CornerOrder.{AddsWork, IsCounted, IsOrder, IsStrict, with_keys};
 ghost use Rattle.mvt_polygon.specs.Corners.{AreCorners, AreInRange, AreLinked};
 ghost use Rattle.mvt_polygon.specs.RingNotes.{IsNothingNoted};
 ghost use Rattle.mvt_polygon.specs.Rings.{rings_of, AreProperRings};
@@ -36,6 +36,7 @@ pub(crate) fn sweep_rings<S: Status>(
     requires empty { S.edges status.old ≡ [] }
     ensures swept { IfOk result (IsSweptWithNotes (rings_of rings.now) corners.now notes.new) }
     ensures counted { AddsWork (3 * length order.now) (length order.now * (2 * bits (length corners.now) + 2)) (length order.now * (14 * bits (length corners.now))) count.old count.new }
+    ensures least { IfOk result (IsCounted (length order.now) count.old count.new) }
 {
     for at in 0..order.len() {
         match go_over(corners, order[at], status, count)? {

@@ -1,8 +1,8 @@
 //! One step of a sweep: its line goes over the next corner.
 ghost use Rattle.std.specs.Prelude.{◌≡◌, ◌<◌, IfOk, length};
-ghost use Rattle.mvt_polygon.specs.CornerOrder.{AddsStep, IsNextCorner};
+ghost use Rattle.mvt_polygon.specs.CornerOrder.{AddsStep, IsCounted, IsNextCorner};
 ghost use Rattle.mvt_polygon.specs.Corners.{AreInRange, AreLinked, previous_at};
-ghost use Rattle.mvt_polygon.specs.Steps.{after_an_end, IsStep};
+ghost use Rattle.mvt_polygon.specs.Steps.{after_an_end, IsStep, met_by};
 
 use crate::sweep::begin::begin;
 use crate::sweep::corners::{Corner, Pair, next_of, previous_of};
@@ -35,6 +35,7 @@ pub(crate) fn go_over<S: Status>(
     requires next { IsNextCorner corners.now number (previous_at corners.now number) number (S.edges status.old) }
     ensures step { IfOk result (IsStep corners.now number (S.edges status.old) (S.edges status.new)) }
     ensures counted { AddsStep 3 (length corners.now) count.old count.new }
+    ensures least { IfOk result (λ step. IsCounted 1 count.old count.new (met_by step)) }
 {
     let previous = previous_of(corners, number);
     let before = corners[previous].position;

@@ -1,5 +1,5 @@
 use super::TreeStatus;
-use crate::tests::{edges_come_and_go, split_of_many};
+use crate::tests::{edges_come_and_go, split_of_many, visits_at_ends};
 use std::process::Abort;
 use std::test::Fail;
 
@@ -22,5 +22,21 @@ fn many_edges(rt: HostRuntime) -> Result<(), Fail> {
     assert!(&rt; 4 <= many.visits && many.visits <= 9);
     assert!(&rt; many.visits <= many.probes && many.probes <= many.visits + 3);
     assert!(&rt; 7 <= many.visits_to_insert && many.visits_to_insert <= 9);
+    Ok(())
+}
+
+// So many edges, and the fewest and the most visits of a call that goes to one end of the tree. Counted up, they fill
+// nodes of eight: 13, 125 and 12,500 of them. So many nodes have at least 4, 7 and 14 levels, and a balanced tree of
+// them at most 5, 9 and 19. The first node has nothing on its left and the last one nothing on its right, so each is
+// two levels high at most. On the way there each step goes down by at most two levels' height.
+const ENDS: [(usize, u64, u64); 3] = [(100, 2, 5), (1_000, 4, 9), (100_000, 7, 19)];
+
+#[test]
+fn both_ends(rt: HostRuntime) -> Result<(), Fail> {
+    for (many, fewest, most) in ENDS {
+        for visits in visits_at_ends(&mut TreeStatus::new(rt.alloc()), many)? {
+            assert!(&rt; fewest <= visits && visits <= most);
+        }
+    }
     Ok(())
 }

@@ -1,8 +1,12 @@
-use Rattle.std.proofs.Common.{◌∙◌, subst}
-use Rattle.mvt_polygon.specs.CornerOrder.{IsStrict}
+use Rattle.std.proofs.Common.{◌≡◌, ◌≤◌, ◌∙◌, ℕ, ℤ, ap, length, subst, arith}
+use Rattle.std.proofs.lemmas.List.{length-map}
+use Rattle.mvt_plane.specs.Counted.{ticked}
+use Rattle.mvt_polygon.specs.CornerOrder.{IsCounted, IsStrict}
+use Rattle.mvt_polygon.specs.Corners.{IsNamedMeeting, vertex_count}
 use Rattle.mvt_polygon.specs.Meeting.{NoMeeting}
 use Rattle.mvt_polygon.specs.Rings.{rings_of}
 use Rattle.mvt_polygon.proofs.CornerPlans.{linked_corners, none_of_rings}
+use Rattle.mvt_polygon.proofs.LeastWork.{counted_named, tested_named}
 use Rattle.mvt_polygon.proofs.MeetingsFound.{first_within, second_within, some_named, none_named, together_found}
 use Rattle.mvt_polygon.proofs.NoMeetings.{none_map}
 use Rattle.mvt_polygon.proofs.NumbersInOrder.{order_kept, strict_kept}
@@ -79,3 +83,21 @@ pub sweep-requires-clause-strict : goal.sweep-requires-clause-strict
 sweep-requires-clause-strict g c =
     strict_kept c.args.corners.now c.in_ok-order.order.items c.deref-2.result.now c.in_ok-order.ensures.order (c.deref-2.ensures.value ∙ c.in_ok-order-2.ensures)
     (subst IsStrict c.deref.ensures.value (rw c.in_default.is at c.one_position.ensures.none))
+
+pub returns-in-Some-clause-least : goal.returns-in-Some-clause-least
+returns-in-Some-clause-least g c =
+    let rings = rings_of c.args.rings.now in
+    let corners = c.args.corners.now in
+    let together = rw c.in-Some.is at c.one_position.ensures.some in
+    let none = none_named c.meeting_at.result c.named_meeting.result ⊥ c.named_meeting.ensures.none
+    (together_found corners c.in-Some.first c.in-Some.second c.meeting_at.result ⊥ (linked_corners rings corners c.requires.rings c.requires.corners) together c.meeting_at.ensures.none) in
+    tested_named (vertex_count rings) c.args.count.now c.meeting_at.new.count c.named_meeting.result none (omega (arith, c.meeting_at.ensures.tested))
+
+pub returns-clause-least : goal.returns-clause-least
+returns-clause-least g c =
+    let rings = rings_of c.args.rings.now in
+    let size : length c.deref-2.result.now ≡ vertex_count rings =
+    ap length (c.deref-2.ensures.value ∙ c.in_ok-order-2.ensures) ∙ length-map c.in_ok-order.order.items (λ (pair : ℤ × ℕ). pair.1) ∙ c.in_ok-order.ensures.whole ∙ c.requires.corners.count in
+    counted_named (λ meeting pair. IsNamedMeeting rings pair meeting) (vertex_count rings) c.args.count.now c.sweep.new.count c.in_ok-found.found c.named_meeting-2.result
+    c.named_meeting-2.ensures.none c.named_meeting-2.ensures.some
+    (subst (λ (many : ℕ). IsCounted many c.args.count.now c.sweep.new.count c.in_ok-found.found) size c.in_ok-found.ensures.least)

@@ -1,19 +1,28 @@
 use Rattle.std.proofs.Common.{ℕ, ◌+◌, List, sym, ap, ◌∙◌, subst, arith}
 use Rattle.mvt_polygon.specs.Pairs.{AreEnough}
 use Rattle.mvt_polygon.proofs.PairsEnough.{enough_with_clear, enough_with_pair}
+use Rattle.mvt_polygon.proofs.StatusCounts.{no_work, work_then}
 use Rattle.mvt_polygon.proofs.pairs.add_pairs.Goals as goal
 use Rattle.mvt_polygon.proofs.pairs.add_pairs.Goals.{then-may_meet+else-len-corners, else-may_meet}
+
+pub loop-first-init : goal.loop-first-init
+loop-first-init c = record { enough = c.requires.before; counted = no_work c.args.count.now; probed = omega arith }
 
 pub loop-first-preserved : goal.loop-first-preserved
 loop-first-preserved c =
     let corners = c.args.corners.now in
+    let so_far = c.loop-first.invariant in
     let enough = λ (pairs : List (ℕ × ℕ)). AreEnough corners pairs c.args.second (c.loop-first.first + 1) in
-    elim c.if-may_meet.branch [
-      | then-may_meet+else-len-corners w ↦
-          subst enough (sym w.push.ensures.items ∙ ap (λ pairs. pairs.items) (sym w.pairs-is))
-          (enough_with_pair corners c.loop-first.pairs.items c.args.second c.loop-first.first c.loop-first.invariant c.loop-first-test.true c.requires.known
-          (omega (arith, w.len.ensures.value, w.if-len-corners.false)))
-      | else-may_meet w ↦
-          subst enough (ap (λ pairs. pairs.items) (sym w.pairs-is))
-          (enough_with_clear corners c.loop-first.pairs.items c.args.second c.loop-first.first c.loop-first.invariant (c.may_meet.ensures w.if-may_meet.false))
-    ]
+    record {
+      enough = elim c.if-may_meet.branch [
+        | then-may_meet+else-len-corners w ↦
+            subst enough (sym w.push.ensures.items ∙ ap (λ pairs. pairs.items) (sym w.pairs-is))
+            (enough_with_pair corners c.loop-first.pairs.items c.args.second c.loop-first.first so_far.enough c.loop-first-test.true c.requires.known
+            (omega (arith, w.len.ensures.value, w.if-len-corners.false)))
+        | else-may_meet w ↦
+            subst enough (ap (λ pairs. pairs.items) (sym w.pairs-is))
+            (enough_with_clear corners c.loop-first.pairs.items c.args.second c.loop-first.first so_far.enough (c.may_meet.ensures.clear w.if-may_meet.false))
+      ];
+      counted = work_then so_far.counted c.may_meet.ensures.counted;
+      probed = omega (arith, so_far.probed, c.may_meet.ensures.probed);
+    }

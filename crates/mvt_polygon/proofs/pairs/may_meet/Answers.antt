@@ -2,16 +2,16 @@ use Rattle.std.proofs.Common.{sym, ◌∙◌, arith}
 use Rattle.mvt_polygon.proofs.PairsEnough.{next_apart, no_test_apart, previous_apart}
 use Rattle.mvt_polygon.proofs.pairs.may_meet.Goals as goal
 
-pub returns-then-next_of-second : goal.returns-then-next_of-second
-returns-then-next_of-second c =
+pub returns-then-next_of-second-clause-clear : goal.returns-then-next_of-second-clause-clear
+returns-then-next_of-second-clause-clear c =
     next_apart c.args.corners.now c.args.first c.args.second c.orient.result (sym c.next_of.ensures.value ∙ c.if-next_of-second.true)
     (rw (c.edge_at-one.ensures, c.edge_at-other.ensures) at c.orient.ensures)
 
-pub returns-then-next_of-first : goal.returns-then-next_of-first
-returns-then-next_of-first c =
+pub returns-then-next_of-first-clause-clear : goal.returns-then-next_of-first-clause-clear
+returns-then-next_of-first-clause-clear c =
     previous_apart c.args.corners.now c.args.first c.args.second c.orient-then-next_of-first.result (λ same. c.if-next_of-second.false (c.next_of.ensures.value ∙ same))
     (sym c.next_of-else-next_of-second.ensures.value ∙ c.if-next_of-first.true) (rw (c.edge_at-one.ensures, c.edge_at-other.ensures) at c.orient-then-next_of-first.ensures)
 
-pub returns-else-next_of-first : goal.returns-else-next_of-first
-returns-else-next_of-first c = λ met.
+pub returns-else-next_of-first-clause-clear : goal.returns-else-next_of-first-clause-clear
+returns-else-next_of-first-clause-clear c = λ met.
     no_test_apart c.args.corners.now c.args.first c.args.second (rw (c.edge_at-one.ensures, c.edge_at-other.ensures) at c.boxes_apart.ensures (let apart = met in grind arith))

@@ -4,8 +4,11 @@ use Rattle.std.proofs.lemmas.List.Elements.{All-more}
 use Rattle.mvt_polygon.specs.Corners.{plan_of}
 use Rattle.mvt_polygon.specs.Sweep.{Tested}
 use Rattle.mvt_polygon.proofs.PairsEnough.{none_by_pairs}
-use Rattle.mvt_polygon.proofs.StatusCounts.{work_then}
+use Rattle.mvt_polygon.proofs.StatusCounts.{no_work, work_then}
 use Rattle.mvt_polygon.proofs.pairs.meeting_among.Goals as goal
+
+pub loop-at-init : goal.loop-at-init
+loop-at-init c = record { tested = λ k d none. absurd (omega arith); counted = no_work c.args.count.now; least = omega arith }
 
 pub loop-at-preserved : goal.loop-at-preserved
 loop-at-preserved c =
@@ -13,6 +16,7 @@ loop-at-preserved c =
     record {
       tested = All-more (λ (pair : ℕ × ℕ). Tested (plan_of c.args.corners.now) pair.0 pair.1) c.args.pairs.now c.loop-at.at (0, 0) c.loop-at-test.true c.loop-at.invariant.tested tested.0;
       counted = work_then c.loop-at.invariant.counted c.meeting_at.ensures.counted;
+      least = omega (arith, c.loop-at.invariant.least, c.meeting_at.ensures.tested);
     }
 
 pub returns-clause-none : goal.returns-clause-none

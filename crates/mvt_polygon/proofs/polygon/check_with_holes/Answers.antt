@@ -1,12 +1,15 @@
-use Rattle.std.proofs.Common.{◌≡◌, ◌+◌, ◌*◌, ℕ, ℤ, List, length, rules, sym, ◌∙◌, ap, subst}
+use Rattle.std.proofs.Common.{arith, ◌≡◌, ◌+◌, ◌*◌, ℕ, ℤ, List, length, rules, sym, ◌∙◌, ap, subst}
 use Rattle.std.proofs.lemmas.List.{length-map}
-use Rattle.mvt_polygon.specs.CornerOrder.{AddsWork, AreTogether, IsOrder, IsStrict}
-use Rattle.mvt_polygon.specs.Corners.{AreCorners, AreInRange, vertex_count}
+use Rattle.mvt_polygon.specs.CornerOrder.{AddsWork, AreTogether, IsCounted, IsOrder, IsStrict}
+use Rattle.mvt_polygon.specs.Corners.{AreCorners, AreInRange, IsNamedMeeting, vertex_count}
+use Rattle.mvt_plane.specs.Counted.{Counted}
+use Rattle.mvt_polygon.specs.PolygonFault.{meeting_in}
 use Rattle.mvt_polygon.specs.RingNotes.{AreAllNoted}
 use Rattle.mvt_polygon.specs.Rings.{rings_of}
 use Rattle.mvt_polygon.specs.declared.sweep.corners.Corner.{Corner}
 use Rattle.mvt_polygon.proofs.CornerPlans.{linked_corners}
 use Rattle.mvt_polygon.proofs.FrontRings.{rings_in_range}
+use Rattle.mvt_polygon.proofs.LeastWork.{counted_fault, counted_meeting, counted_named, counted_nesting, tested_named}
 use Rattle.mvt_polygon.proofs.MeetingsFound.{first_within, second_within, some_named, none_named, together_found}
 use Rattle.mvt_polygon.proofs.NumbersInOrder.{order_kept, strict_kept}
 use Rattle.mvt_polygon.proofs.PolygonAnswers.{met_answer, nesting_answer, swept_clear, swept_meets, named_answer, whole_work, sweep_work, written_back}
@@ -135,3 +138,36 @@ fault_of_holes-requires-clause-in_range c =
     let corners = c.deref-5.result.now in
     rings_in_range rings corners c.requires (subst (AreCorners rings) (sym c.deref-5.ensures.value) c.in_ok-corners.ensures)
     (subst AreInRange (c.deref.ensures.value ∙ sym c.deref-5.ensures.value) c.in_ok-order.ensures.in_range)
+
+pub returns-in-Some-clause-least : goal.returns-in-Some-clause-least
+returns-in-Some-clause-least c =
+    let rings = rings_of c.args.rings.now in
+    let corners = c.deref-in-Some.result.now in
+    let are = subst (AreCorners rings) (sym c.deref-in-Some.ensures.value) c.in_ok-corners.ensures in
+    let together = subst (λ (its : List Corner). AreTogether its c.in-Some.first c.in-Some.second) (c.deref-2.ensures.value ∙ sym c.deref-in-Some.ensures.value)
+    (rw c.in-Some.is at c.one_position.ensures.some) in
+    let none = none_named c.meeting_at.result c.named_meeting-found.result ⊥ c.named_meeting-found.ensures.none
+    (together_found corners c.in-Some.first c.in-Some.second c.meeting_at.result ⊥ (linked_corners rings corners c.requires are) together c.meeting_at.ensures.none) in
+    counted_fault (vertex_count rings) c.args.count.now c.meeting_at.new.count c.named_meeting-found.result c.fault_of_meeting.result c.fault_of_meeting.ensures
+    (tested_named (vertex_count rings) c.args.count.now c.meeting_at.new.count c.named_meeting-found.result none (omega (arith, c.meeting_at.ensures.tested)))
+
+pub returns-clause-least : goal.returns-clause-least
+returns-clause-least c =
+    let rings = rings_of c.args.rings.now in
+    let vertices = vertex_count rings in
+    let between = c.sweep_rings.new.count in
+    let size : length c.deref-6.result.now ≡ vertices =
+    ap length (c.deref-6.ensures.value ∙ c.in_ok-order-2.ensures) ∙ length-map c.in_ok-order.order.items (λ (pair : ℤ × ℕ). pair.1) ∙ c.in_ok-order.ensures.whole
+    ∙ ap length c.deref.ensures.value ∙ c.in_ok-corners.ensures.count in
+    let swept = subst (λ (many : ℕ). IsCounted many c.args.count.now between c.in_ok-found.found) size c.in_ok-found.ensures.least in
+    let named = counted_named (λ meeting pair. IsNamedMeeting rings pair meeting) vertices c.args.count.now between c.in_ok-found.found c.named_meeting.result
+    c.named_meeting.ensures.none c.named_meeting.ensures.some swept in
+    elim c.match-named_meeting.branch [
+      | in-Some-named_meeting w ↦
+          subst (λ (count : Counted). IsCounted vertices c.args.count.now count (meeting_in c.match-named_meeting.result)) (sym w.count-is)
+          (counted_meeting vertices c.args.count.now between c.named_meeting.result w.in-Some-named_meeting.meeting c.match-named_meeting.result w.in-Some-named_meeting.is w.result-is named)
+      | in-None w ↦
+          subst (λ (count : Counted). IsCounted vertices c.args.count.now count (meeting_in c.match-named_meeting.result)) (sym w.count-is)
+          (counted_nesting vertices c.args.count.now between w.fault_of_holes.new.count c.named_meeting.result w.fault_of_holes.result c.match-named_meeting.result w.in-None.is
+          (w.result-is ∙ w.fault_of_nesting.ensures) w.fault_of_holes.ensures.counted.no_fewer_probes named)
+    ]

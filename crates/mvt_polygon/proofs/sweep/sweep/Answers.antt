@@ -4,6 +4,7 @@ use Rattle.mvt_status.specs.Counts.{bits}
 use Rattle.mvt_polygon.specs.CornerOrder.{with_keys}
 use Rattle.mvt_polygon.specs.Corners.{position_at}
 use Rattle.mvt_polygon.proofs.CornerSweeps.{swept_to_first, next_corner, swept_to_next, swept_to_last}
+use Rattle.mvt_polygon.proofs.LeastWork.{compared, tested_step}
 use Rattle.mvt_polygon.proofs.MeetingsFound.{another_step, so_many_steps}
 use Rattle.mvt_polygon.proofs.NumbersInOrder.{number_there, with_keys_size}
 use Rattle.mvt_polygon.proofs.StatusCounts.{no_work}
@@ -14,6 +15,7 @@ pub loop-at-init : goal.loop-at-init
 loop-at-init g c = record {
   swept = swept_to_first c.args.corners.now (with_keys c.args.corners.now c.args.order.now) (g.S.Status.edges c.args.status.now) c.requires.linked c.requires.in_range c.requires.order c.requires.empty;
   counted = no_work c.args.count.now;
+  least = omega arith;
 }
 
 pub go_over-requires-clause-number : goal.go_over-requires-clause-number
@@ -60,6 +62,7 @@ loop-at-preserved g c =
           c.in_default.not-Meets);
       counted = another_step c.loop-at.at (2 * bits (length c.args.corners.now) + 2) (12 * bits (length c.args.corners.now)) c.args.count.now c.loop-at.count c.go_over.new.count
           c.loop-at.invariant.counted c.go_over.ensures.counted;
+      least = omega (arith, c.loop-at.invariant.least, compared c.loop-at.count c.go_over.new.count c.in_ok-pair.field-0 c.in_default.not-Meets c.in_ok-pair.ensures.least);
     }
 
 pub returns-clause-none : goal.returns-clause-none
@@ -71,3 +74,14 @@ pub returns-clause-counted : goal.returns-clause-counted
 returns-clause-counted g c =
     so_many_steps c.loop-at.at (length c.args.order.now) (2 * bits (length c.args.corners.now) + 2) (12 * bits (length c.args.corners.now)) c.args.count.now c.loop-at.count
     c.loop-at.auto.at-end c.loop-at.invariant.counted
+
+pub returns-in-Meets-clause-least : goal.returns-in-Meets-clause-least
+returns-in-Meets-clause-least g c =
+    omega (
+      arith,
+      c.loop-at.invariant.counted.no_fewer_tests,
+      tested_step c.loop-at.count c.go_over.new.count c.in_ok-pair.field-0 c.in-Meets.pair c.in-Meets.is c.in_ok-pair.ensures.least,
+    )
+
+pub returns-clause-least : goal.returns-clause-least
+returns-clause-least g c = omega (arith, c.loop-at.invariant.least, c.loop-at-test.false)

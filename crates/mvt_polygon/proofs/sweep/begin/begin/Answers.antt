@@ -1,4 +1,4 @@
-use Rattle.std.proofs.Common.{◌≡◌, ◌≢◌, ◌<◌, ℕ, List, insert, length, take, refl, subst}
+use Rattle.std.proofs.Common.{◌≡◌, ◌≢◌, ◌<◌, ℕ, List, insert, length, take, refl, subst, arith}
 use Rattle.mvt_plane.specs.Measure.{key_of}
 use Rattle.mvt_polygon.specs.CornerOrder.{AddsStep}
 use Rattle.mvt_polygon.specs.Corners.{plan_of, position_at, previous_at}
@@ -86,3 +86,15 @@ returns-clause-step g c =
 
 pub returns-clause-counted : goal.returns-clause-counted
 returns-clause-counted g c = work g (goal.at.returns-clause-counted g c).After-insert_two
+
+pub returns-clause-least : goal.returns-clause-least
+returns-clause-least g c =
+    omega (
+      arith,
+      c.meeting_at.ensures.counted.no_fewer_probes,
+      c.in_order-lower.ensures.probed,
+      c.place_of-place.ensures.counted.no_fewer_probes,
+      c.meeting_with.ensures.counted.no_fewer_probes,
+      c.meeting_with-2.ensures.counted.no_fewer_probes,
+      c.insert_two.ensures.counted.no_fewer_probes,
+    )

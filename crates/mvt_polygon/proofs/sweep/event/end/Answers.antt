@@ -1,9 +1,10 @@
-use Rattle.std.proofs.Common.{◌≡◌, ◌≤◌, ◌∙◌, List, ℕ, ap, drop, length, remove, take, refl, arith}
+use Rattle.std.proofs.Common.{◌≡◌, ◌≤◌, ◌∙◌, List, ℕ, ap, drop, length, remove, take, refl, arith, ◌<◌}
 use Rattle.std.proofs.lemmas.List.Edits.{length-remove}
 use Rattle.mvt_polygon.specs.CornerOrder.{IsNextCorner}
 use Rattle.mvt_polygon.specs.Corners.{AreInRange, AreLinked, plan_of, position_at, previous_at}
 use Rattle.mvt_polygon.specs.Sweep.{BothEnd, IsCut}
 use Rattle.mvt_polygon.specs.declared.sweep.corners.Corner.{Corner}
+use Rattle.mvt_polygon.proofs.LeastWork.{counted_by}
 use Rattle.mvt_polygon.proofs.CornerPlans.{plan_of_corners}
 use Rattle.mvt_polygon.proofs.NoMeetings.{none_map}
 use Rattle.mvt_polygon.proofs.StatusCounts.{few_swept, work_then, work_within, work_of_edits}
@@ -85,3 +86,17 @@ returns-clause-counted g c =
     let first = work_of_edits 2 (length edges) corners few c.remove.ensures.counted in
     let second = work_of_edits 2 (length (g.S.Status.edges c.remove.new.self)) corners fewer c.remove-2.ensures.counted in
     work_within (omega arith) (omega arith) (omega arith) (work_then c.place_of-place.ensures.counted (work_then first (work_then second c.meeting_across.ensures.counted)))
+
+pub returns-clause-least : goal.returns-clause-least
+returns-clause-least g c =
+    let gone = out c.requires.linked c.requires.in_range c.requires.next c.requires.ends c.place_of-place.ensures.cut c.place_of-place.ensures.within c.remove.ensures.list c.remove-2.ensures.list in
+    counted_by 1 c.args.count.now c.remove-2.new.count c.meeting_across.new.count c.meeting_across.result
+    (omega (arith, c.place_of-place.ensures.counted.no_fewer_tests, c.remove.ensures.counted.tests, c.remove-2.ensures.counted.tests))
+    (omega (
+      arith,
+      c.place_of-place.ensures.probed (omega (arith, gone.one_there)),
+      c.remove.ensures.counted.no_fewer_probes,
+      c.remove-2.ensures.counted.no_fewer_probes,
+      c.meeting_across.ensures.counted.no_fewer_probes,
+    ))
+    c.meeting_across.ensures.tested

@@ -97,3 +97,14 @@ prove-unreachable-requires g c =
     let few = few_swept (plan_of c.args.corners.now) c.requires.next.key (g.S.Status.edges c.args.status.now) (plan_of_corners c.args.corners.now c.requires.linked c.requires.in_range)
     c.requires.next.swept in
     omega (arith, c.if-prove.true, few, there c.requires.linked c.requires.in_range c.requires.next c.requires.passes c.place_of-place.ensures.cut c.place_of-place.ensures.within)
+
+pub returns-clause-least : goal.returns-clause-least
+returns-clause-least g c =
+    let some = there c.requires.linked c.requires.in_range c.requires.next c.requires.passes c.place_of-place.ensures.cut c.place_of-place.ensures.within in
+    omega (
+      arith,
+      c.place_of-place.ensures.probed (omega (arith, some)),
+      c.meeting_with.ensures.counted.no_fewer_probes,
+      c.meeting_above.ensures.counted.no_fewer_probes,
+      c.replace.ensures.counted.no_fewer_probes,
+    )

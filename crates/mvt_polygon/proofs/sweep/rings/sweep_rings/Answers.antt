@@ -1,12 +1,14 @@
-use Rattle.std.proofs.Common.{◌+◌, ◌*◌, length, sym, subst, arith, slice_index_or}
+use Rattle.std.proofs.Common.{◌+◌, ◌*◌, ◌≤◌, length, sym, subst, arith, slice_index_or}
 use Rattle.mvt_plane.specs.Counted.{Counted}
 use Rattle.mvt_plane.specs.Measure.{key_of}
-use Rattle.mvt_status.specs.Counts.{bits}
-use Rattle.mvt_polygon.specs.CornerOrder.{AddsWork, with_keys}
+use Rattle.mvt_status.specs.Counts.{bits, raised}
+use Rattle.mvt_polygon.specs.CornerOrder.{AddsWork, IsCounted, with_keys}
 use Rattle.mvt_polygon.specs.Corners.{position_at}
 use Rattle.mvt_polygon.specs.Rings.{rings_of}
-use Rattle.mvt_polygon.specs.Steps.{IsStep}
+use Rattle.mvt_polygon.specs.Steps.{IsStep, met_by}
+use Rattle.mvt_polygon.specs.declared.sweep.step.Step.{Step}
 use Rattle.mvt_polygon.proofs.CornerSweeps.{next_corner}
+use Rattle.mvt_polygon.proofs.LeastWork.{tested_step}
 use Rattle.mvt_polygon.proofs.MeetingsFound.{another_step, so_many_steps}
 use Rattle.mvt_polygon.proofs.NumbersInOrder.{number_there, with_keys_size}
 use Rattle.mvt_polygon.proofs.RingsSwept.{AreRingsSwept, rings_to_first, rings_to_begun, rings_to_an_end, rings_below, rings_to_last, work_noted, work_gone}
@@ -19,6 +21,7 @@ loop-at-init g c = record {
   swept = rings_to_first (rings_of c.args.rings.now) c.args.corners.now (with_keys c.args.corners.now c.args.order.now) (g.S.Status.edges c.args.status.now) c.args.notes.now c.requires.corners c.requires.linked
       c.requires.in_range c.requires.order c.requires.empty c.requires.nothing;
   counted = no_work c.args.count.now;
+  least = omega arith;
 }
 
 pub go_over-requires-clause-number : goal.go_over-requires-clause-number
@@ -87,6 +90,10 @@ loop-at-preserved g c =
                 (another_step at (2 * bits many + 2) (14 * bits many) c.args.count.now c.loop-at.count w.note_ring.new.count c.loop-at.invariant.counted
                 (work_noted corners number after c.loop-at.count c.go_over.new.count w.note_ring.new.count c.requires.linked c.requires.in_range step.0 c.go_over.ensures.counted
                 w.note_ring.ensures.counted));
+            least = subst (λ (count : Counted). raised (at + 1) c.args.count.now.probes ≤ count.probes) (sym w.count-is)
+                (let one : raised 1 c.loop-at.count.probes ≤ c.go_over.new.count.probes
+                = subst (λ (step : Step). IsCounted 1 c.loop-at.count c.go_over.new.count (met_by step)) w.in-Begins.is c.in_ok-pair.ensures.least in
+                omega (arith, c.loop-at.invariant.least, one, w.note_ring.ensures.counted.no_fewer_probes));
           }
       | in-Ends w ↦
           let step = subst (IsStep corners number before after) w.in-Ends.is c.in_ok-pair.ensures.step in
@@ -97,6 +104,10 @@ loop-at-preserved g c =
             counted = subst (λ (count : Counted). AddsWork (3 * (at + 1)) ((at + 1) * (2 * bits many + 2)) ((at + 1) * (14 * bits many)) c.args.count.now count) (sym w.count-is)
                 (another_step at (2 * bits many + 2) (14 * bits many) c.args.count.now c.loop-at.count c.go_over.new.count c.loop-at.invariant.counted
                 (work_gone many c.loop-at.count c.go_over.new.count c.go_over.ensures.counted));
+            least = subst (λ (count : Counted). raised (at + 1) c.args.count.now.probes ≤ count.probes) (sym w.count-is)
+                (let one : raised 1 c.loop-at.count.probes ≤ c.go_over.new.count.probes
+                = subst (λ (step : Step). IsCounted 1 c.loop-at.count c.go_over.new.count (met_by step)) w.in-Ends.is c.in_ok-pair.ensures.least in
+                omega (arith, c.loop-at.invariant.least, one));
           }
     ]
 
@@ -110,3 +121,14 @@ pub returns-clause-counted : goal.returns-clause-counted
 returns-clause-counted g c =
     so_many_steps c.loop-at.at (length c.args.order.now) (2 * bits (length c.args.corners.now) + 2) (14 * bits (length c.args.corners.now)) c.args.count.now c.loop-at.count
     c.loop-at.auto.at-end c.loop-at.invariant.counted
+
+pub returns-in-Meets-clause-least : goal.returns-in-Meets-clause-least
+returns-in-Meets-clause-least g c =
+    omega (
+      arith,
+      c.loop-at.invariant.counted.no_fewer_tests,
+      tested_step c.loop-at.count c.go_over.new.count c.in_ok-pair.field-0 c.in-Meets.pair c.in-Meets.is c.in_ok-pair.ensures.least,
+    )
+
+pub returns-clause-least : goal.returns-clause-least
+returns-clause-least g c = omega (arith, c.loop-at.invariant.least, c.loop-at-test.false)

@@ -10,6 +10,7 @@ use Rattle.mvt_polygon.specs.Sweep.{PassesOn}
 use Rattle.mvt_polygon.specs.declared.sweep.corners.Corner.{Corner}
 use Rattle.mvt_polygon.proofs.CornerReads.{position_read, test_of_keys}
 use Rattle.mvt_polygon.proofs.CornerSteps.{passes_on, passes_back, both_end, both_begin, next_back}
+use Rattle.mvt_polygon.proofs.LeastWork.{counted_after_an_end}
 use Rattle.mvt_polygon.proofs.StepsAfterAnEnd.{an_end_from_before, an_end_from_behind, step_after_an_end}
 use Rattle.mvt_polygon.proofs.sweep.step.go_over.Given as given
 use Rattle.mvt_polygon.proofs.sweep.step.go_over.Goals as goal
@@ -103,3 +104,13 @@ returns-in_ok-pass-2-clause-step g c =
     (step_after_an_end c.args.corners.now c.args.number edges after c.in_ok-pass-2.field-0 c.in_ok-pass-2.ensures.none c.in_ok-pass-2.ensures.some
     (an_end_from_behind c.args.corners.now c.args.number c.requires.linked c.requires.in_range c.requires.number
     (goes g (goal.at.returns-in_ok-pass-2-clause-step g c).After-sweep_key c.sweep_key-2.result false (record { sfits = c.sweep_key-2.type_inv }) c.sweep_key-2.ensures.value c.if-goes_on-2.false)))
+
+pub returns-in_ok-pass-clause-least : goal.returns-in_ok-pass-clause-least
+returns-in_ok-pass-clause-least g c = counted_after_an_end c.args.count.now c.pass.new.count c.in_ok-pass.field-0 _ c.after_an_end.ensures c.in_ok-pass.ensures.least
+
+pub returns-else-goes_on-clause-least : goal.returns-else-goes_on-clause-least
+returns-else-goes_on-clause-least g c = counted_after_an_end c.args.count.now c.end.new.count c.end.result _ c.after_an_end-else-goes_on.ensures c.end.ensures.least
+
+pub returns-in_ok-pass-2-clause-least : goal.returns-in_ok-pass-2-clause-least
+returns-in_ok-pass-2-clause-least g c =
+    counted_after_an_end c.args.count.now c.pass-else-goes_on-2.new.count c.in_ok-pass-2.field-0 _ c.after_an_end-else-goes_on-2.ensures c.in_ok-pass-2.ensures.least

@@ -1,11 +1,13 @@
-use Rattle.std.proofs.Common.{sym, subst}
-use Rattle.mvt_polygon.specs.Corners.{AreCorners}
+use Rattle.std.proofs.Common.{◌≡◌, ◌≤◌, ◌∙◌, ap, length, refl, sym, subst, arith}
+use Rattle.mvt_polygon.specs.Corners.{AreCorners, IsNamedMeeting, vertex_count}
 use Rattle.mvt_polygon.specs.Meeting.{NoMeeting}
+use Rattle.mvt_polygon.specs.Pairs.{pairs_of}
 use Rattle.mvt_polygon.specs.Rings.{rings_of}
 use Rattle.mvt_polygon.proofs.CornerPlans.{linked_corners, none_of_rings}
+use Rattle.mvt_polygon.proofs.LeastWork.{counted_by, counted_named, pairs_of_rings, tested_there}
 use Rattle.mvt_polygon.proofs.MeetingsFound.{none_named, some_named}
 use Rattle.mvt_polygon.proofs.NoMeetings.{none_map}
-use Rattle.mvt_polygon.proofs.meeting.find_meeting.Goals as goal
+use Rattle.mvt_polygon.proofs.polygon.meeting_in_ring.Goals as goal
 
 pub find_pairs-requires-clause-linked : goal.find_pairs-requires-clause-linked
 find_pairs-requires-clause-linked c =
@@ -30,3 +32,15 @@ returns-then-find_pairs-clause-some c =
     let rings = rings_of c.args.rings.now in
     some_named rings c.deref-then-find_pairs.result.now c.meeting_among.result c.named_meeting.result c.requires
     (subst (AreCorners rings) (sym c.deref-then-find_pairs.ensures.value) c.in_ok-corners.ensures) c.meeting_among.ensures.some c.named_meeting.ensures.some
+
+pub returns-then-find_pairs-clause-least : goal.returns-then-find_pairs-clause-least
+returns-then-find_pairs-clause-least c =
+    let rings = rings_of c.args.rings.now in
+    let corners = c.deref.result.now in
+    let size : length corners ≡ vertex_count rings = ap length c.deref.ensures.value ∙ c.in_ok-corners.ensures.count in
+    let pairs : pairs_of (length corners) ≡ pairs_of (vertex_count rings) = ap pairs_of size in
+    counted_named (λ meeting pair. IsNamedMeeting rings pair meeting) (vertex_count rings) c.args.count.now c.meeting_among.new.count c.meeting_among.result c.named_meeting.result
+    c.named_meeting.ensures.none c.named_meeting.ensures.some
+    (counted_by (vertex_count rings) c.args.count.now c.find_pairs.new.count c.meeting_among.new.count c.meeting_among.result (omega (arith, c.find_pairs.ensures.counted.no_fewer_tests))
+    (omega (arith, c.if-find_pairs.ensures.probed refl, pairs, pairs_of_rings rings c.requires, c.meeting_among.ensures.counted.no_fewer_probes))
+    (tested_there c.find_pairs.new.count c.meeting_among.new.count c.meeting_among.result c.meeting_among.ensures.least))
