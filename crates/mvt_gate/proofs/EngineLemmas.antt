@@ -1,12 +1,12 @@
 -- What holds while an engine reads or writes.
 use Rattle.std.proofs.Common.{◌≡◌, ℕ, ◌+◌, ◌-◌, ◌^◌, ◌<◌, ◌≤◌, min, List, ◌++◌, length, take, drop, Option, arith, ap, subst, sym, ◌∙◌}
-use Rattle.std.proofs.KnownBytes.{Appends-kept, Appends-trans}
+use Rattle.std.proofs.KnownBytes.{Appends-kept, Appends-trans, Consumes-trans}
 use Rattle.std.proofs.Math.Seq.{take-add, take-length}
-use Rattle.std.proofs.lemmas.List.{length-drop, length-take, take-take}
+use Rattle.std.proofs.lemmas.List.{length-append, length-drop, length-take, take-take}
 use Rattle.std.specs.Io.KnownBytes.{Appends, Consumes, Keeps}
 use Rattle.mvt_gate.specs.declared.engine.TheConstants.{CHUNK_LENGTH, INPUT_LIMIT}
 use Rattle.mvt_gate.specs.declared.tally.Tally.{Tally}
-use Rattle.mvt_gate.specs.Engine.{IsClean, Writes, interruption_limit}
+use Rattle.mvt_gate.specs.Engine.{IsClean, Reads, Writes, interruption_limit}
 use Rattle.mvt_gate.specs.Tally.{Counts, after_bytes, counts_of, tally_bytes}
 
 -- the input so far is what the reader gave so far, and the chunk has its whole length
@@ -16,6 +16,25 @@ pub record Reading {T : Type 0} (known : T → Option (List ℕ)) (old new : Tal
   pub counted : (counts_of new).bytes ≡ length input
   pub small : length input ≤ INPUT_LIMIT
   pub clean : IsClean new others
+
+-- what one more read gave came in too
+pub Reads-more : {T : Type 0} (known : T → Option (List ℕ)) (first old new : Tally T) (chunk given input : List ℕ) (n others : ℕ)
+    → Reading known first old chunk input others
+    → Consumes (tally_bytes known old) (tally_bytes known new) (take n given)
+    → n ≤ length given
+    → n ≤ CHUNK_LENGTH
+    → counts_of new ≡ after_bytes (counts_of old) n
+    → (bytes : List ℕ) × Reads known first new bytes
+Reads-more known first old new chunk given input n others so_far gave within small counts =
+    let bytes : (counts_of new).bytes ≡ min ((counts_of old).bytes + n) (2 ^ 64 - 1) = ap (λ (c : Counts). c.bytes) counts in
+    let counted : (counts_of old).bytes ≡ length input = so_far.counted in
+    let few : length input ≤ INPUT_LIMIT = so_far.small in (
+      input ++ take n given,
+      record {
+        gave = Consumes-trans _ _ _ _ _ so_far.gave gave;
+        counted = omega (arith, length-append input (take n given), length-take n given);
+      },
+    )
 
 -- the first bytes of the line went out
 pub record Writing {T : Type 0} (known : T → Option (List ℕ)) (old new : Tally T) (line : List ℕ) (written others : ℕ) : Type 0 where

@@ -1,5 +1,5 @@
 -- What an engine reads and writes, as the counts of its tallies show it.
-use Rattle.std.specs.Prelude.{◌≡◌, ℕ, ◌+◌, ◌<◌, ◌≤◌, ◌⊎◌, List, length, take, Option}
+use Rattle.std.specs.Prelude.{◌≡◌, ℕ, suc, ◌+◌, ◌<◌, ◌≤◌, ◌⊎◌, List, length, take, Option}
 use Rattle.std.specs.Io.KnownBytes.{Appends, Consumes, IsAtEnd}
 use Rattle.mvt_gate.specs.declared.engine.EngineFault.{EngineFault}
 use Rattle.mvt_gate.specs.declared.engine.EngineFault.TheVariants.{NotJson, NotAFault, FaultRange}
@@ -15,6 +15,10 @@ input_limit = 67108864
 abbrev pub interruption_limit : ℕ
 interruption_limit = 1000
 
+-- the most bytes of one read
+abbrev pub chunk_length : ℕ
+chunk_length = 65536
+
 -- the input is all that the reader gave, up to its end, and no read of it failed
 pub record ReadsWhole {T : Type 0} (known : T → Option (List ℕ)) (old new : Tally T) (input : List ℕ) : Type 0 where
   pub gave : Consumes (tally_bytes known old) (tally_bytes known new) input
@@ -23,19 +27,34 @@ pub record ReadsWhole {T : Type 0} (known : T → Option (List ℕ)) (old new : 
   pub small : length input ≤ input_limit
   pub clean : (counts_of new).failed ≡ 0
 
+-- these bytes and no others came in
+pub record Reads {T : Type 0} (known : T → Option (List ℕ)) (old new : Tally T) (bytes : List ℕ) : Type 0 where
+  pub gave : Consumes (tally_bytes known old) (tally_bytes known new) bytes
+  pub counted : (counts_of new).bytes ≡ length bytes
+
 -- these bytes and no others went out
 pub record Writes {T : Type 0} (known : T → Option (List ℕ)) (old new : Tally T) (bytes : List ℕ) : Type 0 where
   pub appended : Appends (tally_bytes known old) (tally_bytes known new) bytes
   pub counted : (counts_of new).bytes ≡ length bytes
 
--- a call on the device failed, or it was interrupted more often than a run bears; `others` is how often the engine's other devices were interrupted
-abbrev pub HasFailed : {T : Type 0} → Tally T → ℕ → Type 0
-HasFailed t others = (0 < (counts_of t).failed) ⊎ (interruption_limit < (counts_of t).interrupted + others)
-
--- no call on the device failed, and the run bears its interruptions
+-- No call on the device failed, and the run bears its interruptions. Here and below, `others` is how often the engine's
+-- other devices were interrupted.
 pub record IsClean {T : Type 0} (t : Tally T) (others : ℕ) : Type 0 where
   pub failed : (counts_of t).failed ≡ 0
   pub patient : (counts_of t).interrupted + others ≤ interruption_limit
+
+-- The device ended the run. A run begins with no counts and ends with the first failure, so its counts are these: one
+-- call failed, and the run bears the interruptions; or none failed, and the device was interrupted once more than it bears.
+abbrev pub HasFailed : {T : Type 0} → Tally T → ℕ → Type 0
+HasFailed t others =
+    (((counts_of t).failed ≡ 1) × ((counts_of t).interrupted + others ≤ interruption_limit))
+    ⊎ (((counts_of t).failed ≡ 0) × ((counts_of t).interrupted + others ≡ suc interruption_limit) × (others ≤ interruption_limit))
+
+-- the last read passed the limit on bytes, and no read failed
+pub record IsTooLarge {T : Type 0} (t : Tally T) (others : ℕ) : Type 0 where
+  pub above : input_limit < (counts_of t).bytes
+  pub last : (counts_of t).bytes ≤ input_limit + chunk_length
+  pub clean : IsClean t others
 
 -- the fault is one of a second input, which is to be the text of a fault
 abbrev pub IsOfClaim : EngineFault → Type 0

@@ -25,7 +25,8 @@ pub struct Agreement {
 /// Its contract is the promise of the gate, for every byte string and every fault: the judge says Yes exactly
 /// where the bytes are a valid tile (Mapbox Vector Tile Specification 2.1, section 4, by the rules that `judge`
 /// names), and otherwise No with a fault that the checker accepts, the one of least place of all that are true
-/// of the bytes; and of a valid tile the checker accepts no fault. The only error is that memory was refused.
+/// of the bytes; and of a valid tile the checker accepts no fault. Each fault is accepted exactly where it is true
+/// of the bytes. The only error is that memory was refused.
 ///
 /// A server that runs `judge` needs no second call for it: this one is for whoever wants to see both at once.
 pub fn judge_and_confirm(
@@ -37,6 +38,10 @@ pub fn judge_and_confirm(
     ensures else_no_with_a_confirmed_fault { IfOk result (λ said. ¬ Valid bytes.now → (fault : Fault) × (said.verdict ≡ Verdict.No fault) × IsTrue said.is_confirmed) }
     ensures the_fault_of_least_place { IfOk result (λ said. (fault : Fault) → said.verdict ≡ Verdict.No fault → IsLeast (Shows bytes.now) fault) }
     ensures no_fault_of_a_valid_tile { IfOk result (λ said. Valid bytes.now → ¬ IsTrue said.is_other_confirmed) }
+
+    // Both answers are the checker's own.
+    ensures is_confirmed_exactly_where_shown { IfOk result (λ said. IsTrue said.is_confirmed ↔ ((fault : Fault) × (said.verdict ≡ Verdict.No fault) × Shows bytes.now fault)) }
+    ensures is_other_confirmed_exactly_where_shown { IfOk result (λ said. IsTrue said.is_other_confirmed ↔ Shows bytes.now other.now) }
 {
     let verdict = judge(alloc, bytes)?;
     let is_confirmed = match &verdict {

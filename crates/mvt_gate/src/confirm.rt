@@ -1,10 +1,10 @@
 //! The engine of `confirm`: whether a fault is true of a tile, as one line of JSON.
-ghost use Rattle.std.specs.Prelude.{◌≡◌, ◌≢◌, ◌+◌, ◌<◌, ℕ, List, IfOk, IfErr, OnOk, string_bytes};
+ghost use Rattle.std.specs.Prelude.{◌≡◌, ◌≢◌, ◌+◌, ℕ, List, IfOk, IfErr, OnOk, string_bytes};
 ghost use Rattle.mvt_fault.specs.Reading.{IsNoJson, HasOtherShape, HasOtherRange};
 ghost use Rattle.mvt_fault.specs.Text.{Reads};
 ghost use Rattle.mvt_gate.specs.Claim.{AnswersClaim, BreaksOffClaim, EndsReading, Finds};
 ghost use Rattle.mvt_gate.specs.Confirm.{IsConfirmAnswer, IsRefusedClaim};
-ghost use Rattle.mvt_gate.specs.Engine.{HasFailed, IsClean, input_limit};
+ghost use Rattle.mvt_gate.specs.Engine.{HasFailed, IsClean, IsOfClaim, IsTooLarge, Reads};
 ghost use Rattle.mvt_gate.specs.Tally.{IsUntouched, counts_of};
 
 use crate::engine::{ClaimTask, EngineFault, Outcome, run_on_claim};
@@ -36,9 +36,16 @@ pub fn confirm_streams<R: Read, Q: Read, W: Write>(
         (HasFailed tile.new ((counts_of claim.new).interrupted + (counts_of writer.new).interrupted))
         (HasFailed claim.new ((counts_of tile.new).interrupted + (counts_of writer.new).interrupted)) }
     ensures too_large { result ≡ Err EngineFault.TooLarge → EndsReading R.remaining tile.old tile.new claim.old claim.new
-        (input_limit < (counts_of tile.new).bytes) (input_limit < (counts_of claim.new).bytes) }
+        (IsTooLarge tile.new ((counts_of claim.new).interrupted + (counts_of writer.new).interrupted))
+        (IsTooLarge claim.new ((counts_of tile.new).interrupted + (counts_of writer.new).interrupted)) }
+    ensures memory { result ≡ Err EngineFault.Memory → EndsReading R.remaining tile.old tile.new claim.old claim.new
+        (IsClean tile.new ((counts_of claim.new).interrupted + (counts_of writer.new).interrupted))
+        (IsClean claim.new ((counts_of tile.new).interrupted + (counts_of writer.new).interrupted)) }
     ensures write { result ≡ Err EngineFault.Write →
         HasFailed writer.new ((counts_of tile.new).interrupted + (counts_of claim.new).interrupted) }
+    // The bytes that the readers' tallies counted came in this run.
+    ensures counted { IfErr result (λ _. (input : List ℕ) × (claimed : List ℕ)
+        × Reads R.remaining tile.old tile.new input × Reads Q.remaining claim.old claim.new claimed) }
 
     // Only a claim that was read whole is refused, and only behind a tile that was.
     ensures not_json { result ≡ Err EngineFault.NotJson → Finds (λ _ claimed. IsNoJson claimed)
@@ -47,6 +54,8 @@ pub fn confirm_streams<R: Read, Q: Read, W: Write>(
         R.remaining Q.remaining tile.old tile.new claim.old claim.new }
     ensures fault_range { result ≡ Err EngineFault.FaultRange → Finds (λ _ claimed. HasOtherRange claimed)
         R.remaining Q.remaining tile.old tile.new claim.old claim.new }
+    ensures refused { IfErr result (λ fault. IsOfClaim fault →
+        IsClean claim.new ((counts_of tile.new).interrupted + (counts_of writer.new).interrupted)) }
 
     // Before the line is whole, nothing goes out; after a failed write, a first part of the line.
     ensures untouched { IfErr result (λ fault. fault ≢ EngineFault.Write → IsUntouched writer.old writer.new) }
