@@ -6,7 +6,7 @@ use Rattle.std.proofs.lemmas.List.{length-append, length-drop, length-take, take
 use Rattle.std.specs.Io.KnownBytes.{Appends, Consumes, Keeps}
 use Rattle.mvt_gate.specs.declared.engine.TheConstants.{CHUNK_LENGTH, INPUT_LIMIT}
 use Rattle.mvt_gate.specs.declared.tally.Tally.{Tally}
-use Rattle.mvt_gate.specs.Engine.{IsClean, Reads, Writes, interruption_limit}
+use Rattle.mvt_gate.specs.Engine.{IsClean, ReadsBytes, Writes, interruption_limit}
 use Rattle.mvt_gate.specs.Tally.{Counts, after_bytes, counts_of, tally_bytes}
 
 -- the input so far is what the reader gave so far, and the chunk has its whole length
@@ -18,14 +18,14 @@ pub record Reading {T : Type 0} (known : T → Option (List ℕ)) (old new : Tal
   pub clean : IsClean new others
 
 -- what one more read gave came in too
-pub Reads-more : {T : Type 0} (known : T → Option (List ℕ)) (first old new : Tally T) (chunk given input : List ℕ) (n others : ℕ)
+pub ReadsBytes-more : {T : Type 0} (known : T → Option (List ℕ)) (first old new : Tally T) (chunk given input : List ℕ) (n others : ℕ)
     → Reading known first old chunk input others
     → Consumes (tally_bytes known old) (tally_bytes known new) (take n given)
     → n ≤ length given
     → n ≤ CHUNK_LENGTH
     → counts_of new ≡ after_bytes (counts_of old) n
-    → (bytes : List ℕ) × Reads known first new bytes
-Reads-more known first old new chunk given input n others so_far gave within small counts =
+    → (bytes : List ℕ) × ReadsBytes known first new bytes
+ReadsBytes-more known first old new chunk given input n others so_far gave within small counts =
     let bytes : (counts_of new).bytes ≡ min ((counts_of old).bytes + n) (2 ^ 64 - 1) = ap (λ (c : Counts). c.bytes) counts in
     let counted : (counts_of old).bytes ≡ length input = so_far.counted in
     let few : length input ≤ INPUT_LIMIT = so_far.small in (

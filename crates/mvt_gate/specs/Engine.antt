@@ -28,7 +28,7 @@ pub record ReadsWhole {T : Type 0} (known : T → Option (List ℕ)) (old new : 
   pub clean : (counts_of new).failed ≡ 0
 
 -- these bytes and no others came in
-pub record Reads {T : Type 0} (known : T → Option (List ℕ)) (old new : Tally T) (bytes : List ℕ) : Type 0 where
+pub record ReadsBytes {T : Type 0} (known : T → Option (List ℕ)) (old new : Tally T) (bytes : List ℕ) : Type 0 where
   pub gave : Consumes (tally_bytes known old) (tally_bytes known new) bytes
   pub counted : (counts_of new).bytes ≡ length bytes
 

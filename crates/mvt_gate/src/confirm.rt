@@ -4,7 +4,7 @@ ghost use Rattle.mvt_fault.specs.Reading.{IsNoJson, HasOtherShape, HasOtherRange
 ghost use Rattle.mvt_fault.specs.Text.{Reads};
 ghost use Rattle.mvt_gate.specs.Claim.{AnswersClaim, BreaksOffClaim, EndsReading, Finds};
 ghost use Rattle.mvt_gate.specs.Confirm.{IsConfirmAnswer, IsRefusedClaim};
-ghost use Rattle.mvt_gate.specs.Engine.{HasFailed, IsClean, IsOfClaim, IsTooLarge, Reads};
+ghost use Rattle.mvt_gate.specs.Engine.{HasFailed, IsClean, IsOfClaim, IsTooLarge, ReadsBytes};
 ghost use Rattle.mvt_gate.specs.Tally.{IsUntouched, counts_of};
 
 use crate::engine::{ClaimTask, EngineFault, Outcome, run_on_claim};
@@ -45,7 +45,7 @@ pub fn confirm_streams<R: Read, Q: Read, W: Write>(
         HasFailed writer.new ((counts_of tile.new).interrupted + (counts_of claim.new).interrupted) }
     // The bytes that the readers' tallies counted came in this run.
     ensures counted { IfErr result (λ _. (input : List ℕ) × (claimed : List ℕ)
-        × Reads R.remaining tile.old tile.new input × Reads Q.remaining claim.old claim.new claimed) }
+        × ReadsBytes R.remaining tile.old tile.new input × ReadsBytes Q.remaining claim.old claim.new claimed) }
 
     // Only a claim that was read whole is refused, and only behind a tile that was.
     ensures not_json { result ≡ Err EngineFault.NotJson → Finds (λ _ claimed. IsNoJson claimed)

@@ -1,7 +1,7 @@
 //! The engine of `dump`: what a tile holds, as one line of JSON.
 ghost use Rattle.std.specs.Prelude.{◌≡◌, ◌≢◌, ℕ, List, IfOk, IfErr, OnOk};
 ghost use Rattle.mvt_gate.specs.Dump.{IsDumpAnswer};
-ghost use Rattle.mvt_gate.specs.Engine.{Answers, BreaksOff, HasFailed, IsClean, IsOfClaim, IsTooLarge, Reads};
+ghost use Rattle.mvt_gate.specs.Engine.{Answers, BreaksOff, HasFailed, IsClean, IsOfClaim, IsTooLarge, ReadsBytes};
 ghost use Rattle.mvt_gate.specs.Tally.{IsUntouched, counts_of};
 
 mod feature;
@@ -37,7 +37,7 @@ pub fn dump_stream<R: Read, W: Write>(
     ensures memory { result ≡ Err EngineFault.Memory → IsClean reader.new (counts_of writer.new).interrupted }
     ensures write { result ≡ Err EngineFault.Write → HasFailed writer.new (counts_of reader.new).interrupted }
     // The bytes that the reader's tally counted came in this run.
-    ensures counted { IfErr result (λ _. (input : List ℕ) × Reads R.remaining reader.old reader.new input) }
+    ensures counted { IfErr result (λ _. (input : List ℕ) × ReadsBytes R.remaining reader.old reader.new input) }
     ensures no_claim { IfErr result (λ fault. ¬ IsOfClaim fault) }
 
     // Before the line is whole, nothing goes out; after a failed write, a first part of the line.

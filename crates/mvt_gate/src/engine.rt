@@ -2,7 +2,7 @@
 ghost use Rattle.std.specs.Prelude.{◌≡◌, ◌≢◌, ℕ, ◌+◌, ◌<◌, ◌≤◌, ◌⊎◌, List, length, take, IsTrue, IsFalse, IfOk, IfErr, OnOk, OnErr, string_bytes};
 ghost use Rattle.std.specs.Io.KnownBytes.{Keeps};
 ghost use Rattle.std.specs.IoError.{error_kind};
-ghost use Rattle.mvt_gate.specs.Engine.{Answers, BreaksOff, HasFailed, IsClean, IsOfClaim, IsTooLarge, Reads, ReadsWhole, Writes, interruption_limit};
+ghost use Rattle.mvt_gate.specs.Engine.{Answers, BreaksOff, HasFailed, IsClean, IsOfClaim, IsTooLarge, ReadsBytes, ReadsWhole, Writes, interruption_limit};
 ghost use Rattle.mvt_gate.specs.FaultLine.{fault_line};
 ghost use Rattle.mvt_gate.specs.declared.engine.Outcome.{Outcome};
 ghost use Rattle.mvt_gate.specs.Tally.{IsUntouched, counts_of, no_counts, tally_bytes};
@@ -90,7 +90,7 @@ pub fn run<T: Task, R: Read, W: Write>(
     ensures memory { result ≡ Err EngineFault.Memory → IsClean reader.new (counts_of writer.new).interrupted }
     ensures write { result ≡ Err EngineFault.Write → HasFailed writer.new (counts_of reader.new).interrupted }
     // The bytes that the reader's tally counted came in this run.
-    ensures counted { IfErr result (λ _. (input : List ℕ) × Reads R.remaining reader.old reader.new input) }
+    ensures counted { IfErr result (λ _. (input : List ℕ) × ReadsBytes R.remaining reader.old reader.new input) }
     // There is no second input that could be wrong.
     ensures no_claim { IfErr result (λ fault. ¬ IsOfClaim fault) }
 
@@ -133,7 +133,7 @@ fn read_whole<R: Read>(
     ensures read { result ≡ Err EngineFault.Read → HasFailed reader.new others }
     ensures too_large { result ≡ Err EngineFault.TooLarge → IsTooLarge reader.new others }
     ensures memory { result ≡ Err EngineFault.Memory → IsClean reader.new others }
-    ensures counted { IfErr result (λ _. (input : List ℕ) × Reads R.remaining reader.old reader.new input) }
+    ensures counted { IfErr result (λ _. (input : List ℕ) × ReadsBytes R.remaining reader.old reader.new input) }
     ensures no_write { result ≢ Err EngineFault.Write }
     ensures no_claim { IfErr result (λ fault. ¬ IsOfClaim fault) }
 {

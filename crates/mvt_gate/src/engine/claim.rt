@@ -1,7 +1,7 @@
 //! What an engine does that has two inputs: read a tile, then a claim about it, and write one line.
 ghost use Rattle.std.specs.Prelude.{◌≡◌, ◌≢◌, ℕ, ◌+◌, List, IfOk, IfErr, OnOk, string_bytes};
 ghost use Rattle.mvt_gate.specs.Claim.{AnswersClaim, BreaksOffClaim, EndsReading, Finds};
-ghost use Rattle.mvt_gate.specs.Engine.{HasFailed, IsClean, IsOfClaim, IsTooLarge, Reads};
+ghost use Rattle.mvt_gate.specs.Engine.{HasFailed, IsClean, IsOfClaim, IsTooLarge, ReadsBytes};
 ghost use Rattle.mvt_gate.specs.declared.engine.Outcome.{Outcome};
 ghost use Rattle.mvt_fault.specs.declared.reading.FaultTextError.{FaultTextError};
 ghost use Rattle.mvt_gate.specs.Tally.{IsUntouched, counts_of};
@@ -59,7 +59,7 @@ pub fn run_on_claim<T: ClaimTask, R: Read, Q: Read, W: Write>(
         HasFailed writer.new ((counts_of tile.new).interrupted + (counts_of claim.new).interrupted) }
     // The bytes that the readers' tallies counted came in this run.
     ensures counted { IfErr result (λ _. (input : List ℕ) × (claimed : List ℕ)
-        × Reads R.remaining tile.old tile.new input × Reads Q.remaining claim.old claim.new claimed) }
+        × ReadsBytes R.remaining tile.old tile.new input × ReadsBytes Q.remaining claim.old claim.new claimed) }
 
     // Only a claim that was read whole is refused, and only behind a tile that was.
     ensures not_json { result ≡ Err EngineFault.NotJson → Finds (λ _ claimed. T.IsRefused task.now claimed FaultTextError.Json)
