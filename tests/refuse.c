@@ -1,7 +1,7 @@
 /* Refuses one request for memory of a process, which it is preloaded into (LD_PRELOAD): the one whose number, counted
  * from 1, the environment has as REFUSED_REQUEST. Where that request is made, one byte goes to the descriptor
  * REFUSED_REQUEST_TOLD, so that the caller knows that it was reached. All other requests are passed on to the C
- * library. Nothing here takes memory, and nothing here is safe for threads, of which the programs under test have one. */
+ * library. Nothing here takes memory. It isn't safe for threads; the programs under test have one. */
 #include <errno.h>
 #include <stdlib.h>
 #include <unistd.h>
