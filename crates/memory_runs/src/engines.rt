@@ -38,9 +38,12 @@ impl Engine {
     /// Runs the engine, and prints its answer, how many bytes it wrote, and which.
     pub fn run<R: Env + Print + AllocGlobal>(self, rt: &R, bytes: &[u8]) -> Result<(), Stop> {
         let mut claim = [0u8; 256];
-        let claim = match self {
-            Engine::Confirm => word(rt, 2, &mut claim)?,
-            _ => "",
+        let length = match self {
+            Engine::Confirm => word(rt, 2, &mut claim)?.len(),
+            _ => 0,
+        };
+        let Some(claim) = claim.get(..length) else {
+            return Err(Stop::NoCall);
         };
         let mut written = Written::new();
         let answer = self.answer(rt, bytes, claim, &mut written);
@@ -59,7 +62,7 @@ impl Engine {
         self,
         rt: &R,
         bytes: &[u8],
-        claim: &str,
+        claim: &[u8],
         written: &mut Written,
     ) -> Result<Outcome, EngineFault> {
         let source = match self {
@@ -79,7 +82,7 @@ impl Engine {
                 check_stream(rt.alloc(), &mut reader, &mut writer)
             }
             Engine::Confirm => {
-                let mut claimed = Tally::new(Source::new(claim.as_bytes()));
+                let mut claimed = Tally::new(Source::new(claim));
                 confirm_streams(rt.alloc(), &mut reader, &mut claimed, &mut writer)
             }
         }
