@@ -1,0 +1,112 @@
+//! Calls on the bytes of a tile or of a fault.
+use crate::stop::Stop;
+use mvt_fault::{FaultTextError, fault_from_text, fault_text};
+use mvt_gate::{dump_text, judge};
+use mvt_tile::{ReadFault, Tile, check_layers, check_tags, read_tile, wire_fault};
+use std::alloc::Global;
+
+/// A call on bytes.
+#[derive(Clone, Copy)]
+pub enum TileCall {
+    Judge,
+    /// `judge`, and then `judge` again, whatever the first one answered.
+    JudgeTwice,
+    ReadTile,
+    CheckLayers,
+    /// `check_tags` of the first layer's first feature.
+    CheckTags,
+    DumpText,
+    /// `fault_text` of the tile's first wire fault.
+    FaultText,
+    FaultFromText,
+}
+
+impl TileCall {
+    /// The call of this name.
+    pub fn named(name: &str) -> Option<TileCall> {
+        Some(match name {
+            "judge" => TileCall::Judge,
+            "judge_twice" => TileCall::JudgeTwice,
+            "read_tile" => TileCall::ReadTile,
+            "check_layers" => TileCall::CheckLayers,
+            "check_tags" => TileCall::CheckTags,
+            "dump_text" => TileCall::DumpText,
+            "fault_text" => TileCall::FaultText,
+            "fault_from_text" => TileCall::FaultFromText,
+            _ => return None,
+        })
+    }
+
+    /// Makes the call, and prints its answer.
+    pub fn run<R: Print + AllocGlobal>(self, rt: &R, bytes: &[u8]) -> Result<(), Stop> {
+        match self {
+            TileCall::Judge => {
+                let verdict = judge(rt.alloc(), bytes)?;
+                println!(rt; "{verdict:?}")?;
+            }
+            TileCall::JudgeTwice => {
+                let first = judge(rt.alloc(), bytes);
+                let second = judge(rt.alloc(), bytes);
+                println!(rt; "{first:?}, {second:?}")?;
+            }
+            TileCall::ReadTile => tell_tile(rt, bytes)?,
+            TileCall::CheckLayers => {
+                let fault = check_layers(rt.alloc(), &tile_of(rt.alloc(), bytes)?)?;
+                println!(rt; "{fault:?}")?;
+            }
+            TileCall::CheckTags => tell_tags(rt, &tile_of(rt.alloc(), bytes)?)?,
+            TileCall::DumpText => {
+                let text = dump_text(rt.alloc(), &tile_of(rt.alloc(), bytes)?)?;
+                println!(rt; "{text}")?;
+            }
+            TileCall::FaultText => tell_fault(rt, bytes)?,
+            TileCall::FaultFromText => match fault_from_text(rt.alloc(), bytes) {
+                Err(FaultTextError::Memory) => return Err(Stop::Refused),
+                answer => println!(rt; "{answer:?}")?,
+            },
+        }
+        Ok(())
+    }
+}
+
+/// The tile that a call is made on.
+fn tile_of(alloc: Global, bytes: &[u8]) -> Result<Tile<'_>, Stop> {
+    match read_tile(alloc, bytes) {
+        Ok(tile) => Ok(tile),
+        Err(ReadFault::Memory) => Err(Stop::NoInput),
+        Err(ReadFault::Wire(_)) => Err(Stop::NoCall),
+    }
+}
+
+/// Prints what `read_tile` answers.
+fn tell_tile<R: Print + AllocGlobal>(rt: &R, bytes: &[u8]) -> Result<(), Stop> {
+    match read_tile(rt.alloc(), bytes) {
+        Err(ReadFault::Memory) => return Err(Stop::Refused),
+        Err(ReadFault::Wire(fault)) => println!(rt; "{fault:?}")?,
+        Ok(tile) => println!(rt; "{tile:?}")?,
+    }
+    Ok(())
+}
+
+/// Prints what `check_tags` answers of the first layer's first feature.
+fn tell_tags<R: Print + AllocGlobal>(rt: &R, tile: &Tile<'_>) -> Result<(), Stop> {
+    let Some(layer) = tile.layers.first() else {
+        return Err(Stop::NoCall);
+    };
+    if layer.features.is_empty() {
+        return Err(Stop::NoCall);
+    }
+    let fault = check_tags(rt.alloc(), layer, 0, 0)?;
+    println!(rt; "{fault:?}")?;
+    Ok(())
+}
+
+/// Prints the text of the tile's first wire fault.
+fn tell_fault<R: Print + AllocGlobal>(rt: &R, bytes: &[u8]) -> Result<(), Stop> {
+    let Some(fault) = wire_fault(bytes) else {
+        return Err(Stop::NoCall);
+    };
+    let text = fault_text(rt.alloc(), &fault)?;
+    println!(rt; "{text}")?;
+    Ok(())
+}
