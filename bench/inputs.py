@@ -287,15 +287,22 @@ def named_layers(size):
     return b"".join(layers[at] for at in scattered(len(layers)))
 
 
+def named_layer(name):
+    return field(3, DELIMITED, VERSION + field(1, DELIMITED, name))
+
+
 # of the names that differ in their last bytes alone
 PREFIX = b"n" * 100
 DIGITS = 7
 
 
+def prefixed_count(size):
+    return size // len(named_layer(PREFIX + b"0" * DIGITS))
+
+
 def prefixed_layers(size):
     """As many layers as fit, whose names differ in the digits behind a prefix, in an order that is far from sorted."""
-    each = len(field(3, DELIMITED, VERSION + field(1, DELIMITED, PREFIX + b"0" * DIGITS)))
-    return [field(3, DELIMITED, VERSION + field(1, DELIMITED, PREFIX + b"%0*d" % (DIGITS, at))) for at in scattered(size // each)]
+    return [named_layer(PREFIX + b"%0*d" % (DIGITS, at)) for at in scattered(prefixed_count(size))]
 
 
 def repeated_name(size):
@@ -411,7 +418,7 @@ SIZED = {
 HOSTILE = {
     "prefixed_layers": lambda size: b"".join(prefixed_layers(size)),
     "repeated_name": repeated_name,
-    "one_name": lambda size: repeated(field(3, DELIMITED, VERSION + field(1, DELIMITED, PREFIX)), size),
+    "one_name": lambda size: repeated(named_layer(PREFIX), size),
     "longest_fields": lambda size: repeated(longest(1 << 3 | VARINT) + longest((1 << 64) - 1), size),
     "longest_points": longest_points,
 }

@@ -6,7 +6,7 @@ A name is a shape and its number of vertices, as comb_1000, or its size, as tria
 import math
 import sys
 
-from inputs import CLOSE_PATH, DELIMITED, LINE_TO, MOVE_TO, NAMED, POLYGON, Dice, command, feature, field, packed, parameters, write_inputs
+from inputs import CLOSE_PATH, DELIMITED, LINE_TO, MOVE_TO, NAMED, POLYGON, Dice, command, feature, field, packed, parameters, varint, write_inputs
 
 # coordinates lie from -2^30 to 2^30
 REACH = 1 << 29
@@ -127,6 +127,14 @@ def triangle(first, *moves):
     return packed([command(MOVE_TO, 1), *parameters([first]), command(LINE_TO, 2), *parameters(moves), command(CLOSE_PATH, 1)])
 
 
+ZERO = varint(0)
+
+
+def there_and_back(length):
+    """A step along an axis, and the same the other way."""
+    return varint(2 * length), varint(2 * length - 1)
+
+
 def triangle_hole(x, y):
     """The smallest hole."""
     return triangle((x, y), (0, 1), (1, -1))
@@ -150,11 +158,15 @@ def triangle_holes(size):
 def nested_triangles(size):
     """One exterior with triangles as holes, each inside all before it, as many as fit. Triangle i, counted from the innermost,
     has the corners (-i, -i), (-i, 2i) and (2i, -i), and begins at the corner near which the one around it ends."""
+    begins = [packed([command(MOVE_TO, 1), *parameters([it]), command(LINE_TO, 2)]) for it in ((1, 1), (1, -2), (-2, 1))]
+    close = packed([command(CLOSE_PATH, 1)])
     holes, left, i = [], size - REST, 0
     while True:
         i += 1
-        down, across, back = (0, 3 * i), (3 * i, -3 * i), (-3 * i, 0)
-        hole = (triangle((1, 1), down, across), triangle((1, -2), across, back), triangle((-2, 1), back, down))[i % 3]
+        there, back = there_and_back(3 * i)
+        # down, across and back again: two of these moves, by where it begins
+        down, across, along = ZERO + there, there + back, back + ZERO
+        hole = begins[i % 3] + (down + across, across + along, along + down)[i % 3] + close
         left -= len(hole)
         if left < 0:
             break
@@ -207,21 +219,23 @@ def overlapping_column(size):
 def spiral(size):
     """A ring that winds inwards and back beside itself, of turns with a length 4 less than that of the turn around."""
     there, back, left, length = [], [], size - REST, 0
+    outer = there_and_back(2)
     while True:
         length += 4
-        inwards = packed(parameters([(0, -length - 2), (length + 2, 0), (0, length), (-length, 0)]))
-        outwards = packed(parameters([(length - 2, 0), (0, 2 - length), (-length, 0), (0, length)]))
+        (inner, inner_back), (side, side_back), outer = outer, there_and_back(length), there_and_back(length + 2)
+        # in: (0, -outer), (outer, 0), (0, side), (-side, 0); and out: (inner, 0), (0, -inner), (-side, 0), (0, side)
+        inwards = ZERO + outer[1] + outer[0] + ZERO + ZERO + side + side_back + ZERO
+        outwards = inner + ZERO + ZERO + inner_back + side_back + ZERO + ZERO + side
         left -= len(inwards) + len(outwards)
         if left < 0:
             break
         there.append(inwards)
         back.append(outwards)
-    turns = len(there)
-    begin = [command(MOVE_TO, 1), 0, 0, command(LINE_TO, 8 * turns + 7), *parameters([(length, 0), (0, length), (-length, 0)])]
-    # the end of the way in, and from there the innermost turn, whose first step is one longer
-    end = packed(parameters([(0, -1), (3, 0)])) + back[0][2:]
+    begin = [command(MOVE_TO, 1), 0, 0, command(LINE_TO, 8 * len(there) + 7), *parameters([(length, 0), (0, length), (-length, 0)])]
+    # the end of the way in, and the innermost turn of the way out, whose first step is one longer
+    turn = packed(parameters([(0, -1), (3, 0)])) + back[0][2:]
     last = [*parameters([(length - 2, 0), (0, 2 - length), (1 - length, 0)]), command(CLOSE_PATH, 1)]
-    return filled(packed(begin) + b"".join(reversed(there)) + end + b"".join(back[1:]) + packed(last))
+    return filled(packed(begin) + b"".join(reversed(there)) + turn + b"".join(back[1:]) + packed(last))
 
 
 def zigzag(size):
