@@ -135,6 +135,21 @@ def many_features(size):
     return b"".join(layers)
 
 
+# the bytes of the features that a plain tile repeats
+BLOCK = 1 << 16
+
+
+def plain_features(size):
+    """One layer of such features, which fills the size."""
+    dice, features = Dice(1), b""
+    begin = NAMED + b"".join(field(3, DELIMITED, it.encode()) for it in KEYS)
+    begin += b"".join(field(4, DELIMITED, value(dice, at)) for at in range(VALUES))
+    for at in itertools.count():
+        features += field(2, DELIMITED, tagged_feature(dice, at))
+        if len(features) > BLOCK:
+            return one_payload(begin, features, size)
+
+
 # Long lines, and polygons
 
 CHAIN = 40_000
@@ -161,17 +176,28 @@ def long_lines(size):
     return layer("coastlines", [feature(LINESTRING, line)] * 8)
 
 
+def banded_ring(dice, vertices):
+    """The numbers of a ring that goes right in one band and comes back in another, and so no two of its edges meet."""
+    there = chain(dice, vertices // 2 - 1)
+    moves = [*there, (0, 4 * BAND), *((-across, up) for across, up in there)]
+    return [command(MOVE_TO, 1), 0, 0, command(LINE_TO, len(moves)), *parameters(moves), command(CLOSE_PATH, 1)]
+
+
 def polygons(size, vertices):
-    """As many polygons of one ring, a feature each. A ring goes right in one band and comes back in another, and so no
-    two of its edges meet."""
+    """As many polygons of one ring, a feature each."""
     dice, features = Dice(3), []
     while size > 0:
-        there = chain(dice, vertices // 2 - 1)
-        moves = [*there, (0, 4 * BAND), *((-across, up) for across, up in there)]
-        ring = [command(MOVE_TO, 1), 0, 0, command(LINE_TO, len(moves)), *parameters(moves), command(CLOSE_PATH, 1)]
-        features.append(feature(POLYGON, packed(ring)))
+        features.append(feature(POLYGON, packed(banded_ring(dice, vertices))))
         size -= len(features[-1])
     return layer("land", features)
+
+
+def plain_polygons(size):
+    """One layer of such features of a hundred vertices each, which fills the size."""
+    dice, features = Dice(3), b""
+    while len(features) < BLOCK:
+        features += field(2, DELIMITED, feature(POLYGON, packed(banded_ring(dice, 100))))
+    return one_payload(NAMED, features, size)
 
 
 # The same small field again and again
@@ -261,6 +287,47 @@ def named_layers(size):
     return b"".join(layers[at] for at in scattered(len(layers)))
 
 
+def named_layer(name):
+    return field(3, DELIMITED, VERSION + field(1, DELIMITED, name))
+
+
+# of the names that differ in their last bytes alone
+PREFIX = b"n" * 100
+DIGITS = 7
+
+
+def prefixed_count(size):
+    return size // len(named_layer(PREFIX + b"0" * DIGITS))
+
+
+def prefixed_layers(size):
+    """As many layers as fit, whose names differ in the digits behind a prefix, in an order that is far from sorted."""
+    return [named_layer(PREFIX + b"%0*d" % (DIGITS, at)) for at in scattered(prefixed_count(size))]
+
+
+def repeated_name(size):
+    """The same layers, the last of which has the first one's name."""
+    layers = prefixed_layers(size)
+    return b"".join([*layers[:-1], layers[0]])
+
+
+LONGEST = 10
+
+
+def longest(number):
+    """A number's varint of as many bytes as one may have."""
+    groups = [number >> 7 * at & 127 | 128 for at in range(LONGEST - 1)]
+    return bytes([*groups, number >> 7 * (LONGEST - 1)])
+
+
+def longest_points(size):
+    """One feature of points, all at one position, whose numbers have ten bytes each."""
+    # (some bytes go to the messages around them)
+    points = (size - 128) // (2 * LONGEST)
+    one = feature(POINT, longest(command(MOVE_TO, points)) + longest(0) * (2 * points))
+    return field(3, DELIMITED, NAMED + field(2, DELIMITED, one))
+
+
 def many_tags(size):
     """One layer with as many keys as fit, and one feature with a tag of each key, all with one value."""
     # (some bytes go to the messages around the keys and the tags)
@@ -332,6 +399,30 @@ FAULTY = {
     ),
 }
 
+# by their names, what fills a size
+SIZED = {
+    "short_fields": lambda size: repeated(SHORT, size),
+    "smallest_layers": lambda size: b"".join(smallest_layers(size)),
+    "smallest_features": lambda size: one_payload(NAMED, SMALLEST_FEATURE, size),
+    "smallest_points": lambda size: one_payload(NAMED, SMALLEST_POINT, size),
+    "smallest_lines": smallest_lines,
+    "parted_lines": parted_lines,
+    "smallest_keys": lambda size: one_payload(NAMED, SMALLEST_KEY, size),
+    "smallest_values": lambda size: one_payload(NAMED, SMALLEST_VALUE, size),
+    "named_layers": named_layers,
+    "many_tags": many_tags,
+    "tagged_features": lambda size: tagged_features(size, 128),
+    "many_keys": lambda size: tagged_features(size, size // 8),
+}
+# those that tests/hostile takes beside them
+HOSTILE = {
+    "prefixed_layers": lambda size: b"".join(prefixed_layers(size)),
+    "repeated_name": repeated_name,
+    "one_name": lambda size: repeated(named_layer(PREFIX), size),
+    "longest_fields": lambda size: repeated(longest(1 << 3 | VARINT) + longest((1 << 64) - 1), size),
+    "longest_points": longest_points,
+}
+
 INPUTS = {
     "one_payload_64_mib": lambda: one_payload(b"", NO_MESSAGE, 64 * MIB),
     "small_layers_8_mib": lambda: b"".join(smallest_layers(8 * MIB)),
@@ -342,23 +433,9 @@ for vertices in (10, 100, 1000):
     INPUTS[f"polygons_of_{vertices}"] = lambda count=vertices: polygons(MIB, count)
 # (64 MiB are the greatest input that the program takes)
 for mib in (16, 32, 64):
-    INPUTS |= {
-        f"short_fields_{mib}_mib": lambda size=mib * MIB: repeated(SHORT, size),
-        f"smallest_layers_{mib}_mib": lambda size=mib * MIB: b"".join(smallest_layers(size)),
-        f"smallest_features_{mib}_mib": lambda size=mib * MIB: one_payload(NAMED, SMALLEST_FEATURE, size),
-        f"smallest_points_{mib}_mib": lambda size=mib * MIB: one_payload(NAMED, SMALLEST_POINT, size),
-        f"smallest_lines_{mib}_mib": lambda size=mib * MIB: smallest_lines(size),
-        f"parted_lines_{mib}_mib": lambda size=mib * MIB: parted_lines(size),
-        f"smallest_keys_{mib}_mib": lambda size=mib * MIB: one_payload(NAMED, SMALLEST_KEY, size),
-        f"smallest_values_{mib}_mib": lambda size=mib * MIB: one_payload(NAMED, SMALLEST_VALUE, size),
-        f"named_layers_{mib}_mib": lambda size=mib * MIB: named_layers(size),
-        f"many_tags_{mib}_mib": lambda size=mib * MIB: many_tags(size),
-        f"tagged_features_{mib}_mib": lambda size=mib * MIB: tagged_features(size, 128),
-        f"many_keys_{mib}_mib": lambda size=mib * MIB: tagged_features(size, size // 8),
-    }
+    INPUTS |= {f"{name}_{mib}_mib": lambda write=write, size=mib * MIB: write(size) for name, write in SIZED.items()}
 for kind, write in FAULTY.items():
     INPUTS[f"{kind}_fault_64_mib"] = lambda write=write: write(64 * MIB)
-
 
 
 def write_inputs(inputs, folder, names):

@@ -6,7 +6,7 @@ A name is a shape and its number of vertices, as comb_1000, or its size, as tria
 import math
 import sys
 
-from inputs import CLOSE_PATH, DELIMITED, LINE_TO, MOVE_TO, NAMED, POLYGON, Dice, command, feature, field, packed, parameters, write_inputs
+from inputs import CLOSE_PATH, DELIMITED, LINE_TO, MOVE_TO, NAMED, POLYGON, Dice, command, feature, field, packed, parameters, varint, write_inputs
 
 # coordinates lie from -2^30 to 2^30
 REACH = 1 << 29
@@ -27,9 +27,13 @@ def drawn(rings):
     return numbers
 
 
+def filled(numbers):
+    """A tile of one feature of rings, whose numbers are packed already."""
+    return field(3, DELIMITED, NAMED + field(2, DELIMITED, feature(POLYGON, numbers)))
+
+
 def tile(rings):
-    one = feature(POLYGON, packed(drawn(rings)))
-    return field(3, DELIMITED, NAMED + field(2, DELIMITED, one))
+    return filled(packed(drawn(rings)))
 
 
 def comb(vertices):
@@ -114,10 +118,26 @@ def nested_holes(vertices):
     return rings
 
 
-# The smallest hole, a triangle, so far from where the one before it ended.
+# the bytes of the messages around the rings of one feature, and those of its first and last numbers, at most
+REST = 128
+
+
+def triangle(first, *moves):
+    """A ring that begins so far from where the one before it ended, and goes on by two moves."""
+    return packed([command(MOVE_TO, 1), *parameters([first]), command(LINE_TO, 2), *parameters(moves), command(CLOSE_PATH, 1)])
+
+
+ZERO = varint(0)
+
+
+def there_and_back(length):
+    """A step along an axis, and the same the other way."""
+    return varint(2 * length), varint(2 * length - 1)
+
+
 def triangle_hole(x, y):
-    moves = [(x, y), (0, 1), (1, -1)]
-    return packed([command(MOVE_TO, 1), *parameters(moves[:1]), command(LINE_TO, 2), *parameters(moves[1:]), command(CLOSE_PATH, 1)])
+    """The smallest hole."""
+    return triangle((x, y), (0, 1), (1, -1))
 
 
 def triangle_holes(size):
@@ -132,7 +152,90 @@ def triangle_holes(size):
             break
         geometry.append(rows[i % 2])
         left -= len(rows[i % 2])
-    return field(3, DELIMITED, NAMED + field(2, DELIMITED, feature(POLYGON, b"".join(geometry))))
+    return filled(b"".join(geometry))
+
+
+def nested_triangles(size):
+    """One exterior with triangles as holes, each inside all before it, as many as fit. Triangle i, counted from the innermost,
+    has the corners (-i, -i), (-i, 2i) and (2i, -i), and begins at the corner near which the one around it ends."""
+    begins = [packed([command(MOVE_TO, 1), *parameters([it]), command(LINE_TO, 2)]) for it in ((1, 1), (1, -2), (-2, 1))]
+    close = packed([command(CLOSE_PATH, 1)])
+    holes, left, i = [], size - REST, 0
+    while True:
+        i += 1
+        there, back = there_and_back(3 * i)
+        # down, across and back again: two of these moves, by where it begins
+        down, across, along = ZERO + there, there + back, back + ZERO
+        hole = begins[i % 3] + (down + across, across + along, along + down)[i % 3] + close
+        left -= len(hole)
+        if left < 0:
+            break
+        holes.append(hole)
+    corners = [(-i, -i), (2 * i, -i), (-i, 2 * i)]
+    # (the first hole begins near the last corner of the exterior)
+    begin = (1, 0, 2)[len(holes) % 3]
+    return filled(packed(drawn([corners[begin:] + corners[:begin]])) + b"".join(reversed(holes)))
+
+
+def equal_polygons(size):
+    """As many of the smallest polygons as fit, all at one position but for the last one."""
+    one = triangle((0, -1), (1, 0), (-1, 1))
+    return filled(one * ((size - REST) // len(one)) + triangle((9, 9), (1, 0), (-1, 1)))
+
+
+def equal_holes(size):
+    """One exterior with as many of the smallest holes as fit, all at one position but for the last one."""
+    exterior = packed(drawn([[(0, 0), (9, 0), (9, 9), (0, 9)]]))
+    one = triangle_hole(-1, 0)
+    return filled(exterior + triangle_hole(3, -6) + one * ((size - REST) // len(one)) + triangle_hole(3, 0))
+
+
+def up_a_column(count, steps, rise, *last):
+    """A ring that begins at (0, 0), and goes up by these steps of (0, y) so many times, each time by a rise, and then to the
+    last vertices."""
+    up = packed(parameters([(0, it) for it in steps]))
+    beside = [(x, y - count * rise) for x, y in last]
+    begin = packed([command(MOVE_TO, 1), 0, 0, command(LINE_TO, count * len(steps) + len(last))])
+    return filled(begin + up * count + packed([*parameters(beside), command(CLOSE_PATH, 1)]))
+
+
+def column(size):
+    """All vertices have one x, so the ring has no area."""
+    return up_a_column((size - REST) // 2, [1], 1)
+
+
+def column_with_side(size):
+    """A valid ring all of whose vertices have one x but the last."""
+    count = (size - REST) // 2
+    return up_a_column(count, [1], 1, (-1, count // 2))
+
+
+def overlapping_column(size):
+    """The same with steps up and down the column, so that edges lie on each other."""
+    count = (size - REST) // 4
+    return up_a_column(count, [2, -1], 1, (-1, count // 2))
+
+
+def spiral(size):
+    """A ring that winds inwards and back beside itself, of turns with a length 4 less than that of the turn around."""
+    there, back, left, length = [], [], size - REST, 0
+    outer = there_and_back(2)
+    while True:
+        length += 4
+        (inner, inner_back), (side, side_back), outer = outer, there_and_back(length), there_and_back(length + 2)
+        # in: (0, -outer), (outer, 0), (0, side), (-side, 0); and out: (inner, 0), (0, -inner), (-side, 0), (0, side)
+        inwards = ZERO + outer[1] + outer[0] + ZERO + ZERO + side + side_back + ZERO
+        outwards = inner + ZERO + ZERO + inner_back + side_back + ZERO + ZERO + side
+        left -= len(inwards) + len(outwards)
+        if left < 0:
+            break
+        there.append(inwards)
+        back.append(outwards)
+    begin = [command(MOVE_TO, 1), 0, 0, command(LINE_TO, 8 * len(there) + 7), *parameters([(length, 0), (0, length), (-length, 0)])]
+    # the end of the way in, and the innermost turn of the way out, whose first step is one longer
+    turn = packed(parameters([(0, -1), (3, 0)])) + back[0][2:]
+    last = [*parameters([(length - 2, 0), (0, 2 - length), (1 - length, 0)]), command(CLOSE_PATH, 1)]
+    return filled(packed(begin) + b"".join(reversed(there)) + turn + b"".join(back[1:]) + packed(last))
 
 
 def zigzag(size):
@@ -144,13 +247,17 @@ def zigzag(size):
     height = blocks * len(turns)
     begin = packed([command(MOVE_TO, 1), *parameters([(turns[0], 0)]), command(LINE_TO, height + 2)])
     end = packed([*parameters([(-1 - turns[0], 1), (0, -2 - height)]), command(CLOSE_PATH, 1)])
-    return field(3, DELIMITED, NAMED + field(2, DELIMITED, feature(POLYGON, begin + steps * blocks + end)))
+    return filled(begin + steps * blocks + end)
 
 
 SHAPES = {it.__name__: it for it in (comb, lying_comb, star, coast, small_polygons, holes, nested_holes, late_meeting)}
 INPUTS = {f"{name}_{count}": lambda shape=shape, count=count: tile(shape(count)) for name, shape in SHAPES.items() for count in COUNTS}
-INPUTS["triangle_holes_64_mib"] = lambda: triangle_holes(64 << 20)
-INPUTS["zigzag_64_mib"] = lambda: zigzag(64 << 20)
+# by their names, what fills a size
+SIZED = {
+    it.__name__: it
+    for it in (zigzag, triangle_holes, nested_triangles, equal_polygons, equal_holes, column, column_with_side, overlapping_column, spiral)
+}
+INPUTS |= {f"{name}_64_mib": lambda write=write: write(64 << 20) for name, write in SIZED.items()}
 
 if __name__ == "__main__":
     write_inputs(INPUTS, sys.argv[1], sys.argv[2:])

@@ -5,6 +5,12 @@ use std::{env, fs, process};
 
 const POINT: &[u8] = b"\x1a\x0e\x78\x02\x0a\x01\x61\x12\x07\x18\x01\x22\x03\x09\x32\x22";
 
+/// A layer with neither a name nor a version: its field is whole, and its message is no layer.
+const NO_LAYER: &[u8] = b"\x1a\x00";
+
+/// A layer of version 1, which is a tile and breaks a rule.
+const VERSION_ONE: &[u8] = b"\x1a\x05\x78\x01\x0a\x01\x61";
+
 /// The status of a run. What it prints is left aside.
 fn status(rt: &HostRuntime, texts: &[&str]) -> Result<u8, Fail> {
     let mut words = Vec::new(rt.alloc());
@@ -47,6 +53,10 @@ fn exits_by_the_file(rt: HostRuntime) -> Result<(), Fail> {
     fs::write(&rt, &point, POINT)?;
     let cut = folder.join(rt.alloc(), "cut.mvt")?;
     fs::write(&rt, &cut, &POINT[..15])?;
+    let no_layer = folder.join(rt.alloc(), "no_layer.mvt")?;
+    fs::write(&rt, &no_layer, NO_LAYER)?;
+    let version_one = folder.join(rt.alloc(), "version_one.mvt")?;
+    fs::write(&rt, &version_one, VERSION_ONE)?;
     let large = folder.join(rt.alloc(), "large.mvt")?;
     fs::create(&rt, &large)?.set_len(67_108_865)?;
     let missing = folder.join(rt.alloc(), "missing.mvt")?;
@@ -54,6 +64,8 @@ fn exits_by_the_file(rt: HostRuntime) -> Result<(), Fail> {
     let files = [
         point.as_str(),
         cut.as_str(),
+        no_layer.as_str(),
+        version_one.as_str(),
         large.as_str(),
         missing.as_str(),
         folder.as_str(),
@@ -63,10 +75,10 @@ fn exits_by_the_file(rt: HostRuntime) -> Result<(), Fail> {
     let dumped = statuses(&rt, "dump", &files)?;
     // the folder goes before a wrong status ends the test
     fs::remove_dir_all(&rt, &folder)?;
-    let wanted = [0, 1, 3, 3, 3].as_slice();
-    assert!(rt; listed.as_slice() == wanted);
-    assert!(rt; checked.as_slice() == wanted);
-    assert!(rt; dumped.as_slice() == wanted);
+    // (the third and the fourth tell each command from the others)
+    assert!(rt; listed.as_slice() == [0, 1, 0, 0, 3, 3, 3].as_slice());
+    assert!(rt; checked.as_slice() == [0, 1, 1, 1, 3, 3, 3].as_slice());
+    assert!(rt; dumped.as_slice() == [0, 1, 1, 0, 3, 3, 3].as_slice());
     Ok(())
 }
 
