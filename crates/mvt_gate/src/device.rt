@@ -22,8 +22,8 @@ pub struct Manner {
     pub interruptions: u64,
     /// The call that fails; 0 for none.
     pub fails_at: u64,
-    /// The kind of error that it fails with.
-    pub failure: ErrorKind,
+    /// The kind of error that it fails with; with none, it moves no byte.
+    pub failure: Option<ErrorKind>,
     /// Whether reads never come to an end.
     pub is_endless: bool,
 }
@@ -34,7 +34,7 @@ pub const CALM: Manner = Manner {
     interrupted_from: 1,
     interruptions: 0,
     fails_at: 0,
-    failure: ErrorKind::BrokenPipe,
+    failure: Some(ErrorKind::BrokenPipe),
     is_endless: false,
 };
 
@@ -68,17 +68,20 @@ impl Calls {
         Calls { manner, begun: 0 }
     }
 
-    /// Numbers a call, and says whether it is to fail.
-    fn begin(&mut self) -> io::Result<()> {
+    /// Numbers a call: how many bytes it moves at most, or its error.
+    fn begin(&mut self) -> io::Result<usize> {
         self.begun = self.begun.saturating_add(1);
         if self.begun == self.manner.fails_at {
-            return Err(io::Error::from(self.manner.failure));
+            return match self.manner.failure {
+                Some(kind) => Err(io::Error::from(kind)),
+                None => Ok(0),
+            };
         }
         if self.begun >= self.manner.interrupted_from && self.manner.interruptions > 0 {
             self.manner.interruptions -= 1;
             return Err(io::Error::from(ErrorKind::Interrupted));
         }
-        Ok(())
+        Ok(self.manner.step)
     }
 }
 
@@ -100,11 +103,11 @@ impl<'a> Source<'a> {
 
 impl Read for Source<'_> {
     fn read(&mut self, buf: &mut [u8]) -> io::Result<usize> {
-        self.calls.begin()?;
+        let most = self.calls.begin()?;
         if self.calls.manner.is_endless {
             return Ok(buf.len());
         }
-        let n = self.calls.manner.step.min(buf.len()).min(self.given.len());
+        let n = most.min(buf.len()).min(self.given.len());
         let (front, rest) = self.given.split_at(n);
         buf[..n].copy_from_slice(front);
         self.given = rest;
@@ -130,13 +133,13 @@ impl<'a> Sink<'a> {
 
 impl Write for Sink<'_> {
     fn write(&mut self, buf: &[u8]) -> io::Result<usize> {
-        self.calls.begin()?;
-        let n = self.calls.manner.step.min(buf.len());
+        let n = self.calls.begin()?.min(buf.len());
         self.taken.extend_from_slice(&buf[..n])?;
         Ok(n)
     }
 
     fn flush(&mut self) -> io::Result<()> {
-        self.calls.begin()
+        self.calls.begin()?;
+        Ok(())
     }
 }

@@ -1,5 +1,6 @@
-//! Runs of the engines that read one tile, for tests.
+//! Runs of the engines, for tests.
 use crate::check::check_stream;
+use crate::confirm::confirm_streams;
 use crate::device::{CALM, Manner, Sink, Source, bytes_of};
 use crate::dump::dump_stream;
 use crate::engine::{EngineFault, Outcome};
@@ -7,49 +8,47 @@ use crate::fields::fields_stream;
 use crate::tally::Tally;
 use std::test::Fail;
 
-/// An engine that reads one tile.
+mod devices;
+
+/// A polygon whose edges 0 and 2 cross, and its fault.
+pub const CROSSED: &str = "1a 16 78 02 0a 01 61 12 0f 18 03 22 0b 09 00 10 1a 14 0f 00 14 13 13 0f";
+
+pub const CROSSING: &str =
+    r#"{"code":504,"feature":0,"first":{"edge":0,"ring":0},"layer":0,"polygon":0,"second":{"edge":2,"ring":0},"w":"180","x":"800","y":"800"}"#;
+
+/// An engine.
 #[derive(Clone, Copy)]
 pub enum Engine {
     Fields,
     Check,
     Dump,
+    Confirm,
 }
 
-/// Runs an engine on these bytes, with a reader and a writer of these manners: its result, and what goes out.
-fn run(
+/// Runs an engine on a tile, and `confirm` on a claim too, with devices of these manners for the tile, for the claim and
+/// for the line: its result, and what goes out.
+pub fn run(
     rt: &HostRuntime,
     engine: Engine,
-    bytes: &[u8],
-    [of_reader, of_writer]: [Manner; 2],
+    (tile, claim): (&[u8], &str),
+    [of_tile, of_claim, of_writer]: [Manner; 3],
     taken: &mut Vec<u8>,
 ) -> Result<Outcome, EngineFault> {
-    let mut reader = Tally::new(Source::new(bytes, of_reader));
+    let mut tile = Tally::new(Source::new(tile, of_tile));
+    let mut claim = Tally::new(Source::new(claim.as_bytes(), of_claim));
     let mut writer = Tally::new(Sink::new(taken, of_writer));
     match engine {
-        Engine::Fields => fields_stream(rt.alloc(), &mut reader, &mut writer),
-        Engine::Check => check_stream(rt.alloc(), &mut reader, &mut writer),
-        Engine::Dump => dump_stream(rt.alloc(), &mut reader, &mut writer),
+        Engine::Fields => fields_stream(rt.alloc(), &mut tile, &mut writer),
+        Engine::Check => check_stream(rt.alloc(), &mut tile, &mut writer),
+        Engine::Dump => dump_stream(rt.alloc(), &mut tile, &mut writer),
+        Engine::Confirm => confirm_streams(rt.alloc(), &mut tile, &mut claim, &mut writer),
     }
 }
 
-/// Whether a run of an engine ends so: its result, and what goes out.
-pub fn ends_so(
-    rt: &HostRuntime,
-    engine: Engine,
-    bytes: &[u8],
-    manners: [Manner; 2],
-    want: Result<Outcome, EngineFault>,
-    went_out: &[u8],
-) -> bool {
-    let mut taken = Vec::new(rt.alloc());
-    let got = run(rt, engine, bytes, manners, &mut taken);
-    got == want && taken.as_slice() == went_out
-}
-
-/// Whether an engine answers so: its outcome, and the line, which it ends with one LF.
+/// Whether an engine of one input answers so: its outcome, and the line, which it ends with one LF.
 pub fn writes(rt: &HostRuntime, engine: Engine, bytes: &[u8], line: &str) -> bool {
     let mut taken = Vec::new(rt.alloc());
-    let got = run(rt, engine, bytes, [CALM; 2], &mut taken);
+    let got = run(rt, engine, (bytes, ""), [CALM; 3], &mut taken);
     let is_ended = taken.pop() == Some(b'\n');
     is_ended && got == Ok(outcome_of(line)) && taken.as_slice() == line.as_bytes()
 }

@@ -1,16 +1,11 @@
 use crate::agreement::{Agreement, judge_and_confirm};
-use crate::device::{bytes_of, fails};
-use crate::engine::{EngineFault, Outcome};
-use crate::runs::{Engine, ends_so, writes};
+use crate::device::bytes_of;
+use crate::runs::{Engine, writes};
 use crate::verdict::{Verdict, judge};
 use mvt_fault::{Fault, fault_from_text};
 use std::test::Fail;
 
 const OK: &str = r#"{"ok":true}"#;
-
-/// Two layers that are the same, each named `a` with one point.
-const EQUAL_LAYERS: &str =
-    "1a 0e 78 02 0a 01 61 12 07 18 01 22 03 09 32 22 1a 0e 78 02 0a 01 61 12 07 18 01 22 03 09 32 22";
 
 /// Tiles in hexadecimal that keep every rule, and the line for each.
 const TILES: &str = r#"
@@ -185,30 +180,5 @@ fn rows_held(rt: &HostRuntime, rows: &str) -> Result<u32, Fail> {
 fn judges_tiles(rt: HostRuntime) -> Result<(), Fail> {
     assert_eq!(rt; rows_held(&rt, TILES)?, 29);
     assert_eq!(rt; rows_held(&rt, FAULTS)?, 58);
-    Ok(())
-}
-
-/// The call that fails of a reader's and of a writer's, if any does, how a run on the two layers ends, and what goes
-/// out.
-type Run = (u64, u64, Result<Outcome, EngineFault>, &'static [u8]);
-
-const RUNS: [Run; 3] = [
-    (
-        0,
-        0,
-        Ok(Outcome::No),
-        b"{\"code\":202,\"first\":0,\"second\":1}\n",
-    ),
-    (1, 0, Err(EngineFault::Read), b""),
-    (0, 2, Err(EngineFault::Write), b"{\"c"),
-];
-
-#[test]
-fn bears_devices_that_fail(rt: HostRuntime) -> Result<(), Fail> {
-    let bytes = bytes_of(&rt, EQUAL_LAYERS)?;
-    for (read, write, want, went_out) in RUNS {
-        let manners = [fails(read), fails(write)];
-        assert!(rt; ends_so(&rt, Engine::Check, &bytes, manners, want, went_out));
-    }
     Ok(())
 }

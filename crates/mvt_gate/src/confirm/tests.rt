@@ -1,6 +1,7 @@
 use super::confirm_streams;
 use crate::device::{CALM, Manner, Sink, Source, bytes_of, fails, interrupted};
 use crate::engine::{EngineFault, Outcome};
+use crate::runs::{CROSSED, CROSSING};
 use crate::tally::Tally;
 use std::io::ErrorKind;
 use std::test::Fail;
@@ -55,16 +56,10 @@ fn says(
     is_line && at_once == want && by_bytes == want && taken.as_slice() == line.as_bytes()
 }
 
-/// A polygon whose edges 0 and 2 cross, and one of which no fault is true.
-const CROSSED: &str = "1a 16 78 02 0a 01 61 12 0f 18 03 22 0b 09 00 10 1a 14 0f 00 14 13 13 0f";
-
+/// A polygon of which no fault is true.
 const TRIANGLE: &str = "1a 14 78 02 0a 01 61 12 0d 18 03 22 09 09 06 0c 12 0a 0c 18 2c 0f";
 
-/// The fault of the crossed polygon, and that of a varint which ends too early, the latter with its keys in another
-/// order and with space too.
-const CROSSING: &str =
-    r#"{"code":504,"feature":0,"first":{"edge":0,"ring":0},"layer":0,"polygon":0,"second":{"edge":2,"ring":0},"w":"180","x":"800","y":"800"}"#;
-
+/// The fault of a varint that ends too early, and the same with its keys in another order and with space.
 const CUT: &str = r#"{"at":0,"code":101,"field":0,"scope":"tile"}"#;
 
 const SPACED: &str = " {\"scope\":\"tile\", \"field\":0, \"code\":101, \"at\":0}\n";
@@ -143,7 +138,7 @@ const FAILING: [Failing; 8] = [
 /// A device that fails so at a call.
 fn fails_with(failure: ErrorKind, at: u64) -> Manner {
     Manner {
-        failure,
+        failure: Some(failure),
         ..fails(at)
     }
 }

@@ -1,7 +1,7 @@
 use super::fields_stream;
-use crate::device::{CALM, Manner, Sink, Source, fails, interrupted};
+use crate::device::{CALM, Manner, Sink, Source, interrupted};
 use crate::engine::{EngineFault, Outcome};
-use crate::runs::{Engine, ends_so, rows_held};
+use crate::runs::{Engine, rows_held, run};
 use crate::tally::Tally;
 use std::test::Fail;
 
@@ -59,14 +59,19 @@ const WRITE: Result<Outcome, EngineFault> = Err(EngineFault::Write);
 /// bytes of the line go out.
 fn point_ends_so(
     rt: &HostRuntime,
-    manners: [Manner; 2],
+    [of_reader, of_writer]: [Manner; 2],
     want: Result<Outcome, EngineFault>,
     went_out: usize,
 ) -> bool {
-    match LINE.get(..went_out) {
-        Some(front) => ends_so(rt, Engine::Fields, &POINT, manners, want, front),
-        None => false,
-    }
+    let mut taken = Vec::new(rt.alloc());
+    let got = run(
+        rt,
+        Engine::Fields,
+        (&POINT, ""),
+        [of_reader, CALM, of_writer],
+        &mut taken,
+    );
+    got == want && taken.len() == went_out && LINE.starts_with(&taken)
 }
 
 /// From which call on the reader is interrupted, and how many times; the same of the writer; and how the run ends.
@@ -88,35 +93,6 @@ fn bears_a_thousand_interruptions(rt: HostRuntime) {
         let manners = [interrupted(reader), interrupted(writer)];
         assert!(rt; point_ends_so(&rt, manners, want, went_out));
     }
-}
-
-/// The same where the reader and the writer fail at these calls; 0 is none.
-fn fails_so(
-    rt: &HostRuntime,
-    read: u64,
-    write: u64,
-    want: Result<Outcome, EngineFault>,
-    went_out: usize,
-) -> bool {
-    point_ends_so(rt, [fails(read), fails(write)], want, went_out)
-}
-
-#[test]
-fn tells_what_a_device_failed_at(rt: HostRuntime) {
-    assert!(rt; fails_so(&rt, 0, 0, YES, 54));
-    assert!(rt; fails_so(&rt, 1, 0, READ, 0));
-    assert!(rt; fails_so(&rt, 2, 0, READ, 0));
-    assert!(rt; fails_so(&rt, 0, 1, WRITE, 0));
-    assert!(rt; fails_so(&rt, 0, 2, WRITE, 3));
-    // the flush
-    assert!(rt; fails_so(&rt, 0, 19, WRITE, 54));
-    let endless = Manner {
-        is_endless: true,
-        ..CALM
-    };
-    assert!(rt; point_ends_so(&rt, [endless, CALM], Err(EngineFault::TooLarge), 0));
-    let takes_none = Manner { step: 0, ..CALM };
-    assert!(rt; point_ends_so(&rt, [CALM, takes_none], WRITE, 0));
 }
 
 /// What a tally counted: bytes, failures and interruptions.
