@@ -53,19 +53,23 @@ fn add_pairs(corners: &[Corner], second: usize, pairs: &mut Pairs, count: &mut C
     ensures counted { AddsWork 0 second 0 count.old count.new }
     ensures probed { IsTrue result → raised second count.old.probes ≤ count.new.probes }
 {
+    // (a count of its own stays in a register)
+    let mut looked = *count;
     for first in 0..second {
-        if may_meet(corners, first, second, count) {
+        if may_meet(corners, first, second, &mut looked) {
             if pairs.len() >= 3 * corners.len() {
+                *count = looked;
                 return false;
             }
             pairs.push((first, second));
         }
     }
+    *count = looked;
     true
 }
 
-/// Whether two edges may meet wrongly: neighbours in a ring where they lie along one line, others where the boxes
-/// around them overlap. Ticks a probe.
+/// Whether two edges may meet wrongly: the boxes around them overlap, and if they are neighbours in a ring, they lie along
+/// one line. Ticks a probe.
 #[inline]
 fn may_meet(corners: &[Corner], first: usize, second: usize, count: &mut Count) -> bool
     requires linked { AreLinked corners.now }
@@ -78,12 +82,15 @@ fn may_meet(corners: &[Corner], first: usize, second: usize, count: &mut Count) 
     count.tick_probe();
     let one = edge_at(corners, first);
     let other = edge_at(corners, second);
+    if boxes_apart(&one, &other) {
+        return false;
+    }
     if next_of(corners, first) == second {
         orient(one.a, one.b, other.b) == 0
     } else if next_of(corners, second) == first {
         orient(other.a, other.b, one.b) == 0
     } else {
-        !boxes_apart(&one, &other)
+        true
     }
 }
 

@@ -8,6 +8,6 @@ use Rattle.mvt_polygon.proofs.pairs.add_pairs.Given as goal
 abbrev pub invariant-loop-first : goal.invariant-loop-first
 invariant-loop-first l = record {
   enough : AreEnough l.corners l.pairs.items l.second l.first;
-  counted : AddsWork 0 l.first 0 l.fn.count l.count;
-  probed : raised l.first l.fn.count.probes ≤ l.count.probes;
+  counted : AddsWork 0 l.first 0 l.fn.count l.looked;
+  probed : raised l.first l.fn.count.probes ≤ l.looked.probes;
 }

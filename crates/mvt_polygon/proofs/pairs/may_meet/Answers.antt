@@ -12,6 +12,6 @@ returns-then-next_of-first-clause-clear c =
     previous_apart c.args.corners.now c.args.first c.args.second c.orient-then-next_of-first.result (λ same. c.if-next_of-second.false (c.next_of.ensures.value ∙ same))
     (sym c.next_of-else-next_of-second.ensures.value ∙ c.if-next_of-first.true) (rw (c.edge_at-one.ensures, c.edge_at-other.ensures) at c.orient-then-next_of-first.ensures)
 
-pub returns-else-next_of-first-clause-clear : goal.returns-else-next_of-first-clause-clear
-returns-else-next_of-first-clause-clear c = λ met.
-    no_test_apart c.args.corners.now c.args.first c.args.second (rw (c.edge_at-one.ensures, c.edge_at-other.ensures) at c.boxes_apart.ensures (let apart = met in grind arith))
+pub returns-then-boxes_apart-clause-clear : goal.returns-then-boxes_apart-clause-clear
+returns-then-boxes_apart-clause-clear c = λ met.
+    no_test_apart c.args.corners.now c.args.first c.args.second (rw (c.edge_at-one.ensures, c.edge_at-other.ensures) at (c.boxes_apart.ensures c.if-boxes_apart.true))
