@@ -3,7 +3,7 @@
 ghost use Rattle.std.specs.Prelude.{◌≡◌, ◌*◌, ◌<◌, ◌≤◌, IfNone, IfSome, IsTrue, false, [], length};
 ghost use Rattle.mvt_plane.specs.Counted.{ticked};
 ghost use Rattle.mvt_polygon.specs.CornerOrder.{AddsWork, IsCounted};
-ghost use Rattle.mvt_polygon.specs.Corners.{AreLinked, IsMeetingAt, NoneWrong, plan_of};
+ghost use Rattle.mvt_polygon.specs.Corners.{AreLinked, IsMeetingAt, NoneWrong, edge_at, plan_of};
 ghost use Rattle.mvt_polygon.specs.Pairs.{AreBoxesApart, AreEnough, AreEnoughForAll, AreLess, pairs_of};
 ghost use Rattle.mvt_polygon.specs.Sweep.{Tested};
 ghost use Rattle.mvt_status.specs.Counts.{raised};
@@ -53,10 +53,11 @@ fn add_pairs(corners: &[Corner], second: usize, pairs: &mut Pairs, count: &mut C
     ensures counted { AddsWork 0 second 0 count.old count.new }
     ensures probed { IsTrue result → raised second count.old.probes ≤ count.new.probes }
 {
+    let other = edge_at(corners, second);
     // (a count of its own stays in a register)
     let mut looked = *count;
     for first in 0..second {
-        if may_meet(corners, first, second, &mut looked) {
+        if may_meet(corners, first, second, &other, &mut looked) {
             if pairs.len() >= 3 * corners.len() {
                 *count = looked;
                 return false;
@@ -69,20 +70,26 @@ fn add_pairs(corners: &[Corner], second: usize, pairs: &mut Pairs, count: &mut C
 }
 
 /// Whether two edges may meet wrongly: the boxes around them overlap, and if they are neighbours in a ring, they lie along
-/// one line. Ticks a probe.
+/// one line. `other` is the second one. Ticks a probe.
 #[inline]
-fn may_meet(corners: &[Corner], first: usize, second: usize, count: &mut Count) -> bool
+fn may_meet(
+    corners: &[Corner],
+    first: usize,
+    second: usize,
+    other: &Edge,
+    count: &mut Count,
+) -> bool
     requires linked { AreLinked corners.now }
     requires first { first < length corners.now }
     requires second { second < length corners.now }
+    requires other { other.now ≡ edge_at corners.now second }
     ensures clear { result ≡ false → Tested (plan_of corners.now) first second }
     ensures counted { AddsWork 0 1 0 count.old count.new }
     ensures probed { count.new.probes ≡ ticked count.old.probes }
 {
     count.tick_probe();
     let one = edge_at(corners, first);
-    let other = edge_at(corners, second);
-    if boxes_apart(&one, &other) {
+    if boxes_apart(&one, other) {
         return false;
     }
     if next_of(corners, first) == second {

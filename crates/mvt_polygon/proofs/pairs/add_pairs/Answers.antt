@@ -1,4 +1,4 @@
-use Rattle.std.proofs.Common.{ℕ, ◌+◌, List, sym, ap, ◌∙◌, subst, arith}
+use Rattle.std.proofs.Common.{◌≡◌, ℕ, ◌+◌, List, sym, ap, ◌∙◌, subst, arith}
 use Rattle.mvt_polygon.specs.Pairs.{AreEnough}
 use Rattle.mvt_polygon.proofs.PairsEnough.{enough_with_clear, enough_with_pair}
 use Rattle.mvt_polygon.proofs.StatusCounts.{no_work, work_then}
@@ -26,3 +26,8 @@ loop-first-preserved c =
       counted = work_then so_far.counted c.may_meet.ensures.counted;
       probed = omega (arith, so_far.probed, c.may_meet.ensures.probed);
     }
+
+pub returns-clause-enough : goal.returns-clause-enough
+returns-clause-enough c = λ yes.
+    let all : c.loop-first.first ≡ c.args.second = omega (arith, c.loop-first-test.false, c.loop-first.auto.first-end) in
+    subst (λ (at : ℕ). AreEnough c.args.corners.now c.loop-first.pairs.items c.args.second at) all c.loop-first.invariant.enough
