@@ -1,6 +1,5 @@
-use Rattle.std.proofs.Common.{◌≡◌, ◌≤◌, ◌∙◌, ℕ, ℤ, ap, length, subst, arith}
+use Rattle.std.proofs.Common.{◌≡◌, ◌∙◌, ℕ, ℤ, ap, length, subst, arith}
 use Rattle.std.proofs.lemmas.List.{length-map}
-use Rattle.mvt_plane.specs.Counted.{ticked}
 use Rattle.mvt_polygon.specs.CornerOrder.{IsCounted, IsStrict}
 use Rattle.mvt_polygon.specs.Corners.{IsNamedMeeting, vertex_count}
 use Rattle.mvt_polygon.specs.Meeting.{NoMeeting}

@@ -1,4 +1,4 @@
-use Rattle.std.proofs.Common.{sym, ◌∙◌, arith}
+use Rattle.std.proofs.Common.{sym, ◌∙◌}
 use Rattle.mvt_polygon.proofs.PairsEnough.{next_apart, no_test_apart, previous_apart}
 use Rattle.mvt_polygon.proofs.pairs.may_meet.Goals as goal
 

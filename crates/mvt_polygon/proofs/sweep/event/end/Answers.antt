@@ -1,4 +1,4 @@
-use Rattle.std.proofs.Common.{◌≡◌, ◌≤◌, ◌∙◌, List, ℕ, ap, drop, length, remove, take, refl, arith, ◌<◌}
+use Rattle.std.proofs.Common.{◌≡◌, ◌≤◌, ◌∙◌, List, ℕ, ap, drop, length, remove, take, refl, arith}
 use Rattle.std.proofs.lemmas.List.Edits.{length-remove}
 use Rattle.mvt_polygon.specs.CornerOrder.{IsNextCorner}
 use Rattle.mvt_polygon.specs.Corners.{AreInRange, AreLinked, plan_of, position_at, previous_at}
