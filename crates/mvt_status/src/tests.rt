@@ -140,10 +140,10 @@ pub(crate) fn visits_at_ends<S: Status>(status: &mut S, many: usize) -> Result<[
     requires some { 0 < many }
 {
     count_up(status, many, &mut Count::new())?;
-    Ok([
-        visits_to_get(status, 0),
-        visits_to_get(status, many - 1),
-        visits_to_insert_two(status, 0)?,
-        visits_to_insert_two(status, many)?,
-    ])
+    let to_first = visits_to_get(status, 0);
+    let to_last = visits_to_get(status, many - 1);
+    let in_front = visits_to_insert_two(status, 0)?;
+    let end = status.len();
+    let behind = visits_to_insert_two(status, end)?;
+    Ok([to_first, to_last, in_front, behind])
 }
