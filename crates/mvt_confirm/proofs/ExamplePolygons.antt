@@ -27,7 +27,7 @@ first_to_last exterior holes sound positive none =
     record { sound = sound; there = record { begins = begins; further = omega arith; holes = none; ends = inl refl } }
 
 -- the second one, where the first two rings alone are exteriors
-second_to_last : (before exterior : List Position) (holes : List (List Position)) → ArePolygonRings (before ∷ exterior ∷ holes) → pos 0 <ℤ doubled_area before → pos 0 <ℤ doubled_area exterior
+pub second_to_last : (before exterior : List Position) (holes : List (List Position)) → ArePolygonRings (before ∷ exterior ∷ holes) → pos 0 <ℤ doubled_area before → pos 0 <ℤ doubled_area exterior
     → NoExterior (before ∷ exterior ∷ holes) 2 (length (before ∷ exterior ∷ holes)) → IsPolygonOf (before ∷ exterior ∷ holes) 1 (rings_from 1 (length (before ∷ exterior ∷ holes)))
 second_to_last before exterior holes sound one other none =
     let begun = first 0 (record { ring = before; there = refl; positive = one }) (none_in_nothing (before ∷ exterior ∷ holes) 0) in

@@ -29,6 +29,7 @@ lone_square rings ring there = record {
       (only first.ring first_in.from first_in.before) (only second.ring second_in.from second_in.before);
   enclosed = λ hole vertex outside. none hole outside.hole.behind outside.hole.before;
   side_by_side = λ hole vertex other inside. none hole inside.hole.behind inside.hole.before;
+  beside = λ vertex other its there inside. inside;
 }
   where
     only : (number : ℕ) → ring ≤ number → number < suc ring → number ≡ ring
@@ -93,6 +94,7 @@ frame_valid = record {
   enclosed = hole_within;
   side_by_side = λ hole vertex other inside.
       inside.different (one_hole hole other inside.hole.behind inside.hole.before inside.other_hole.behind inside.other_hole.before);
+  beside = λ vertex other its there inside. inside;
 }
 
 -- and so are both of the standard's polygons

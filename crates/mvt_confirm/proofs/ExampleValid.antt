@@ -1,6 +1,7 @@
 -- Known rings that are those of valid polygons, and others that aren't.
 use Rattle.std.proofs.Common.{◌≡◌, ℕ, ◌<◌, inl, inr, [], ◌∷◌, refl, sym, subst, arith}
 use Rattle.std.proofs.lemmas.Int.{ints}
+use Rattle.mvt_fault.specs.declared.profile.Profile.TheVariants.{Polygon}
 use Rattle.mvt_plane.proofs.ExampleRings.{has_no_area}
 use Rattle.mvt_plane.specs.Examples.{at, fraction, rings_from, square, crossed, triangle, hole_beside, hole_in_hole, flat}
 use Rattle.mvt_plane.specs.RationalPoint.{IsAt, LiesOn}
@@ -39,6 +40,7 @@ triangle_is_valid = record {
       ring_apart (triangle ∷ []) 0 triangle first second point refl edges_apart (only first.ring first_in.before) (only second.ring second_in.before);
   enclosed = λ ring vertex outside. let behind = outside.hole.behind in let before = outside.hole.before in omega arith;
   side_by_side = λ ring vertex other inside. let behind = inside.hole.behind in let before = inside.hole.before in omega arith;
+  beside = λ vertex other its there inside. inside;
 }
   where
     only : (ring : ℕ) → ring < 1 → ring ≡ 0
@@ -56,16 +58,16 @@ triangle_valid = record {
 
 -- a ring that crosses itself
 pub crossed_invalid : ¬ AreValidRings (crossed ∷ [])
-crossed_invalid = meeting_is_invalid (crossed ∷ []) 0 (record { ring = 0; edge = 0 }) (record { ring = 0; edge = 2 }) (fraction 800 800 180) crossing_shown
+crossed_invalid = meeting_is_invalid Polygon (crossed ∷ []) 0 (record { ring = 0; edge = 0 }) (record { ring = 0; edge = 2 }) (fraction 800 800 180) crossing_shown
 
 -- a hole beside its exterior
 pub beside_invalid : ¬ AreValidRings (square ∷ hole_beside ∷ [])
-beside_invalid = outside_is_invalid (square ∷ hole_beside ∷ []) 0 1 0 vertex_outside
+beside_invalid = outside_is_invalid Polygon (square ∷ hole_beside ∷ []) 0 1 0 vertex_outside
 
 -- a hole in another
 pub in_hole_invalid : ¬ AreValidRings hole_in_hole
-in_hole_invalid = in_hole_is_invalid hole_in_hole 0 2 0 1 vertex_in_hole
+in_hole_invalid = in_hole_is_invalid Polygon hole_in_hole 0 2 0 1 vertex_in_hole
 
 -- a ring without area
 pub flat_invalid : ¬ AreValidRings (square ∷ flat ∷ [])
-flat_invalid = ring_is_invalid (square ∷ flat ∷ []) 502 1 (no_area refl has_no_area)
+flat_invalid = ring_is_invalid Polygon (square ∷ flat ∷ []) 502 1 (no_area refl has_no_area)

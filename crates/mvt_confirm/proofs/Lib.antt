@@ -6,6 +6,7 @@ pub mod EdgeMeetings
 pub mod EdgeWalks
 pub mod EmbeddedMessages
 pub mod ExampleFaults
+pub mod ExampleFeatures
 pub mod ExamplePolygons
 pub mod ExampleSquares
 pub mod ExampleValid
@@ -36,6 +37,7 @@ pub mod ShownByCases
 pub mod ShownParts
 pub mod SingularNumbers
 pub mod SoundRings
+pub mod StricterProfile
 pub mod TagRules
 pub mod TagWalks
 pub mod TileFeatures

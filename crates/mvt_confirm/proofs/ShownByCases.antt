@@ -1,6 +1,7 @@
 -- A test of the tile that bytes are, or of a feature of it, is a test of a fault of the bytes.
 use Rattle.std.proofs.Common.{◌≡◌, ◌↔◌, ◌⊎◌, inl, inr, ℕ, ℤ, Bool, IsTrue, false, List, refl, sym, subst}
 use Rattle.mvt_fault.specs.Place.{IsOfPolygon}
+use Rattle.mvt_fault.specs.declared.profile.Profile.TheVariants.{Polygon}
 use Rattle.mvt_fault.specs.declared.fault.Fault.{Fault}
 use Rattle.mvt_fault.specs.declared.fault.Fault.TheVariants.{Wire, Version, Name, Tag, Command, Ring, Meeting, Outside, HoleInHole}
 use Rattle.mvt_fault.specs.declared.ring.RingEdge.{RingEdge}
@@ -75,6 +76,6 @@ no_tile bytes fault none other shown = elim (tile_or_fault bytes) [
   | inl tile ↦ none tile.0 tile.1
   | inr bad ↦
       let cause = bad.1 in
-      let wire = wire_faults_alone bytes cause.code bad.0 cause.at cause.field fault bad.2 shown in
+      let wire = wire_faults_alone Polygon bytes cause.code bad.0 cause.at cause.field fault bad.2 shown in
       other wire.0 wire.1 wire.2 wire.3 wire.4
 ]

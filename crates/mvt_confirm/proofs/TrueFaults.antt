@@ -3,6 +3,7 @@
 use Rattle.std.proofs.Common.{◌≡◌, inl, inr, ℕ, List, ℤ, refl, sym, subst}
 use Rattle.mvt_fault.specs.TrueFaults.{IsWireFault, wire}
 use Rattle.mvt_fault.specs.Code.{ring_code}
+use Rattle.mvt_fault.specs.declared.profile.Profile.{Profile}
 use Rattle.mvt_fault.specs.declared.fault.Fault.{Fault}
 use Rattle.mvt_fault.specs.declared.fault.Fault.TheVariants.{Wire, Ring, Meeting}
 use Rattle.mvt_fault.specs.declared.ring.RingCode.{RingCode}
@@ -21,9 +22,9 @@ use Rattle.mvt_confirm.proofs.ShownParts.{BreaksOne, shown_by_parts}
 use Rattle.mvt_confirm.proofs.ValidParts.{parts_kept}
 use Rattle.mvt_confirm.proofs.TileFeatures.{of_this_tile, same_rings}
 use Rattle.mvt_confirm.specs.Feature.{OfRings}
-use Rattle.mvt_confirm.specs.PolygonFault.{IsMeeting}
-use Rattle.mvt_confirm.specs.Shows.{OfFeature, Shows}
-use Rattle.mvt_confirm.specs.Valid.{Valid}
+use Rattle.mvt_confirm.specs.PolygonFault.{IsMeetingBy}
+use Rattle.mvt_confirm.specs.Shows.{OfFeature, ShowsBy}
+use Rattle.mvt_confirm.specs.Valid.{ValidBy}
 
 -- No fault of a valid tile
 
@@ -32,18 +33,18 @@ pub no_fault_of_tile : (bytes : List ℕ) (tile : TileRecord) (fault : Fault) �
 no_fault_of_tile bytes tile fault is (wire code scope at field broken) = tile_faultless bytes tile scope (cause_at code at field) is broken
 
 -- so no fault is true of them
-pub shown_is_invalid : (bytes : List ℕ) (fault : Fault) → Shows bytes fault → ¬ Valid bytes
-shown_is_invalid bytes fault shown valid = elim ((shown_by_parts bytes fault).0 shown) [
+pub shown_is_invalid : (profile : Profile) (bytes : List ℕ) (fault : Fault) → ShowsBy profile bytes fault → ¬ ValidBy profile bytes
+shown_is_invalid profile bytes fault shown valid = elim ((shown_by_parts profile bytes fault).0 shown) [
   | inl own ↦ no_fault_of_tile bytes valid.tile fault valid.is own
-  | inr part ↦ parts_kept valid.tile fault valid.valid (of_this_tile bytes valid.tile (λ tile. BreaksOne tile fault) valid.is part)
+  | inr part ↦ parts_kept profile valid.tile fault valid.valid (of_this_tile bytes valid.tile (λ tile. BreaksOne profile tile fault) valid.is part)
 ]
 
 -- Wire faults alone
 
 -- bytes with a wire fault are no tile
-pub wire_faults_alone : (bytes : List ℕ) (code : WireCode) (scope : Scope) (at field : ℕ) (fault : Fault) → Shows bytes (Wire code scope at field) → Shows bytes fault
+pub wire_faults_alone : (profile : Profile) (bytes : List ℕ) (code : WireCode) (scope : Scope) (at field : ℕ) (fault : Fault) → ShowsBy profile bytes (Wire code scope at field) → ShowsBy profile bytes fault
     → (other : WireCode) × (its : Scope) × (place : ℕ) × (number : ℕ) × (fault ≡ Wire other its place number)
-wire_faults_alone bytes code scope at field fault broken shown = elim ((shown_by_parts bytes fault).0 shown) [
+wire_faults_alone profile bytes code scope at field fault broken shown = elim ((shown_by_parts profile bytes fault).0 shown) [
   | inl is ↦ named fault is
   | inr part ↦ absurd (tile_faultless bytes part.0 scope (cause_at code at field) part.1 broken)
 ]
@@ -54,22 +55,22 @@ wire_faults_alone bytes code scope at field fault broken shown = elim ((shown_by
 -- Rings before polygons
 
 -- where a ring has a fault, nothing is true that has a polygon of these rings
-pub rings_before_polygons : (bytes : List ℕ) (code : RingCode) (layer feature ring : ℕ) (Holds : List (List Position) → Type 0)
+pub rings_before_polygons : (profile : Profile) (bytes : List ℕ) (code : RingCode) (layer feature ring : ℕ) (Holds : List (List Position) → Type 0)
     → ((rings : List (List Position)) → Holds rings → ArePolygonRings rings)
-    → Shows bytes (Ring code layer feature ring) → ¬ OfFeature bytes layer feature (λ layer_record it. OfRings it Holds)
-rings_before_polygons bytes code layer feature ring Holds sound broken shown =
+    → ShowsBy profile bytes (Ring code layer feature ring) → ¬ OfFeature bytes layer feature (λ layer_record it. OfRings it Holds)
+rings_before_polygons profile bytes code layer feature ring Holds sound broken shown =
     let same = same_rings bytes layer feature Holds (λ rings. BreaksRings rings (ring_code code) ring) shown broken in
     not_sound broken.3.0 (ring_code code) ring broken.3.2 (subst ArePolygonRings same (sound shown.3.0 shown.3.2))
 
 -- One polygon
 
 -- two meetings of one feature that have a ring in common
-pub one_polygon_of_ring : (bytes : List ℕ) (layer feature polygon other ring its_ring : ℕ) (first second its_first its_second : RingEdge) (x y w its_x its_y its_w : ℤ)
-    → (one : Shows bytes (Meeting layer feature polygon first second x y w)) → (another : Shows bytes (Meeting layer feature other its_first its_second its_x its_y its_w))
+pub one_polygon_of_ring : (profile : Profile) (bytes : List ℕ) (layer feature polygon other ring its_ring : ℕ) (first second its_first its_second : RingEdge) (x y w its_x its_y its_w : ℤ)
+    → (one : ShowsBy profile bytes (Meeting layer feature polygon first second x y w)) → (another : ShowsBy profile bytes (Meeting layer feature other its_first its_second its_x its_y its_w))
     → IsRingOf one.3.2.polygon_rings ring → IsRingOf another.3.2.polygon_rings its_ring → ring ≡ its_ring → polygon ≡ other
-one_polygon_of_ring bytes layer feature polygon other ring its_ring first second its_first its_second x y w its_x its_y its_w one another ring_in its_ring_in same =
-    let rings = same_rings bytes layer feature (λ rings. IsMeeting rings polygon first second (record { x = x; y = y; w = w }))
-    (λ rings. IsMeeting rings other its_first its_second (record { x = its_x; y = its_y; w = its_w })) one another in
+one_polygon_of_ring profile bytes layer feature polygon other ring its_ring first second its_first its_second x y w its_x its_y its_w one another ring_in its_ring_in same =
+    let rings = same_rings bytes layer feature (λ rings. IsMeetingBy profile rings polygon first second (record { x = x; y = y; w = w }))
+    (λ rings. IsMeetingBy profile rings other its_first its_second (record { x = its_x; y = its_y; w = its_w })) one another in
     let moved : IsPolygon another.3.0 polygon one.3.2.polygon_rings = subst (λ (rings : List (List Position)). IsPolygon rings polygon one.3.2.polygon_rings) rings one.3.2.of.there in
     let both = one_polygon another.3.0 ring polygon other one.3.2.polygon_rings another.3.2.polygon_rings moved ring_in another.3.2.of.there (subst (IsRingOf another.3.2.polygon_rings) (sym same) its_ring_in) in
     both.0

@@ -1,23 +1,27 @@
 -- Where two edges of a polygon meet wrongly, at whatever rational point, there is a meeting that a fault can name.
-use Rattle.std.proofs.Common.{◌≡◌, ◌≢◌, ℕ, ◌<◌, ◌⊎◌, inl, inr, List, length, Option, Some, None, sym, ap, ap₂, subst}
-use Rattle.std.proofs.lemmas.Bool.{cases_order}
-use Rattle.std.proofs.lemmas.Option.{none-some, same_Some}
+use Rattle.std.proofs.Common.{◌≡◌, ◌≢◌, ℕ, ◌<◌, ◌≤◌, ◌⊎◌, inl, inr, List, length, Option, Some, None, sym, ap, ap₂, subst, arith}
+use Rattle.std.proofs.lemmas.Bool.{cases_lt, cases_order}
+use Rattle.std.proofs.lemmas.Option.{none-some, same_Some, slice_get_within}
+use Rattle.mvt_fault.specs.declared.profile.Profile.{Profile}
+use Rattle.mvt_fault.specs.declared.profile.Profile.TheVariants.{Polygon, Feature}
 use Rattle.mvt_fault.specs.declared.ring.RingEdge.{RingEdge}
 use Rattle.mvt_plane.proofs.CommonPoints.{named_is_common}
 use Rattle.mvt_plane.proofs.NamedPoints.{named_is_bounded}
 use Rattle.mvt_plane.proofs.NamedWhereCommon.{common_is_named}
+use Rattle.mvt_plane.proofs.PolygonNumbers.{polygon_of_ring}
 use Rattle.mvt_plane.proofs.RingEdges.{ends_of_edge, meets_either_way}
 use Rattle.mvt_plane.proofs.RingEdges.{one_shared_vertex}
 use Rattle.mvt_plane.proofs.SpelledRings.{three_vertices, vertices_in_range}
 use Rattle.mvt_plane.specs.CommonPoint.{IsCommon}
 use Rattle.mvt_plane.specs.Geometry.{HasRings}
 use Rattle.mvt_plane.specs.Meeting.{EdgeNumber, ComesBefore, IsEdgeOf, IsShared, MeetsWrongly}
-use Rattle.mvt_plane.specs.Polygon.{PolygonRings, IsRingOf}
+use Rattle.mvt_plane.specs.Polygon.{PolygonRings, IsPolygon, IsRingOf}
 use Rattle.mvt_plane.specs.Position.{Position, IsPosition}
 use Rattle.mvt_plane.specs.RationalPoint.{RationalPoint, IsAt, IsBounded}
-use Rattle.mvt_plane.specs.Ring.{next_round}
+use Rattle.mvt_plane.specs.Ring.{next_round, ArePolygonRings}
 use Rattle.mvt_plane.specs.declared.edge.Edge.{Edge}
-use Rattle.mvt_confirm.specs.PolygonFault.{IsPolygonOf, IsMeeting}
+use Rattle.mvt_confirm.specs.PolygonFault.{IsPolygonOf, IsMeetingBy}
+use Rattle.mvt_confirm.specs.Profiles.{IsKeptApart}
 
 -- both ends of an edge of spelled rings are in range
 edge_in_range : (kind : ℕ) (numbers : List ℕ) (parts : List (List Position)) (number : EdgeNumber) (edge : Edge) → HasRings kind numbers parts → IsEdgeOf parts number edge → IsPosition edge.a × IsPosition edge.b
@@ -103,11 +107,21 @@ in_order first second different = by_ring (cases_order first.ring second.ring)
 abbrev told : EdgeNumber → RingEdge
 told number = record { ring = number.ring; edge = number.edge }
 
--- edges of a polygon, in order, that have no meeting don't meet wrongly
-none_in_order : (kind : ℕ) (numbers : List ℕ) (parts : List (List Position)) (polygon : ℕ) (it : PolygonRings) (first second : EdgeNumber) (point : RationalPoint) → HasRings kind numbers parts → IsPolygonOf parts polygon it
-    → ((one other : RingEdge) (at : RationalPoint) → ¬ IsMeeting parts polygon one other at)
-    → IsRingOf it first.ring → IsRingOf it second.ring → ComesBefore first second → ¬ MeetsWrongly parts first second point
-none_in_order kind numbers parts polygon it first second point has of none first_in second_in before meets =
+-- where the second edge's ring isn't behind the first one's, they are kept apart the other way round too
+kept_back : (profile : Profile) (it : PolygonRings) (first second : ℕ) → IsKeptApart profile it first → IsRingOf it second → second ≤ first → IsKeptApart profile it second × IsRingOf it first
+kept_back Polygon it first second kept of behind = (of, kept)
+kept_back Feature it first second kept of behind = let from = of.from in (of.before, record { from = omega arith; before = kept })
+
+-- edges in order are of rings in order
+rings_in_order : (first second : EdgeNumber) → ComesBefore first second → first.ring ≤ second.ring
+rings_in_order first second (inl before) = omega arith
+rings_in_order first second (inr within) = let same = within.0 in omega arith
+
+-- edges that are kept apart, in order, that have no meeting don't meet wrongly
+none_in_order : (profile : Profile) (kind : ℕ) (numbers : List ℕ) (parts : List (List Position)) (polygon : ℕ) (it : PolygonRings) (first second : EdgeNumber) (point : RationalPoint) → HasRings kind numbers parts → IsPolygonOf parts polygon it
+    → ((one other : RingEdge) (at : RationalPoint) → ¬ IsMeetingBy profile parts polygon one other at)
+    → IsKeptApart profile it first.ring → IsRingOf it second.ring → ComesBefore first second → ¬ MeetsWrongly parts first second point
+none_in_order profile kind numbers parts polygon it first second point has of none first_in second_in before meets =
     not_in_range kind numbers parts first second point has meets
     (λ found. none (told first) (told second) found.point (record {
       polygon_rings = it;
@@ -119,12 +133,33 @@ none_in_order kind numbers parts polygon it first second point has of none first
       meets = found.meets;
     }))
 
--- so none of its edges do
-pub none_meets : (kind : ℕ) (numbers : List ℕ) (parts : List (List Position)) (polygon : ℕ) (it : PolygonRings) (first second : EdgeNumber) (point : RationalPoint) → HasRings kind numbers parts → IsPolygonOf parts polygon it
-    → ((one other : RingEdge) (at : RationalPoint) → ¬ IsMeeting parts polygon one other at)
-    → IsRingOf it first.ring → IsRingOf it second.ring → ¬ MeetsWrongly parts first second point
-none_meets kind numbers parts polygon it first second point has of none first_in second_in meets = elim (in_order first second meets.different) [
-  | inl before ↦ none_in_order kind numbers parts polygon it first second point has of none first_in second_in before meets
+-- so none of these edges do
+pub none_meets : (profile : Profile) (kind : ℕ) (numbers : List ℕ) (parts : List (List Position)) (polygon : ℕ) (it : PolygonRings) (first second : EdgeNumber) (point : RationalPoint) → HasRings kind numbers parts → IsPolygonOf parts polygon it
+    → ((one other : RingEdge) (at : RationalPoint) → ¬ IsMeetingBy profile parts polygon one other at)
+    → IsKeptApart profile it first.ring → IsRingOf it second.ring → ¬ MeetsWrongly parts first second point
+none_meets profile kind numbers parts polygon it first second point has of none first_in second_in meets = elim (in_order first second meets.different) [
+  | inl before ↦ none_in_order profile kind numbers parts polygon it first second point has of none first_in second_in before meets
   | inr behind ↦
-      none_in_order kind numbers parts polygon it second first point has of none second_in first_in behind (meets_either_way parts first second point meets)
+      let back = kept_back profile it first.ring second.ring first_in second_in (rings_in_order second first behind) in
+      none_in_order profile kind numbers parts polygon it second first point has of none back.0 back.1 behind (meets_either_way parts first second point meets)
+]
+
+-- All rings of a feature
+
+-- where the edges that each polygon is kept apart from don't meet wrongly, no two edges do, in order of their rings
+apart_in_order : (rings : List (List Position)) → ArePolygonRings rings
+    → ((polygon : ℕ) (it : PolygonRings) → IsPolygon rings polygon it → (first second : EdgeNumber) (point : RationalPoint) → IsKeptApart Feature it first.ring → IsRingOf it second.ring → ¬ MeetsWrongly rings first second point)
+    → (first second : EdgeNumber) (point : RationalPoint) → first.ring ≤ second.ring → ¬ MeetsWrongly rings first second point
+apart_in_order rings sound apart first second point before meets =
+    let home = polygon_of_ring rings second.ring sound (slice_get_within rings second.ring meets.other_there.ring meets.other_there.there) in
+    let ends = home.3.before in
+    apart home.0 home.1 home.2 first second point (omega arith) home.3 meets
+
+-- nor in any order
+pub all_apart : (rings : List (List Position)) → ArePolygonRings rings
+    → ((polygon : ℕ) (it : PolygonRings) → IsPolygon rings polygon it → (first second : EdgeNumber) (point : RationalPoint) → IsKeptApart Feature it first.ring → IsRingOf it second.ring → ¬ MeetsWrongly rings first second point)
+    → (first second : EdgeNumber) (point : RationalPoint) → ¬ MeetsWrongly rings first second point
+all_apart rings sound apart first second point meets = elim (cases_lt second.ring first.ring) [
+  | inl behind ↦ apart_in_order rings sound apart second first point (omega arith) (meets_either_way rings first second point meets)
+  | inr before ↦ apart_in_order rings sound apart first second point before meets
 ]

@@ -3,6 +3,7 @@ use Rattle.std.proofs.Common.{◌≡◌, ℕ, inl, inr, List, refl, sym, subst}
 use Rattle.mvt_fault.specs.Code.{command_code}
 use Rattle.mvt_fault.specs.declared.command.CommandCode.{CommandCode}
 use Rattle.mvt_fault.specs.declared.command.CommandCode.TheVariants.{OtherCommand, OtherCount, Unfinished, GreatestParameter, OutOfBounds, NoStep}
+use Rattle.mvt_fault.specs.declared.profile.Profile.{Profile}
 use Rattle.mvt_fault.specs.declared.fault.Fault.{Fault}
 use Rattle.mvt_fault.specs.declared.fault.Fault.TheVariants.{Wire, Command, Ring, Meeting, Outside, HoleInHole}
 use Rattle.mvt_fault.specs.declared.ring.RingCode.TheVariants as ring_codes
@@ -20,10 +21,10 @@ use Rattle.mvt_wire.specs.Tile.{FeatureRecord, LayerRecord}
 use Rattle.mvt_confirm.proofs.ShownParts.{shown_by_parts}
 use Rattle.mvt_confirm.proofs.ValidParts.{valid_by_parts}
 use Rattle.mvt_confirm.proofs.UnshownMeetings.{none_meets}
-use Rattle.mvt_confirm.specs.Feature.{IsFeatureIn}
-use Rattle.mvt_confirm.specs.PolygonFault.{IsPolygonOf}
-use Rattle.mvt_confirm.specs.Shows.{Shows}
-use Rattle.mvt_confirm.specs.Valid.{IsValidPolygon, IsValidGeometry, Valid}
+use Rattle.mvt_confirm.specs.Feature.{IsFeatureIn, OfRings}
+use Rattle.mvt_confirm.specs.PolygonFault.{IsPolygonOf, IsVertexInPolygonBy}
+use Rattle.mvt_confirm.specs.Shows.{OfFeature, ShowsBy}
+use Rattle.mvt_confirm.specs.Valid.{IsValidPolygonBy, IsValidGeometryBy, ValidBy}
 
 -- Commands
 
@@ -59,7 +60,11 @@ figure_without_fault kind numbers small none geometry_type known = elim (figure_
 
 -- Geometries
 
-module _ (bytes : List ℕ) (none : (fault : Fault) → ¬ Shows bytes fault) (layer feature : ℕ) (layer_record : LayerRecord) (it : FeatureRecord) (there : IsFeatureIn bytes layer feature layer_record it) where
+-- no vertex of an exterior is known to be in another polygon
+abbrev pub NoneInPolygons : Profile → List ℕ → Type 0
+NoneInPolygons profile bytes = (layer feature polygon vertex other : ℕ) → ¬ OfFeature bytes layer feature (λ layer_record it. OfRings it (λ rings. IsVertexInPolygonBy profile rings polygon vertex other))
+
+module _ (profile : Profile) (bytes : List ℕ) (none : (fault : Fault) → ¬ ShowsBy profile bytes fault) (none_in : NoneInPolygons profile bytes) (layer feature : ℕ) (layer_record : LayerRecord) (it : FeatureRecord) (there : IsFeatureIn bytes layer feature layer_record it) where
   -- a feature's geometry spells a figure
   figure_unshown : HasFigure it.kind it.geometry
   figure_unshown = figure_without_fault it.kind it.geometry (geometry_small bytes there.tile layer feature layer_record it there.is there.there)
@@ -74,18 +79,21 @@ module _ (bytes : List ℕ) (none : (fault : Fault) → ¬ Shows bytes fault) (l
   }
 
   -- its polygons are valid
-  polygon_unshown : (rings : List (List Position)) (polygon : ℕ) (its : PolygonRings) → HasRings it.kind it.geometry rings → IsPolygonOf rings polygon its → IsValidPolygon rings its
+  polygon_unshown : (rings : List (List Position)) (polygon : ℕ) (its : PolygonRings) → HasRings it.kind it.geometry rings → IsPolygonOf rings polygon its → IsValidPolygonBy profile rings its
   polygon_unshown rings polygon its has of = record {
     apart = λ first second point first_in second_in.
-        none_meets it.kind it.geometry rings polygon its first second point has of
+        none_meets profile it.kind it.geometry rings polygon its first second point has of
         (λ one other at meeting. none (Meeting layer feature polygon one other at.x at.y at.w) (layer_record, it, there, (rings, has, meeting))) first_in second_in;
     enclosed = λ ring vertex outside. none (Outside layer feature polygon ring vertex) (layer_record, it, there, (rings, has, record { polygon_rings = its; of = of; outside = outside }));
     side_by_side = λ ring vertex other inside.
         none (HoleInHole layer feature polygon ring vertex other) (layer_record, it, there, (rings, has, record { polygon_rings = its; of = of; inside = inside }));
+    beside = λ vertex other other_rings other_there inside.
+        none_in layer feature polygon vertex other
+        (layer_record, it, there, (rings, has, record { polygon_rings = its; of = of; other_rings = other_rings; other_there = other_there; inside = inside }));
   }
 
   -- so it is valid
-  geometry_unshown : IsValidGeometry it
+  geometry_unshown : IsValidGeometryBy profile it
   geometry_unshown = record {
     figure = figure_unshown;
     polygons = λ rings has. record {
@@ -97,13 +105,13 @@ module _ (bytes : List ℕ) (none : (fault : Fault) → ¬ Shows bytes fault) (l
 -- Tiles
 
 -- the law: bytes of which no fault is true are valid
-pub unshown_is_valid : (bytes : List ℕ) → ((fault : Fault) → ¬ Shows bytes fault) → Valid bytes
-unshown_is_valid bytes none = elim (tile_or_fault bytes) [
-  | inl (tile, is) ↦ (valid_by_parts bytes).1 (
+pub unshown_is_valid : (profile : Profile) (bytes : List ℕ) → ((fault : Fault) → ¬ ShowsBy profile bytes fault) → NoneInPolygons profile bytes → ValidBy profile bytes
+unshown_is_valid profile bytes none none_in = elim (tile_or_fault bytes) [
+  | inl (tile, is) ↦ (valid_by_parts profile bytes).1 (
     tile,
     is,
-    λ fault broken. none fault ((shown_by_parts bytes fault).1 (inr (tile, is, inl broken))),
-    λ layer feature layer_record it there. geometry_unshown bytes none layer feature layer_record it (record { tile = tile; is = is; there = there }),
+    λ fault broken. none fault ((shown_by_parts profile bytes fault).1 (inr (tile, is, inl broken))),
+    λ layer feature layer_record it there. geometry_unshown profile bytes none none_in layer feature layer_record it (record { tile = tile; is = is; there = there }),
   )
   | inr broken ↦ absurd (none (Wire broken.1.code broken.0 broken.1.at broken.1.field) broken.2)
 ]

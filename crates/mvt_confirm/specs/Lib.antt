@@ -1,12 +1,14 @@
 pub mod Commands
 pub mod Corners
 pub mod EdgeTests
+pub mod Examples
 pub mod Feature
 pub mod FeatureBytes
 pub mod Geometry
 pub mod Packed
 pub mod PolygonFault
 pub mod Polygons
+pub mod Profiles
 pub mod RingEdges
 pub mod Rings
 pub mod Shows

@@ -1,11 +1,13 @@
 -- Which faults are true of the bytes of a tile.
 use Rattle.std.specs.Prelude.{ℕ, List, length}
 use Rattle.mvt_confirm.specs.Feature.{IsFeatureIn, OfRings}
-use Rattle.mvt_confirm.specs.PolygonFault.{IsMeeting, IsVertexOutside, IsVertexInHole}
+use Rattle.mvt_confirm.specs.PolygonFault.{IsMeetingBy, IsVertexOutside, IsVertexInHole}
 use Rattle.mvt_fault.specs.Code.{command_code, ring_code}
 use Rattle.mvt_fault.specs.TrueFaults.{TagsBreak}
 use Rattle.mvt_fault.specs.declared.fault.Fault.{Fault}
 use Rattle.mvt_fault.specs.declared.fault.Fault.TheVariants.{Wire, Version, Name, Tag, Command, Ring, Meeting, Outside, HoleInHole}
+use Rattle.mvt_fault.specs.declared.profile.Profile.{Profile}
+use Rattle.mvt_fault.specs.declared.profile.Profile.TheVariants.{Polygon}
 use Rattle.mvt_plane.specs.Geometry.{BreaksCommands}
 use Rattle.mvt_plane.specs.Ring.{BreaksRings}
 use Rattle.mvt_wire.specs.Field.{cause_at}
@@ -21,20 +23,24 @@ OfTile bytes Holds = (tile : TileRecord) × IsTile bytes tile × Holds tile
 abbrev pub OfFeature : List ℕ → ℕ → ℕ → (LayerRecord → FeatureRecord → Type 0) → Type 0
 OfFeature bytes layer feature Holds = (layer_record : LayerRecord) × (feature_record : FeatureRecord) × IsFeatureIn bytes layer feature layer_record feature_record × Holds layer_record feature_record
 
--- The fault is true of the bytes. All but wire faults are true of a tile alone, so of bytes with no wire fault.
-abbrev pub Shows : List ℕ → Fault → Type 0
-Shows bytes (Wire code scope at field) = WireFault bytes scope (cause_at code at field)
-Shows bytes (Version layer) = OfTile bytes (λ tile. OtherVersion tile layer)
-Shows bytes (Name first second) = OfTile bytes (λ tile. SameName tile first second)
-Shows bytes (Tag code layer feature index) =
+-- The fault is true of the bytes, by the profile. All but wire faults are true of a tile alone, so of bytes with no wire fault.
+abbrev pub ShowsBy : Profile → List ℕ → Fault → Type 0
+ShowsBy _ bytes (Wire code scope at field) = WireFault bytes scope (cause_at code at field)
+ShowsBy _ bytes (Version layer) = OfTile bytes (λ tile. OtherVersion tile layer)
+ShowsBy _ bytes (Name first second) = OfTile bytes (λ tile. SameName tile first second)
+ShowsBy _ bytes (Tag code layer feature index) =
     OfFeature bytes layer feature (λ layer_record feature_record. TagsBreak code (length layer_record.keys) (length layer_record.values) feature_record.tags index)
-Shows bytes (Command code layer feature index) =
+ShowsBy _ bytes (Command code layer feature index) =
     OfFeature bytes layer feature (λ layer_record feature_record. BreaksCommands feature_record.kind feature_record.geometry (command_code code) index)
-Shows bytes (Ring code layer feature ring) =
+ShowsBy _ bytes (Ring code layer feature ring) =
     OfFeature bytes layer feature (λ layer_record feature_record. OfRings feature_record (λ rings. BreaksRings rings (ring_code code) ring))
-Shows bytes (Meeting layer feature polygon first second x y w) =
-    OfFeature bytes layer feature (λ layer_record feature_record. OfRings feature_record (λ rings. IsMeeting rings polygon first second (record { x = x; y = y; w = w })))
-Shows bytes (Outside layer feature polygon ring vertex) =
+ShowsBy profile bytes (Meeting layer feature polygon first second x y w) =
+    OfFeature bytes layer feature (λ layer_record feature_record. OfRings feature_record (λ rings. IsMeetingBy profile rings polygon first second (record { x = x; y = y; w = w })))
+ShowsBy _ bytes (Outside layer feature polygon ring vertex) =
     OfFeature bytes layer feature (λ layer_record feature_record. OfRings feature_record (λ rings. IsVertexOutside rings polygon ring vertex))
-Shows bytes (HoleInHole layer feature polygon ring vertex other) =
+ShowsBy _ bytes (HoleInHole layer feature polygon ring vertex other) =
     OfFeature bytes layer feature (λ layer_record feature_record. OfRings feature_record (λ rings. IsVertexInHole rings polygon ring vertex other))
+
+-- the same by the profile that looks at each polygon by itself
+abbrev pub Shows : List ℕ → Fault → Type 0
+Shows = ShowsBy Polygon

@@ -1,6 +1,9 @@
 -- Valid tiles: the profile of the Mapbox Vector Tile Specification 2.1, section 4, that is kept to.
 use Rattle.std.specs.Prelude.{ℕ, List, length}
+use Rattle.mvt_confirm.specs.Profiles.{IsInPolygonBy, IsKeptApart}
 use Rattle.mvt_fault.specs.TrueFaults.{TagsBreak}
+use Rattle.mvt_fault.specs.declared.profile.Profile.{Profile}
+use Rattle.mvt_fault.specs.declared.profile.Profile.TheVariants.{Polygon}
 use Rattle.mvt_fault.specs.declared.tag.TagCode.{TagCode}
 use Rattle.mvt_plane.specs.Geometry.{HasFigure, HasRings}
 use Rattle.mvt_plane.specs.Meeting.{EdgeNumber, MeetsWrongly}
@@ -12,38 +15,67 @@ use Rattle.mvt_plane.specs.Ring.{ArePolygonRings}
 use Rattle.mvt_wire.specs.Rules.{OtherVersion, SameName, IsFeatureOf}
 use Rattle.mvt_wire.specs.Tile.{FeatureRecord, LayerRecord, TileRecord, IsTile}
 
+-- no edge of the polygon meets one that it is kept apart from wrongly
+abbrev pub AreApartBy : Profile → List (List Position) → PolygonRings → Type 0
+AreApartBy profile rings polygon_rings = (first second : EdgeNumber) (point : RationalPoint) → IsKeptApart profile polygon_rings first.ring → IsRingOf polygon_rings second.ring
+    → ¬ MeetsWrongly rings first second point
+
+-- no two edges of these rings meet wrongly
+abbrev pub AreAllApart : List (List Position) → Type 0
+AreAllApart rings = (first second : EdgeNumber) (point : RationalPoint) → ¬ MeetsWrongly rings first second point
+
 -- the rings of one polygon neither cross nor touch, and its holes are inside its exterior and not inside each other (section
 -- 4.3.4.4)
-pub record IsValidPolygon (rings : List (List Position)) (polygon_rings : PolygonRings) : Type 0 where
-  pub apart : (first second : EdgeNumber) (point : RationalPoint) → IsRingOf polygon_rings first.ring → IsRingOf polygon_rings second.ring
-      → ¬ MeetsWrongly rings first second point
+pub record IsValidPolygonBy (profile : Profile) (rings : List (List Position)) (polygon_rings : PolygonRings) : Type 0 where
+  pub apart : AreApartBy profile rings polygon_rings
   pub enclosed : (ring vertex : ℕ) → ¬ IsOutside rings polygon_rings ring vertex
   pub side_by_side : (ring vertex other : ℕ) → ¬ IsInHole rings polygon_rings ring vertex other
+  pub beside : (vertex other : ℕ) (other_rings : PolygonRings) → IsPolygon rings other other_rings → ¬ IsInPolygonBy profile rings polygon_rings other_rings vertex
 
 -- rings are those of valid polygons
-pub record AreValidRings (rings : List (List Position)) : Type 0 where
+pub record AreValidRingsBy (profile : Profile) (rings : List (List Position)) : Type 0 where
   pub sound : ArePolygonRings rings
-  pub polygons : (polygon : ℕ) (polygon_rings : PolygonRings) → IsPolygon rings polygon polygon_rings → IsValidPolygon rings polygon_rings
+  pub polygons : (polygon : ℕ) (polygon_rings : PolygonRings) → IsPolygon rings polygon polygon_rings → IsValidPolygonBy profile rings polygon_rings
 
 -- the numbers of the geometry spell a figure of its type, if that is known; and if that is rings, they are those of valid
 -- polygons
-pub record IsValidGeometry (feature_record : FeatureRecord) : Type 0 where
+pub record IsValidGeometryBy (profile : Profile) (feature_record : FeatureRecord) : Type 0 where
   pub figure : HasFigure feature_record.kind feature_record.geometry
-  pub polygons : (rings : List (List Position)) → HasRings feature_record.kind feature_record.geometry rings → AreValidRings rings
+  pub polygons : (rings : List (List Position)) → HasRings feature_record.kind feature_record.geometry rings → AreValidRingsBy profile rings
 
 -- the feature of a layer has good tags and a valid geometry
-pub record IsValidFeature (layer_record : LayerRecord) (feature_record : FeatureRecord) : Type 0 where
+pub record IsValidFeatureBy (profile : Profile) (layer_record : LayerRecord) (feature_record : FeatureRecord) : Type 0 where
   pub tags : (code : TagCode) (index : ℕ) → ¬ TagsBreak code (length layer_record.keys) (length layer_record.values) feature_record.tags index
-  pub geometry : IsValidGeometry feature_record
+  pub geometry : IsValidGeometryBy profile feature_record
 
 -- all layers have version 2 and names of their own, and all features are valid
-pub record IsValidTile (tile : TileRecord) : Type 0 where
+pub record IsValidTileBy (profile : Profile) (tile : TileRecord) : Type 0 where
   pub versions : (layer : ℕ) → ¬ OtherVersion tile layer
   pub names : (first second : ℕ) → ¬ SameName tile first second
-  pub features : (layer feature : ℕ) (layer_record : LayerRecord) (feature_record : FeatureRecord) → IsFeatureOf tile layer feature layer_record feature_record → IsValidFeature layer_record feature_record
+  pub features : (layer feature : ℕ) (layer_record : LayerRecord) (feature_record : FeatureRecord) → IsFeatureOf tile layer feature layer_record feature_record → IsValidFeatureBy profile layer_record feature_record
 
 -- the bytes are a tile that keeps all rules
-pub record Valid (bytes : List ℕ) : Type 0 where
+pub record ValidBy (profile : Profile) (bytes : List ℕ) : Type 0 where
   pub tile : TileRecord
   pub is : IsTile bytes tile
-  pub valid : IsValidTile tile
+  pub valid : IsValidTileBy profile tile
+
+-- The same by the profile that looks at each polygon by itself
+
+abbrev pub IsValidPolygon : List (List Position) → PolygonRings → Type 0
+IsValidPolygon = IsValidPolygonBy Polygon
+
+abbrev pub AreValidRings : List (List Position) → Type 0
+AreValidRings = AreValidRingsBy Polygon
+
+abbrev pub IsValidGeometry : FeatureRecord → Type 0
+IsValidGeometry = IsValidGeometryBy Polygon
+
+abbrev pub IsValidFeature : LayerRecord → FeatureRecord → Type 0
+IsValidFeature = IsValidFeatureBy Polygon
+
+abbrev pub IsValidTile : TileRecord → Type 0
+IsValidTile = IsValidTileBy Polygon
+
+abbrev pub Valid : List ℕ → Type 0
+Valid = ValidBy Polygon

@@ -9,6 +9,7 @@ use Rattle.mvt_fault.specs.Place.{IsLeast}
 use Rattle.mvt_fault.specs.declared.command.CommandCode.{CommandCode}
 use Rattle.mvt_fault.specs.declared.fault.Fault.{Fault}
 use Rattle.mvt_fault.specs.declared.fault.Fault.TheVariants.{Command}
+use Rattle.mvt_fault.specs.declared.profile.Profile.TheVariants.{Polygon}
 use Rattle.mvt_plane.specs.Geometry.{HasRings}
 use Rattle.mvt_plane.specs.Position.{Position}
 use Rattle.mvt_tile.specs.View.{feature_of, kind_number}
@@ -44,7 +45,7 @@ pub faultless_by_valid : {E : Type 0} (found : Result (Option Fault) E) (feature
     → WhereNone found ((fault : Fault) → ¬ IsFaultOfGeometry (feature_of feature) layer ordinal fault)
 faultless_by_valid found feature layer ordinal =
     where_none (IsValidGeometry (feature_of feature)) ((fault : Fault) → ¬ IsFaultOfGeometry (feature_of feature) layer ordinal fault) found
-    (λ valid fault. geometry_kept (feature_of feature) layer ordinal fault valid)
+    (λ valid fault. geometry_kept Polygon (feature_of feature) layer ordinal fault valid)
 
 -- a fault of the commands is the first of the feature's geometry
 pub least_by_commands : (feature : Feature) (kind : ℕ) (numbers : List ℕ) (code : CommandCode) (index layer ordinal : ℕ) → kind ≡ kind_number feature.kind → numbers ≡ feature.geometry.items → IsCommandFault kind numbers code index

@@ -135,6 +135,7 @@ enclosed_in_whole parts its within apart none = record {
       let own = own_other parts its ring vertex other wrong in
       none (InHole own.0 vertex own.1) (in_hole_of_part parts its own.0 vertex own.1 within
       (subst (λ (n : ℕ). IsInHole parts its n vertex (its.exterior + own.1)) own.2 (subst (IsInHole parts its ring vertex) own.3 wrong)));
+  beside = λ vertex other other_rings there inside. inside;
 }
 
 -- the last number of a place

@@ -11,6 +11,7 @@ use Rattle.mvt_fault.proofs.Places.{ComesFirst-antisymmetric, same_place_or_meet
 use Rattle.mvt_fault.specs.Place.{AreMeetingsInOne, IsLeast, place_of}
 use Rattle.mvt_fault.specs.TrueFaults.{IsWireFault}
 use Rattle.mvt_fault.specs.declared.fault.Fault.{Fault}
+use Rattle.mvt_fault.specs.declared.profile.Profile.TheVariants.{Polygon}
 use Rattle.mvt_tile.proofs.Tiles.{is_tile}
 use Rattle.mvt_tile.specs.RuleFaults.{BreaksAnyRule, KeepsRules}
 use Rattle.mvt_wire.proofs.Tiles.{one_tile}
@@ -33,13 +34,13 @@ pub valid_without_fault : (bytes : List ℕ) → ((scope : Scope) (cause : WireC
 valid_without_fault bytes none keeps =
     let tile = is_tile bytes none in
     let kept = keeps tile.0 tile.1 in
-    (valid_by_parts bytes).1 (tile.0, tile.1, kept.parts, kept.features)
+    (valid_by_parts Polygon bytes).1 (tile.0, tile.1, kept.parts, kept.features)
 
 -- the first wire fault is the first of all faults of the bytes
 pub least_of_wire : (bytes : List ℕ) (fault : Fault) → IsLeast (IsWireFault bytes) fault → IsLeast (Shows bytes) fault
 least_of_wire bytes fault least = record {
-  holds = (shown_by_parts bytes fault).1 (inl least.holds);
-  least = λ other shows. elim ((shown_by_parts bytes other).0 shows) [
+  holds = (shown_by_parts Polygon bytes fault).1 (inl least.holds);
+  least = λ other shows. elim ((shown_by_parts Polygon bytes other).0 shows) [
     | inl its ↦ least.least other its
     | inr broken ↦ absurd (no_fault_of_tile bytes broken.0 fault broken.1 least.holds)
   ];
@@ -52,8 +53,8 @@ least_of_tile bytes fault none first =
     let tile = is_tile bytes none in
     let least = first tile.0 tile.1 in
     record {
-      holds = (shown_by_parts bytes fault).1 (inr (tile.0, tile.1, least.holds));
-      least = λ other shows. elim ((shown_by_parts bytes other).0 shows) [
+      holds = (shown_by_parts Polygon bytes fault).1 (inr (tile.0, tile.1, least.holds));
+      least = λ other shows. elim ((shown_by_parts Polygon bytes other).0 shows) [
         | inl its ↦ absurd (no_fault_of_tile bytes tile.0 other tile.1 its)
         | inr broken ↦
             let same : broken.0 ≡ tile.0 = one_tile bytes broken.0 tile.0 broken.1 tile.1 in
@@ -85,8 +86,8 @@ TellMeetings line other = (fault : Fault) × (its : Fault) × (line ≡ fault_li
 -- verdicts on the same bytes are the same, or do that
 pub one_verdict : (bytes : List ℕ) (first second : Verdict) → IsVerdict bytes first → IsVerdict bytes second → (first ≡ second) ⊎ NameMeetings first second
 one_verdict bytes Yes Yes valid its = inl refl
-one_verdict bytes Yes (No fault) valid its = absurd (shown_is_invalid bytes fault its.holds valid)
-one_verdict bytes (No fault) Yes least valid = absurd (shown_is_invalid bytes fault least.holds valid)
+one_verdict bytes Yes (No fault) valid its = absurd (shown_is_invalid Polygon bytes fault its.holds valid)
+one_verdict bytes (No fault) Yes least valid = absurd (shown_is_invalid Polygon bytes fault least.holds valid)
 one_verdict bytes (No fault) (No other) least its = elim (one_least bytes fault other least its) [
   | inl same ↦ inl (ap No same)
   | inr meetings ↦ inr (fault, other, refl, refl, meetings)
@@ -95,8 +96,8 @@ one_verdict bytes (No fault) (No other) least its = elim (one_least bytes fault 
 -- so for answers of `check`
 pub one_answer : (input : List ℕ) (first second : Outcome) (line other : List ℕ) → IsCheckAnswer input first line → IsCheckAnswer input second other → (first ≡ second) × ((line ≡ other) ⊎ TellMeetings line other)
 one_answer input outcomes.Yes outcomes.Yes line other a b = (refl, inl (a.1 ∙ sym b.1))
-one_answer input outcomes.Yes outcomes.No line other a b = absurd (shown_is_invalid input b.0 b.1.holds a.0)
-one_answer input outcomes.No outcomes.Yes line other a b = absurd (shown_is_invalid input a.0 a.1.holds b.0)
+one_answer input outcomes.Yes outcomes.No line other a b = absurd (shown_is_invalid Polygon input b.0 b.1.holds a.0)
+one_answer input outcomes.No outcomes.Yes line other a b = absurd (shown_is_invalid Polygon input a.0 a.1.holds b.0)
 one_answer input outcomes.No outcomes.No line other a b = (
   refl,
   elim (one_least input a.0 b.0 a.1 b.1) [

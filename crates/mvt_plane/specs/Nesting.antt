@@ -1,5 +1,6 @@
--- Holes that aren't where they should be: each vertex of a hole is inside the exterior of its polygon, and inside no
--- other hole of it (Mapbox Vector Tile Specification 2.1, section 4.3.4.4).
+-- Rings that aren't where they should be: each vertex of a hole is inside the exterior of its polygon, and inside no
+-- other hole of it (Mapbox Vector Tile Specification 2.1, section 4.3.4.4); and where the polygons of a feature are kept
+-- apart, no vertex of an exterior is inside another polygon.
 use Rattle.std.specs.Prelude.{◌≡◌, ◌≢◌, ℕ, List, slice_get, Some}
 use Rattle.mvt_plane.specs.Inside.{IsInside}
 use Rattle.mvt_plane.specs.Polygon.{PolygonRings, IsHoleOf}
@@ -30,3 +31,13 @@ pub record IsInHole (rings : List (List Position)) (polygon_rings : PolygonRings
   pub around : List Position
   pub there : slice_get rings other ≡ Some around
   pub inside : IsInside position around
+
+-- the vertex of the polygon's exterior is inside another polygon: inside its exterior, and inside none of its holes
+pub record IsInPolygon (rings : List (List Position)) (polygon_rings other_rings : PolygonRings) (vertex : ℕ) : Type 0 where
+  pub position : Position
+  pub here : IsVertexOf rings polygon_rings.exterior vertex position
+  pub different : other_rings.exterior ≢ polygon_rings.exterior
+  pub around : List Position
+  pub there : slice_get rings other_rings.exterior ≡ Some around
+  pub inside : IsInside position around
+  pub in_no_hole : (hole : ℕ) (vertices : List Position) → IsHoleOf other_rings hole → slice_get rings hole ≡ Some vertices → ¬ IsInside position vertices

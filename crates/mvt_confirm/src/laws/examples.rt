@@ -2,9 +2,12 @@
 //! would make false.
 
 ghost use Rattle.std.specs.Prelude.{ℕ, [], ◌∷◌, ◌+◌, ◌*◌, ◌^◌, pos};
-ghost use Rattle.mvt_confirm.specs.PolygonFault.{IsMeeting, IsVertexOutside, IsVertexInHole};
-ghost use Rattle.mvt_confirm.specs.Valid.{AreValidRings};
-ghost use Rattle.mvt_plane.specs.Examples.{at, fraction, square, two_polygons, crossed, triangle, touching_hole, hole_beside, hole_in_hole, closed_twice, flat};
+ghost use Rattle.mvt_confirm.specs.Examples.{stone, hole, island, ground};
+ghost use Rattle.mvt_confirm.specs.PolygonFault.{IsMeeting, IsMeetingBy, IsVertexOutside, IsVertexInHole, IsVertexInPolygonBy};
+ghost use Rattle.mvt_confirm.specs.Valid.{AreValidRings, AreValidRingsBy};
+ghost use Rattle.mvt_plane.specs.Examples.{at, fraction, rings_from, frame, square, two_polygons, crossed, triangle, touching_hole, hole_beside, hole_in_hole, closed_twice, flat};
+ghost use Rattle.mvt_fault.specs.declared.profile.Profile.TheVariants.{Feature};
+ghost use Rattle.mvt_plane.specs.Nesting.{IsInPolygon};
 ghost use Rattle.mvt_plane.specs.RationalPoint.{RationalPoint};
 ghost use Rattle.mvt_plane.specs.Ring.{BreaksRings};
 
@@ -70,4 +73,13 @@ pub fn valid_rings()
     ensures beside { ¬ AreValidRings (square ∷ hole_beside ∷ []) }
     ensures in_hole { ¬ AreValidRings hole_in_hole }
     ensures flat { ¬ AreValidRings (square ∷ flat ∷ []) }
+{}
+
+/// In a feature two squares in one place meet, as edges of the second one's polygon; and a square on a frame
+/// is inside it, but not one in the hole of a frame.
+pub fn polygons_of_a_feature()
+    ensures twice { IsMeetingBy Feature (square ∷ square ∷ []) 1 (record { ring = 0; edge = 0 }) (record { ring = 1; edge = 0 }) (fraction 5 0 1) }
+    ensures invalid { ¬ AreValidRingsBy Feature (square ∷ square ∷ []) }
+    ensures on_frame { IsVertexInPolygonBy Feature (frame ∷ stone ∷ []) 1 0 0 }
+    ensures in_hole { ¬ IsInPolygon (ground ∷ hole ∷ island ∷ []) (rings_from 2 3) (rings_from 0 2) 0 }
 {}

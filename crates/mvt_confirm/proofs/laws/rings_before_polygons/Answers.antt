@@ -2,22 +2,22 @@ use Rattle.std.proofs.Common.{List}
 use Rattle.mvt_plane.specs.Position.{Position}
 use Rattle.mvt_confirm.proofs.TrueFaults.{rings_before_polygons}
 use Rattle.mvt_confirm.proofs.laws.rings_before_polygons.Goals as goal
-use Rattle.mvt_confirm.specs.PolygonFault.{IsMeeting, IsVertexOutside, IsVertexInHole}
+use Rattle.mvt_confirm.specs.PolygonFault.{IsMeetingBy, IsVertexOutside, IsVertexInHole}
 
 pub returns-clause-meeting : goal.returns-clause-meeting
-returns-clause-meeting c bytes code layer feature ring polygon first second x y w =
-    rings_before_polygons bytes code layer feature ring
-    (λ (rings : List (List Position)). IsMeeting rings polygon first second (record { x = x; y = y; w = w }))
+returns-clause-meeting c profile bytes code layer feature ring polygon first second x y w =
+    rings_before_polygons profile bytes code layer feature ring
+    (λ (rings : List (List Position)). IsMeetingBy profile rings polygon first second (record { x = x; y = y; w = w }))
     (λ rings meeting. meeting.of.sound)
 
 pub returns-clause-outside : goal.returns-clause-outside
-returns-clause-outside c bytes code layer feature ring polygon hole vertex =
-    rings_before_polygons bytes code layer feature ring
+returns-clause-outside c profile bytes code layer feature ring polygon hole vertex =
+    rings_before_polygons profile bytes code layer feature ring
     (λ (rings : List (List Position)). IsVertexOutside rings polygon hole vertex)
     (λ rings outside. outside.of.sound)
 
 pub returns-clause-hole_in_hole : goal.returns-clause-hole_in_hole
-returns-clause-hole_in_hole c bytes code layer feature ring polygon hole vertex other =
-    rings_before_polygons bytes code layer feature ring
+returns-clause-hole_in_hole c profile bytes code layer feature ring polygon hole vertex other =
+    rings_before_polygons profile bytes code layer feature ring
     (λ (rings : List (List Position)). IsVertexInHole rings polygon hole vertex other)
     (λ rings inside. inside.of.sound)

@@ -1,0 +1,76 @@
+-- Polygons of one feature that aren't kept apart.
+use Rattle.std.proofs.Common.{rules, ◌≡◌, List, [], ◌∷◌, slice_get, Some, inr, refl, sym, subst, arith}
+use Rattle.std.proofs.lemmas.Int.{ints}
+use Rattle.mvt_fault.specs.declared.profile.Profile.TheVariants.{Feature}
+use Rattle.mvt_plane.proofs.ExampleMeetings.{one_ring_twice}
+use Rattle.mvt_plane.proofs.ExamplePositions.{hole_inside, inner_inside}
+use Rattle.mvt_plane.proofs.PolygonNumbers.{none_in_nothing}
+use Rattle.mvt_plane.specs.Examples.{at, fraction, rings_from, square, frame}
+use Rattle.mvt_plane.specs.Inside.{IsInside}
+use Rattle.mvt_plane.specs.Nesting.{IsInPolygon}
+use Rattle.mvt_plane.specs.Polygon.{first, IsPolygon}
+use Rattle.mvt_plane.specs.Position.{Position}
+use Rattle.mvt_confirm.proofs.ExamplePolygons.{second_square, second_to_last}
+use Rattle.mvt_confirm.proofs.InvalidRings.{meeting_is_invalid}
+use Rattle.mvt_confirm.specs.Examples.{stone, hole, island, ground}
+use Rattle.mvt_confirm.specs.PolygonFault.{IsPolygonOf, IsMeetingBy, IsVertexInPolygonBy}
+use Rattle.mvt_confirm.specs.Valid.{AreValidRingsBy}
+
+-- two squares in one place meet in the second one
+pub squares_meet : IsMeetingBy Feature (square ∷ square ∷ []) 1 (record { ring = 0; edge = 0 }) (record { ring = 1; edge = 0 }) (fraction 5 0 1)
+squares_meet = record {
+  polygon_rings = rings_from 1 2;
+  of = second_square;
+  first_in = search rules;
+  second_in = search rules;
+  in_order = search rules;
+  bounded = search rules;
+  meets = one_ring_twice;
+}
+
+-- so they are invalid
+pub squares_invalid : ¬ AreValidRingsBy Feature (square ∷ square ∷ [])
+squares_invalid = meeting_is_invalid Feature (square ∷ square ∷ []) 1 (record { ring = 0; edge = 0 }) (record { ring = 1; edge = 0 }) (fraction 5 0 1) squares_meet
+
+-- A stone on a frame without a hole
+
+-- the frame is the first polygon
+first_frame : IsPolygon (frame ∷ stone ∷ []) 0 (rings_from 0 1)
+first_frame = record {
+  begins = first 0 (record { ring = frame; there = refl; positive = omega (arith, ints) }) (none_in_nothing (frame ∷ stone ∷ []) 0);
+  further = omega arith;
+  holes = none_in_nothing (frame ∷ stone ∷ []) 1;
+  ends = inr (record { ring = stone; there = refl; positive = omega (arith, ints) });
+}
+
+-- the stone is the second one
+second_stone : IsPolygonOf (frame ∷ stone ∷ []) 1 (rings_from 1 2)
+second_stone = second_to_last frame stone [] (search rules) (omega (arith, ints)) (omega (arith, ints)) (none_in_nothing (frame ∷ stone ∷ []) 2)
+
+-- its vertex is inside the frame
+pub stone_on_frame : IsVertexInPolygonBy Feature (frame ∷ stone ∷ []) 1 0 0
+stone_on_frame = record {
+  polygon_rings = rings_from 1 2;
+  of = second_stone;
+  other_rings = rings_from 0 1;
+  other_there = first_frame;
+  inside = record {
+    position = at 13 13;
+    here = record { vertices = stone; there = refl; here = refl };
+    different = search rules;
+    around = frame;
+    there = refl;
+    inside = hole_inside 0 (at 13 13) refl;
+    in_no_hole = λ hole vertices is there. let behind = is.behind in let before = is.before in absurd (omega arith);
+  };
+}
+
+-- In a hole
+
+-- a ring in a hole is inside no polygon
+pub island_in_hole : ¬ IsInPolygon (ground ∷ hole ∷ island ∷ []) (rings_from 2 3) (rings_from 0 2) 0
+island_in_hole wrong =
+    let vertices : island ≡ wrong.here.vertices = cc (wrong.here.there) in
+    let here : slice_get island 0 ≡ Some wrong.position = subst (λ (it : List Position). slice_get it 0 ≡ Some wrong.position) (sym vertices) wrong.here.here in
+    let position : at 20 20 ≡ wrong.position = cc here in
+    wrong.in_no_hole 1 hole (search rules) refl (subst (λ (it : Position). IsInside it hole) position inner_inside)

@@ -1,0 +1,14 @@
+use Rattle.mvt_confirm.proofs.ExampleFeatures.{squares_meet, squares_invalid, stone_on_frame, island_in_hole}
+use Rattle.mvt_confirm.proofs.laws.examples.polygons_of_a_feature.Goals as goal
+
+pub returns-clause-twice : goal.returns-clause-twice
+returns-clause-twice c = squares_meet
+
+pub returns-clause-invalid : goal.returns-clause-invalid
+returns-clause-invalid c = squares_invalid
+
+pub returns-clause-on_frame : goal.returns-clause-on_frame
+returns-clause-on_frame c = stone_on_frame
+
+pub returns-clause-in_hole : goal.returns-clause-in_hole
+returns-clause-in_hole c = island_in_hole
