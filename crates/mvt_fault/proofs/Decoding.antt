@@ -12,7 +12,7 @@ use Rattle.mvt_fault.specs.Text.{data_of, edge_data, meeting_parts, IsInRange, R
 use Rattle.mvt_wire.specs.declared.scope.Scope.{Scope}
 use Rattle.mvt_wire.specs.declared.scope.Scope.TheVariants.{Tile, Layer, Value, Feature}
 use Rattle.mvt_fault.specs.declared.fault.Fault.{Fault}
-use Rattle.mvt_fault.specs.declared.fault.Fault.TheVariants.{Wire, Version, Name, Tag, Command, Ring, Meeting, Outside, HoleInHole}
+use Rattle.mvt_fault.specs.declared.fault.Fault.TheVariants.{Wire, Version, Name, Tag, Command, Ring, Meeting, Outside, HoleInHole, InPolygon}
 use Rattle.mvt_fault.specs.declared.tag.TagCode.TheVariants.{OddLength}
 use Rattle.mvt_fault.specs.declared.command.CommandCode.TheVariants.{OtherCommand}
 use Rattle.mvt_fault.specs.declared.ring.RingEdge.{RingEdge}
@@ -65,24 +65,26 @@ meeting_in d =
     Meeting (number_at (codes "layer") d) (number_at (codes "feature") d) (number_at (codes "polygon") d)
     (edge_at (codes "first") d) (edge_at (codes "second") d) (digits_at (codes "x") d) (digits_at (codes "y") d) (digits_at (codes "w") d)
 
--- a fault of a hole with this object, where there is one
-abbrev hole_fault_in : Data → Fault
-hole_fault_in d =
+-- a fault of a polygon's vertex with this object, where there is one: of a hole, or of the exterior
+abbrev vertex_fault_in : Data → Fault
+vertex_fault_in d =
     let layer = number_at (codes "layer") d in
     let feature = number_at (codes "feature") d in
     let polygon = number_at (codes "polygon") d in
     let ring = number_at (codes "ring") d in
     let vertex = number_at (codes "vertex") d in
-    if is_some (get (codes "other") d)
+    if is_some (get (codes "ring") d)
+    then (if is_some (get (codes "other") d)
     then HoleInHole layer feature polygon ring vertex (number_at (codes "other") d)
-    else Outside layer feature polygon ring vertex
+    else Outside layer feature polygon ring vertex)
+    else InPolygon layer feature polygon vertex (number_at (codes "other") d)
 
 -- a fault with this object, where there is one
 abbrev fault_in : Data → Fault
 fault_in d =
     if is_some (get (codes "scope") d) then wire_fault_in d else
     (if is_some (get (codes "index") d) then feature_fault_in d else
-    (if is_some (get (codes "vertex") d) then hole_fault_in d else
+    (if is_some (get (codes "vertex") d) then vertex_fault_in d else
     (if is_some (get (codes "ring") d) then ring_fault_in d else
     (if is_some (get (codes "polygon") d) then meeting_in d else
     (if is_some (get (codes "second") d) then Name (number_at (codes "first") d) (number_at (codes "second") d) else

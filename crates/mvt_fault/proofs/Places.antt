@@ -6,7 +6,7 @@ use Rattle.std.specs.Cmp.{ranks}
 use Rattle.std.specs.Cmp.Lexicographic.{slice_cmp, slice_partial_cmp, lists_agrees}
 use Rattle.mvt_fault.specs.Place.{place_of, ComesFirst, IsMeetingIn, AreMeetingsInOne}
 use Rattle.mvt_fault.specs.declared.fault.Fault.{Fault}
-use Rattle.mvt_fault.specs.declared.fault.Fault.TheVariants.{Wire, Version, Name, Tag, Command, Ring, Meeting, Outside, HoleInHole}
+use Rattle.mvt_fault.specs.declared.fault.Fault.TheVariants.{Wire, Version, Name, Tag, Command, Ring, Meeting, Outside, HoleInHole, InPolygon}
 use Rattle.mvt_fault.specs.declared.ring.RingEdge.{RingEdge}
 use Rattle.mvt_wire.specs.declared.scope.Scope.{Scope}
 use Rattle.mvt_wire.specs.declared.scope.Scope.TheVariants.{Tile, Layer, Value, Feature}
@@ -118,8 +118,9 @@ polygon_fault_at place =
     let feature = get_or place 2 0 in
     let polygon = get_or place 4 0 in
     if get_or place 5 0 == 0 then some_meeting layer feature polygon else
+    (if get_or place 5 0 == 2 then InPolygon layer feature polygon (get_or place 6 0) (get_or place 8 0) else
     (if get_or place 8 0 == 505 then Outside layer feature polygon (get_or place 6 0) (get_or place 7 0) else
-    HoleInHole layer feature polygon (get_or place 6 0) (get_or place 7 0) (get_or place 9 0))
+    HoleInHole layer feature polygon (get_or place 6 0) (get_or place 7 0) (get_or place 9 0)))
 
 -- the fault of a feature at a place
 abbrev feature_fault_at : List ℕ → Fault

@@ -33,4 +33,4 @@ HasCandidate d o = MatchOption o (¬ HasShape d) (IsCandidate d)
 
 -- the number is none of the codes that have no type
 abbrev pub HasNoBareCode : ℕ → Type 0
-HasNoBareCode n = (n ≢ 201) × (n ≢ 202) × (n ≢ 504) × (n ≢ 505) × (n ≢ 506)
+HasNoBareCode n = (n ≢ 201) × (n ≢ 202) × (n ≢ 504) × (n ≢ 505) × (n ≢ 506) × (n ≢ 507)

@@ -4,7 +4,7 @@ use Rattle.mvt_wire.specs.Code.{code_of}
 use Rattle.mvt_fault.specs.declared.command.CommandCode.{CommandCode}
 use Rattle.mvt_fault.specs.declared.command.CommandCode.TheVariants.{OtherCommand, OtherCount, Unfinished, GreatestParameter, OutOfBounds, NoStep}
 use Rattle.mvt_fault.specs.declared.fault.Fault.{Fault}
-use Rattle.mvt_fault.specs.declared.fault.Fault.TheVariants.{Wire, Version, Name, Tag, Command, Ring, Meeting, Outside, HoleInHole}
+use Rattle.mvt_fault.specs.declared.fault.Fault.TheVariants.{Wire, Version, Name, Tag, Command, Ring, Meeting, Outside, HoleInHole, InPolygon}
 use Rattle.mvt_fault.specs.declared.ring.RingCode.{RingCode}
 use Rattle.mvt_fault.specs.declared.ring.RingCode.TheVariants.{EndsAtItsBeginning, NoArea, BeginsWithHole}
 use Rattle.mvt_fault.specs.declared.tag.TagCode.{TagCode}
@@ -43,3 +43,4 @@ fault_code (Ring code layer feature ring) = ring_code code
 fault_code (Meeting layer feature polygon first second x y w) = 504
 fault_code (Outside layer feature polygon ring vertex) = 505
 fault_code (HoleInHole layer feature polygon ring vertex other) = 506
+fault_code (InPolygon layer feature polygon vertex other) = 507

@@ -4,7 +4,7 @@ use Rattle.mvt_wire.specs.Code.{code_of}
 use Rattle.mvt_wire.specs.declared.scope.Scope.{Scope}
 use Rattle.mvt_wire.specs.declared.scope.Scope.TheVariants.{Tile, Layer, Value, Feature}
 use Rattle.mvt_fault.specs.declared.fault.Fault.{Fault}
-use Rattle.mvt_fault.specs.declared.fault.Fault.TheVariants.{Wire, Version, Name, Tag, Command, Ring, Meeting, Outside, HoleInHole}
+use Rattle.mvt_fault.specs.declared.fault.Fault.TheVariants.{Wire, Version, Name, Tag, Command, Ring, Meeting, Outside, HoleInHole, InPolygon}
 use Rattle.mvt_fault.specs.declared.ring.RingEdge.{RingEdge}
 use Rattle.mvt_fault.specs.Code.{tag_code, command_code, ring_code}
 
@@ -26,8 +26,9 @@ place_of (Ring code layer feature ring) = 2 ∷ layer ∷ feature ∷ 2 ∷ ring
 place_of (Meeting layer feature polygon first second x y w) = 2 ∷ layer ∷ feature ∷ 3 ∷ polygon ∷ 0 ∷ 0 ∷ 0 ∷ 0 ∷ 0 ∷ []
 place_of (Outside layer feature polygon ring vertex) = 2 ∷ layer ∷ feature ∷ 3 ∷ polygon ∷ 1 ∷ ring ∷ vertex ∷ 505 ∷ 0 ∷ []
 place_of (HoleInHole layer feature polygon ring vertex other) = 2 ∷ layer ∷ feature ∷ 3 ∷ polygon ∷ 1 ∷ ring ∷ vertex ∷ 506 ∷ other ∷ []
+place_of (InPolygon layer feature polygon vertex other) = 2 ∷ layer ∷ feature ∷ 3 ∷ polygon ∷ 2 ∷ vertex ∷ 507 ∷ other ∷ 0 ∷ []
 
--- a fault of a polygon: of its edges, or of its holes
+-- a fault of a polygon: of its edges, of its holes, or of its place among the other polygons
 abbrev pub IsOfPolygon : Fault → Type 0
 IsOfPolygon (Wire code scope at field) = ⊥
 IsOfPolygon (Version layer) = ⊥
@@ -38,6 +39,7 @@ IsOfPolygon (Ring code layer feature ring) = ⊥
 IsOfPolygon (Meeting layer feature polygon first second x y w) = Unit {0}
 IsOfPolygon (Outside layer feature polygon ring vertex) = Unit {0}
 IsOfPolygon (HoleInHole layer feature polygon ring vertex other) = Unit {0}
+IsOfPolygon (InPolygon layer feature polygon vertex other) = Unit {0}
 
 -- a meeting of two edges of this polygon
 pub record IsMeetingIn (layer feature polygon : ℕ) (fault : Fault) : Type 0 where

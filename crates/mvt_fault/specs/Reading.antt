@@ -4,7 +4,7 @@ use Rattle.std.specs.Str.Parse.{AllDigits, signed_digits_value}
 use Rattle.serde_json.specs.Data.{Data, string}
 use Rattle.serde_json.specs.Read.{read}
 use Rattle.mvt_fault.specs.declared.fault.Fault.{Fault}
-use Rattle.mvt_fault.specs.declared.fault.Fault.TheVariants.{Wire, Version, Name, Tag, Command, Ring, Meeting, Outside, HoleInHole}
+use Rattle.mvt_fault.specs.declared.fault.Fault.TheVariants.{Wire, Version, Name, Tag, Command, Ring, Meeting, Outside, HoleInHole, InPolygon}
 use Rattle.mvt_fault.specs.declared.ring.RingEdge.{RingEdge}
 use Rattle.mvt_fault.specs.Text.{data_of, edge_data, meeting_parts, IsInRange}
 
@@ -41,6 +41,7 @@ StandsFor (Ring code layer feature ring) d = d ≡ data_of (Ring code layer feat
 StandsFor (Meeting layer feature polygon first second x y w) d = IsMeetingObject layer feature polygon first second x y w d
 StandsFor (Outside layer feature polygon ring vertex) d = d ≡ data_of (Outside layer feature polygon ring vertex)
 StandsFor (HoleInHole layer feature polygon ring vertex other) d = d ≡ data_of (HoleInHole layer feature polygon ring vertex other)
+StandsFor (InPolygon layer feature polygon vertex other) d = d ≡ data_of (InPolygon layer feature polygon vertex other)
 
 -- the value has exactly the keys of its code, with its scope for a wire fault, and at each a value of the key's type
 abbrev pub HasShape : Data → Type 0

@@ -9,7 +9,7 @@ use Rattle.mvt_wire.specs.declared.cause.WireCode.{WireCode}
 use Rattle.mvt_wire.specs.declared.scope.Scope.{Scope}
 use Rattle.mvt_wire.specs.declared.scope.Scope.TheVariants.{Tile, Layer, Value, Feature}
 use Rattle.mvt_fault.specs.declared.fault.Fault.{Fault}
-use Rattle.mvt_fault.specs.declared.fault.Fault.TheVariants.{Wire, Version, Name, Tag, Command, Ring, Meeting, Outside, HoleInHole}
+use Rattle.mvt_fault.specs.declared.fault.Fault.TheVariants.{Wire, Version, Name, Tag, Command, Ring, Meeting, Outside, HoleInHole, InPolygon}
 use Rattle.mvt_fault.specs.declared.ring.RingEdge.{RingEdge}
 use Rattle.mvt_fault.specs.Code.{tag_code, command_code, ring_code}
 
@@ -135,6 +135,17 @@ hole_in_hole_data layer feature polygon ring vertex other =
     (member (codes "vertex") (whole vertex)
     no_members)))))))
 
+-- the object of an exterior's vertex that is inside another polygon
+abbrev pub in_polygon_data : ℕ → ℕ → ℕ → ℕ → ℕ → Data
+in_polygon_data layer feature polygon vertex other =
+    object (member (codes "code") (whole 507)
+    (member (codes "feature") (whole feature)
+    (member (codes "layer") (whole layer)
+    (member (codes "other") (whole other)
+    (member (codes "polygon") (whole polygon)
+    (member (codes "vertex") (whole vertex)
+    no_members))))))
+
 -- the object of a fault
 abbrev pub data_of : Fault → Data
 data_of (Wire code scope at field) = wire_data code scope at field
@@ -146,6 +157,7 @@ data_of (Ring code layer feature ring) = ring_data (ring_code code) layer featur
 data_of (Meeting layer feature polygon first second x y w) = meeting_data layer feature polygon first second x y w
 data_of (Outside layer feature polygon ring vertex) = outside_data layer feature polygon ring vertex
 data_of (HoleInHole layer feature polygon ring vertex other) = hole_in_hole_data layer feature polygon ring vertex other
+data_of (InPolygon layer feature polygon vertex other) = in_polygon_data layer feature polygon vertex other
 
 -- a fault's text: its object with no space
 abbrev pub text_of : Fault → List ℕ
@@ -166,6 +178,7 @@ IsInRange (Ring code layer feature ring) = Unit {0}
 IsInRange (Meeting layer feature polygon first second x y w) = HasWidth x × HasWidth y × HasWidth w
 IsInRange (Outside layer feature polygon ring vertex) = Unit {0}
 IsInRange (HoleInHole layer feature polygon ring vertex other) = Unit {0}
+IsInRange (InPolygon layer feature polygon vertex other) = Unit {0}
 
 -- the bytes are a text of this fault, as JSON is read
 pub record Reads (bytes : List ℕ) (f : Fault) : Type 0 where

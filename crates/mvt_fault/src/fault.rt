@@ -119,6 +119,20 @@ pub enum Fault {
         /// The ordinal of the other hole among all rings of the feature, counted from 0.
         other: usize,
     },
+    /// A vertex of a polygon's exterior is inside another polygon of the feature: inside its exterior,
+    /// and inside none of its holes. It is a fault in the profile `Profile::Feature` alone.
+    InPolygon {
+        /// The ordinal of the feature's layer, counted from 0.
+        layer: usize,
+        /// The ordinal of the feature in its layer, counted from 0.
+        feature: usize,
+        /// The ordinal of the polygon in the feature, counted from 0.
+        polygon: usize,
+        /// The ordinal of the vertex in the polygon's exterior, counted from 0.
+        vertex: usize,
+        /// The ordinal of the other polygon in the feature, counted from 0.
+        other: usize,
+    },
 }
 
 // The numbers of the causes that have no type of their own.
@@ -131,6 +145,8 @@ pub(crate) const MEETING_CODE: u16 = 504;
 pub(crate) const OUTSIDE_CODE: u16 = 505;
 
 pub(crate) const HOLE_IN_HOLE_CODE: u16 = 506;
+
+pub(crate) const IN_POLYGON_CODE: u16 = 507;
 
 /// The fault of a cause in the message of a scope.
 pub fn wire_fault_in(scope: Scope, cause: WireCause) -> Fault
@@ -146,7 +162,7 @@ pub fn wire_fault_in(scope: Scope, cause: WireCause) -> Fault
 
 /// The number that names the fault's cause: 101 to 111 for a wire fault, 201 for a layer's version, 202
 /// for two layers of one name, 301 to 304 for tags, 401 to 406 for geometry commands, 501 to 503 for
-/// rings, 504 for edges that meet, 505 and 506 for holes.
+/// rings, 504 for edges that meet, 505 and 506 for holes, 507 for a polygon in another one.
 pub fn code(fault: &Fault) -> u16
     ensures { result ≡ fault_code fault.now }
 {
@@ -160,6 +176,7 @@ pub fn code(fault: &Fault) -> u16
         Fault::Meeting { .. } => MEETING_CODE,
         Fault::Outside { .. } => OUTSIDE_CODE,
         Fault::HoleInHole { .. } => HOLE_IN_HOLE_CODE,
+        Fault::InPolygon { .. } => IN_POLYGON_CODE,
     }
 }
 
@@ -167,8 +184,8 @@ pub fn code(fault: &Fault) -> u16
 /// then, layer by layer, those of the layer's fields, its values and its features (Mapbox Vector Tile
 /// Specification 2.1, section 4). Within one message the offset in bytes decides, then the code, then
 /// the field number. Versions and names follow layer by layer, and then, feature by feature, tags,
-/// geometry commands, rings, and polygon by polygon the meeting of edges and the holes. All meetings of
-/// one polygon have the same place.
+/// geometry commands, rings, and polygon by polygon the meeting of edges, the holes, and the polygon in
+/// another one. All meetings of one polygon have the same place.
 pub fn place(fault: &Fault) -> Place
     ensures { result ≡ place_of fault.now }
 {
@@ -205,9 +222,10 @@ pub fn place(fault: &Fault) -> Place
             feature,
             ring,
         } => feature_numbers(layer, feature, 2, ring, code.code()),
-        Fault::Meeting { .. } | Fault::Outside { .. } | Fault::HoleInHole { .. } => {
-            polygon_numbers(fault)
-        }
+        Fault::Meeting { .. }
+        | Fault::Outside { .. }
+        | Fault::HoleInHole { .. }
+        | Fault::InPolygon { .. } => polygon_numbers(fault),
     })
 }
 
@@ -250,8 +268,8 @@ fn feature_numbers(
 }
 
 // The numbers of a fault of a polygon: 2, since such faults come last; which layer and feature; 3, behind
-// its rings; which polygon; 0 for a meeting of edges, 1 for a hole; the hole, its vertex, the code and
-// the other hole.
+// its rings; which polygon; 0 for a meeting of edges, 1 for a hole, 2 for the exterior; the hole, the
+// vertex, the code, and the other hole or polygon.
 fn polygon_numbers(fault: &Fault) -> [usize; 10]
     requires { IsOfPolygon fault.now }
     ensures { result ≡ place_of fault.now }
@@ -283,6 +301,16 @@ fn polygon_numbers(fault: &Fault) -> [usize; 10]
         } => {
             let code = usize::from(HOLE_IN_HOLE_CODE);
             [2, layer, feature, 3, polygon, 1, ring, vertex, code, other]
+        }
+        Fault::InPolygon {
+            layer,
+            feature,
+            polygon,
+            vertex,
+            other,
+        } => {
+            let code = usize::from(IN_POLYGON_CODE);
+            [2, layer, feature, 3, polygon, 2, vertex, code, other, 0]
         }
         _ => unreachable!(),
     }

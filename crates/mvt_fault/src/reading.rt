@@ -18,7 +18,10 @@ mod wire;
 use crate::fault::Fault;
 use candidate::Candidate;
 use causes::{command_code, ring_code, tag_code, wire_code};
-use polygons::{hole_in_hole_candidate, meeting_candidate, outside_candidate, ring_candidate};
+use polygons::{
+    hole_in_hole_candidate, in_polygon_candidate, meeting_candidate, outside_candidate,
+    ring_candidate,
+};
 use rules::{command_candidate, name_candidate, tag_candidate, version_candidate};
 use serde_json::Value;
 use std::alloc::{AllocError, Global};
@@ -119,6 +122,7 @@ fn uncoded_candidate(
         504 => meeting_candidate(alloc, value)?,
         505 => outside_candidate(alloc, value)?,
         506 => hole_in_hole_candidate(alloc, value)?,
+        507 => in_polygon_candidate(alloc, value)?,
         _ => return Ok(None),
     };
     Ok(Some(candidate))

@@ -61,8 +61,9 @@ fn fault_object(alloc: Global, fault: &Fault) -> Result<Value, AllocError>
             feature,
             ring,
         } => ring_object(alloc, code.code(), layer, feature, ring),
-        Fault::Meeting { .. } | Fault::Outside { .. } | Fault::HoleInHole { .. } => {
-            polygon_object(alloc, fault)
-        }
+        Fault::Meeting { .. }
+        | Fault::Outside { .. }
+        | Fault::HoleInHole { .. }
+        | Fault::InPolygon { .. } => polygon_object(alloc, fault),
     }
 }

@@ -14,7 +14,7 @@ use super::decimal::{decimal_at, number_of};
 use crate::fault::Fault;
 use crate::ring::{RingCode, RingEdge};
 use crate::text::polygons::{
-    PolygonId, WrittenPoint, hole_in_hole_object, outside_object, ring_object,
+    PolygonId, WrittenPoint, hole_in_hole_object, in_polygon_object, outside_object, ring_object,
     written_meeting_object,
 };
 use serde_json::Value;
@@ -141,6 +141,36 @@ pub(super) fn hole_in_hole_candidate(alloc: Global, value: &Value) -> Result<Can
             feature,
             polygon,
             ring,
+            vertex,
+            other,
+        }),
+    })
+}
+
+pub(super) fn in_polygon_candidate(alloc: Global, value: &Value) -> Result<Candidate, AllocError>
+    requires { HasCode (view value.now) 507 }
+    ensures { IfOk result (IsCandidate (view value.now)) }
+{
+    let layer = ordinal_at(value, "layer");
+    let feature = ordinal_at(value, "feature");
+    let polygon = ordinal_at(value, "polygon");
+    let vertex = ordinal_at(value, "vertex");
+    let other = ordinal_at(value, "other");
+    Ok(Candidate {
+        object: in_polygon_object(
+            alloc,
+            PolygonId {
+                layer,
+                feature,
+                polygon,
+            },
+            vertex,
+            other,
+        )?,
+        fault: Some(Fault::InPolygon {
+            layer,
+            feature,
+            polygon,
             vertex,
             other,
         }),

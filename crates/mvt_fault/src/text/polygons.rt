@@ -4,9 +4,9 @@ ghost use Rattle.std.specs.Prelude.{◌≡◌, IfOk, OnOk};
 ghost use Rattle.serde_json.specs.Data.{put as with_member, string};
 ghost use Rattle.serde_json.specs.View.{members_view, view};
 ghost use Rattle.mvt_fault.specs.Place.{IsOfPolygon};
-ghost use Rattle.mvt_fault.specs.Text.{data_of, IsInRange, ring_data, edge_data, meeting_data, meeting_parts, outside_data, hole_in_hole_data};
+ghost use Rattle.mvt_fault.specs.Text.{data_of, IsInRange, ring_data, edge_data, meeting_data, meeting_parts, outside_data, hole_in_hole_data, in_polygon_data};
 
-use crate::fault::{Fault, HOLE_IN_HOLE_CODE, MEETING_CODE, OUTSIDE_CODE};
+use crate::fault::{Fault, HOLE_IN_HOLE_CODE, IN_POLYGON_CODE, MEETING_CODE, OUTSIDE_CODE};
 use crate::ring::RingEdge;
 use crate::text::members::{add_text, members_of};
 use serde_json::{Map, Value, put};
@@ -112,6 +112,16 @@ pub(crate) fn polygon_object(alloc: Global, fault: &Fault) -> Result<Value, Allo
             let id = PolygonId::new(layer, feature, polygon);
             hole_in_hole_object(alloc, id, ring, vertex, other)
         }
+        Fault::InPolygon {
+            layer,
+            feature,
+            polygon,
+            vertex,
+            other,
+        } => {
+            let id = PolygonId::new(layer, feature, polygon);
+            in_polygon_object(alloc, id, vertex, other)
+        }
         _ => unreachable!(),
     }
 }
@@ -210,6 +220,25 @@ pub(crate) fn hole_in_hole_object(
         ("other", other as u64),
         ("polygon", id.polygon as u64),
         ("ring", ring as u64),
+        ("vertex", vertex as u64),
+    ];
+    Ok(Value::Object(members_of(alloc, &members)?))
+}
+
+pub(crate) fn in_polygon_object(
+    alloc: Global,
+    id: PolygonId,
+    vertex: usize,
+    other: usize,
+) -> Result<Value, AllocError>
+    ensures { IfOk result (λ v. view v ≡ in_polygon_data id.layer id.feature id.polygon vertex other) }
+{
+    let members = [
+        ("code", u64::from(IN_POLYGON_CODE)),
+        ("feature", id.feature as u64),
+        ("layer", id.layer as u64),
+        ("other", other as u64),
+        ("polygon", id.polygon as u64),
         ("vertex", vertex as u64),
     ];
     Ok(Value::Object(members_of(alloc, &members)?))
