@@ -2,11 +2,11 @@
 -- 4.3). That they are the same as those of `Shows` is a law.
 use Rattle.std.specs.Prelude.{ℕ, ℤ}
 use Rattle.mvt_confirm.specs.Feature.{OfRings}
-use Rattle.mvt_confirm.specs.PolygonFault.{IsMeetingBy, IsVertexOutside, IsVertexInHole}
+use Rattle.mvt_confirm.specs.PolygonFault.{IsMeetingBy, IsVertexOutside, IsVertexInHole, IsVertexInPolygonBy}
 use Rattle.mvt_fault.specs.Code.{command_code, ring_code}
 use Rattle.mvt_fault.specs.declared.command.CommandCode.{CommandCode}
 use Rattle.mvt_fault.specs.declared.fault.Fault.{Fault}
-use Rattle.mvt_fault.specs.declared.fault.Fault.TheVariants.{Command, Ring, Meeting, Outside, HoleInHole}
+use Rattle.mvt_fault.specs.declared.fault.Fault.TheVariants.{Command, Ring, Meeting, Outside, HoleInHole, InPolygon}
 use Rattle.mvt_fault.specs.declared.profile.Profile.{Profile}
 use Rattle.mvt_fault.specs.declared.profile.Profile.TheVariants.{Polygon}
 use Rattle.mvt_fault.specs.declared.ring.RingCode.{RingCode}
@@ -28,6 +28,8 @@ pub data IsFaultOfGeometryBy (profile : Profile) (feature_record : FeatureRecord
       → IsFaultOfGeometryBy profile feature_record layer feature (Outside layer feature polygon ring vertex)
   hole_in_hole : (polygon ring vertex other : ℕ) → OfRings feature_record (λ rings. IsVertexInHole rings polygon ring vertex other)
       → IsFaultOfGeometryBy profile feature_record layer feature (HoleInHole layer feature polygon ring vertex other)
+  in_polygon : (polygon vertex other : ℕ) → OfRings feature_record (λ rings. IsVertexInPolygonBy profile rings polygon vertex other)
+      → IsFaultOfGeometryBy profile feature_record layer feature (InPolygon layer feature polygon vertex other)
 
 -- the same by the profile that looks at each polygon by itself
 abbrev pub IsFaultOfGeometry : FeatureRecord → ℕ → ℕ → Fault → Type 0

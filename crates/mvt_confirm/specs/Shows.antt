@@ -1,11 +1,11 @@
 -- Which faults are true of the bytes of a tile.
 use Rattle.std.specs.Prelude.{ℕ, List, length}
 use Rattle.mvt_confirm.specs.Feature.{IsFeatureIn, OfRings}
-use Rattle.mvt_confirm.specs.PolygonFault.{IsMeetingBy, IsVertexOutside, IsVertexInHole}
+use Rattle.mvt_confirm.specs.PolygonFault.{IsMeetingBy, IsVertexOutside, IsVertexInHole, IsVertexInPolygonBy}
 use Rattle.mvt_fault.specs.Code.{command_code, ring_code}
 use Rattle.mvt_fault.specs.TrueFaults.{TagsBreak}
 use Rattle.mvt_fault.specs.declared.fault.Fault.{Fault}
-use Rattle.mvt_fault.specs.declared.fault.Fault.TheVariants.{Wire, Version, Name, Tag, Command, Ring, Meeting, Outside, HoleInHole}
+use Rattle.mvt_fault.specs.declared.fault.Fault.TheVariants.{Wire, Version, Name, Tag, Command, Ring, Meeting, Outside, HoleInHole, InPolygon}
 use Rattle.mvt_fault.specs.declared.profile.Profile.{Profile}
 use Rattle.mvt_fault.specs.declared.profile.Profile.TheVariants.{Polygon}
 use Rattle.mvt_plane.specs.Geometry.{BreaksCommands}
@@ -40,6 +40,8 @@ ShowsBy _ bytes (Outside layer feature polygon ring vertex) =
     OfFeature bytes layer feature (λ layer_record feature_record. OfRings feature_record (λ rings. IsVertexOutside rings polygon ring vertex))
 ShowsBy _ bytes (HoleInHole layer feature polygon ring vertex other) =
     OfFeature bytes layer feature (λ layer_record feature_record. OfRings feature_record (λ rings. IsVertexInHole rings polygon ring vertex other))
+ShowsBy profile bytes (InPolygon layer feature polygon vertex other) =
+    OfFeature bytes layer feature (λ layer_record feature_record. OfRings feature_record (λ rings. IsVertexInPolygonBy profile rings polygon vertex other))
 
 -- the same by the profile that looks at each polygon by itself
 abbrev pub Shows : List ℕ → Fault → Type 0
