@@ -1,5 +1,5 @@
 -- Names of layers, sorted so that those that are the same are neighbours.
-use Rattle.std.proofs.Common.{◌≡◌, ◌∙◌, sym, ap, subst, refl, true≢false, ℕ, zero, suc, ◌+◌, ◌-◌, ◌<◌, ◌≤◌, false, List, [], ◌∷◌, ◌++◌, length, get_or, slice_get, map, Option, Some, None, IfSome, IfNone, ◌⊎◌, inl, inr, arith}
+use Rattle.std.proofs.Common.{◌≡◌, ◌∙◌, sym, ap, subst, refl, true≢false, ℕ, zero, suc, ◌+◌, ◌-◌, ◌<◌, ◌≤◌, false, List, [], ◌∷◌, ◌++◌, length, get_or, slice_get, map, Option, Some, None, IfSome, IfNone, ◌⊎◌, inl, inr, All, arith}
 use Rattle.std.specs.Cmp.{IsTotalOrder, nat_cmp_is}
 use Rattle.std.specs.Cmp.Lexicographic.{slice_cmp}
 use Rattle.std.specs.List.{swap}
@@ -11,7 +11,8 @@ use Rattle.std.specs.declared.cmp.Ordering.TheVariants.{Less, Equal, Greater}
 use Rattle.std.proofs.lemmas.Bool.{cases_lt, cases_eq}
 use Rattle.std.proofs.lemmas.Cmp.{nat_list_cmp_total, nat_cmp_total, on_total, then_total}
 use Rattle.std.proofs.lemmas.List.{map-append, length-map}
-use Rattle.std.proofs.lemmas.List.Sorted.{IsPermutation-keeps, ranks_by, sorted_far}
+use Rattle.std.proofs.lemmas.List.Elements.{All-get_or}
+use Rattle.std.proofs.lemmas.List.Sorted.{All-permutation, IsPermutation-keeps, ranks_by, sorted_far}
 use Rattle.std.proofs.lemmas.Option.{slice_get_within, slice_get-get_or, same_Some, get_or_from_slice_get, slice_get_cases, slice_get_read, slice_get-map}
 use Rattle.mvt_fault.proofs.Places.{equal_tells}
 use Rattle.mvt_fault.proofs.Swaps.{place_before, place_twice, swap_get}
@@ -21,6 +22,10 @@ use Rattle.mvt_tile.specs.Names.{AreNumbered, IsRepeated, IsFirstRepeated}
 abbrev pub compare_named : {X : Type 0} → (X → List ℕ) → (X → ℕ) → X → X → Ordering
 compare_named name ordinal x y = ordering_then (slice_cmp nat_cmp (name x) (name y)) (nat_cmp (ordinal x) (ordinal y))
 
+-- and so are those of one key
+abbrev pub compare_keyed : {X : Type 0} → (X → ℕ) → (X → List ℕ) → (X → ℕ) → X → X → Ordering
+compare_keyed key name ordinal x y = ordering_then (nat_cmp (key x) (key y)) (compare_named name ordinal x y)
+
 -- two lists neither of which is less than the other are the same
 neither_less : (xs ys : List ℕ) → ¬ (slice_cmp nat_cmp xs ys ≡ Less) → ¬ (slice_cmp nat_cmp ys xs ≡ Less) → xs ≡ ys
 neither_less xs ys one other = by_order (slice_cmp nat_cmp xs ys) refl
@@ -29,6 +34,17 @@ neither_less xs ys one other = by_order (slice_cmp nat_cmp xs ys) refl
     by_order Less is = absurd (one (sym is))
     by_order Equal is = (equal_tells Equal xs ys is).0 refl
     by_order Greater is = absurd (other (nat_list_cmp_total.antisymm ys xs ∙ ap ordering_reverse (sym is)))
+
+-- where one isn't less, neither is its key
+key_not_less : (m n : ℕ) (then : Ordering) → is_lt (ordering_then (nat_cmp m n) then) ≡ false → n ≤ m
+key_not_less m n then not = elim (cases_lt m n) [
+  | inr at_least ↦ at_least
+  | inl below ↦ absurd (true≢false (ap (λ (it : Ordering). is_lt (ordering_then it then)) (nat_cmp_is m n Less below) ∙ not))
+]
+
+-- and where the keys are the same, neither is what comes behind them
+of_one_key : (m n : ℕ) (then : Ordering) → m ≡ n → is_lt (ordering_then (nat_cmp m n) then) ≡ false → is_lt then ≡ false
+of_one_key m n then same not = ap (λ (it : Ordering). is_lt (ordering_then it then)) (nat_cmp_is m n Equal same) ∙ not
 
 -- where a pair isn't less, neither is its first part
 first_not_less : (xs ys : List ℕ) (then : Ordering) → is_lt (ordering_then (slice_cmp nat_cmp xs ys) then) ≡ false → ¬ (slice_cmp nat_cmp xs ys ≡ Less)
@@ -73,39 +89,57 @@ module _ {X : Type 0} (name : X → List ℕ) (ordinal : X → ℕ) (names : Lis
     pub together : (at middle other : ℕ) (x z y : X) → at ≤ middle → middle ≤ other → slice_get xs at ≡ Some x → slice_get xs middle ≡ Some z → slice_get xs other ≡ Some y
         → name x ≡ name y → name x ≡ name z
 
-  named_total : IsTotalOrder (compare_named name ordinal)
-  named_total = then_total (on_total name nat_list_cmp_total) (on_total ordinal nat_cmp_total)
+  module _ (key : X → ℕ) (key_of : List ℕ → ℕ) where
+    keyed_total : IsTotalOrder (compare_keyed key name ordinal)
+    keyed_total = then_total (on_total key nat_cmp_total) (then_total (on_total name nat_list_cmp_total) (on_total ordinal nat_cmp_total))
 
-  -- what is behind isn't less
-  not_less : (xs : List X) → IsSorted (compare_named name ordinal) xs → (at other : ℕ) (x y : X) → at ≤ other → slice_get xs at ≡ Some x → slice_get xs other ≡ Some y
-      → is_lt (compare_named name ordinal y x) ≡ false
-  not_less xs sorted at other x y behind there elsewhere =
-      let within = slice_get_within xs other y elsewhere in
-      let here : get_or xs at x ≡ x = get_or_from_slice_get xs at x x there in
-      let further : get_or xs other x ≡ y = get_or_from_slice_get xs other y x elsewhere in
-      rw (here, further) at (sorted_far (λ (x y : X). is_lt (compare_named name ordinal x y)) (ranks_by named_total (λ (x : X). x)) xs sorted at other x behind within)
+    -- what is behind isn't less
+    not_less : (xs : List X) → IsSorted (compare_keyed key name ordinal) xs → (at other : ℕ) (x y : X) → at ≤ other → slice_get xs at ≡ Some x → slice_get xs other ≡ Some y
+        → is_lt (compare_keyed key name ordinal y x) ≡ false
+    not_less xs sorted at other x y behind there elsewhere =
+        let within = slice_get_within xs other y elsewhere in
+        let here : get_or xs at x ≡ x = get_or_from_slice_get xs at x x there in
+        let further : get_or xs other x ≡ y = get_or_from_slice_get xs other y x elsewhere in
+        rw (here, further) at (sorted_far (λ (x y : X). is_lt (compare_keyed key name ordinal x y)) (ranks_by keyed_total (λ (x : X). x)) xs sorted at other x behind within)
 
-  -- so names that are the same are neighbours, and those of one name in the order of their ordinals
-  pub grouped_by_sort : (before xs : List X) → IsNaming before → IsPermutation before xs → IsSorted (compare_named name ordinal) xs → AreGrouped xs
-  grouped_by_sort before xs it permutation sorted = record { naming = naming; rising = rising; together = together }
-    where
-      naming : IsNaming xs
-      naming = IsPermutation-keeps before IsNaming it naming_swapped xs permutation
+    -- those of one name have one key
+    pub one_key : (xs : List X) → All (λ (x : X). key x ≡ key_of (name x)) xs → (at other : ℕ) (x y : X) → slice_get xs at ≡ Some x → slice_get xs other ≡ Some y → name x ≡ name y → key x ≡ key y
+    one_key xs keyed at other x y there elsewhere same = its at x there ∙ ap key_of same ∙ sym (its other y elsewhere)
+      where
+        its : (at : ℕ) (x : X) → slice_get xs at ≡ Some x → key x ≡ key_of (name x)
+        its at x there = subst (λ (it : X). key it ≡ key_of (name it)) (get_or_from_slice_get xs at x x there)
+            (All-get_or (λ (it : X). key it ≡ key_of (name it)) xs at x (slice_get_within xs at x there) keyed)
 
-      rising : (at other : ℕ) (x y : X) → at < other → slice_get xs at ≡ Some x → slice_get xs other ≡ Some y → name x ≡ name y → ordinal x < ordinal y
-      rising at other x y ahead there elsewhere same =
-          let no_more = of_one_name (name y) (name x) (ordinal y) (ordinal x) (sym same) (not_less xs sorted at other x y (omega arith) there elsewhere) in
-          elim (cases_eq (ordinal x) (ordinal y)) [
-            | inl equal ↦ let one = naming.once at other x y there elsewhere equal in absurd (omega arith)
-            | inr differ ↦ omega arith
-          ]
+    -- so names that are the same are neighbours, and those of one name in the order of their ordinals
+    pub grouped_by_sort : (before xs : List X) → IsNaming before → All (λ (x : X). key x ≡ key_of (name x)) before → IsPermutation before xs → IsSorted (compare_keyed key name ordinal) xs → AreGrouped xs
+    grouped_by_sort before xs it keyed permutation sorted = record { naming = naming; rising = rising; together = together }
+      where
+        naming : IsNaming xs
+        naming = IsPermutation-keeps before IsNaming it naming_swapped xs permutation
 
-      together : (at middle other : ℕ) (x z y : X) → at ≤ middle → middle ≤ other → slice_get xs at ≡ Some x → slice_get xs middle ≡ Some z → slice_get xs other ≡ Some y
-          → name x ≡ name y → name x ≡ name z
-      together at middle other x z y near far there between elsewhere same =
-          let first = first_not_less (name z) (name x) (nat_cmp (ordinal z) (ordinal x)) (not_less xs sorted at middle x z near there between) in
-          let second = first_not_less (name y) (name z) (nat_cmp (ordinal y) (ordinal z)) (not_less xs sorted middle other z y far between elsewhere) in
-          neither_less (name x) (name z) (λ less. second (ap (λ (it : List ℕ). slice_cmp nat_cmp it (name z)) (sym same) ∙ less)) first
+        same_key : (at other : ℕ) (x y : X) → slice_get xs at ≡ Some x → slice_get xs other ≡ Some y → name x ≡ name y → key x ≡ key y
+        same_key = one_key xs (All-permutation (λ (x : X). key x ≡ key_of (name x)) before xs permutation keyed)
+
+        rising : (at other : ℕ) (x y : X) → at < other → slice_get xs at ≡ Some x → slice_get xs other ≡ Some y → name x ≡ name y → ordinal x < ordinal y
+        rising at other x y ahead there elsewhere same =
+            let not = of_one_key (key y) (key x) (compare_named name ordinal y x) (sym (same_key at other x y there elsewhere same)) (not_less xs sorted at other x y (omega arith) there elsewhere) in
+            let no_more = of_one_name (name y) (name x) (ordinal y) (ordinal x) (sym same) not in
+            elim (cases_eq (ordinal x) (ordinal y)) [
+              | inl equal ↦ let one = naming.once at other x y there elsewhere equal in absurd (omega arith)
+              | inr differ ↦ omega arith
+            ]
+
+        together : (at middle other : ℕ) (x z y : X) → at ≤ middle → middle ≤ other → slice_get xs at ≡ Some x → slice_get xs middle ≡ Some z → slice_get xs other ≡ Some y
+            → name x ≡ name y → name x ≡ name z
+        together at middle other x z y near far there between elsewhere same =
+            let low = not_less xs sorted at middle x z near there between in
+            let high = not_less xs sorted middle other z y far between elsewhere in
+            let lower : key x ≤ key z = key_not_less (key z) (key x) (compare_named name ordinal z x) low in
+            let upper : key z ≤ key y = key_not_less (key y) (key z) (compare_named name ordinal y z) high in
+            let ends : key x ≡ key y = same_key at other x y there elsewhere same in
+            let first = first_not_less (name z) (name x) (nat_cmp (ordinal z) (ordinal x)) (of_one_key (key z) (key x) (compare_named name ordinal z x) (omega arith) low) in
+            let second = first_not_less (name y) (name z) (nat_cmp (ordinal y) (ordinal z)) (of_one_key (key y) (key z) (compare_named name ordinal y z) (omega arith) high) in
+            neither_less (name x) (name z) (λ less. second (ap (λ (it : List ℕ). slice_cmp nat_cmp it (name z)) (sym same) ∙ less)) first
 
   -- a pair of neighbours that have one name
   pub record AreAlike (xs : List X) (at first second : ℕ) : Type 0 where

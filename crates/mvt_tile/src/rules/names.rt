@@ -1,6 +1,6 @@
 //! The names of layers (Mapbox Vector Tile Specification 2.1, section 4.1).
 ghost use Rattle.std.specs.Prelude.{◌≡◌, ◌<◌, ◌≤◌, ◌++◌, ◌∷◌, [], IfNone, IfSome, IsFalse, IsTrue, Some, OnOk, ℕ, length};
-ghost use Rattle.mvt_tile.specs.Names.{IsFirstRepeated, IsRepeated};
+ghost use Rattle.mvt_tile.specs.Names.{IsFirstRepeated, IsRepeated, key_of};
 
 use std::alloc::{AllocError, Global};
 use std::marker::Model;
@@ -8,19 +8,27 @@ use std::marker::Model;
 /// The names of a tile's first layers, in their order.
 #[derive(Drop)]
 pub(crate) struct LayerNames<'a> {
-    /// Each name with the ordinal of its layer.
-    names: Vec<(&'a [u8], usize)>,
+    names: Vec<NamedLayer<'a>>,
+}
+
+/// A layer's name and ordinal. The key of the name comes first, so that a sort reads the texts of two names only where
+/// their keys are the same.
+#[derive(Clone, Copy, PartialEq, Eq, PartialOrd, Ord)]
+struct NamedLayer<'a> {
+    key: u64,
+    name: &'a [u8],
+    ordinal: usize,
 }
 
 impl<'a> Model for LayerNames<'a> {
-    ghost use Rattle.std.specs.Prelude.{ℕ, List, map};
-    ghost use Rattle.mvt_tile.specs.Names.{AreNumbered};
+    ghost use Rattle.std.specs.Prelude.{◌≡◌, ℕ, List, map, All};
+    ghost use Rattle.mvt_tile.specs.Names.{AreNumbered, key_of};
 
     ghost Value = { List (List ℕ) };
 
-    ghost view = { λ names. map (λ named. named.0.now) names.names.items };
+    ghost view = { λ names. map (λ named. named.name.now) names.names.items };
 
-    ghost invariant = { λ names. AreNumbered (map (λ named. named.1) names.names.items) };
+    ghost invariant = { λ names. AreNumbered (map (λ named. named.ordinal) names.names.items) × All (λ named. named.key ≡ key_of named.name.now) names.names.items };
 }
 
 impl<'a> LayerNames<'a> {
@@ -45,7 +53,8 @@ impl<'a> LayerNames<'a> {
         ensures { OnOk result (self.new ≡ self.old ++ name.now ∷ []) }
     {
         let ordinal = self.names.len();
-        self.names.push((name, ordinal))?;
+        let key = key_of(name);
+        self.names.push(NamedLayer { key, name, ordinal })?;
         Ok(())
     }
 
@@ -59,14 +68,27 @@ impl<'a> LayerNames<'a> {
         names.sort_unstable();
         let mut found = None;
         for at in 1..names.len() {
-            let (name, first) = names[at - 1];
-            let (other, second) = names[at];
-            if name == other && comes_first(found, second) {
-                found = Some((first, second));
+            let layer = names[at - 1];
+            let next = names[at];
+            if layer.key == next.key
+                && layer.name == next.name
+                && comes_first(found, next.ordinal)
+            {
+                found = Some((layer.ordinal, next.ordinal));
             }
         }
         found
     }
+}
+
+/// The first eight bytes of a name as one number, the first of them highest. A shorter name has zeros behind it.
+fn key_of(name: &[u8]) -> u64
+    ensures { result ≡ key_of name.now }
+{
+    let mut bytes = [0; 8];
+    let count = name.len().min(8);
+    bytes[..count].copy_from_slice(&name[..count]);
+    u64::from_be_bytes(bytes)
 }
 
 /// Whether the later layer of another pair comes before that of the pair that was found.
