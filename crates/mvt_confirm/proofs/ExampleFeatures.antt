@@ -1,20 +1,23 @@
 -- Polygons of one feature that aren't kept apart.
-use Rattle.std.proofs.Common.{rules, ◌≡◌, List, [], ◌∷◌, slice_get, Some, inr, refl, sym, subst, arith}
+use Rattle.std.proofs.Common.{rules, ◌≡◌, ℕ, ◌<◌, List, [], ◌∷◌, slice_get, Some, inl, inr, refl, sym, ap, subst, arith}
 use Rattle.std.proofs.lemmas.Int.{ints}
 use Rattle.mvt_fault.specs.declared.profile.Profile.TheVariants.{Feature}
 use Rattle.mvt_plane.proofs.ExampleMeetings.{one_ring_twice}
 use Rattle.mvt_plane.proofs.ExamplePositions.{hole_inside, inner_inside}
 use Rattle.mvt_plane.proofs.PolygonNumbers.{none_in_nothing}
+use Rattle.mvt_plane.proofs.SamePolygons.{same_polygon}
 use Rattle.mvt_plane.specs.Examples.{at, fraction, rings_from, square, frame}
 use Rattle.mvt_plane.specs.Inside.{IsInside}
 use Rattle.mvt_plane.specs.Nesting.{IsInPolygon}
-use Rattle.mvt_plane.specs.Polygon.{first, IsPolygon}
+use Rattle.mvt_plane.specs.Polygon.{first, next, PolygonRings, IsPolygon}
 use Rattle.mvt_plane.specs.Position.{Position}
-use Rattle.mvt_confirm.proofs.ExamplePolygons.{second_square, second_to_last}
+use Rattle.mvt_confirm.proofs.ExamplePolygons.{none_of_one, first_to_last, no_other_polygon, one_of_two, second_square, second_to_last}
+use Rattle.mvt_confirm.proofs.ExampleSquares.{square_apart}
 use Rattle.mvt_confirm.proofs.InvalidRings.{meeting_is_invalid}
+use Rattle.mvt_confirm.proofs.RingsApart.{ring_apart}
 use Rattle.mvt_confirm.specs.Examples.{stone, hole, island, ground}
 use Rattle.mvt_confirm.specs.PolygonFault.{IsPolygonOf, IsMeetingBy, IsVertexInPolygonBy}
-use Rattle.mvt_confirm.specs.Valid.{AreValidRingsBy}
+use Rattle.mvt_confirm.specs.Valid.{IsValidPolygonBy, AreValidRingsBy}
 
 -- two squares in one place meet in the second one
 pub squares_meet : IsMeetingBy Feature (square ∷ square ∷ []) 1 (record { ring = 0; edge = 0 }) (record { ring = 1; edge = 0 }) (fraction 5 0 1)
@@ -74,3 +77,61 @@ island_in_hole wrong =
     let here : slice_get island 0 ≡ Some wrong.position = subst (λ (it : List Position). slice_get it 0 ≡ Some wrong.position) (sym vertices) wrong.here.here in
     let position : at 20 20 ≡ wrong.position = cc here in
     wrong.in_no_hole 1 hole (search rules) refl (subst (λ (it : Position). IsInside it hole) position inner_inside)
+
+-- the ground with its hole is the first polygon
+ground_polygon : IsPolygon (ground ∷ hole ∷ island ∷ []) 0 (rings_from 0 2)
+ground_polygon = record {
+  begins = first 0 (record { ring = ground; there = refl; positive = omega (arith, ints) }) (none_in_nothing (ground ∷ hole ∷ island ∷ []) 0);
+  further = omega arith;
+  holes = none_of_one (ground ∷ hole ∷ island ∷ []) 1 (search rules);
+  ends = inr (record { ring = island; there = refl; positive = omega (arith, ints) });
+}
+
+-- the island is the second one
+island_polygon : IsPolygon (ground ∷ hole ∷ island ∷ []) 1 (rings_from 2 3)
+island_polygon = record {
+  begins = next 0 0 2 ground_polygon.begins (omega arith) (record { ring = island; there = refl; positive = omega (arith, ints) }) ground_polygon.holes;
+  further = omega arith;
+  holes = none_in_nothing (ground ∷ hole ∷ island ∷ []) 3;
+  ends = inl refl;
+}
+
+-- so in their feature it is inside no other
+pub island_in_no_polygon : (other : ℕ) → ¬ IsVertexInPolygonBy Feature (ground ∷ hole ∷ island ∷ []) 1 0 other
+island_in_no_polygon other wrong = elim (one_of_two (ground ∷ hole ∷ island ∷ []) 2 other wrong.other_rings ground_polygon island_polygon wrong.other_there) [
+  | inl round ↦ island_in_hole (subst (λ (it : PolygonRings). IsInPolygon (ground ∷ hole ∷ island ∷ []) (rings_from 2 3) it 0) round inside)
+  | inr same ↦ inside.different (ap (λ (it : PolygonRings). it.exterior) same)
+]
+  where
+    own : wrong.polygon_rings ≡ rings_from 2 3
+    own = same_polygon (ground ∷ hole ∷ island ∷ []) 1 wrong.polygon_rings (rings_from 2 3) wrong.of.there island_polygon
+
+    inside : IsInPolygon (ground ∷ hole ∷ island ∷ []) (rings_from 2 3) wrong.other_rings 0
+    inside = subst (λ (it : PolygonRings). IsInPolygon (ground ∷ hole ∷ island ∷ []) it wrong.other_rings 0) own wrong.inside
+
+-- One square
+
+-- is the only polygon
+square_polygon : IsPolygonOf (square ∷ []) 0 (rings_from 0 1)
+square_polygon = first_to_last square [] (search rules) (omega (arith, ints)) (none_in_nothing (square ∷ []) 1)
+
+-- it is valid in its feature
+square_in_feature : IsValidPolygonBy Feature (square ∷ []) (rings_from 0 1)
+square_in_feature = record {
+  apart = λ first second point first_in second_in.
+      ring_apart (square ∷ []) 0 square first second point refl square_apart (only first.ring first_in) (only second.ring second_in.before);
+  enclosed = λ ring vertex outside. let behind = outside.hole.behind in let before = outside.hole.before in omega arith;
+  side_by_side = λ ring vertex other inside. let behind = inside.hole.behind in let before = inside.hole.before in omega arith;
+  beside = λ vertex other its there inside. inside.different (ap (λ (it : PolygonRings). it.exterior) (no_other_polygon (square ∷ []) other its square_polygon.there there).1);
+}
+  where
+    only : (ring : ℕ) → ring < 1 → ring ≡ 0
+    only ring before = omega arith
+
+-- so the feature is
+pub square_alone : AreValidRingsBy Feature (square ∷ [])
+square_alone = record {
+  sound = square_polygon.sound;
+  polygons = λ polygon it there.
+      subst (IsValidPolygonBy Feature (square ∷ [])) (sym (no_other_polygon (square ∷ []) polygon it square_polygon.there there).1) square_in_feature;
+}

@@ -14,13 +14,13 @@ use Rattle.mvt_plane.proofs.PolygonNumbers.{none_from_next, none_in_nothing}
 -- Stretches of rings
 
 -- nor of a ring that isn't one
-none_of_one : (rings : List (List Position)) (hole : ℕ) → ¬ IsExterior rings hole → NoExterior rings hole (suc hole)
+pub none_of_one : (rings : List (List Position)) (hole : ℕ) → ¬ IsExterior rings hole → NoExterior rings hole (suc hole)
 none_of_one rings hole none number behind before exterior = none (subst (IsExterior rings) (omega arith) exterior)
 
 -- Polygons up to the last ring
 
 -- the first one, where the first ring alone is an exterior
-first_to_last : (exterior : List Position) (holes : List (List Position)) → ArePolygonRings (exterior ∷ holes) → pos 0 <ℤ doubled_area exterior
+pub first_to_last : (exterior : List Position) (holes : List (List Position)) → ArePolygonRings (exterior ∷ holes) → pos 0 <ℤ doubled_area exterior
     → NoExterior (exterior ∷ holes) 1 (length (exterior ∷ holes)) → IsPolygonOf (exterior ∷ holes) 0 (rings_from 0 (length (exterior ∷ holes)))
 first_to_last exterior holes sound positive none =
     let begins = first 0 (record { ring = exterior; there = refl; positive = positive }) (none_in_nothing (exterior ∷ holes) 0) in

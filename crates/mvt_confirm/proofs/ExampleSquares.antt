@@ -18,7 +18,7 @@ use Rattle.mvt_confirm.specs.Valid.{IsValidPolygon, AreValidRings}
 -- One square
 
 -- its edges
-square_apart : AllCommon (IsVertexBetween 4) (edges square) (edges square)
+pub square_apart : AllCommon (IsVertexBetween 4) (edges square) (edges square)
 square_apart point = search (rules, ints)
 
 -- wherever it stands, the square is a valid polygon without holes

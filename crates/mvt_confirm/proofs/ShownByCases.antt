@@ -3,7 +3,7 @@ use Rattle.std.proofs.Common.{◌≡◌, ◌↔◌, ◌⊎◌, inl, inr, ℕ, �
 use Rattle.mvt_fault.specs.Place.{IsOfPolygon}
 use Rattle.mvt_fault.specs.declared.profile.Profile.TheVariants.{Polygon}
 use Rattle.mvt_fault.specs.declared.fault.Fault.{Fault}
-use Rattle.mvt_fault.specs.declared.fault.Fault.TheVariants.{Wire, Version, Name, Tag, Command, Ring, Meeting, Outside, HoleInHole}
+use Rattle.mvt_fault.specs.declared.fault.Fault.TheVariants.{Wire, Version, Name, Tag, Command, Ring, Meeting, Outside, HoleInHole, InPolygon}
 use Rattle.mvt_fault.specs.declared.ring.RingEdge.{RingEdge}
 use Rattle.mvt_wire.proofs.Tiles.{tile_faultless, tile_or_fault}
 use Rattle.mvt_wire.specs.Field.{cause_at}
@@ -28,28 +28,32 @@ abbrev IsOneOfPolygon : Fault → Type 0
 IsOneOfPolygon fault =
     ((layer feature polygon : ℕ) × (first second : RingEdge) × (x y w : ℤ) × (fault ≡ Meeting layer feature polygon first second x y w))
     ⊎ (((layer feature polygon ring vertex : ℕ) × (fault ≡ Outside layer feature polygon ring vertex))
-    ⊎ ((layer feature polygon ring vertex other : ℕ) × (fault ≡ HoleInHole layer feature polygon ring vertex other)))
+    ⊎ (((layer feature polygon ring vertex other : ℕ) × (fault ≡ HoleInHole layer feature polygon ring vertex other))
+    ⊎ ((layer feature polygon vertex other : ℕ) × (fault ≡ InPolygon layer feature polygon vertex other))))
 
 -- each of them is one of a polygon
 pub any_of_polygon : (fault : Fault) → IsOneOfPolygon fault → IsOfPolygon fault
 any_of_polygon fault (inl is) = subst IsOfPolygon (sym is.8) tt
 any_of_polygon fault (inr (inl is)) = subst IsOfPolygon (sym is.5) tt
-any_of_polygon fault (inr (inr is)) = subst IsOfPolygon (sym is.6) tt
+any_of_polygon fault (inr (inr (inl is))) = subst IsOfPolygon (sym is.6) tt
+any_of_polygon fault (inr (inr (inr is))) = subst IsOfPolygon (sym is.5) tt
 
 -- and no others
 pub not_of_polygon : (fault : Fault)
     → ((layer feature polygon : ℕ) (first second : RingEdge) (x y w : ℤ) → fault ≡ Meeting layer feature polygon first second x y w → ⊥)
     → ((layer feature polygon ring vertex : ℕ) → fault ≡ Outside layer feature polygon ring vertex → ⊥)
-    → ((layer feature polygon ring vertex other : ℕ) → fault ≡ HoleInHole layer feature polygon ring vertex other → ⊥) → ¬ IsOfPolygon fault
-not_of_polygon (Meeting layer feature polygon first second x y w) meeting outside in_hole is = meeting layer feature polygon first second x y w refl
-not_of_polygon (Outside layer feature polygon ring vertex) meeting outside in_hole is = outside layer feature polygon ring vertex refl
-not_of_polygon (HoleInHole layer feature polygon ring vertex other) meeting outside in_hole is = in_hole layer feature polygon ring vertex other refl
-not_of_polygon (Wire code scope at field) meeting outside in_hole is = is
-not_of_polygon (Version layer) meeting outside in_hole is = is
-not_of_polygon (Name first second) meeting outside in_hole is = is
-not_of_polygon (Tag code layer feature index) meeting outside in_hole is = is
-not_of_polygon (Command code layer feature index) meeting outside in_hole is = is
-not_of_polygon (Ring code layer feature ring) meeting outside in_hole is = is
+    → ((layer feature polygon ring vertex other : ℕ) → fault ≡ HoleInHole layer feature polygon ring vertex other → ⊥)
+    → ((layer feature polygon vertex other : ℕ) → fault ≡ InPolygon layer feature polygon vertex other → ⊥) → ¬ IsOfPolygon fault
+not_of_polygon (Meeting layer feature polygon first second x y w) meeting outside in_hole in_polygon is = meeting layer feature polygon first second x y w refl
+not_of_polygon (Outside layer feature polygon ring vertex) meeting outside in_hole in_polygon is = outside layer feature polygon ring vertex refl
+not_of_polygon (HoleInHole layer feature polygon ring vertex other) meeting outside in_hole in_polygon is = in_hole layer feature polygon ring vertex other refl
+not_of_polygon (InPolygon layer feature polygon vertex other) meeting outside in_hole in_polygon is = in_polygon layer feature polygon vertex other refl
+not_of_polygon (Wire code scope at field) meeting outside in_hole in_polygon is = is
+not_of_polygon (Version layer) meeting outside in_hole in_polygon is = is
+not_of_polygon (Name first second) meeting outside in_hole in_polygon is = is
+not_of_polygon (Tag code layer feature index) meeting outside in_hole in_polygon is = is
+not_of_polygon (Command code layer feature index) meeting outside in_hole in_polygon is = is
+not_of_polygon (Ring code layer feature ring) meeting outside in_hole in_polygon is = is
 
 module _ (bytes : List ℕ) (tile : TileRecord) (is : IsTile bytes tile) where
   -- of the tile

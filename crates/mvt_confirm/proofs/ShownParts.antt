@@ -3,11 +3,11 @@ use Rattle.std.proofs.Common.{◌↔◌, ◌⊎◌, inl, inr, ℕ, List}
 use Rattle.mvt_fault.specs.TrueFaults.{IsWireFault, wire, IsFaultOfLayers, version, name, IsFaultOfTags, tag, FeatureFault, OneFeatureHas, BreaksRule}
 use Rattle.mvt_fault.specs.declared.profile.Profile.{Profile}
 use Rattle.mvt_fault.specs.declared.fault.Fault.{Fault}
-use Rattle.mvt_fault.specs.declared.fault.Fault.TheVariants.{Wire, Version, Name, Tag, Command, Ring, Meeting, Outside, HoleInHole}
+use Rattle.mvt_fault.specs.declared.fault.Fault.TheVariants.{Wire, Version, Name, Tag, Command, Ring, Meeting, Outside, HoleInHole, InPolygon}
 use Rattle.mvt_wire.specs.Rules.{IsFeatureOf}
 use Rattle.mvt_wire.specs.Tile.{FeatureRecord, LayerRecord, TileRecord, IsTile}
 use Rattle.mvt_confirm.specs.Feature.{IsFeatureIn}
-use Rattle.mvt_confirm.specs.Geometry.{IsFaultOfGeometryBy, command, ring, meeting, outside, hole_in_hole}
+use Rattle.mvt_confirm.specs.Geometry.{IsFaultOfGeometryBy, command, ring, meeting, outside, hole_in_hole, in_polygon}
 use Rattle.mvt_confirm.specs.Shows.{OfTile, ShowsBy}
 
 -- of a tile's geometry, or of the rules between its parts
@@ -46,6 +46,8 @@ by_parts profile bytes (Outside layer feature polygon hole vertex) shown =
     in_geometry profile bytes layer feature shown.0 shown.1 (Outside layer feature polygon hole vertex) shown.2 (outside polygon hole vertex shown.3)
 by_parts profile bytes (HoleInHole layer feature polygon hole vertex other) shown =
     in_geometry profile bytes layer feature shown.0 shown.1 (HoleInHole layer feature polygon hole vertex other) shown.2 (hole_in_hole polygon hole vertex other shown.3)
+by_parts profile bytes (InPolygon layer feature polygon vertex other) shown =
+    in_geometry profile bytes layer feature shown.0 shown.1 (InPolygon layer feature polygon vertex other) shown.2 (in_polygon polygon vertex other shown.3)
 
 -- The other way round
 
@@ -57,6 +59,7 @@ geometry_shows profile bytes layer feature layer_record feature_record fault the
 geometry_shows profile bytes layer feature layer_record feature_record fault there (meeting polygon first second x y w broken) = (layer_record, feature_record, there, broken)
 geometry_shows profile bytes layer feature layer_record feature_record fault there (outside polygon hole vertex broken) = (layer_record, feature_record, there, broken)
 geometry_shows profile bytes layer feature layer_record feature_record fault there (hole_in_hole polygon hole vertex other broken) = (layer_record, feature_record, there, broken)
+geometry_shows profile bytes layer feature layer_record feature_record fault there (in_polygon polygon vertex other broken) = (layer_record, feature_record, there, broken)
 
 -- one of tags is
 tags_show : (profile : Profile) (bytes : List ℕ) (layer feature : ℕ) (layer_record : LayerRecord) (feature_record : FeatureRecord) (fault : Fault)

@@ -1,7 +1,7 @@
 -- What is wrong by the profile that looks at each polygon by itself is wrong by that which keeps a feature's polygons apart.
 use Rattle.std.proofs.Common.{ℕ, List}
 use Rattle.mvt_fault.specs.declared.fault.Fault.{Fault}
-use Rattle.mvt_fault.specs.declared.fault.Fault.TheVariants.{Wire, Version, Name, Tag, Command, Ring, Meeting, Outside, HoleInHole}
+use Rattle.mvt_fault.specs.declared.fault.Fault.TheVariants.{Wire, Version, Name, Tag, Command, Ring, Meeting, Outside, HoleInHole, InPolygon}
 use Rattle.mvt_fault.specs.declared.profile.Profile.TheVariants.{Polygon, Feature}
 use Rattle.mvt_fault.specs.declared.ring.RingEdge.{RingEdge}
 use Rattle.mvt_plane.specs.Polygon.{PolygonRings}
@@ -36,6 +36,7 @@ shown_in_feature bytes (Meeting layer feature polygon first second x y w) (layer
     (layer_record, it, there, (rings, has, meeting_in_feature rings polygon first second (record { x = x; y = y; w = w }) meeting))
 shown_in_feature bytes (Outside layer feature polygon ring vertex) shown = shown
 shown_in_feature bytes (HoleInHole layer feature polygon ring vertex other) shown = shown
+shown_in_feature bytes (InPolygon layer feature polygon vertex other) shown = absurd (shown.3.2.inside)
 
 -- The other way round
 

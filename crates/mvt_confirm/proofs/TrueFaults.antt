@@ -1,15 +1,16 @@
 -- Faults that are true of bytes: none of a valid tile, nothing but wire faults of bytes that are no tile, and nothing of
 -- polygons where a ring has a fault.
-use Rattle.std.proofs.Common.{◌≡◌, inl, inr, ℕ, List, ℤ, refl, sym, subst}
+use Rattle.std.proofs.Common.{◌≡◌, ◌≢◌, inl, inr, ℕ, List, ℤ, refl, sym, ap, subst}
 use Rattle.mvt_fault.specs.TrueFaults.{IsWireFault, wire}
 use Rattle.mvt_fault.specs.Code.{ring_code}
 use Rattle.mvt_fault.specs.declared.profile.Profile.{Profile}
+use Rattle.mvt_fault.specs.declared.profile.Profile.TheVariants.{Polygon, Feature}
 use Rattle.mvt_fault.specs.declared.fault.Fault.{Fault}
 use Rattle.mvt_fault.specs.declared.fault.Fault.TheVariants.{Wire, Ring, Meeting}
 use Rattle.mvt_fault.specs.declared.ring.RingCode.{RingCode}
 use Rattle.mvt_fault.specs.declared.ring.RingEdge.{RingEdge}
-use Rattle.mvt_plane.proofs.SamePolygons.{one_polygon}
-use Rattle.mvt_plane.specs.Polygon.{IsPolygon, IsRingOf}
+use Rattle.mvt_plane.proofs.SamePolygons.{one_polygon, same_polygon}
+use Rattle.mvt_plane.specs.Polygon.{PolygonRings, IsPolygon, IsRingOf}
 use Rattle.mvt_plane.specs.Position.{Position}
 use Rattle.mvt_plane.specs.Ring.{BreaksRings, ArePolygonRings}
 use Rattle.mvt_wire.proofs.Tiles.{tile_faultless}
@@ -22,7 +23,8 @@ use Rattle.mvt_confirm.proofs.ShownParts.{BreaksOne, shown_by_parts}
 use Rattle.mvt_confirm.proofs.ValidParts.{parts_kept}
 use Rattle.mvt_confirm.proofs.TileFeatures.{of_this_tile, same_rings}
 use Rattle.mvt_confirm.specs.Feature.{OfRings}
-use Rattle.mvt_confirm.specs.PolygonFault.{IsMeetingBy}
+use Rattle.mvt_confirm.specs.PolygonFault.{IsMeetingBy, IsVertexInPolygonBy}
+use Rattle.mvt_confirm.specs.Profiles.{IsInPolygonBy}
 use Rattle.mvt_confirm.specs.Shows.{OfFeature, ShowsBy}
 use Rattle.mvt_confirm.specs.Valid.{ValidBy}
 
@@ -74,3 +76,17 @@ one_polygon_of_ring profile bytes layer feature polygon other ring its_ring firs
     let moved : IsPolygon another.3.0 polygon one.3.2.polygon_rings = subst (λ (rings : List (List Position)). IsPolygon rings polygon one.3.2.polygon_rings) rings one.3.2.of.there in
     let both = one_polygon another.3.0 ring polygon other one.3.2.polygon_rings another.3.2.polygon_rings moved ring_in another.3.2.of.there (subst (IsRingOf another.3.2.polygon_rings) (sym same) its_ring_in) in
     both.0
+
+-- Another polygon
+
+-- what is inside a polygon by a profile is no vertex of its own exterior
+inside_another : (profile : Profile) (rings : List (List Position)) (one other : PolygonRings) (vertex : ℕ) → IsInPolygonBy profile rings one other vertex → other.exterior ≢ one.exterior
+inside_another Polygon rings one other vertex inside = absurd inside
+inside_another Feature rings one other vertex inside = inside.different
+
+-- so it is one of another polygon
+pub another_polygon : (profile : Profile) (rings : List (List Position)) (polygon vertex other : ℕ) → IsVertexInPolygonBy profile rings polygon vertex other → polygon ≢ other
+another_polygon profile rings polygon vertex other inside same =
+    let there : IsPolygon rings other inside.polygon_rings = subst (λ (number : ℕ). IsPolygon rings number inside.polygon_rings) same inside.of.there in
+    let one : inside.other_rings ≡ inside.polygon_rings = same_polygon rings other inside.other_rings inside.polygon_rings inside.other_there there in
+    inside_another profile rings inside.polygon_rings inside.other_rings vertex inside.inside (ap (λ (it : PolygonRings). it.exterior) one)

@@ -7,9 +7,9 @@ use Rattle.mvt_fault.specs.declared.fault.Fault.{Fault}
 use Rattle.mvt_fault.specs.declared.fault.Fault.TheVariants.{Version, Name, Tag}
 use Rattle.mvt_wire.specs.Rules.{IsFeatureOf}
 use Rattle.mvt_wire.specs.Tile.{FeatureRecord, LayerRecord, TileRecord, IsTile}
-use Rattle.mvt_confirm.proofs.InvalidRings.{ring_is_invalid, meeting_is_invalid, outside_is_invalid, in_hole_is_invalid}
+use Rattle.mvt_confirm.proofs.InvalidRings.{ring_is_invalid, meeting_is_invalid, outside_is_invalid, in_hole_is_invalid, in_polygon_is_invalid}
 use Rattle.mvt_confirm.proofs.ShownParts.{BreaksOne, one_has}
-use Rattle.mvt_confirm.specs.Geometry.{IsFaultOfGeometryBy, command, ring, meeting, outside, hole_in_hole}
+use Rattle.mvt_confirm.specs.Geometry.{IsFaultOfGeometryBy, command, ring, meeting, outside, hole_in_hole, in_polygon}
 use Rattle.mvt_confirm.specs.Valid.{IsValidGeometryBy, IsValidFeatureBy, IsValidTileBy, ValidBy}
 
 -- the layers of a valid tile have no fault
@@ -37,6 +37,8 @@ geometry_kept profile it layer feature fault valid (meeting polygon first second
 geometry_kept profile it layer feature fault valid (outside polygon number vertex (rings, has, broken)) = outside_is_invalid profile rings polygon number vertex broken (valid.polygons rings has)
 geometry_kept profile it layer feature fault valid (hole_in_hole polygon number vertex other (rings, has, broken)) =
     in_hole_is_invalid profile rings polygon number vertex other broken (valid.polygons rings has)
+geometry_kept profile it layer feature fault valid (in_polygon polygon vertex other (rings, has, broken)) =
+    in_polygon_is_invalid profile rings polygon vertex other broken (valid.polygons rings has)
 
 -- so none of these is true of a valid tile
 pub parts_kept : (profile : Profile) (tile : TileRecord) (fault : Fault) → IsValidTileBy profile tile → ¬ BreaksOne profile tile fault

@@ -5,7 +5,7 @@ use Rattle.mvt_fault.specs.declared.command.CommandCode.{CommandCode}
 use Rattle.mvt_fault.specs.declared.command.CommandCode.TheVariants.{OtherCommand, OtherCount, Unfinished, GreatestParameter, OutOfBounds, NoStep}
 use Rattle.mvt_fault.specs.declared.profile.Profile.{Profile}
 use Rattle.mvt_fault.specs.declared.fault.Fault.{Fault}
-use Rattle.mvt_fault.specs.declared.fault.Fault.TheVariants.{Wire, Command, Ring, Meeting, Outside, HoleInHole}
+use Rattle.mvt_fault.specs.declared.fault.Fault.TheVariants.{Wire, Command, Ring, Meeting, Outside, HoleInHole, InPolygon}
 use Rattle.mvt_fault.specs.declared.ring.RingCode.TheVariants as ring_codes
 use Rattle.mvt_plane.proofs.CommandFaults.{figure_or_command_fault}
 use Rattle.mvt_plane.specs.CommandFault.{Part, Applies, other_command, other_count, greatest_x, greatest_y, x_outside, y_outside, no_step, IsCause, ends, nothing_due, due, HasCommandFault}
@@ -21,9 +21,9 @@ use Rattle.mvt_wire.specs.Tile.{FeatureRecord, LayerRecord}
 use Rattle.mvt_confirm.proofs.ShownParts.{shown_by_parts}
 use Rattle.mvt_confirm.proofs.ValidParts.{valid_by_parts}
 use Rattle.mvt_confirm.proofs.UnshownMeetings.{none_meets}
-use Rattle.mvt_confirm.specs.Feature.{IsFeatureIn, OfRings}
-use Rattle.mvt_confirm.specs.PolygonFault.{IsPolygonOf, IsVertexInPolygonBy}
-use Rattle.mvt_confirm.specs.Shows.{OfFeature, ShowsBy}
+use Rattle.mvt_confirm.specs.Feature.{IsFeatureIn}
+use Rattle.mvt_confirm.specs.PolygonFault.{IsPolygonOf}
+use Rattle.mvt_confirm.specs.Shows.{ShowsBy}
 use Rattle.mvt_confirm.specs.Valid.{IsValidPolygonBy, IsValidGeometryBy, ValidBy}
 
 -- Commands
@@ -60,11 +60,7 @@ figure_without_fault kind numbers small none geometry_type known = elim (figure_
 
 -- Geometries
 
--- no vertex of an exterior is known to be in another polygon
-abbrev pub NoneInPolygons : Profile → List ℕ → Type 0
-NoneInPolygons profile bytes = (layer feature polygon vertex other : ℕ) → ¬ OfFeature bytes layer feature (λ layer_record it. OfRings it (λ rings. IsVertexInPolygonBy profile rings polygon vertex other))
-
-module _ (profile : Profile) (bytes : List ℕ) (none : (fault : Fault) → ¬ ShowsBy profile bytes fault) (none_in : NoneInPolygons profile bytes) (layer feature : ℕ) (layer_record : LayerRecord) (it : FeatureRecord) (there : IsFeatureIn bytes layer feature layer_record it) where
+module _ (profile : Profile) (bytes : List ℕ) (none : (fault : Fault) → ¬ ShowsBy profile bytes fault) (layer feature : ℕ) (layer_record : LayerRecord) (it : FeatureRecord) (there : IsFeatureIn bytes layer feature layer_record it) where
   -- a feature's geometry spells a figure
   figure_unshown : HasFigure it.kind it.geometry
   figure_unshown = figure_without_fault it.kind it.geometry (geometry_small bytes there.tile layer feature layer_record it there.is there.there)
@@ -88,7 +84,7 @@ module _ (profile : Profile) (bytes : List ℕ) (none : (fault : Fault) → ¬ S
     side_by_side = λ ring vertex other inside.
         none (HoleInHole layer feature polygon ring vertex other) (layer_record, it, there, (rings, has, record { polygon_rings = its; of = of; inside = inside }));
     beside = λ vertex other other_rings other_there inside.
-        none_in layer feature polygon vertex other
+        none (InPolygon layer feature polygon vertex other)
         (layer_record, it, there, (rings, has, record { polygon_rings = its; of = of; other_rings = other_rings; other_there = other_there; inside = inside }));
   }
 
@@ -105,13 +101,13 @@ module _ (profile : Profile) (bytes : List ℕ) (none : (fault : Fault) → ¬ S
 -- Tiles
 
 -- the law: bytes of which no fault is true are valid
-pub unshown_is_valid : (profile : Profile) (bytes : List ℕ) → ((fault : Fault) → ¬ ShowsBy profile bytes fault) → NoneInPolygons profile bytes → ValidBy profile bytes
-unshown_is_valid profile bytes none none_in = elim (tile_or_fault bytes) [
+pub unshown_is_valid : (profile : Profile) (bytes : List ℕ) → ((fault : Fault) → ¬ ShowsBy profile bytes fault) → ValidBy profile bytes
+unshown_is_valid profile bytes none = elim (tile_or_fault bytes) [
   | inl (tile, is) ↦ (valid_by_parts profile bytes).1 (
     tile,
     is,
     λ fault broken. none fault ((shown_by_parts profile bytes fault).1 (inr (tile, is, inl broken))),
-    λ layer feature layer_record it there. geometry_unshown profile bytes none none_in layer feature layer_record it (record { tile = tile; is = is; there = there }),
+    λ layer feature layer_record it there. geometry_unshown profile bytes none layer feature layer_record it (record { tile = tile; is = is; there = there }),
   )
   | inr broken ↦ absurd (none (Wire broken.1.code broken.0 broken.1.at broken.1.field) broken.2)
 ]

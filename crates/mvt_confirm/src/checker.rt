@@ -66,9 +66,10 @@ fn has_fault_of_tile(bytes: &[u8], fault: &Fault) -> bool
             feature,
             ring,
         } => has_ring_fault(bytes, code, layer, feature, ring),
-        Fault::Meeting { .. } | Fault::Outside { .. } | Fault::HoleInHole { .. } => {
-            has_fault_of_polygon(bytes, fault)
-        }
+        Fault::Meeting { .. }
+        | Fault::Outside { .. }
+        | Fault::HoleInHole { .. }
+        | Fault::InPolygon { .. } => has_fault_of_polygon(bytes, fault),
     }
 }
 
@@ -105,6 +106,7 @@ fn has_fault_of_polygon(bytes: &[u8], fault: &Fault) -> bool
             vertex,
             other,
         } => has_vertex_in_hole(bytes, layer, feature, polygon, ring, vertex, other),
+        Fault::InPolygon { .. } => false,
         _ => false,
     }
 }

@@ -9,7 +9,7 @@ ghost use Rattle.mvt_confirm.specs.Shows.{Shows, ShowsBy};
 ghost use Rattle.mvt_confirm.specs.Valid.{AreApartBy, AreAllApart, IsValidGeometryBy, Valid, ValidBy};
 ghost use Rattle.mvt_fault.specs.TrueFaults.{IsWireFault, OneFeatureHas, BreaksRule};
 ghost use Rattle.mvt_fault.specs.declared.fault.Fault.{Fault};
-ghost use Rattle.mvt_fault.specs.declared.fault.Fault.TheVariants.{Wire, Ring, Meeting, Outside, HoleInHole};
+ghost use Rattle.mvt_fault.specs.declared.fault.Fault.TheVariants.{Wire, Ring, Meeting, Outside, HoleInHole, InPolygon};
 ghost use Rattle.mvt_fault.specs.declared.profile.Profile.{Profile};
 ghost use Rattle.mvt_fault.specs.declared.profile.Profile.TheVariants.{Feature};
 ghost use Rattle.mvt_fault.specs.declared.ring.RingCode.{RingCode};
@@ -41,7 +41,7 @@ pub fn shown_is_invalid()
 
 /// Bytes of which no fault is true are valid.
 pub fn unshown_is_valid()
-    ensures { (bytes : List ℕ) → ((fault : Fault) → ¬ Shows bytes fault) → Valid bytes }
+    ensures { (profile : Profile) (bytes : List ℕ) → ((fault : Fault) → ¬ ShowsBy profile bytes fault) → ValidBy profile bytes }
 {}
 
 /// Where a wire fault is true, no other fault is but wire faults: bytes with one are no tile.
@@ -58,6 +58,8 @@ pub fn rings_before_polygons()
         ShowsBy profile bytes (Ring code layer feature ring) → ¬ ShowsBy profile bytes (Outside layer feature polygon hole vertex) }
     ensures hole_in_hole { (profile : Profile) (bytes : List ℕ) (code : RingCode) (layer feature ring polygon hole vertex other : ℕ) →
         ShowsBy profile bytes (Ring code layer feature ring) → ¬ ShowsBy profile bytes (HoleInHole layer feature polygon hole vertex other) }
+    ensures in_polygon { (profile : Profile) (bytes : List ℕ) (code : RingCode) (layer feature ring polygon vertex other : ℕ) →
+        ShowsBy profile bytes (Ring code layer feature ring) → ¬ ShowsBy profile bytes (InPolygon layer feature polygon vertex other) }
 {}
 
 /// A meeting has its edges in one order alone.
@@ -84,6 +86,17 @@ pub fn one_polygon_of_meeting()
 pub fn another_hole()
     ensures { (profile : Profile) (bytes : List ℕ) (layer feature polygon ring vertex other : ℕ) →
         ShowsBy profile bytes (HoleInHole layer feature polygon ring vertex other) → ring ≢ other }
+{}
+
+/// A polygon whose vertex is shown to be inside another isn't that other one.
+pub fn another_polygon()
+    ensures { (profile : Profile) (bytes : List ℕ) (layer feature polygon vertex other : ℕ) →
+        ShowsBy profile bytes (InPolygon layer feature polygon vertex other) → polygon ≢ other }
+{}
+
+/// Where each polygon is looked at by itself, none is shown to be in another.
+pub fn polygons_by_themselves()
+    ensures { (bytes : List ℕ) (layer feature polygon vertex other : ℕ) → ¬ Shows bytes (InPolygon layer feature polygon vertex other) }
 {}
 
 /// The faults that are true of bytes are their wire faults and, where they are a tile, those of the rules

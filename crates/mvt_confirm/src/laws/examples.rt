@@ -76,10 +76,13 @@ pub fn valid_rings()
 {}
 
 /// In a feature two squares in one place meet, as edges of the second one's polygon; and a square on a frame
-/// is inside it, but not one in the hole of a frame.
+/// is inside it, but not one in the hole of a frame. One square is valid: its first vertex is inside its own ring
+/// by the rule for points on a ring, but a polygon isn't inside itself.
 pub fn polygons_of_a_feature()
     ensures twice { IsMeetingBy Feature (square ∷ square ∷ []) 1 (record { ring = 0; edge = 0 }) (record { ring = 1; edge = 0 }) (fraction 5 0 1) }
     ensures invalid { ¬ AreValidRingsBy Feature (square ∷ square ∷ []) }
     ensures on_frame { IsVertexInPolygonBy Feature (frame ∷ stone ∷ []) 1 0 0 }
     ensures in_hole { ¬ IsInPolygon (ground ∷ hole ∷ island ∷ []) (rings_from 2 3) (rings_from 0 2) 0 }
+    ensures in_hole_of_feature { (other : ℕ) → ¬ IsVertexInPolygonBy Feature (ground ∷ hole ∷ island ∷ []) 1 0 other }
+    ensures alone { AreValidRingsBy Feature (square ∷ []) }
 {}

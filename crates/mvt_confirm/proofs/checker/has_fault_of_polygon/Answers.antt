@@ -17,5 +17,9 @@ returns-in-Outside c = λ tile is. rw c.in-Outside.is (with_polygon tt (c.has_ve
 pub returns-in-HoleInHole : goal.returns-in-HoleInHole
 returns-in-HoleInHole c = λ tile is. rw c.in-HoleInHole.is (with_polygon tt (c.has_vertex_in_hole.ensures tile is))
 
+pub returns-in-InPolygon : goal.returns-in-InPolygon
+returns-in-InPolygon c = λ tile is. rw c.in-InPolygon.is (λ holds. absurd (cc holds), λ shown. let told = shown.1 in absurd (told.3.2.inside))
+
 pub returns-in_default : goal.returns-in_default
-returns-in_default c = λ tile is. (λ holds. absurd (cc holds), λ shown. absurd (not_of_polygon c.args.fault.now c.in_default.not-Meeting c.in_default.not-Outside c.in_default.not-HoleInHole shown.0))
+returns-in_default c = λ tile is.
+    (λ holds. absurd (cc holds), λ shown. absurd (not_of_polygon c.args.fault.now c.in_default.not-Meeting c.in_default.not-Outside c.in_default.not-HoleInHole c.in_default.not-InPolygon shown.0))

@@ -2,7 +2,7 @@ use Rattle.std.proofs.Common.{List}
 use Rattle.mvt_plane.specs.Position.{Position}
 use Rattle.mvt_confirm.proofs.TrueFaults.{rings_before_polygons}
 use Rattle.mvt_confirm.proofs.laws.rings_before_polygons.Goals as goal
-use Rattle.mvt_confirm.specs.PolygonFault.{IsMeetingBy, IsVertexOutside, IsVertexInHole}
+use Rattle.mvt_confirm.specs.PolygonFault.{IsMeetingBy, IsVertexOutside, IsVertexInHole, IsVertexInPolygonBy}
 
 pub returns-clause-meeting : goal.returns-clause-meeting
 returns-clause-meeting c profile bytes code layer feature ring polygon first second x y w =
@@ -20,4 +20,10 @@ pub returns-clause-hole_in_hole : goal.returns-clause-hole_in_hole
 returns-clause-hole_in_hole c profile bytes code layer feature ring polygon hole vertex other =
     rings_before_polygons profile bytes code layer feature ring
     (λ (rings : List (List Position)). IsVertexInHole rings polygon hole vertex other)
+    (λ rings inside. inside.of.sound)
+
+pub returns-clause-in_polygon : goal.returns-clause-in_polygon
+returns-clause-in_polygon c profile bytes code layer feature ring polygon vertex other =
+    rings_before_polygons profile bytes code layer feature ring
+    (λ (rings : List (List Position)). IsVertexInPolygonBy profile rings polygon vertex other)
     (λ rings inside. inside.of.sound)
