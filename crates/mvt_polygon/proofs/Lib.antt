@@ -1,3 +1,4 @@
+pub mod ApartFaults
 pub mod ChainParts
 pub mod CornerNumbers
 pub mod CornerOrders

@@ -1,3 +1,4 @@
+pub mod Apart
 pub mod Chain
 pub mod CornerOrder
 pub mod Corners

@@ -1,7 +1,9 @@
 //! Rings and polygons: rings with a fault of their own, which rings make up which polygon, edges that meet
-//! wrongly, and holes that aren't where they should be (Mapbox Vector Tile Specification 2.1, section 4.3.4.4).
+//! wrongly, holes that aren't where they should be (Mapbox Vector Tile Specification 2.1, section 4.3.4.4), and
+//! polygons of a feature that aren't apart.
 #![tactic(auto)]
 
+mod apart;
 mod meeting;
 mod nesting;
 mod pairs;
@@ -10,6 +12,7 @@ mod polygons;
 mod rings;
 mod sweep;
 
+pub use apart::{ApartFault, check_apart};
 pub use meeting::{Meeting, find_meeting, find_meeting_with};
 pub use nesting::{NestFault, check_nesting, check_nesting_once};
 pub use polygon::{PolygonFault, check_polygon};
