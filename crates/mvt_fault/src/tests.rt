@@ -94,6 +94,16 @@ fn hole_in_hole(polygon: usize, ring: usize, vertex: usize, other: usize) -> Fau
     }
 }
 
+fn in_polygon(polygon: usize, vertex: usize, other: usize) -> Fault {
+    Fault::InPolygon {
+        layer: 0,
+        feature: 0,
+        polygon,
+        vertex,
+        other,
+    }
+}
+
 /// Whether these are the fault's number and its text.
 fn is_written(alloc: Global, fault: &Fault, number: u16, text: &str) -> bool {
     code(fault) == number && fault_text(alloc, fault).is_ok_and(|written| written.as_str() == text)
@@ -117,6 +127,11 @@ fn writes_faults(rt: HostRuntime) {
             ring(RingCode::EndsAtItsBeginning, 5, 6, 7),
             501,
             "{\"code\":501,\"feature\":6,\"layer\":5,\"ring\":7}",
+        ),
+        (
+            in_polygon(7, 8, 9),
+            507,
+            "{\"code\":507,\"feature\":0,\"layer\":0,\"other\":9,\"polygon\":7,\"vertex\":8}",
         ),
     ] {
         assert!(rt; is_written(rt.alloc(), &fault, number, text));
@@ -190,6 +205,7 @@ fn places_each_rule(rt: HostRuntime) {
         ),
         (outside(7, 8, 9), [2, 0, 0, 3, 7, 1, 8, 9, 505, 0]),
         (hole_in_hole(7, 8, 9, 6), [2, 0, 0, 3, 7, 1, 8, 9, 506, 6]),
+        (in_polygon(7, 8, 9), [2, 0, 0, 3, 7, 2, 8, 507, 9, 0]),
     ] {
         assert!(rt; place(&fault) == Place::new(numbers));
     }
@@ -242,6 +258,9 @@ fn orders_faults(rt: HostRuntime) {
         hole_in_hole(0, 1, 6, 4),
         outside(0, 1, 7),
         hole_in_hole(0, 2, 0, 1),
+        in_polygon(0, 0, 2),
+        in_polygon(0, 0, 3),
+        in_polygon(0, 1, 1),
         meeting(1, 4, -3, -2, 1),
         outside(1, 4, 5),
         tag(TagCode::Repeated, 0, 3, 4),

@@ -23,6 +23,19 @@ fn reads_a_meeting(rt: HostRuntime) {
 }
 
 #[test]
+fn reads_a_polygon_in_another(rt: HostRuntime) {
+    let text = "{\"code\":507,\"feature\":1,\"layer\":2,\"other\":3,\"polygon\":4,\"vertex\":5}";
+    let fault = Fault::InPolygon {
+        layer: 2,
+        feature: 1,
+        polygon: 4,
+        vertex: 5,
+        other: 3,
+    };
+    assert!(rt; fault_from_text(rt.alloc(), text.as_bytes()) == Ok(fault));
+}
+
+#[test]
 fn reads_other_spellings(rt: HostRuntime) {
     for text in [
         "{\"layer\":3,\"code\":201}",
@@ -55,7 +68,9 @@ fn refuses_other_shapes(rt: HostRuntime) {
         "{\"code\":201,\"layer\":3,\"layer\":null}",
         "{\"code\":\"201\",\"layer\":0}",
         "{\"code\":202,\"first\":0,\"layer\":1,\"second\":0}",
-        "{\"code\":507,\"feature\":0,\"layer\":0,\"ring\":0}",
+        "{\"code\":507,\"feature\":0,\"layer\":0,\"polygon\":0,\"vertex\":0}",
+        "{\"code\":507,\"feature\":0,\"layer\":0,\"other\":1,\"polygon\":0,\"ring\":0,\"vertex\":0}",
+        "{\"code\":508,\"feature\":0,\"layer\":0,\"ring\":0}",
         "{\"at\":0,\"code\":105,\"field\":3}",
         "{\"at\":0,\"code\":105,\"field\":3,\"scope\":\"\"}",
         "{\"at\":0,\"code\":105,\"field\":3,\"scope\":\"layer\"}",
