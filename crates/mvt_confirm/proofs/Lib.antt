@@ -1,6 +1,7 @@
 pub mod CommandWalks
 pub mod CornerSteps
 pub mod CornerWalks
+pub mod CrossingWalks
 pub mod DrawnFeatures
 pub mod EdgeMeetings
 pub mod EdgeWalks
@@ -27,6 +28,8 @@ pub mod PackedWalk
 pub mod PayloadSearch
 pub mod Payloads
 pub mod PolygonMembers
+pub mod PolygonVertices
+pub mod PolygonWalks
 pub mod RingCounts
 pub mod RingPlaces
 pub mod RingWalks

@@ -2,6 +2,7 @@
 use Rattle.std.proofs.Common.{◌≡◌, ◌≢◌, ◌↔◌, ◌<◌, ◌≤◌, ◌==◌, ℕ, inl, inr, Bool, false, IsTrue, List, [], length, get_or, slice_get, Some, ap, subst, arith}
 use Rattle.std.proofs.lemmas.Bool.Decides.{Decides-eqb}
 use Rattle.std.proofs.lemmas.Option.{slice_get-get_or}
+use Rattle.mvt_fault.specs.declared.profile.Profile.{Profile}
 use Rattle.mvt_fault.specs.declared.ring.RingEdge.{RingEdge}
 use Rattle.mvt_plane.specs.Meeting.{ComesBefore, MeetsWrongly}
 use Rattle.mvt_plane.specs.Polygon.{PolygonRings, IsPolygon, IsRingOf, IsHoleOf}
@@ -10,7 +11,8 @@ use Rattle.mvt_plane.specs.RationalPoint.{RationalPoint, IsBounded}
 use Rattle.mvt_plane.specs.Ring.{ArePolygonRings}
 use Rattle.mvt_plane.proofs.PolygonNumbers.{exterior_within}
 use Rattle.mvt_plane.proofs.SamePolygons.{one_polygon, same_polygon}
-use Rattle.mvt_confirm.specs.PolygonFault.{number_of, IsMeeting}
+use Rattle.mvt_confirm.specs.PolygonFault.{number_of, IsMeetingBy}
+use Rattle.mvt_confirm.specs.Profiles.{IsKeptApart}
 use Rattle.mvt_confirm.specs.Polygons.{IsPlaceOf}
 use Rattle.mvt_confirm.specs.declared.polygons.RingPlace.{RingPlace}
 
@@ -56,6 +58,13 @@ told_by_place rings polygon ring place is = (
   λ member. (Decides-eqb place.polygon polygon).1 (one_polygon rings ring place.polygon polygon is.polygon_rings member.0 is.there is.of member.1 member.2).0,
 )
 
+-- is one of the rings of that polygon, whichever they are told to be
+pub member_told : {Found : Type 0} (rings : List (List Position)) (polygon ring : ℕ) (it : PolygonRings) → IsPolygon rings polygon it → Found ↔ IsMember rings polygon ring → Found ↔ IsRingOf it ring
+member_told rings polygon ring it there told = (
+  λ found. let member = told.0 found in subst (λ (its : PolygonRings). IsRingOf its ring) (same_polygon rings polygon member.0 it member.1 there) member.2,
+  λ of. told.1 (it, there, of),
+)
+
 -- is a hole where it isn't the exterior of that place
 pub hole_by_place : (rings : List (List Position)) (polygon ring : ℕ) (place : RingPlace) → IsPlaceOf rings ring place → place.polygon ≡ polygon → place.exterior ≢ ring
     → (it : PolygonRings) × IsPolygon rings polygon it × IsHoleOf it ring × (it.exterior ≡ place.exterior)
@@ -91,25 +100,25 @@ no_member rings polygon ring few member = let within = within_rings rings polygo
 
 -- Edges of two rings
 
--- meet in a polygon where both rings are its, and the edges meet
-pub meeting_of_members : {Met : Type 0} (rings : List (List Position)) (polygon : ℕ) (first second : RingEdge) (point : RationalPoint) → ArePolygonRings rings
-    → IsMember rings polygon first.ring → IsMember rings polygon second.ring
-    → Met ↔ (ComesBefore (number_of first) (number_of second) × IsBounded point × MeetsWrongly rings (number_of first) (number_of second) point) → Met ↔ IsMeeting rings polygon first second point
-meeting_of_members {Met} rings polygon first second point sound one other met =
-    let same : other.0 ≡ one.0 = same_polygon rings polygon other.0 one.0 other.1 one.1 in (
-      λ it. let all = met.0 it in record {
-        polygon_rings = one.0;
-        of = record { sound = sound; there = one.1 };
-        first_in = one.2;
-        second_in = subst (λ (its : PolygonRings). IsRingOf its second.ring) same other.2;
-        in_order = all.0;
-        bounded = all.1;
-        meets = all.2;
-      },
-      λ meeting. met.1 (meeting.in_order, meeting.bounded, meeting.meets),
-    )
+-- meet where the second one's is of the polygon, from which the profile keeps the first one's, and the edges meet
+pub meeting_by_parts : {Met : Type 0} (profile : Profile) (rings : List (List Position)) (polygon : ℕ) (first second : RingEdge) (point : RationalPoint) → ArePolygonRings rings
+    → (member : IsMember rings polygon second.ring) → (ComesBefore (number_of first) (number_of second) → IsKeptApart profile member.0 first.ring)
+    → Met ↔ (ComesBefore (number_of first) (number_of second) × IsBounded point × MeetsWrongly rings (number_of first) (number_of second) point)
+    → Met ↔ IsMeetingBy profile rings polygon first second point
+meeting_by_parts {Met} profile rings polygon first second point sound member kept met = (
+  λ it. let all = met.0 it in record {
+    polygon_rings = member.0;
+    of = record { sound = sound; there = member.1 };
+    first_in = kept all.0;
+    second_in = member.2;
+    in_order = all.0;
+    bounded = all.1;
+    meets = all.2;
+  },
+  λ meeting. met.1 (meeting.in_order, meeting.bounded, meeting.meets),
+)
 
--- what a meeting wants of its rings
-pub meeting_members : (rings : List (List Position)) (polygon : ℕ) (first second : RingEdge) (point : RationalPoint) → IsMeeting rings polygon first second point
-    → IsMember rings polygon first.ring × IsMember rings polygon second.ring
-meeting_members rings polygon first second point meeting = ((meeting.polygon_rings, meeting.of.there, meeting.first_in), (meeting.polygon_rings, meeting.of.there, meeting.second_in))
+-- the second one's ring is of the polygon
+pub second_member : (profile : Profile) (rings : List (List Position)) (polygon : ℕ) (first second : RingEdge) (point : RationalPoint) → IsMeetingBy profile rings polygon first second point
+    → IsMember rings polygon second.ring
+second_member profile rings polygon first second point meeting = (meeting.polygon_rings, meeting.of.there, meeting.second_in)

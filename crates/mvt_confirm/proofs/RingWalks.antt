@@ -8,7 +8,7 @@ use Rattle.mvt_plane.specs.Position.{Position}
 use Rattle.mvt_plane.specs.Ring.{edge_area, edges_through, area_of_edges, doubled_area}
 
 -- what is left where these vertices of a ring come next, if it isn't over, and then the further rings
-abbrev IsLeftOver : Bool → CornerWalk → List Position → List (List Position) → Type 0
+abbrev pub IsLeftOver : Bool → CornerWalk → List Position → List (List Position) → Type 0
 IsLeftOver true walk more further = (more ≡ []) × RingsLeft walk further
 IsLeftOver false walk more further = RingsLeft walk (more ∷ further)
 

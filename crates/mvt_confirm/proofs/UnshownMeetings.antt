@@ -113,7 +113,7 @@ kept_back Polygon it first second kept of behind = (of, kept)
 kept_back Feature it first second kept of behind = let from = of.from in (of.before, record { from = omega arith; before = kept })
 
 -- edges in order are of rings in order
-rings_in_order : (first second : EdgeNumber) → ComesBefore first second → first.ring ≤ second.ring
+pub rings_in_order : (first second : EdgeNumber) → ComesBefore first second → first.ring ≤ second.ring
 rings_in_order first second (inl before) = omega arith
 rings_in_order first second (inr within) = let same = within.0 in omega arith
 

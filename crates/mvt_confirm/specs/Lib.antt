@@ -1,3 +1,4 @@
+pub mod Apart
 pub mod Commands
 pub mod Corners
 pub mod EdgeTests
@@ -5,6 +6,7 @@ pub mod Examples
 pub mod Feature
 pub mod FeatureBytes
 pub mod Geometry
+pub mod HoleFault
 pub mod Packed
 pub mod PolygonFault
 pub mod Polygons

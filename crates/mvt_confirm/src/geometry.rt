@@ -4,7 +4,7 @@
 ghost use Rattle.std.specs.Prelude.{◌↔◌, IsTrue, List, IfNone, IfSome};
 ghost use Rattle.mvt_confirm.specs.Feature.{OfRings};
 ghost use Rattle.mvt_confirm.specs.FeatureBytes.{DrawsRings};
-ghost use Rattle.mvt_confirm.specs.PolygonFault.{IsMeeting, IsVertexInHole, IsVertexOutside};
+ghost use Rattle.mvt_confirm.specs.PolygonFault.{IsMeetingBy, IsVertexInHole, IsVertexInPolygonBy, IsVertexOutside};
 ghost use Rattle.mvt_confirm.specs.Shows.{OfFeature};
 ghost use Rattle.mvt_fault.specs.Code.{command_code, ring_code};
 ghost use Rattle.mvt_plane.specs.Geometry.{BreaksCommands, HasRings};
@@ -13,11 +13,12 @@ ghost use Rattle.mvt_plane.specs.Ring.{BreaksRings};
 ghost use Rattle.mvt_wire.specs.Rules.{IsFeatureOf};
 ghost use Rattle.mvt_wire.specs.Tile.{FeatureRecord, LayerRecord, TileRecord, IsTile};
 
+use crate::apart::is_vertex_in_polygon;
 use crate::feature_bytes::{FeatureBytes, feature_of};
-use crate::meeting::{PointNumbers, is_meeting};
+use crate::meeting::{EdgeMeeting, is_meeting};
 use crate::nesting::{is_vertex_in_hole, is_vertex_outside};
 use crate::ring_faults::breaks_rings;
-use mvt_fault::{CommandCode, RingCode, RingEdge};
+use mvt_fault::{CommandCode, Profile, RingCode};
 
 /// Whether there is a feature with these ordinals, and its geometry has this command fault, at this index.
 pub(crate) fn has_command_fault(
@@ -53,22 +54,21 @@ pub(crate) fn has_ring_fault(
     }
 }
 
-/// Whether there is a feature with these ordinals that draws rings, and two edges of this polygon of it, named
-/// in order, meet wrongly at this point.
+/// Whether there is a feature with these ordinals that draws rings, and two edges of it that the profile keeps
+/// apart, named in order, meet wrongly at this point, of which the second one is of this polygon.
 pub(crate) fn has_meeting(
+    profile: Profile,
     bytes: &[u8],
     layer: usize,
     feature: usize,
     polygon: usize,
-    first: RingEdge,
-    second: RingEdge,
-    point: PointNumbers,
+    meeting: EdgeMeeting,
 ) -> bool
     ensures { (tile : TileRecord) → IsTile bytes.now tile → (IsTrue result ↔ OfFeature bytes.now layer feature
-        (λ layer_record feature_record. OfRings feature_record (λ rings. IsMeeting rings polygon first second (record { x = point.x; y = point.y; w = point.w })))) }
+        (λ layer_record feature_record. OfRings feature_record (λ rings. IsMeetingBy profile rings polygon meeting.first meeting.second (record { x = meeting.x; y = meeting.y; w = meeting.w })))) }
 {
     match drawn_feature(bytes, layer, feature) {
-        Some(place) => is_meeting(&place, polygon, first, second, point),
+        Some(place) => is_meeting(profile, &place, polygon, meeting),
         None => false,
     }
 }
@@ -108,6 +108,26 @@ pub(crate) fn has_vertex_in_hole(
 {
     match drawn_feature(bytes, layer, feature) {
         Some(place) => is_vertex_in_hole(&place, polygon, ring, vertex, other),
+        None => false,
+    }
+}
+
+/// Whether there is a feature with these ordinals that draws rings, and this vertex of the exterior of this polygon
+/// of it is inside this other polygon, from which the profile keeps it apart.
+pub(crate) fn has_vertex_in_polygon(
+    profile: Profile,
+    bytes: &[u8],
+    layer: usize,
+    feature: usize,
+    polygon: usize,
+    vertex: usize,
+    other: usize,
+) -> bool
+    ensures { (tile : TileRecord) → IsTile bytes.now tile → (IsTrue result
+        ↔ OfFeature bytes.now layer feature (λ layer_record feature_record. OfRings feature_record (λ rings. IsVertexInPolygonBy profile rings polygon vertex other))) }
+{
+    match drawn_feature(bytes, layer, feature) {
+        Some(place) => is_vertex_in_polygon(profile, &place, polygon, vertex, other),
         None => false,
     }
 }

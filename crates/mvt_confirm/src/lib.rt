@@ -2,6 +2,7 @@
 //! checker of faults, which takes no memory.
 #![tactic(auto)]
 
+mod apart;
 mod checker;
 mod commands;
 mod corners;
@@ -23,4 +24,4 @@ mod tags;
 mod tile;
 mod wire_fault;
 
-pub use checker::confirm;
+pub use checker::{confirm, confirm_with};

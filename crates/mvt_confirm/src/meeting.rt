@@ -1,8 +1,9 @@
-//! Edges of a polygon that meet where they may not (Mapbox Vector Tile Specification 2.1, section 4.3.4.4).
+//! Edges of polygons that meet where they may not (Mapbox Vector Tile Specification 2.1, section 4.3.4.4).
 
-ghost use Rattle.std.specs.Prelude.{◌≡◌, ◌↔◌, IsTrue, List, length, slice_get, Some, IfNone, IfSome};
+ghost use Rattle.std.specs.Prelude.{◌≡◌, ◌↔◌, ◌≤◌, ℕ, IsTrue, List, length, slice_get, Some, IfNone, IfSome};
 ghost use Rattle.mvt_confirm.specs.FeatureBytes.{DrawsRings};
-ghost use Rattle.mvt_confirm.specs.PolygonFault.{IsMeeting, number_of};
+ghost use Rattle.mvt_confirm.specs.PolygonFault.{IsMeetingBy, number_of};
+ghost use Rattle.mvt_confirm.specs.Profiles.{IsKeptApart};
 ghost use Rattle.mvt_plane.specs.Meeting.{ComesBefore, IsEdgeOf, MeetsWrongly};
 ghost use Rattle.mvt_plane.specs.Polygon.{PolygonRings, IsPolygon, IsRingOf};
 ghost use Rattle.mvt_plane.specs.Position.{Position};
@@ -14,11 +15,14 @@ use crate::edge_tests::{NumberedEdge, meets_in_order};
 use crate::feature_bytes::FeatureBytes;
 use crate::polygons::{are_polygon_rings, place_of_ring};
 use crate::ring_edges::{edge_at, edges_of_ring};
-use mvt_fault::RingEdge;
+use mvt_fault::{Profile, RingEdge};
 
-/// A point by the numbers that a fault gives for it: it is (x / w, y / w), if they are in range.
+/// Two edges by their ordinals, and the point where they are said to meet: it is (x / w, y / w), if these numbers are
+/// in range.
 #[derive(Clone, Copy)]
-pub(crate) struct PointNumbers {
+pub(crate) struct EdgeMeeting {
+    pub(crate) first: RingEdge,
+    pub(crate) second: RingEdge,
     pub(crate) x: i128,
     pub(crate) y: i128,
     pub(crate) w: i128,
@@ -31,22 +35,33 @@ struct EdgeInRing {
     vertex_count: usize,
 }
 
-/// Whether two edges of this polygon, named in order, meet wrongly at this point, of a feature that draws
-/// rings. The numbers may be any.
+/// Whether two edges that the profile keeps apart, named in order, meet wrongly at this point, and the second one
+/// is of this polygon, of a feature that draws rings. The numbers may be any.
 pub(crate) fn is_meeting(
+    profile: Profile,
     feature: &FeatureBytes,
     polygon: usize,
-    first: RingEdge,
-    second: RingEdge,
-    point: PointNumbers,
+    meeting: EdgeMeeting,
 ) -> bool
     ensures { (rings : List (List Position)) → DrawsRings feature.now rings →
-        (IsTrue result ↔ IsMeeting rings polygon first second (record { x = point.x; y = point.y; w = point.w })) }
+        (IsTrue result ↔ IsMeetingBy profile rings polygon meeting.first meeting.second (record { x = meeting.x; y = meeting.y; w = meeting.w })) }
 {
     are_polygon_rings(feature.corners())
-        && is_ring_of_polygon(feature, polygon, first.ring)
-        && is_ring_of_polygon(feature, polygon, second.ring)
-        && do_meet(feature, first, second, point)
+        && is_ring_of_polygon(feature, polygon, meeting.second.ring)
+        && is_kept_apart(profile, feature, polygon, meeting.first.ring)
+        && do_meet(feature, meeting)
+}
+
+/// Whether the profile keeps the ring with this ordinal apart from those of this polygon, of rings that have no
+/// fault of their own. It is asked only of rings that aren't behind all of the polygon's.
+fn is_kept_apart(profile: Profile, feature: &FeatureBytes, polygon: usize, ring: usize) -> bool
+    ensures { (rings : List (List Position)) (polygon_rings : PolygonRings) (last : ℕ) → DrawsRings feature.now rings → ArePolygonRings rings →
+        IsPolygon rings polygon polygon_rings → IsRingOf polygon_rings last → ring ≤ last → (IsTrue result ↔ IsKeptApart profile polygon_rings ring) }
+{
+    match profile {
+        Profile::Polygon => is_ring_of_polygon(feature, polygon, ring),
+        Profile::Feature => true,
+    }
 }
 
 /// Whether the ring with this ordinal belongs to this polygon, of rings that have no fault of their own.
@@ -61,25 +76,25 @@ fn is_ring_of_polygon(feature: &FeatureBytes, polygon: usize, ring: usize) -> bo
 }
 
 /// Whether two edges, named in order, meet wrongly at this point.
-fn do_meet(feature: &FeatureBytes, first: RingEdge, second: RingEdge, point: PointNumbers) -> bool
+fn do_meet(feature: &FeatureBytes, meeting: EdgeMeeting) -> bool
     ensures { (rings : List (List Position)) → DrawsRings feature.now rings → (IsTrue result
-        ↔ (ComesBefore (number_of first) (number_of second)
-        × IsBounded (record { x = point.x; y = point.y; w = point.w })
-        × MeetsWrongly rings (number_of first) (number_of second) (record { x = point.x; y = point.y; w = point.w }))) }
+        ↔ (ComesBefore (number_of meeting.first) (number_of meeting.second)
+        × IsBounded (record { x = meeting.x; y = meeting.y; w = meeting.w })
+        × MeetsWrongly rings (number_of meeting.first) (number_of meeting.second) (record { x = meeting.x; y = meeting.y; w = meeting.w }))) }
 {
-    let Some(one) = edge_of_number(feature, first) else {
+    let Some(one) = edge_of_number(feature, meeting.first) else {
         return false;
     };
-    let Some(other) = edge_of_number(feature, second) else {
+    let Some(other) = edge_of_number(feature, meeting.second) else {
         return false;
     };
     meets_in_order(
         &one.numbered,
         &other.numbered,
         one.vertex_count,
-        point.x,
-        point.y,
-        point.w,
+        meeting.x,
+        meeting.y,
+        meeting.w,
     )
 }
 

@@ -5,7 +5,7 @@ use Rattle.mvt_confirm.proofs.ShownByCases.{of_tile, of_feature, no_wire, of_pol
 use Rattle.mvt_confirm.proofs.checker.has_fault_of_tile.Goals as goal
 
 pub returns-in-Wire : goal.returns-in-Wire
-returns-in-Wire c = λ tile is. rw c.in-Wire.is (no_wire c.args.bytes.now tile is c.in-Wire.code c.in-Wire.scope c.in-Wire.at c.in-Wire.field)
+returns-in-Wire c = λ tile is. rw c.in-Wire.is (no_wire c.args.bytes.now tile is c.args.profile c.in-Wire.code c.in-Wire.scope c.in-Wire.at c.in-Wire.field)
 
 pub returns-in-Version : goal.returns-in-Version
 returns-in-Version c = λ tile is.
@@ -28,4 +28,4 @@ returns-in-Ring c = λ tile is. rw c.in-Ring.is (c.has_ring_fault.ensures tile i
 
 pub returns-in-Meeting : goal.returns-in-Meeting
 returns-in-Meeting c = λ tile is.
-    of_polygon c.args.bytes.now c.has_fault_of_polygon.result c.args.fault.now (any_of_polygon c.args.fault.now c.in-Meeting.is) (c.has_fault_of_polygon.ensures tile is)
+    of_polygon c.args.profile c.args.bytes.now c.has_fault_of_polygon.result c.args.fault.now (any_of_polygon c.args.fault.now c.in-Meeting.is) (c.has_fault_of_polygon.ensures tile is)

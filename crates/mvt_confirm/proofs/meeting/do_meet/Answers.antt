@@ -14,15 +14,15 @@ returns-in_default-edge_of_number c = λ rings draws.
 
 pub returns : goal.returns
 returns c =
-    let fits_x : SFits w128 c.args.point.x = search rules in
-    let fits_y : SFits w128 c.args.point.y = search rules in
-    let fits_w : SFits w128 c.args.point.w = search rules in
-    let x = to_z-of_z w128 c.args.point.x fits_x in
-    let y = to_z-of_z w128 c.args.point.y fits_y in
-    let w = to_z-of_z w128 c.args.point.w fits_w in
+    let fits_x : SFits w128 c.args.meeting.x = search rules in
+    let fits_y : SFits w128 c.args.meeting.y = search rules in
+    let fits_w : SFits w128 c.args.meeting.w = search rules in
+    let x = to_z-of_z w128 c.args.meeting.x fits_x in
+    let y = to_z-of_z w128 c.args.meeting.y fits_y in
+    let w = to_z-of_z w128 c.args.meeting.w fits_w in
     let one = c.in-Some.ensures in
     let other = c.in-Some-edge_of_number.ensures in
     λ rings draws.
     let told = rw (x, y, w) at c.meets_in_order.ensures rings in
-    told_by_numbers rings c.in-Some.one.numbered c.in-Some-edge_of_number.other.numbered c.in-Some.one.vertex_count _ c.args.first c.args.second one.number other.number told
+    told_by_numbers rings c.in-Some.one.numbered c.in-Some-edge_of_number.other.numbered c.in-Some.one.vertex_count _ c.args.meeting.first c.args.meeting.second one.number other.number told
     (one.there rings draws) (other.there rings draws) (λ ring there. one.count rings ring draws there)
