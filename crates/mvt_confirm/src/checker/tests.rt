@@ -1,3 +1,5 @@
+mod by_profile;
+
 use super::confirm;
 use mvt_fault::{CommandCode, Fault, RingCode, RingEdge, Scope, TagCode};
 use mvt_wire::WireCode;
