@@ -5,6 +5,9 @@ ghost use Rattle.mvt_polygon.specs.Apart.{IsApartFault, IsFirstApartFault, IsInP
 ghost use Rattle.mvt_polygon.specs.Polygons.{ArePolygons};
 ghost use Rattle.mvt_polygon.specs.Rings.{rings_of};
 
+#[cfg(test)]
+mod tests;
+
 use mvt_plane::{Point, inside};
 
 /// A vertex of a polygon's exterior that is inside another polygon.

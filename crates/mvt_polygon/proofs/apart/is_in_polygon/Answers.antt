@@ -20,7 +20,7 @@ returns-then-inside c =
     let vertices = c.deref-in-loop-hole.result.now in
     let it : PolygonRings = record { exterior = c.args.exterior; after = c.args.after } in
     let there = vertices_there c.args.rings.now hole c.index-rings-hole.result vertices (omega (arith, c.loop-hole-test.true, c.requires.within)) c.index-rings-hole.is c.deref-in-loop-hole.ensures.value in
-    let not = not_in_hole (rings_of c.args.rings.now) it c.args.position hole vertices (omega (arith, c.loop-hole.auto.hole)) c.loop-hole-test.true there (c.inside-in-loop-hole.ensures.0 c.if-inside.true) in
+    let not = not_in_hole (rings_of c.args.rings.now) it c.args.position hole vertices (omega (arith, c.loop-hole.auto.hole)) (omega (arith, c.loop-hole.auto.hole, c.loop-hole-test.true)) there (c.inside-in-loop-hole.ensures.0 c.if-inside.true) in
     (λ is. absurd (cc), λ in_it. absurd (not in_it))
 
 pub loop-hole-preserved : goal.loop-hole-preserved

@@ -20,7 +20,7 @@ pub returns-then-is_in_polygon-clause-first : goal.returns-then-is_in_polygon-cl
 returns-then-is_in_polygon-clause-first c =
     let rings = rings_of c.args.rings.now in
     let other = c.loop-other.other in
-    first_around rings c.args.polygon other (rings_at c.args.groups.now other) c.args.position c.loop-other.invariant c.if-other-polygon.true
+    first_around rings c.args.polygon other (rings_at c.args.groups.now other) c.args.position c.loop-other.invariant (omega (arith, c.if-other-polygon.true))
     (rings_listed rings c.args.groups.now other c.requires.listed c.loop-other-test.true) (c.is_in_polygon.ensures.0 c.if-is_in_polygon.true)
 
 pub loop-other-preserved : goal.loop-other-preserved
@@ -33,7 +33,7 @@ loop-other-preserved c =
           below_more _ _ c.loop-other.invariant
           (not_around rings c.args.polygon other its c.args.position (rings_listed rings c.args.groups.now other c.requires.listed c.loop-other-test.true)
           (fails (IsInPolygonOf rings its c.args.position) w.is_in_polygon.result w.is_in_polygon.ensures w.if-is_in_polygon.false))
-      | else-other-polygon-via-else-other-polygon w ↦ below_more _ _ c.loop-other.invariant (λ around. around.different w.if-other-polygon.false)
+      | else-other-polygon-via-else-other-polygon w ↦ below_more _ _ c.loop-other.invariant (λ around. around.different (omega (arith, w.if-other-polygon.false)))
     ]
 
 pub returns-clause-none : goal.returns-clause-none
