@@ -61,10 +61,12 @@ stone_on_frame = record {
     position = at 13 13;
     here = record { vertices = stone; there = refl; here = refl };
     different = search rules;
-    around = frame;
-    there = refl;
-    inside = hole_inside 0 (at 13 13) refl;
-    in_no_hole = λ hole vertices is there. let behind = is.behind in let before = is.before in absurd (omega arith);
+    inside = record {
+      around = frame;
+      there = refl;
+      inside = hole_inside 0 (at 13 13) refl;
+      in_no_hole = λ round. let behind = round.is.behind in let before = round.is.before in omega arith;
+    };
   };
 }
 
@@ -76,7 +78,8 @@ island_in_hole wrong =
     let vertices : island ≡ wrong.here.vertices = cc (wrong.here.there) in
     let here : slice_get island 0 ≡ Some wrong.position = subst (λ (it : List Position). slice_get it 0 ≡ Some wrong.position) (sym vertices) wrong.here.here in
     let position : at 20 20 ≡ wrong.position = cc here in
-    wrong.in_no_hole 1 hole (search rules) refl (subst (λ (it : Position). IsInside it hole) position inner_inside)
+    let inside = subst (λ (it : Position). IsInside it hole) position inner_inside in
+    wrong.inside.in_no_hole (record { hole = 1; is = search rules; vertices = hole; there = refl; inside = inside })
 
 -- the ground with its hole is the first polygon
 ground_polygon : IsPolygon (ground ∷ hole ∷ island ∷ []) 0 (rings_from 0 2)

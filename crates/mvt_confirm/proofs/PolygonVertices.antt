@@ -2,7 +2,7 @@
 use Rattle.std.proofs.Common.{◌≡◌, ◌≢◌, ◌↔◌, ℕ, suc, ◌≤◌, Bool, not, IsTrue, List, ◌∷◌, drop, length, ap, subst, arith}
 use Rattle.std.proofs.lemmas.Bool.Decides.{Decides-not}
 use Rattle.mvt_fault.specs.declared.profile.Profile.TheVariants.{Feature}
-use Rattle.mvt_confirm.specs.Apart.{IsInHoles, IsInsidePolygon, StandAtPolygon}
+use Rattle.mvt_confirm.specs.Apart.{StandAtPolygon}
 use Rattle.mvt_confirm.specs.Corners.{CornerWalk, RingsLeft}
 use Rattle.mvt_confirm.specs.PolygonFault.{IsVertexInPolygonBy}
 use Rattle.mvt_confirm.proofs.PolygonMembers.{exterior_in}
@@ -10,7 +10,7 @@ use Rattle.mvt_confirm.proofs.PolygonWalks.{rest_from}
 use Rattle.mvt_plane.proofs.RingEdges.{one_position}
 use Rattle.mvt_plane.proofs.SamePolygons.{exterior_of_polygon, one_polygon, same_polygon}
 use Rattle.mvt_plane.specs.Inside.{IsInside}
-use Rattle.mvt_plane.specs.Nesting.{IsVertexOf}
+use Rattle.mvt_plane.specs.Nesting.{IsVertexOf, IsInHoles, IsInsidePolygon}
 use Rattle.mvt_plane.specs.Polygon.{IsExterior, PolygonRings, IsPolygon}
 use Rattle.mvt_plane.specs.Position.{Position}
 use Rattle.mvt_plane.specs.Ring.{ArePolygonRings}
@@ -97,10 +97,7 @@ vertex_told rings polygon vertex other position inside sound different here told
           position = position;
           here = here.2;
           different = other_exterior rings polygon other here.0 is.0 different here.1 is.1;
-          around = is.2.around;
-          there = is.2.there;
-          inside = is.2.inside;
-          in_no_hole = λ hole vertices its there within. is.2.in_no_hole (record { hole = hole; is = its; vertices = vertices; there = there; inside = within });
+          inside = is.2;
         };
       },
   λ wrong.
@@ -111,11 +108,6 @@ vertex_told rings polygon vertex other position inside sound different here told
       told.1 (subst (IsInsideNumbered rings other) same (
         wrong.other_rings,
         wrong.other_there,
-        record {
-          around = wrong.inside.around;
-          there = wrong.inside.there;
-          inside = wrong.inside.inside;
-          in_no_hole = λ is. wrong.inside.in_no_hole is.hole is.vertices is.is is.there is.inside;
-        },
+        wrong.inside.inside,
       )),
 )

@@ -2,7 +2,7 @@
 use Rattle.std.proofs.Common.{◌≡◌, ◌≢◌, ℕ, zero, suc, ◌+◌, ◌<◌, ◌≤◌, inl, inr, List, [], ◌∷◌, length, drop, slice_get, Some, sym, subst, arith}
 use Rattle.std.proofs.lemmas.Bool.{cases_lt}
 use Rattle.std.proofs.lemmas.Option.{slice_get_within}
-use Rattle.mvt_confirm.specs.Apart.{IsInHoles, StandAtPolygon}
+use Rattle.mvt_confirm.specs.Apart.{StandAtPolygon}
 use Rattle.mvt_confirm.specs.Corners.{CornerWalk, EndsCorners, RingsLeft}
 use Rattle.mvt_confirm.specs.Rings.{GivesRing}
 use Rattle.mvt_confirm.specs.declared.rings.Measure.{Measure}
@@ -10,6 +10,7 @@ use Rattle.mvt_confirm.proofs.RingCounts.{HavePassed, all_passed, IsToldOf, next
 use Rattle.mvt_confirm.proofs.RingPlaces.{IsCounted, none_yet, some_passed, exterior_counted, exterior_place, given_within, hole_counted, none_counted}
 use Rattle.mvt_plane.proofs.SamePolygons.{exterior_of_polygon, polygon_begins_within}
 use Rattle.mvt_plane.specs.Inside.{IsInside}
+use Rattle.mvt_plane.specs.Nesting.{IsInHoles}
 use Rattle.mvt_plane.specs.Polygon.{IsExterior, NoExterior, IsExteriorOf, first, next, PolygonRings, IsPolygon}
 use Rattle.mvt_plane.specs.Position.{Position}
 use Rattle.mvt_plane.specs.Ring.{ArePolygonRings}

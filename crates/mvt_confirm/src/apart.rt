@@ -2,13 +2,13 @@
 //! are wrong only by a profile that keeps a feature's polygons apart.
 
 ghost use Rattle.std.specs.Prelude.{◌↔◌, IsTrue, ℕ, suc, ◌∷◌, List, drop, IfNone, IfSome};
-ghost use Rattle.mvt_confirm.specs.Apart.{IsInHoles, IsInsidePolygon, StandAtPolygon};
+ghost use Rattle.mvt_confirm.specs.Apart.{StandAtPolygon};
 ghost use Rattle.mvt_confirm.specs.Corners.{RingsLeft};
 ghost use Rattle.mvt_confirm.specs.FeatureBytes.{DrawsRings};
 ghost use Rattle.mvt_confirm.specs.PolygonFault.{IsVertexInPolygonBy};
 ghost use Rattle.mvt_fault.specs.declared.profile.Profile.TheVariants.{Feature};
 ghost use Rattle.mvt_plane.specs.Inside.{IsInside};
-ghost use Rattle.mvt_plane.specs.Nesting.{IsVertexOf};
+ghost use Rattle.mvt_plane.specs.Nesting.{IsVertexOf, IsInHoles, IsInsidePolygon};
 ghost use Rattle.mvt_plane.specs.Polygon.{PolygonRings, IsPolygon};
 ghost use Rattle.mvt_plane.specs.Position.{Position};
 ghost use Rattle.mvt_plane.specs.Ring.{ArePolygonRings};

@@ -32,12 +32,24 @@ pub record IsInHole (rings : List (List Position)) (polygon_rings : PolygonRings
   pub there : slice_get rings other ≡ Some around
   pub inside : IsInside position around
 
--- the vertex of the polygon's exterior is inside another polygon: inside its exterior, and inside none of its holes
+-- the position is inside a hole of the polygon
+pub record IsInHoles (rings : List (List Position)) (polygon_rings : PolygonRings) (position : Position) : Type 0 where
+  pub hole : ℕ
+  pub is : IsHoleOf polygon_rings hole
+  pub vertices : List Position
+  pub there : slice_get rings hole ≡ Some vertices
+  pub inside : IsInside position vertices
+
+-- the position is inside the polygon: inside its exterior, and inside none of its holes
+pub record IsInsidePolygon (rings : List (List Position)) (polygon_rings : PolygonRings) (position : Position) : Type 0 where
+  pub around : List Position
+  pub there : slice_get rings polygon_rings.exterior ≡ Some around
+  pub inside : IsInside position around
+  pub in_no_hole : ¬ IsInHoles rings polygon_rings position
+
+-- the vertex of the polygon's exterior is inside another polygon
 pub record IsInPolygon (rings : List (List Position)) (polygon_rings other_rings : PolygonRings) (vertex : ℕ) : Type 0 where
   pub position : Position
   pub here : IsVertexOf rings polygon_rings.exterior vertex position
   pub different : other_rings.exterior ≢ polygon_rings.exterior
-  pub around : List Position
-  pub there : slice_get rings other_rings.exterior ≡ Some around
-  pub inside : IsInside position around
-  pub in_no_hole : (hole : ℕ) (vertices : List Position) → IsHoleOf other_rings hole → slice_get rings hole ≡ Some vertices → ¬ IsInside position vertices
+  pub inside : IsInsidePolygon rings other_rings position

@@ -4,13 +4,13 @@ use Rattle.std.proofs.lemmas.Bool.{cases_order, cases_lt}
 use Rattle.std.proofs.lemmas.Option.{slice_get-get_or, slice_get_read, slice_get_within, same_Some}
 use Rattle.std.specs.declared.alloc.Global.{Global}
 use Rattle.mvt_plane.specs.Inside.{IsInside}
-use Rattle.mvt_plane.specs.Nesting.{IsVertexOf}
+use Rattle.mvt_plane.specs.Nesting.{IsVertexOf, IsInsidePolygon}
 use Rattle.mvt_plane.specs.Polygon.{PolygonRings, IsPolygon}
 use Rattle.mvt_plane.specs.Position.{Position}
 use Rattle.mvt_plane.proofs.PolygonNumbers.{exterior_within}
 use Rattle.mvt_plane.proofs.RingEdges.{one_position}
 use Rattle.mvt_plane.proofs.SamePolygons.{one_polygon, polygon_begins_within, same_polygon}
-use Rattle.mvt_polygon.specs.Apart.{IsApartFault, IsFirstApartFault, IsInPolygonOf, IsPolygonAround, IsFirstPolygonAround}
+use Rattle.mvt_polygon.specs.Apart.{IsApartFault, IsFirstApartFault, IsPolygonAround, IsFirstPolygonAround}
 use Rattle.mvt_polygon.specs.Polygons.{ArePolygons}
 use Rattle.mvt_polygon.specs.Rings.{rings_of}
 use Rattle.mvt_polygon.proofs.RingReads.{ring_there, count_of_rings}
@@ -79,36 +79,36 @@ not_in_ring rings exterior ring position vertices there not its behind its_there
     not (subst (IsInside position) (same_Some its vertices (sym its_there ∙ there)) inside)
 
 -- a position that isn't inside the exterior isn't in the polygon
-pub not_in_exterior : (rings : List (List Position)) (it : PolygonRings) (position : Position) (vertices : List Position) → slice_get rings it.exterior ≡ Some vertices → ¬ IsInside position vertices → ¬ IsInPolygonOf rings it position
+pub not_in_exterior : (rings : List (List Position)) (it : PolygonRings) (position : Position) (vertices : List Position) → slice_get rings it.exterior ≡ Some vertices → ¬ IsInside position vertices → ¬ IsInsidePolygon rings it position
 not_in_exterior rings it position vertices there not in_it =
     not (subst (IsInside position) (same_Some in_it.around vertices (sym in_it.there ∙ there)) in_it.inside)
 
 -- nor is one inside a hole
-pub not_in_hole : (rings : List (List Position)) (it : PolygonRings) (position : Position) (hole : ℕ) (vertices : List Position) → it.exterior < hole → hole < it.after → slice_get rings hole ≡ Some vertices → IsInside position vertices → ¬ IsInPolygonOf rings it position
-not_in_hole rings it position hole vertices behind before there inside in_it = in_it.in_no_hole hole vertices (record { behind = behind; before = before }) there inside
+pub not_in_hole : (rings : List (List Position)) (it : PolygonRings) (position : Position) (hole : ℕ) (vertices : List Position) → it.exterior < hole → hole < it.after → slice_get rings hole ≡ Some vertices → IsInside position vertices → ¬ IsInsidePolygon rings it position
+not_in_hole rings it position hole vertices behind before there inside in_it = in_it.in_no_hole (record { hole = hole; is = record { behind = behind; before = before }; vertices = vertices; there = there; inside = inside })
 
 -- one inside the exterior and in no hole is
-pub in_polygon : (rings : List (List Position)) (it : PolygonRings) (position : Position) (to : ℕ) (vertices : List Position) → slice_get rings it.exterior ≡ Some vertices → IsInside position vertices → it.after ≤ to → IsInNoHole rings it.exterior position to → IsInPolygonOf rings it position
+pub in_polygon : (rings : List (List Position)) (it : PolygonRings) (position : Position) (to : ℕ) (vertices : List Position) → slice_get rings it.exterior ≡ Some vertices → IsInside position vertices → it.after ≤ to → IsInNoHole rings it.exterior position to → IsInsidePolygon rings it position
 in_polygon rings it position to vertices there inside past none = record {
   around = vertices;
   there = there;
   inside = inside;
-  in_no_hole = λ hole hole_vertices is hole_there. let before = is.before in none hole (omega arith) hole_vertices is.behind hole_there;
+  in_no_hole = λ round. let before = round.is.before in none round.hole (omega arith) round.vertices round.is.behind round.there round.inside;
 }
 
 -- Polygon by polygon
 
 -- another one that it is inside is around it, and the first one if none before is
-pub first_around : (rings : List (List Position)) (polygon other : ℕ) (its : PolygonRings) (position : Position) → ((before : ℕ) → before < other → ¬ IsPolygonAround rings polygon position before) → other ≢ polygon → IsPolygon rings other its → IsInPolygonOf rings its position → IsFirstPolygonAround rings polygon position other
+pub first_around : (rings : List (List Position)) (polygon other : ℕ) (its : PolygonRings) (position : Position) → ((before : ℕ) → before < other → ¬ IsPolygonAround rings polygon position before) → other ≢ polygon → IsPolygon rings other its → IsInsidePolygon rings its position → IsFirstPolygonAround rings polygon position other
 first_around rings polygon other its position none different is_its inside = record {
   around = record { different = different; other_rings = its; there = is_its; inside = inside };
   first = λ another around. elim (cases_lt another other) [ inl less ↦ absurd (none another less around) | inr above ↦ omega arith ];
 }
 
 -- one that it isn't inside is none around it
-pub not_around : (rings : List (List Position)) (polygon other : ℕ) (its : PolygonRings) (position : Position) → IsPolygon rings other its → ¬ IsInPolygonOf rings its position → ¬ IsPolygonAround rings polygon position other
+pub not_around : (rings : List (List Position)) (polygon other : ℕ) (its : PolygonRings) (position : Position) → IsPolygon rings other its → ¬ IsInsidePolygon rings its position → ¬ IsPolygonAround rings polygon position other
 not_around rings polygon other its position is_its not around =
-    not (subst (λ (it : PolygonRings). IsInPolygonOf rings it position) (same_polygon rings other around.other_rings its around.there is_its) around.inside)
+    not (subst (λ (it : PolygonRings). IsInsidePolygon rings it position) (same_polygon rings other around.other_rings its around.there is_its) around.inside)
 
 -- one around it is in the list
 pub none_around : (rings : List (List Position)) (polygons : List (ℕ × ℕ)) (polygon : ℕ) (position : Position) → ArePolygons rings polygons → ((other : ℕ) → other < length polygons → ¬ IsPolygonAround rings polygon position other) → (other : ℕ) → ¬ IsPolygonAround rings polygon position other
@@ -129,10 +129,7 @@ around_vertex rings polygon vertex other it position is_it here around = record 
     position = position;
     here = here;
     different = other_exterior rings polygon other it around.other_rings is_it around.there around.different;
-    around = around.inside.around;
-    there = around.inside.there;
-    inside = around.inside.inside;
-    in_no_hole = around.inside.in_no_hole;
+    inside = around.inside;
   };
 }
 
@@ -142,12 +139,11 @@ around_position rings polygon vertex other it position is_it here fault =
     let inside = fault.inside in
     let same : fault.polygon_rings ≡ it = same_polygon rings polygon fault.polygon_rings it fault.there is_it in
     let there : IsVertexOf rings it.exterior vertex inside.position = subst (λ (it : PolygonRings). IsVertexOf rings it.exterior vertex inside.position) same inside.here in
-    let in_other : IsInPolygonOf rings fault.other_rings inside.position = record { around = inside.around; there = inside.there; inside = inside.inside; in_no_hole = inside.in_no_hole } in
     record {
       different = other_number rings polygon other fault.polygon_rings fault.other_rings fault.there fault.other_there inside.different;
       other_rings = fault.other_rings;
       there = fault.other_there;
-      inside = subst (IsInPolygonOf rings fault.other_rings) (one_position rings it.exterior vertex inside.position position there here) in_other;
+      inside = subst (IsInsidePolygon rings fault.other_rings) (one_position rings it.exterior vertex inside.position position there here) inside.inside;
     }
 
 -- Vertex by vertex

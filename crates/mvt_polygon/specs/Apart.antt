@@ -1,9 +1,8 @@
 -- Which fault is returned where a polygon of a feature isn't apart from the others: a vertex of its exterior is inside
 -- another polygon.
-use Rattle.std.specs.Prelude.{◌≡◌, ◌≢◌, ◌<◌, ◌≤◌, ◌⊎◌, ℕ, List, slice_get, Some}
-use Rattle.mvt_plane.specs.Inside.{IsInside}
-use Rattle.mvt_plane.specs.Nesting.{IsInPolygon}
-use Rattle.mvt_plane.specs.Polygon.{PolygonRings, IsPolygon, IsHoleOf}
+use Rattle.std.specs.Prelude.{◌≡◌, ◌≢◌, ◌<◌, ◌≤◌, ◌⊎◌, ℕ, List}
+use Rattle.mvt_plane.specs.Nesting.{IsInPolygon, IsInsidePolygon}
+use Rattle.mvt_plane.specs.Polygon.{PolygonRings, IsPolygon}
 use Rattle.mvt_plane.specs.Position.{Position}
 use Rattle.mvt_polygon.specs.declared.apart.ApartFault.{ApartFault}
 
@@ -23,19 +22,12 @@ pub record IsFirstApartFault (rings : List (List Position)) (polygon : ℕ) (fau
 
 -- Parts of a feature
 
--- the position is inside the exterior of the polygon of these rings, and inside none of its holes
-pub record IsInPolygonOf (rings : List (List Position)) (polygon_rings : PolygonRings) (position : Position) : Type 0 where
-  pub around : List Position
-  pub there : slice_get rings polygon_rings.exterior ≡ Some around
-  pub inside : IsInside position around
-  pub in_no_hole : (hole : ℕ) (vertices : List Position) → IsHoleOf polygon_rings hole → slice_get rings hole ≡ Some vertices → ¬ IsInside position vertices
-
 -- the position is inside this other polygon
 pub record IsPolygonAround (rings : List (List Position)) (polygon : ℕ) (position : Position) (other : ℕ) : Type 0 where
   pub different : other ≢ polygon
   pub other_rings : PolygonRings
   pub there : IsPolygon rings other other_rings
-  pub inside : IsInPolygonOf rings other_rings position
+  pub inside : IsInsidePolygon rings other_rings position
 
 -- this other polygon is the first one that the position is inside
 pub record IsFirstPolygonAround (rings : List (List Position)) (polygon : ℕ) (position : Position) (other : ℕ) : Type 0 where

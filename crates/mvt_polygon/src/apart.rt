@@ -1,7 +1,8 @@
 //! Vertices of a polygon's exterior that are inside another polygon of the feature.
 ghost use Rattle.std.specs.Prelude.{ℕ, ◌<◌, ◌≤◌, ◌↔◌, length, IsTrue, IfNone, IfSome};
+ghost use Rattle.mvt_plane.specs.Nesting.{IsInsidePolygon};
 ghost use Rattle.mvt_plane.specs.Ring.{ArePolygonRings};
-ghost use Rattle.mvt_polygon.specs.Apart.{IsApartFault, IsFirstApartFault, IsInPolygonOf, IsPolygonAround, IsFirstPolygonAround};
+ghost use Rattle.mvt_polygon.specs.Apart.{IsApartFault, IsFirstApartFault, IsPolygonAround, IsFirstPolygonAround};
 ghost use Rattle.mvt_polygon.specs.Polygons.{ArePolygons};
 ghost use Rattle.mvt_polygon.specs.Rings.{rings_of};
 
@@ -70,7 +71,7 @@ fn polygon_around(
 fn is_in_polygon(rings: &[Vec<Point>], exterior: usize, after: usize, position: Point) -> bool
     requires further { exterior < after }
     requires within { after ≤ length rings.now }
-    ensures { IsTrue result ↔ IsInPolygonOf (rings_of rings.now) (record { exterior = exterior; after = after }) position }
+    ensures { IsTrue result ↔ IsInsidePolygon (rings_of rings.now) (record { exterior = exterior; after = after }) position }
 {
     if !inside(position, &rings[exterior]) {
         return false;

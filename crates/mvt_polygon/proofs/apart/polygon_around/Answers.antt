@@ -1,5 +1,5 @@
 use Rattle.std.proofs.Common.{below_more, arith}
-use Rattle.mvt_polygon.specs.Apart.{IsInPolygonOf}
+use Rattle.mvt_plane.specs.Nesting.{IsInsidePolygon}
 use Rattle.mvt_polygon.specs.Rings.{rings_of}
 use Rattle.mvt_polygon.proofs.ApartFaults.{rings_at, rings_listed, ends_within, first_around, not_around, none_around}
 use Rattle.mvt_polygon.proofs.RingReads.{count_of_rings, fails}
@@ -32,7 +32,7 @@ loop-other-preserved c =
       | else-other-polygon-via-then-other-polygon+else-is_in_polygon w ↦
           below_more _ _ c.loop-other.invariant
           (not_around rings c.args.polygon other its c.args.position (rings_listed rings c.args.groups.now other c.requires.listed c.loop-other-test.true)
-          (fails (IsInPolygonOf rings its c.args.position) w.is_in_polygon.result w.is_in_polygon.ensures w.if-is_in_polygon.false))
+          (fails (IsInsidePolygon rings its c.args.position) w.is_in_polygon.result w.is_in_polygon.ensures w.if-is_in_polygon.false))
       | else-other-polygon-via-else-other-polygon w ↦ below_more _ _ c.loop-other.invariant (λ around. around.different (omega (arith, w.if-other-polygon.false)))
     ]
 
