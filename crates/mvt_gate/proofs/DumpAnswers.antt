@@ -3,6 +3,7 @@ use Rattle.std.proofs.Common.{◌≡◌, ℕ, List, ◌++◌, codes, inl, inr, r
 use Rattle.mvt_fault.specs.Place.{IsLeast, IsMeetingIn}
 use Rattle.mvt_fault.specs.TrueFaults.{IsWireFault, wire}
 use Rattle.mvt_fault.specs.declared.fault.Fault.{Fault}
+use Rattle.mvt_fault.specs.declared.profile.Profile.TheVariants.{Polygon}
 use Rattle.mvt_wire.proofs.Tiles.{one_tile}
 use Rattle.mvt_wire.specs.Tile.{TileRecord}
 use Rattle.mvt_gate.specs.Dump.{IsDumpAnswer, dump_text}
@@ -19,7 +20,7 @@ no_meeting bytes fault layer feature polygon (wire code scope at field holds) me
 -- bytes have one wire fault of least place
 one_least_wire : (bytes : List ℕ) (fault other : Fault) → IsLeast (IsWireFault bytes) fault → IsLeast (IsWireFault bytes) other → fault ≡ other
 one_least_wire bytes fault other first second =
-    elim (one_least bytes fault other (least_of_wire bytes fault first) (least_of_wire bytes other second)) [
+    elim (one_least Polygon bytes fault other (least_of_wire Polygon bytes fault first) (least_of_wire Polygon bytes other second)) [
       | inl same ↦ same
       | inr meetings ↦ absurd (no_meeting bytes fault meetings.layer meetings.feature meetings.polygon first.holds meetings.one)
     ]

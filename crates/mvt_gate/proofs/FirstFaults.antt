@@ -3,13 +3,14 @@ use Rattle.std.proofs.Common.{◌≡◌, ℕ, ◌<◌, ◌≤◌, ◌⊎◌, inl
 use Rattle.std.proofs.lemmas.Bool.{cases_lt}
 use Rattle.mvt_confirm.proofs.TileFeatures.{one_list_of_rings}
 use Rattle.mvt_confirm.specs.Feature.{OfRings}
-use Rattle.mvt_confirm.specs.Geometry.{IsFaultOfGeometry, command, ring, meeting, outside, hole_in_hole}
+use Rattle.mvt_confirm.specs.Geometry.{IsFaultOfGeometryBy, command, ring, meeting, outside, hole_in_hole, in_polygon}
 use Rattle.mvt_fault.proofs.Places.{ComesFirst-reflexive}
 use Rattle.mvt_fault.specs.Code.{command_code, ring_code}
 use Rattle.mvt_fault.specs.Place.{place_of, ComesFirst, IsLeast}
 use Rattle.mvt_fault.specs.declared.command.CommandCode.{CommandCode}
 use Rattle.mvt_fault.specs.declared.fault.Fault.{Fault}
 use Rattle.mvt_fault.specs.declared.fault.Fault.TheVariants.{Command, Ring}
+use Rattle.mvt_fault.specs.declared.profile.Profile.{Profile}
 use Rattle.mvt_plane.proofs.CommandFaults.{one_command_fault}
 use Rattle.mvt_plane.specs.CommandFault.{HasCommandFault}
 use Rattle.mvt_plane.specs.Figure.{GeometryType, polygon, rings}
@@ -44,22 +45,23 @@ one_fault kind numbers code other index place bad its =
     (subst (λ (geometry_type : GeometryType). HasCommandFault geometry_type numbers other place) same its.2)
 
 -- so it comes before all other faults that a feature may have
-before_commands : (it : FeatureRecord) (layer feature : ℕ) (code : CommandCode) (index : ℕ) (other : Fault) → BreaksCommands it.kind it.geometry (command_code code) index → IsFaultOfGeometry it layer feature other
+before_commands : (profile : Profile) (it : FeatureRecord) (layer feature : ℕ) (code : CommandCode) (index : ℕ) (other : Fault) → BreaksCommands it.kind it.geometry (command_code code) index → IsFaultOfGeometryBy profile it layer feature other
     → ComesFirst (place_of (Command code layer feature index)) (place_of other)
-before_commands it layer feature code index other bad (command its_code place its) =
+before_commands profile it layer feature code index other bad (command its_code place its) =
     let same = one_fault it.kind it.geometry (command_code code) (command_code its_code) index place bad its in
     inr (refl, inr (refl, inr (refl, inr (refl, inr (same.1, inr (same.0, ComesFirst-reflexive (0 ∷ 0 ∷ 0 ∷ 0 ∷ [])))))))
-before_commands it layer feature code index other bad (ring its_code number of) = inr (refl, inr (refl, inr (refl, inl (omega arith))))
-before_commands it layer feature code index other bad (meeting number first second x y w of) = inr (refl, inr (refl, inr (refl, inl (omega arith))))
-before_commands it layer feature code index other bad (outside number hole vertex of) = inr (refl, inr (refl, inr (refl, inl (omega arith))))
-before_commands it layer feature code index other bad (hole_in_hole number hole vertex another of) = inr (refl, inr (refl, inr (refl, inl (omega arith))))
+before_commands profile it layer feature code index other bad (ring its_code number of) = inr (refl, inr (refl, inr (refl, inl (omega arith))))
+before_commands profile it layer feature code index other bad (meeting number first second x y w of) = inr (refl, inr (refl, inr (refl, inl (omega arith))))
+before_commands profile it layer feature code index other bad (outside number hole vertex of) = inr (refl, inr (refl, inr (refl, inl (omega arith))))
+before_commands profile it layer feature code index other bad (hole_in_hole number hole vertex another of) = inr (refl, inr (refl, inr (refl, inl (omega arith))))
+before_commands profile it layer feature code index other bad (in_polygon number vertex another of) = inr (refl, inr (refl, inr (refl, inl (omega arith))))
 
 -- a fault of commands is the first of its feature's geometry
-pub command_is_least : (it : FeatureRecord) (layer feature : ℕ) (code : CommandCode) (index : ℕ) → BreaksCommands it.kind it.geometry (command_code code) index
-    → IsLeast (IsFaultOfGeometry it layer feature) (Command code layer feature index)
-command_is_least it layer feature code index bad = record {
+pub command_is_least : (profile : Profile) (it : FeatureRecord) (layer feature : ℕ) (code : CommandCode) (index : ℕ) → BreaksCommands it.kind it.geometry (command_code code) index
+    → IsLeast (IsFaultOfGeometryBy profile it layer feature) (Command code layer feature index)
+command_is_least profile it layer feature code index bad = record {
   holds = command code index bad;
-  least = λ other broken. before_commands it layer feature code index other bad broken;
+  least = λ other broken. before_commands profile it layer feature code index other bad broken;
 }
 
 -- Rings
@@ -73,20 +75,21 @@ by_ring number code place other (inr same) = elim (cases_lt code other) [
 ]
 
 -- the first ring with a fault of its own comes before all other faults of its feature
-before_rings : (it : FeatureRecord) (layer feature : ℕ) (parts : List (List Position)) (found : RingFault) (other : Fault) → HasRings it.kind it.geometry parts → IsFirstRingFault parts found → IsFaultOfGeometry it layer feature other
+before_rings : (profile : Profile) (it : FeatureRecord) (layer feature : ℕ) (parts : List (List Position)) (found : RingFault) (other : Fault) → HasRings it.kind it.geometry parts → IsFirstRingFault parts found → IsFaultOfGeometryBy profile it layer feature other
     → ComesFirst (place_of (Ring found.code layer feature found.ring)) (place_of other)
-before_rings it layer feature parts found other has least (command its_code place its) = absurd (no_command_fault it parts (command_code its_code) place has its)
-before_rings it layer feature parts found other has least (ring its_code number of) =
+before_rings profile it layer feature parts found other has least (command its_code place its) = absurd (no_command_fault it parts (command_code its_code) place has its)
+before_rings profile it layer feature parts found other has least (ring its_code number of) =
     let first = least.first (ring_code its_code) number (of_these it parts (λ those. BreaksRings those (ring_code its_code) number) has of) in
     inr (refl, inr (refl, inr (refl, inr (refl, by_ring found.ring (ring_code found.code) number (ring_code its_code) first))))
-before_rings it layer feature parts found other has least (meeting number first second x y w of) = inr (refl, inr (refl, inr (refl, inl (omega arith))))
-before_rings it layer feature parts found other has least (outside number hole vertex of) = inr (refl, inr (refl, inr (refl, inl (omega arith))))
-before_rings it layer feature parts found other has least (hole_in_hole number hole vertex another of) = inr (refl, inr (refl, inr (refl, inl (omega arith))))
+before_rings profile it layer feature parts found other has least (meeting number first second x y w of) = inr (refl, inr (refl, inr (refl, inl (omega arith))))
+before_rings profile it layer feature parts found other has least (outside number hole vertex of) = inr (refl, inr (refl, inr (refl, inl (omega arith))))
+before_rings profile it layer feature parts found other has least (hole_in_hole number hole vertex another of) = inr (refl, inr (refl, inr (refl, inl (omega arith))))
+before_rings profile it layer feature parts found other has least (in_polygon number vertex another of) = inr (refl, inr (refl, inr (refl, inl (omega arith))))
 
 -- it is the first fault of the feature's geometry
-pub ring_is_least : (it : FeatureRecord) (layer feature : ℕ) (parts : List (List Position)) (found : RingFault) → HasRings it.kind it.geometry parts → IsFirstRingFault parts found
-    → IsLeast (IsFaultOfGeometry it layer feature) (Ring found.code layer feature found.ring)
-ring_is_least it layer feature parts found has least = record {
+pub ring_is_least : (profile : Profile) (it : FeatureRecord) (layer feature : ℕ) (parts : List (List Position)) (found : RingFault) → HasRings it.kind it.geometry parts → IsFirstRingFault parts found
+    → IsLeast (IsFaultOfGeometryBy profile it layer feature) (Ring found.code layer feature found.ring)
+ring_is_least profile it layer feature parts found has least = record {
   holds = ring found.code found.ring (parts, has, least.broken);
-  least = λ other broken. before_rings it layer feature parts found other has least broken;
+  least = λ other broken. before_rings profile it layer feature parts found other has least broken;
 }

@@ -5,6 +5,7 @@ pub mod DumpLists
 pub mod DumpTexts
 pub mod EngineLemmas
 pub mod FeatureGeometries
+pub mod FeatureWalk
 pub mod FieldsAnswers
 pub mod FieldsLineWalk
 pub mod FirstFaults

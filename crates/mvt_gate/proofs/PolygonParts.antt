@@ -2,24 +2,30 @@
 use Rattle.std.proofs.Common.{◌≡◌, ℕ, ◌+◌, ◌-◌, ◌<◌, ◌≤◌, inl, inr, List, [], ◌∷◌, length, slice_get, Some, sym, ◌∙◌, ap, subst, arith}
 use Rattle.std.proofs.lemmas.Bool.{cases_lt}
 use Rattle.std.proofs.lemmas.Option.{slice_get_within}
-use Rattle.mvt_confirm.specs.PolygonFault.{IsPolygonOf, IsMeeting}
-use Rattle.mvt_confirm.specs.Valid.{IsValidPolygon}
+use Rattle.mvt_confirm.specs.PolygonFault.{IsPolygonOf, IsMeetingBy}
+use Rattle.mvt_confirm.specs.Profiles.{IsKeptApart}
+use Rattle.mvt_confirm.specs.Valid.{AreApartBy}
+use Rattle.mvt_fault.specs.declared.profile.Profile.{Profile}
+use Rattle.mvt_fault.specs.declared.profile.Profile.TheVariants.{Polygon, Feature}
 use Rattle.mvt_fault.specs.Place.{ComesFirst}
+use Rattle.mvt_fault.specs.declared.ring.RingEdge.{RingEdge}
+use Rattle.mvt_plane.proofs.PolygonNumbers.{polygon_of_ring}
 use Rattle.mvt_plane.proofs.PartsOfRings.{ring_of_part, count_of_part, number_in_part, meeting_in_part, outside_in_part, in_hole_in_part}
 use Rattle.mvt_plane.specs.Meeting.{EdgeNumber, ComesBefore, MeetsWrongly}
 use Rattle.mvt_plane.specs.Nesting.{IsOutside, IsInHole}
 use Rattle.mvt_plane.specs.Part.{part_of, within_part, in_whole}
 use Rattle.mvt_plane.specs.Polygon.{PolygonRings, IsRingOf, IsHoleOf}
 use Rattle.mvt_plane.specs.Position.{Position}
-use Rattle.mvt_plane.specs.RationalPoint.{RationalPoint}
+use Rattle.mvt_plane.specs.RationalPoint.{RationalPoint, IsBounded}
 use Rattle.mvt_polygon.specs.Meeting.{first_of, second_of, IsMeetingOf}
 use Rattle.mvt_polygon.specs.Nesting.{one_polygon, IsNestFault, outside, in_hole, IsFirstNestFault}
 use Rattle.mvt_polygon.specs.Rings.{AreProperRings}
 use Rattle.mvt_polygon.specs.declared.meeting.Meeting.{Meeting}
 use Rattle.mvt_polygon.specs.declared.nesting.NestFault.{NestFault}
 use Rattle.mvt_polygon.specs.declared.nesting.NestFault.TheVariants.{Outside, InHole}
-use Rattle.mvt_gate.proofs.PolygonFaults.{IsFirstHole}
-use Rattle.mvt_gate.specs.Polygons.{AreApart}
+use Rattle.mvt_gate.proofs.PolygonFaults.{HasGoodHoles, IsFirstHole}
+use Rattle.mvt_gate.proofs.PolygonWalk.{begins_in_turn}
+use Rattle.mvt_gate.specs.Polygons.{AreValidBefore}
 
 -- Rings
 
@@ -56,6 +62,11 @@ in_order : (from : ℕ) (first second : EdgeNumber) → ComesBefore first second
 in_order from first second (inl less) = inl (omega arith)
 in_order from first second (inr same) = inr (ap (λ ring. from + ring) same.0, same.1)
 
+-- edges in order are of rings in order
+rings_in_order : (first second : EdgeNumber) → ComesBefore first second → first.ring ≤ second.ring
+rings_in_order first second (inl before) = omega arith
+rings_in_order first second (inr within) = let same = within.0 in omega arith
+
 -- the rings of a meeting in the part
 pub meeting_within : (parts : List (List Position)) (its : PolygonRings) (found : Meeting) → its.after ≤ length parts → IsMeetingOf (part_of parts its) found
     → (its.exterior + found.first_ring < its.after) × (its.exterior + found.second_ring < its.after)
@@ -64,21 +75,92 @@ meeting_within parts its found within meets =
     let second_below : found.second_ring < its.after - its.exterior = (ring_of_whole parts its found.second_ring meets.other_there.ring within meets.other_there.there).0 in
     (omega arith, omega arith)
 
--- a meeting in the part
-pub meeting_in_whole : (parts : List (List Position)) (polygon : ℕ) (its : PolygonRings) (found : Meeting) → its.after ≤ length parts → IsPolygonOf parts polygon its → IsMeetingOf (part_of parts its) found
-    → IsMeeting parts polygon (record { ring = its.exterior + found.first_ring; edge = found.first_edge }) (record { ring = its.exterior + found.second_ring; edge = found.second_edge }) found.point
-meeting_in_whole parts polygon its found within of_it meets =
+-- an edge of a meeting in the part, by its numbers in the whole
+abbrev pub edge_in_whole : ℕ → ℕ → ℕ → RingEdge
+edge_in_whole from ring edge = record { ring = from + ring; edge = edge }
+
+-- what a meeting in the part is in the whole, whichever polygon it is told for
+record IsMeetingOfWhole (parts : List (List Position)) (its : PolygonRings) (found : Meeting) : Type 0 where
+  first_in : IsRingOf its (its.exterior + found.first_ring)
+  second_in : IsRingOf its (its.exterior + found.second_ring)
+  in_order : ComesBefore (in_whole its.exterior (first_of found)) (in_whole its.exterior (second_of found))
+  bounded : IsBounded found.point
+  meets : MeetsWrongly parts (in_whole its.exterior (first_of found)) (in_whole its.exterior (second_of found)) found.point
+
+in_whole_of : (parts : List (List Position)) (its : PolygonRings) (found : Meeting) → its.after ≤ length parts → IsMeetingOf (part_of parts its) found → IsMeetingOfWhole parts its found
+in_whole_of parts its found within meets =
     let first_below : found.first_ring < its.after - its.exterior = (ring_of_whole parts its found.first_ring meets.one_there.ring within meets.one_there.there).0 in
     let second_below : found.second_ring < its.after - its.exterior = (ring_of_whole parts its found.second_ring meets.other_there.ring within meets.other_there.there).0 in
     record {
-      polygon_rings = its;
-      of = of_it;
       first_in = record { from = omega arith; before = omega arith };
       second_in = record { from = omega arith; before = omega arith };
       in_order = in_order its.exterior (first_of found) (second_of found) meets.in_order;
       bounded = meets.bounded;
       meets = (meeting_in_part parts its (first_of found) (second_of found) found.point first_below second_below).0 meets.meets;
     }
+
+-- a ring of the polygon is kept apart from it, by each profile
+kept_of_own : (profile : Profile) (its : PolygonRings) (ring : ℕ) → IsRingOf its ring → IsKeptApart profile its ring
+kept_of_own Polygon its ring of_it = of_it
+kept_of_own Feature its ring of_it = of_it.before
+
+-- a meeting in the part of a polygon
+pub meeting_in_whole : (profile : Profile) (parts : List (List Position)) (polygon : ℕ) (its : PolygonRings) (found : Meeting) → its.after ≤ length parts → IsPolygonOf parts polygon its → IsMeetingOf (part_of parts its) found
+    → IsMeetingBy profile parts polygon (edge_in_whole its.exterior found.first_ring found.first_edge) (edge_in_whole its.exterior found.second_ring found.second_edge) found.point
+meeting_in_whole profile parts polygon its found within of_it meets =
+    let whole = in_whole_of parts its found within meets in
+    record {
+      polygon_rings = its;
+      of = of_it;
+      first_in = kept_of_own profile its (its.exterior + found.first_ring) whole.first_in;
+      second_in = whole.second_in;
+      in_order = whole.in_order;
+      bounded = whole.bounded;
+      meets = whole.meets;
+    }
+
+-- The rings up to a polygon's last one
+
+-- those of the polygon and of all before it
+abbrev pub front_of : PolygonRings → PolygonRings
+front_of its = record { exterior = 0; after = its.after }
+
+-- where the polygons before this one are valid in their feature, the second edge of a meeting in the front is the polygon's
+second_in_front : (parts : List (List Position)) (polygon : ℕ) (its : PolygonRings) (found : Meeting) → IsPolygonOf parts polygon its → AreValidBefore Feature parts polygon → IsMeetingOfWhole parts (front_of its) found
+    → IsRingOf its (0 + found.second_ring)
+second_in_front parts polygon its found of_it valid whole = elim (cases_lt (0 + found.second_ring) its.exterior) [
+  | inl before ↦
+      let there = whole.meets.other_there in
+      let home = polygon_of_ring parts (0 + found.second_ring) of_it.sound (slice_get_within parts (0 + found.second_ring) there.ring there.there) in
+      let from = home.3.from in
+      let ends = home.3.before in
+      let number : home.0 < polygon = begins_in_turn parts home.0 polygon home.1.exterior its.exterior home.2.begins of_it.there.begins (omega arith) in
+      let in_turn : 0 + found.first_ring ≤ 0 + found.second_ring = rings_in_order (in_whole 0 (first_of found)) (in_whole 0 (second_of found)) whole.in_order in
+      absurd ((valid home.0 home.1 number home.2).apart (in_whole 0 (first_of found)) (in_whole 0 (second_of found)) found.point (omega arith) home.3 whole.meets)
+  | inr from ↦ record { from = from; before = whole.second_in.before }
+]
+
+-- so it is a meeting of the polygon, in its feature
+pub meeting_of_front : (parts : List (List Position)) (polygon : ℕ) (its : PolygonRings) (found : Meeting) → its.after ≤ length parts → IsPolygonOf parts polygon its → AreValidBefore Feature parts polygon → IsMeetingOf (part_of parts (front_of its)) found
+    → IsMeetingBy Feature parts polygon (edge_in_whole 0 found.first_ring found.first_edge) (edge_in_whole 0 found.second_ring found.second_edge) found.point
+meeting_of_front parts polygon its found within of_it valid meets =
+    let whole = in_whole_of parts (front_of its) found within meets in
+    record {
+      polygon_rings = its;
+      of = of_it;
+      first_in = whole.first_in.before;
+      second_in = second_in_front parts polygon its found of_it valid whole;
+      in_order = whole.in_order;
+      bounded = whole.bounded;
+      meets = whole.meets;
+    }
+
+-- where no edges of the front meet wrongly, the polygon's are apart from it
+pub apart_of_front : (parts : List (List Position)) (its : PolygonRings) → AreApartBy Polygon parts (front_of its) → AreApartBy Feature parts its
+apart_of_front parts its apart first second point before second_in =
+    apart first second point (record { from = omega arith; before = before }) (record { from = omega arith; before = second_in.before })
+
+-- The polygon alone
 
 -- an edge of the polygon, by its numbers in the part
 edge_in_part : (its : PolygonRings) (number : EdgeNumber) → IsRingOf its number.ring → (own : EdgeNumber) × (own.ring < its.after - its.exterior) × (number ≡ in_whole its.exterior own)
@@ -87,7 +169,7 @@ edge_in_part its number of_it =
     (record { ring = own.0; edge = number.edge }, own.1, ap (λ (ring : ℕ). record { ring = ring; edge = number.edge }) own.2)
 
 -- where no edges of the part meet wrongly, none of the polygon do
-pub apart_in_whole : (parts : List (List Position)) (its : PolygonRings) → ((first second : EdgeNumber) (point : RationalPoint) → ¬ MeetsWrongly (part_of parts its) first second point) → AreApart parts its
+pub apart_in_whole : (parts : List (List Position)) (its : PolygonRings) → ((first second : EdgeNumber) (point : RationalPoint) → ¬ MeetsWrongly (part_of parts its) first second point) → AreApartBy Polygon parts its
 apart_in_whole parts its none first second point first_in second_in meets =
     let own = edge_in_part its first first_in in
     let other = edge_in_part its second second_in in
@@ -125,9 +207,8 @@ own_other parts its ring vertex other wrong =
     (own.0, its_other.0, own.1, its_other.1)
 
 -- where the part has no such vertex, the polygon has none
-pub enclosed_in_whole : (parts : List (List Position)) (its : PolygonRings) → its.after ≤ length parts → AreApart parts its → ((fault : NestFault) → ¬ IsNestFault (part_of parts its) fault) → IsValidPolygon parts its
-enclosed_in_whole parts its within apart none = record {
-  apart = apart;
+pub enclosed_in_whole : (parts : List (List Position)) (its : PolygonRings) → its.after ≤ length parts → ((fault : NestFault) → ¬ IsNestFault (part_of parts its) fault) → HasGoodHoles parts its
+enclosed_in_whole parts its within none = record {
   enclosed = λ ring vertex wrong.
       let own = hole_in_part its ring wrong.hole in
       none (Outside own.0 vertex) (outside_of_part parts its own.0 vertex within (subst (λ (n : ℕ). IsOutside parts its n vertex) own.1 wrong));
@@ -135,7 +216,6 @@ enclosed_in_whole parts its within apart none = record {
       let own = own_other parts its ring vertex other wrong in
       none (InHole own.0 vertex own.1) (in_hole_of_part parts its own.0 vertex own.1 within
       (subst (λ (n : ℕ). IsInHole parts its n vertex (its.exterior + own.1)) own.2 (subst (IsInHole parts its ring vertex) own.3 wrong)));
-  beside = λ vertex other other_rings there inside. inside;
 }
 
 -- the last number of a place

@@ -3,7 +3,9 @@ use Rattle.std.proofs.Common.{◌≡◌, ℕ, suc, ◌+◌, ◌-◌, ◌<◌, �
 use Rattle.std.proofs.lemmas.List.{take-map, drop-map, length-map}
 use Rattle.std.specs.declared.alloc.Global.{Global}
 use Rattle.mvt_confirm.specs.PolygonFault.{IsPolygonOf}
-use Rattle.mvt_confirm.specs.Valid.{IsValidPolygon, AreValidRings}
+use Rattle.mvt_confirm.specs.Valid.{AreApartBy, IsValidPolygon, AreValidRings}
+use Rattle.mvt_fault.specs.declared.profile.Profile.{Profile}
+use Rattle.mvt_fault.specs.declared.profile.Profile.TheVariants.{Polygon, Feature}
 use Rattle.mvt_plane.specs.Meeting.{EdgeNumber, MeetsWrongly}
 use Rattle.mvt_plane.specs.Part.{part_of}
 use Rattle.mvt_plane.specs.Polygon.{IsExterior, NoExterior}
@@ -16,10 +18,10 @@ use Rattle.mvt_polygon.specs.Rings.{rings_of, AreProperRings}
 use Rattle.mvt_polygon.specs.declared.meeting.Meeting.{Meeting}
 use Rattle.mvt_polygon.specs.declared.nesting.NestFault.{NestFault}
 use Rattle.mvt_polygon.specs.declared.nesting.NestFault.TheVariants.{Outside, InHole}
-use Rattle.mvt_gate.proofs.PolygonFaults.{meeting_is_least, outside_is_least, in_hole_is_least}
-use Rattle.mvt_gate.proofs.PolygonParts.{part_is_drawn, meeting_within, apart_in_whole, enclosed_in_whole, meeting_in_whole, outside_in_whole, in_hole_in_whole, outside_is_first, in_hole_is_first}
+use Rattle.mvt_gate.proofs.PolygonFaults.{HasGoodHoles, meeting_is_least, outside_is_least, in_hole_is_least}
+use Rattle.mvt_gate.proofs.PolygonParts.{part_is_drawn, meeting_within, apart_in_whole, enclosed_in_whole, edge_in_whole, meeting_in_whole, meeting_of_front, apart_of_front, outside_in_whole, in_hole_in_whole, outside_is_first, in_hole_is_first}
 use Rattle.mvt_gate.proofs.PolygonWalk.{HasPassed, polygon_here, one_passed, all_passed}
-use Rattle.mvt_gate.specs.Polygons.{AreApart, IsFirstOfRings, AreValidBefore, AreWithin, IsRingWithin, fault_of_hole, fault_of_meeting, rings_at}
+use Rattle.mvt_gate.specs.Polygons.{IsFirstOfRings, AreValidBefore, AreWithin, IsRingWithin, fault_of_hole, fault_of_meeting, rings_at}
 use Rattle.mvt_gate.specs.declared.polygons.PolygonPlace.{PolygonPlace}
 
 -- the rings of the polygon, as a slice of the feature's
@@ -46,25 +48,51 @@ meeting_is_within rings place found within meets =
     meeting_within (rings_of rings) (rings_at place) found (within_rings rings place within) (subst (λ (parts : List (List Position)). IsMeetingOf parts found) (own_part rings place) meets)
 
 -- it is the first fault of its feature
-pub least_of_meeting : (rings : List (Vec Position Global)) (place : PolygonPlace) (found : Meeting) → place.after ≤ length rings → IsPolygonOf (rings_of rings) place.polygon (rings_at place)
-    → AreValidBefore (rings_of rings) place.polygon → IsMeetingOf (Own rings place) found → IsFirstOfRings (rings_of rings) place.layer place.feature (fault_of_meeting place found)
-least_of_meeting rings place found within of_it valid meets =
-    meeting_is_least (rings_of rings) place.layer place.feature place.polygon (record { ring = place.exterior + found.first_ring; edge = found.first_edge }) (record { ring = place.exterior + found.second_ring; edge = found.second_edge })
+pub least_of_meeting : (profile : Profile) (rings : List (Vec Position Global)) (place : PolygonPlace) (found : Meeting) → place.after ≤ length rings → IsPolygonOf (rings_of rings) place.polygon (rings_at place)
+    → AreValidBefore profile (rings_of rings) place.polygon → IsMeetingOf (Own rings place) found → IsFirstOfRings profile (rings_of rings) place.layer place.feature (fault_of_meeting place found)
+least_of_meeting profile rings place found within of_it valid meets =
+    meeting_is_least profile (rings_of rings) place.layer place.feature place.polygon (edge_in_whole place.exterior found.first_ring found.first_edge) (edge_in_whole place.exterior found.second_ring found.second_edge)
     found.point.x found.point.y found.point.w valid
-    (meeting_in_whole (rings_of rings) place.polygon (rings_at place) found (within_rings rings place within) of_it (subst (λ (parts : List (List Position)). IsMeetingOf parts found) (own_part rings place) meets))
+    (meeting_in_whole profile (rings_of rings) place.polygon (rings_at place) found (within_rings rings place within) of_it (subst (λ (parts : List (List Position)). IsMeetingOf parts found) (own_part rings place) meets))
 
 -- where no edges of the slice meet wrongly, none of the polygon do
-pub apart_by_slice : (rings : List (Vec Position Global)) (place : PolygonPlace) → ((first second : EdgeNumber) (point : RationalPoint) → ¬ MeetsWrongly (Own rings place) first second point) → AreApart (rings_of rings) (rings_at place)
+pub apart_by_slice : (rings : List (Vec Position Global)) (place : PolygonPlace) → ((first second : EdgeNumber) (point : RationalPoint) → ¬ MeetsWrongly (Own rings place) first second point) → AreApartBy Polygon (rings_of rings) (rings_at place)
 apart_by_slice rings place none =
     apart_in_whole (rings_of rings) (rings_at place)
     (subst (λ (parts : List (List Position)). (first second : EdgeNumber) (point : RationalPoint) → ¬ MeetsWrongly parts first second point) (own_part rings place) none)
 
--- where no hole of it is wrong either, the polygon is valid
-pub valid_by_slice : (rings : List (Vec Position Global)) (place : PolygonPlace) → place.after ≤ length rings → AreApart (rings_of rings) (rings_at place) → ((fault : NestFault) → ¬ IsNestFault (Own rings place) fault)
+-- where no hole of it is wrong, none of the polygon is
+pub good_by_slice : (rings : List (Vec Position Global)) (place : PolygonPlace) → place.after ≤ length rings → ((fault : NestFault) → ¬ IsNestFault (Own rings place) fault) → HasGoodHoles (rings_of rings) (rings_at place)
+good_by_slice rings place within enclosed =
+    enclosed_in_whole (rings_of rings) (rings_at place) (within_rings rings place within)
+    (subst (λ (parts : List (List Position)). (fault : NestFault) → ¬ IsNestFault parts fault) (own_part rings place) enclosed)
+
+-- so the polygon is valid by itself
+pub valid_by_slice : (rings : List (Vec Position Global)) (place : PolygonPlace) → place.after ≤ length rings → AreApartBy Polygon (rings_of rings) (rings_at place) → ((fault : NestFault) → ¬ IsNestFault (Own rings place) fault)
     → IsValidPolygon (rings_of rings) (rings_at place)
 valid_by_slice rings place within apart enclosed =
-    enclosed_in_whole (rings_of rings) (rings_at place) (within_rings rings place within) apart
-    (subst (λ (parts : List (List Position)). (fault : NestFault) → ¬ IsNestFault parts fault) (own_part rings place) enclosed)
+    let good = good_by_slice rings place within enclosed in
+    record { apart = apart; enclosed = good.enclosed; side_by_side = good.side_by_side; beside = λ vertex other other_rings there inside. inside }
+
+-- The rings up to the polygon's last one
+
+-- as a place of their own
+abbrev pub front_place : PolygonPlace → PolygonPlace
+front_place place = record { layer = place.layer; feature = place.feature; polygon = place.polygon; exterior = 0; after = place.after }
+
+-- a meeting of them is the first fault of the feature
+pub least_of_front : (rings : List (Vec Position Global)) (place : PolygonPlace) (found : Meeting) → place.after ≤ length rings → IsPolygonOf (rings_of rings) place.polygon (rings_at place)
+    → AreValidBefore Feature (rings_of rings) place.polygon → IsMeetingOf (Own rings (front_place place)) found → IsFirstOfRings Feature (rings_of rings) place.layer place.feature (fault_of_meeting (front_place place) found)
+least_of_front rings place found within of_it valid meets =
+    meeting_is_least Feature (rings_of rings) place.layer place.feature place.polygon (edge_in_whole 0 found.first_ring found.first_edge) (edge_in_whole 0 found.second_ring found.second_edge)
+    found.point.x found.point.y found.point.w valid
+    (meeting_of_front (rings_of rings) place.polygon (rings_at place) found (within_rings rings place within) of_it valid (subst (λ (parts : List (List Position)). IsMeetingOf parts found) (own_part rings (front_place place)) meets))
+
+-- where none of their edges meet wrongly, the polygon is apart from those before it
+pub apart_by_front : (rings : List (Vec Position Global)) (place : PolygonPlace) → ((first second : EdgeNumber) (point : RationalPoint) → ¬ MeetsWrongly (Own rings (front_place place)) first second point) → AreApartBy Feature (rings_of rings) (rings_at place)
+apart_by_front rings place none = apart_of_front (rings_of rings) (rings_at place) (apart_by_slice rings (front_place place) none)
+
+-- Holes
 
 -- the first hole of the slice that is wrong is so in the part
 first_in_part : (rings : List (Vec Position Global)) (place : PolygonPlace) (fault : NestFault) → IsFirstNestFault (Own rings place) fault → IsFirstNestFault (part_of (rings_of rings) (rings_at place)) fault
@@ -79,18 +107,18 @@ hole_is_within rings place (InHole ring vertex other) within least =
     (wrong.hole.before, wrong.other_hole.before)
 
 -- where no edges meet wrongly, it is the first fault of its feature
-pub least_of_hole : (rings : List (Vec Position Global)) (place : PolygonPlace) (fault : NestFault) → place.after ≤ length rings → IsPolygonOf (rings_of rings) place.polygon (rings_at place)
-    → AreValidBefore (rings_of rings) place.polygon → AreApart (rings_of rings) (rings_at place) → IsFirstNestFault (Own rings place) fault
-    → IsFirstOfRings (rings_of rings) place.layer place.feature (fault_of_hole place fault)
-least_of_hole rings place (Outside ring vertex) within of_it valid apart least =
+pub least_of_hole : (profile : Profile) (rings : List (Vec Position Global)) (place : PolygonPlace) (fault : NestFault) → place.after ≤ length rings → IsPolygonOf (rings_of rings) place.polygon (rings_at place)
+    → AreValidBefore profile (rings_of rings) place.polygon → AreApartBy profile (rings_of rings) (rings_at place) → IsFirstNestFault (Own rings place) fault
+    → IsFirstOfRings profile (rings_of rings) place.layer place.feature (fault_of_hole place fault)
+least_of_hole profile rings place (Outside ring vertex) within of_it valid apart least =
     let fits = within_rings rings place within in
     let its = first_in_part rings place (Outside ring vertex) least in
-    outside_is_least (rings_of rings) place.layer place.feature place.polygon (place.exterior + ring) vertex (rings_at place) of_it valid apart
+    outside_is_least profile (rings_of rings) place.layer place.feature place.polygon (place.exterior + ring) vertex (rings_at place) of_it valid apart
     (outside_in_whole (rings_of rings) (rings_at place) ring vertex fits its.holds) (outside_is_first (rings_of rings) (rings_at place) ring vertex fits its)
-least_of_hole rings place (InHole ring vertex other) within of_it valid apart least =
+least_of_hole profile rings place (InHole ring vertex other) within of_it valid apart least =
     let fits = within_rings rings place within in
     let its = first_in_part rings place (InHole ring vertex other) least in
-    in_hole_is_least (rings_of rings) place.layer place.feature place.polygon (place.exterior + ring) vertex (place.exterior + other) (rings_at place) of_it valid apart
+    in_hole_is_least profile (rings_of rings) place.layer place.feature place.polygon (place.exterior + ring) vertex (place.exterior + other) (rings_at place) of_it valid apart
     (in_hole_in_whole (rings_of rings) (rings_at place) ring vertex other fits its.holds) (in_hole_is_first (rings_of rings) (rings_at place) ring vertex other fits its)
 
 -- a valid polygon is passed

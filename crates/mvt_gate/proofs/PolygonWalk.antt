@@ -4,18 +4,41 @@ use Rattle.std.proofs.lemmas.Bool.{cases_lt}
 use Rattle.std.proofs.lemmas.Option.{slice_get_within}
 use Rattle.mvt_confirm.specs.PolygonFault.{IsPolygonOf}
 use Rattle.mvt_confirm.specs.Valid.{IsValidPolygon, AreValidRings}
+use Rattle.mvt_fault.specs.declared.profile.Profile.TheVariants.{Polygon}
 use Rattle.mvt_plane.proofs.SamePolygons.{exterior_of_polygon, first_begins, same_polygon, one_polygon}
-use Rattle.mvt_plane.specs.Polygon.{IsExterior, NoExterior, IsExteriorOf, next, PolygonRings, IsPolygon}
+use Rattle.mvt_plane.specs.Polygon.{IsExterior, NoExterior, IsExteriorOf, first, next, PolygonRings, IsPolygon}
 use Rattle.mvt_plane.specs.Position.{Position}
 use Rattle.mvt_plane.specs.Ring.{ArePolygonRings}
 use Rattle.mvt_gate.specs.Polygons.{AreValidBefore}
+
+-- The order of polygons is that of their exteriors
+
+-- up to an exterior
+numbers_up_to : (rings : List (List Position)) (polygon other one another : ℕ) → IsExteriorOf rings polygon one → IsExteriorOf rings other another → one ≤ another → polygon ≤ other
+numbers_up_to rings _ other _ another (first one is_exterior none) others below = omega arith
+numbers_up_to rings _ _ _ _ (next polygon before one begins less is_exterior none) (first another is_another none_before) below =
+    absurd (none_before before (omega arith) (omega arith) (exterior_of_polygon rings polygon before begins))
+numbers_up_to rings _ _ _ _ (next polygon before one begins less is_exterior none) (next other its_before another its_begins its_less is_another its_none) below = elim (cases_lt its_before before) [
+  | inl behind ↦ absurd (its_none before behind (omega arith) (exterior_of_polygon rings polygon before begins))
+  | inr up_to ↦ let most = numbers_up_to rings polygon other before its_before begins its_begins up_to in omega arith
+]
+
+-- before an exterior
+pub begins_in_turn : (rings : List (List Position)) (polygon other one another : ℕ) → IsExteriorOf rings polygon one → IsExteriorOf rings other another → one < another → polygon < other
+begins_in_turn rings polygon _ one _ its (first another is_another none) less = absurd (none one (omega arith) less (exterior_of_polygon rings polygon one its))
+begins_in_turn rings polygon _ one _ its (next other before another begins below is_another none) less = elim (cases_lt before one) [
+  | inl behind ↦ absurd (none one behind less (exterior_of_polygon rings polygon one its))
+  | inr up_to ↦ let most = numbers_up_to rings polygon other one before its begins up_to in omega arith
+]
+
+-- The walk
 
 -- The polygons before that of this number were passed, and all of them are valid. They are those that begin before this
 -- ring, which is the exterior of the polygon of this number, or is behind the last ring.
 pub record HasPassed (rings : List (List Position)) (polygon exterior : ℕ) : Type 0 where
   pub count : polygon ≤ exterior
   pub within : exterior ≤ length rings
-  pub valid : AreValidBefore rings polygon
+  pub valid : AreValidBefore Polygon rings polygon
   pub here : exterior < length rings → IsExteriorOf rings polygon exterior
   pub all : (earlier : ℕ) (it : PolygonRings) → IsPolygon rings earlier it → it.exterior < exterior → earlier < polygon
 
@@ -45,7 +68,7 @@ next_exterior parts polygon exterior after there less = elim there.ends [
 ]
 
 -- the polygons before the next one are valid
-valid_to_next : (parts : List (List Position)) (polygon : ℕ) (its : PolygonRings) → AreValidBefore parts polygon → IsPolygon parts polygon its → IsValidPolygon parts its → AreValidBefore parts (suc polygon)
+valid_to_next : (parts : List (List Position)) (polygon : ℕ) (its : PolygonRings) → AreValidBefore Polygon parts polygon → IsPolygon parts polygon its → IsValidPolygon parts its → AreValidBefore Polygon parts (suc polygon)
 valid_to_next parts polygon its valid there is_valid earlier it less at = elim (cases_lt earlier polygon) [
   | inl below ↦ valid earlier it below at
   | inr above ↦

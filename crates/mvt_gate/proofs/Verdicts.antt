@@ -4,14 +4,14 @@ use Rattle.std.proofs.Common.{◌≡◌, ℕ, List, ◌⊎◌, inl, inr, refl, s
 use Rattle.mvt_confirm.proofs.ShownParts.{shown_by_parts}
 use Rattle.mvt_confirm.proofs.TrueFaults.{no_fault_of_tile, shown_is_invalid}
 use Rattle.mvt_confirm.proofs.ValidParts.{valid_by_parts}
-use Rattle.mvt_confirm.specs.Geometry.{IsFaultOfGeometry}
-use Rattle.mvt_confirm.specs.Shows.{Shows}
-use Rattle.mvt_confirm.specs.Valid.{IsValidGeometry, Valid}
+use Rattle.mvt_confirm.specs.Geometry.{IsFaultOfGeometryBy}
+use Rattle.mvt_confirm.specs.Shows.{ShowsBy}
+use Rattle.mvt_confirm.specs.Valid.{IsValidGeometryBy, ValidBy}
 use Rattle.mvt_fault.proofs.Places.{ComesFirst-antisymmetric, same_place_or_meetings}
 use Rattle.mvt_fault.specs.Place.{AreMeetingsInOne, IsLeast, place_of}
 use Rattle.mvt_fault.specs.TrueFaults.{IsWireFault}
 use Rattle.mvt_fault.specs.declared.fault.Fault.{Fault}
-use Rattle.mvt_fault.specs.declared.profile.Profile.TheVariants.{Polygon}
+use Rattle.mvt_fault.specs.declared.profile.Profile.{Profile}
 use Rattle.mvt_tile.proofs.Tiles.{is_tile}
 use Rattle.mvt_tile.specs.RuleFaults.{BreaksAnyRule, KeepsRules}
 use Rattle.mvt_wire.proofs.Tiles.{one_tile}
@@ -19,9 +19,9 @@ use Rattle.mvt_wire.specs.Tile.{IsTile, TileRecord}
 use Rattle.mvt_wire.specs.WireFault.{WireFault}
 use Rattle.mvt_wire.specs.declared.cause.WireCause.{WireCause}
 use Rattle.mvt_wire.specs.declared.scope.Scope.{Scope}
-use Rattle.mvt_gate.specs.Check.{IsCheckAnswer}
+use Rattle.mvt_gate.specs.Check.{IsCheckAnswerBy}
 use Rattle.mvt_gate.specs.FaultLine.{fault_line}
-use Rattle.mvt_gate.specs.Verdict.{IsVerdict}
+use Rattle.mvt_gate.specs.Verdict.{IsVerdictBy}
 use Rattle.mvt_gate.specs.declared.engine.Outcome.{Outcome}
 use Rattle.mvt_gate.specs.declared.engine.Outcome.TheVariants as outcomes
 use Rattle.mvt_gate.specs.declared.verdict.Verdict.{Verdict}
@@ -30,48 +30,48 @@ use Rattle.mvt_gate.specs.declared.verdict.Verdict.TheVariants.{Yes, No}
 -- The verdict of each kind of bytes
 
 -- where no wire fault is true of the bytes, and they keep the rules as a tile, they are valid
-pub valid_without_fault : (bytes : List ℕ) → ((scope : Scope) (cause : WireCause) → ¬ WireFault bytes scope cause) → ((tile : TileRecord) → IsTile bytes tile → KeepsRules IsValidGeometry tile) → Valid bytes
-valid_without_fault bytes none keeps =
+pub valid_without_fault : (profile : Profile) (bytes : List ℕ) → ((scope : Scope) (cause : WireCause) → ¬ WireFault bytes scope cause) → ((tile : TileRecord) → IsTile bytes tile → KeepsRules (IsValidGeometryBy profile) tile) → ValidBy profile bytes
+valid_without_fault profile bytes none keeps =
     let tile = is_tile bytes none in
     let kept = keeps tile.0 tile.1 in
-    (valid_by_parts Polygon bytes).1 (tile.0, tile.1, kept.parts, kept.features)
+    (valid_by_parts profile bytes).1 (tile.0, tile.1, kept.parts, kept.features)
 
 -- the first wire fault is the first of all faults of the bytes
-pub least_of_wire : (bytes : List ℕ) (fault : Fault) → IsLeast (IsWireFault bytes) fault → IsLeast (Shows bytes) fault
-least_of_wire bytes fault least = record {
-  holds = (shown_by_parts Polygon bytes fault).1 (inl least.holds);
-  least = λ other shows. elim ((shown_by_parts Polygon bytes other).0 shows) [
+pub least_of_wire : (profile : Profile) (bytes : List ℕ) (fault : Fault) → IsLeast (IsWireFault bytes) fault → IsLeast (ShowsBy profile bytes) fault
+least_of_wire profile bytes fault least = record {
+  holds = (shown_by_parts profile bytes fault).1 (inl least.holds);
+  least = λ other shows. elim ((shown_by_parts profile bytes other).0 shows) [
     | inl its ↦ least.least other its
     | inr broken ↦ absurd (no_fault_of_tile bytes broken.0 fault broken.1 least.holds)
   ];
 }
 
 -- where no wire fault is true of the bytes, the first fault of the tile is
-pub least_of_tile : (bytes : List ℕ) (fault : Fault) → ((scope : Scope) (cause : WireCause) → ¬ WireFault bytes scope cause)
-    → ((tile : TileRecord) → IsTile bytes tile → IsLeast (BreaksAnyRule IsFaultOfGeometry tile) fault) → IsLeast (Shows bytes) fault
-least_of_tile bytes fault none first =
+pub least_of_tile : (profile : Profile) (bytes : List ℕ) (fault : Fault) → ((scope : Scope) (cause : WireCause) → ¬ WireFault bytes scope cause)
+    → ((tile : TileRecord) → IsTile bytes tile → IsLeast (BreaksAnyRule (IsFaultOfGeometryBy profile) tile) fault) → IsLeast (ShowsBy profile bytes) fault
+least_of_tile profile bytes fault none first =
     let tile = is_tile bytes none in
     let least = first tile.0 tile.1 in
     record {
-      holds = (shown_by_parts Polygon bytes fault).1 (inr (tile.0, tile.1, least.holds));
-      least = λ other shows. elim ((shown_by_parts Polygon bytes other).0 shows) [
+      holds = (shown_by_parts profile bytes fault).1 (inr (tile.0, tile.1, least.holds));
+      least = λ other shows. elim ((shown_by_parts profile bytes other).0 shows) [
         | inl its ↦ absurd (no_fault_of_tile bytes tile.0 other tile.1 its)
         | inr broken ↦
             let same : broken.0 ≡ tile.0 = one_tile bytes broken.0 tile.0 broken.1 tile.1 in
-            least.least other (subst (λ (it : TileRecord). BreaksAnyRule IsFaultOfGeometry it other) same broken.2)
+            least.least other (subst (λ (it : TileRecord). BreaksAnyRule (IsFaultOfGeometryBy profile) it other) same broken.2)
       ];
     }
 
 -- the verdict on bytes that aren't valid names a fault that is true of them
-pub fault_of_invalid : (bytes : List ℕ) (verdict : Verdict) → IsVerdict bytes verdict → ¬ Valid bytes → (fault : Fault) × (verdict ≡ No fault) × Shows bytes fault
-fault_of_invalid bytes Yes valid invalid = absurd (invalid valid)
-fault_of_invalid bytes (No fault) least invalid = (fault, refl, least.holds)
+pub fault_of_invalid : (profile : Profile) (bytes : List ℕ) (verdict : Verdict) → IsVerdictBy profile bytes verdict → ¬ ValidBy profile bytes → (fault : Fault) × (verdict ≡ No fault) × ShowsBy profile bytes fault
+fault_of_invalid profile bytes Yes valid invalid = absurd (invalid valid)
+fault_of_invalid profile bytes (No fault) least invalid = (fault, refl, least.holds)
 
 -- One verdict
 
 -- bytes have one fault of least place, or several meetings in one polygon
-pub one_least : (bytes : List ℕ) (fault other : Fault) → IsLeast (Shows bytes) fault → IsLeast (Shows bytes) other → (fault ≡ other) ⊎ AreMeetingsInOne fault other
-one_least bytes fault other first second =
+pub one_least : (profile : Profile) (bytes : List ℕ) (fault other : Fault) → IsLeast (ShowsBy profile bytes) fault → IsLeast (ShowsBy profile bytes) other → (fault ≡ other) ⊎ AreMeetingsInOne fault other
+one_least profile bytes fault other first second =
     same_place_or_meetings fault other
     (ComesFirst-antisymmetric (place_of fault) (place_of other) (first.least other second.holds) (second.least fault first.holds))
 
@@ -84,23 +84,23 @@ abbrev TellMeetings : List ℕ → List ℕ → Type 0
 TellMeetings line other = (fault : Fault) × (its : Fault) × (line ≡ fault_line fault) × (other ≡ fault_line its) × AreMeetingsInOne fault its
 
 -- verdicts on the same bytes are the same, or do that
-pub one_verdict : (bytes : List ℕ) (first second : Verdict) → IsVerdict bytes first → IsVerdict bytes second → (first ≡ second) ⊎ NameMeetings first second
-one_verdict bytes Yes Yes valid its = inl refl
-one_verdict bytes Yes (No fault) valid its = absurd (shown_is_invalid Polygon bytes fault its.holds valid)
-one_verdict bytes (No fault) Yes least valid = absurd (shown_is_invalid Polygon bytes fault least.holds valid)
-one_verdict bytes (No fault) (No other) least its = elim (one_least bytes fault other least its) [
+pub one_verdict : (profile : Profile) (bytes : List ℕ) (first second : Verdict) → IsVerdictBy profile bytes first → IsVerdictBy profile bytes second → (first ≡ second) ⊎ NameMeetings first second
+one_verdict profile bytes Yes Yes valid its = inl refl
+one_verdict profile bytes Yes (No fault) valid its = absurd (shown_is_invalid profile bytes fault its.holds valid)
+one_verdict profile bytes (No fault) Yes least valid = absurd (shown_is_invalid profile bytes fault least.holds valid)
+one_verdict profile bytes (No fault) (No other) least its = elim (one_least profile bytes fault other least its) [
   | inl same ↦ inl (ap No same)
   | inr meetings ↦ inr (fault, other, refl, refl, meetings)
 ]
 
 -- so for answers of `check`
-pub one_answer : (input : List ℕ) (first second : Outcome) (line other : List ℕ) → IsCheckAnswer input first line → IsCheckAnswer input second other → (first ≡ second) × ((line ≡ other) ⊎ TellMeetings line other)
-one_answer input outcomes.Yes outcomes.Yes line other a b = (refl, inl (a.1 ∙ sym b.1))
-one_answer input outcomes.Yes outcomes.No line other a b = absurd (shown_is_invalid Polygon input b.0 b.1.holds a.0)
-one_answer input outcomes.No outcomes.Yes line other a b = absurd (shown_is_invalid Polygon input a.0 a.1.holds b.0)
-one_answer input outcomes.No outcomes.No line other a b = (
+pub one_answer : (profile : Profile) (input : List ℕ) (first second : Outcome) (line other : List ℕ) → IsCheckAnswerBy profile input first line → IsCheckAnswerBy profile input second other → (first ≡ second) × ((line ≡ other) ⊎ TellMeetings line other)
+one_answer profile input outcomes.Yes outcomes.Yes line other a b = (refl, inl (a.1 ∙ sym b.1))
+one_answer profile input outcomes.Yes outcomes.No line other a b = absurd (shown_is_invalid profile input b.0 b.1.holds a.0)
+one_answer profile input outcomes.No outcomes.Yes line other a b = absurd (shown_is_invalid profile input a.0 a.1.holds b.0)
+one_answer profile input outcomes.No outcomes.No line other a b = (
   refl,
-  elim (one_least input a.0 b.0 a.1 b.1) [
+  elim (one_least profile input a.0 b.0 a.1 b.1) [
     | inl same ↦ inl (a.2 ∙ ap fault_line same ∙ sym b.2)
     | inr meetings ↦ inr (a.0, b.0, a.2, b.2, meetings)
   ],

@@ -1,9 +1,11 @@
 -- The answer of the program's `confirm`.
 use Rattle.std.specs.Prelude.{◌≡◌, ℕ, List, codes}
-use Rattle.mvt_confirm.specs.Shows.{Shows}
+use Rattle.mvt_confirm.specs.Shows.{ShowsBy}
 use Rattle.mvt_fault.specs.Reading.{IsNoJson, HasOtherShape, HasOtherRange}
 use Rattle.mvt_fault.specs.Text.{Reads}
 use Rattle.mvt_fault.specs.declared.fault.Fault.{Fault}
+use Rattle.mvt_fault.specs.declared.profile.Profile.{Profile}
+use Rattle.mvt_fault.specs.declared.profile.Profile.TheVariants.{Polygon}
 use Rattle.mvt_fault.specs.declared.reading.FaultTextError.{FaultTextError}
 use Rattle.mvt_fault.specs.declared.reading.FaultTextError.TheVariants.{Json, Shape, Range, Memory}
 use Rattle.mvt_gate.specs.declared.engine.Outcome.{Outcome}
@@ -17,11 +19,15 @@ confirmed_line = codes "{\"confirmed\":true}\n"
 abbrev pub unconfirmed_line : List ℕ
 unconfirmed_line = codes "{\"confirmed\":false}\n"
 
--- The claim is a text of a fault, and the line says whether that is true of the input. No input and claim have two
--- answers (the law `one_confirm_answer`).
+-- The claim is a text of a fault, and the line says whether that is true of the input, by the profile. No input and claim
+-- have two answers (the law `one_confirm_answer`).
+abbrev pub IsConfirmAnswerBy : Profile → List ℕ → List ℕ → Outcome → List ℕ → Type 0
+IsConfirmAnswerBy profile input claimed Yes line = (fault : Fault) × Reads claimed fault × ShowsBy profile input fault × (line ≡ confirmed_line)
+IsConfirmAnswerBy profile input claimed No line = (fault : Fault) × Reads claimed fault × (¬ ShowsBy profile input fault) × (line ≡ unconfirmed_line)
+
+-- the same by the profile that looks at each polygon by itself
 abbrev pub IsConfirmAnswer : List ℕ → List ℕ → Outcome → List ℕ → Type 0
-IsConfirmAnswer input claimed Yes line = (fault : Fault) × Reads claimed fault × Shows input fault × (line ≡ confirmed_line)
-IsConfirmAnswer input claimed No line = (fault : Fault) × Reads claimed fault × (¬ Shows input fault) × (line ≡ unconfirmed_line)
+IsConfirmAnswer = IsConfirmAnswerBy Polygon
 
 -- the claim is no text of a fault, for this reason
 abbrev pub IsRefusedClaim : List ℕ → FaultTextError → Type 0

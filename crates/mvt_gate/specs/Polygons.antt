@@ -1,30 +1,30 @@
 -- What is known of the rings of one feature while its polygons are looked at one after another (Mapbox Vector Tile
 -- Specification 2.1, section 4.3.4.4).
 use Rattle.std.specs.Prelude.{ℕ, ◌+◌, ◌<◌, List}
-use Rattle.mvt_confirm.specs.Geometry.{IsFaultOfGeometry}
-use Rattle.mvt_confirm.specs.Valid.{IsValidPolygon}
+use Rattle.mvt_confirm.specs.Geometry.{IsFaultOfGeometryBy}
+use Rattle.mvt_confirm.specs.Valid.{IsValidPolygonBy}
 use Rattle.mvt_fault.specs.Place.{IsLeast}
 use Rattle.mvt_fault.specs.declared.fault.Fault.{Fault}
 use Rattle.mvt_fault.specs.declared.fault.Fault.TheVariants as faults
+use Rattle.mvt_fault.specs.declared.profile.Profile.{Profile}
 use Rattle.mvt_plane.specs.Geometry.{HasRings}
-use Rattle.mvt_plane.specs.Meeting.{EdgeNumber, MeetsWrongly}
-use Rattle.mvt_plane.specs.Polygon.{IsRingOf, PolygonRings, IsPolygon}
+use Rattle.mvt_plane.specs.Polygon.{PolygonRings, IsPolygon}
 use Rattle.mvt_plane.specs.Position.{Position}
-use Rattle.mvt_plane.specs.RationalPoint.{RationalPoint}
+use Rattle.mvt_polygon.specs.declared.apart.ApartFault.{ApartFault}
 use Rattle.mvt_polygon.specs.declared.meeting.Meeting.{Meeting}
 use Rattle.mvt_polygon.specs.declared.nesting.NestFault.{NestFault}
 use Rattle.mvt_polygon.specs.declared.nesting.NestFault.TheVariants as nest_faults
 use Rattle.mvt_wire.specs.Tile.{FeatureRecord}
 use Rattle.mvt_gate.specs.declared.polygons.PolygonPlace.{PolygonPlace}
 
--- of a feature that has these rings, and these ordinals, the fault is the first of its geometry
-abbrev pub IsFirstOfRings : List (List Position) → ℕ → ℕ → Fault → Type 0
-IsFirstOfRings rings layer feature fault =
-    (feature_record : FeatureRecord) → HasRings feature_record.kind feature_record.geometry rings → IsLeast (IsFaultOfGeometry feature_record layer feature) fault
+-- of a feature that has these rings, and these ordinals, the fault is the first of its geometry, by the profile
+abbrev pub IsFirstOfRings : Profile → List (List Position) → ℕ → ℕ → Fault → Type 0
+IsFirstOfRings profile rings layer feature fault =
+    (feature_record : FeatureRecord) → HasRings feature_record.kind feature_record.geometry rings → IsLeast (IsFaultOfGeometryBy profile feature_record layer feature) fault
 
--- the polygons before that of this number are valid
-abbrev pub AreValidBefore : List (List Position) → ℕ → Type 0
-AreValidBefore rings polygon = (earlier : ℕ) (polygon_rings : PolygonRings) → earlier < polygon → IsPolygon rings earlier polygon_rings → IsValidPolygon rings polygon_rings
+-- the polygons before that of this number are valid by the profile
+abbrev pub AreValidBefore : Profile → List (List Position) → ℕ → Type 0
+AreValidBefore profile rings polygon = (earlier : ℕ) (polygon_rings : PolygonRings) → earlier < polygon → IsPolygon rings earlier polygon_rings → IsValidPolygonBy profile rings polygon_rings
 
 -- One polygon
 
@@ -35,11 +35,6 @@ rings_at place = record { exterior = place.exterior; after = place.after }
 -- a ring's number in the feature, of one by its number in the polygon, is one of the polygon's rings
 abbrev pub IsRingWithin : PolygonPlace → ℕ → Type 0
 IsRingWithin place ring = place.exterior + ring < place.after
-
--- no edges of these rings meet wrongly
-abbrev pub AreApart : List (List Position) → PolygonRings → Type 0
-AreApart rings polygon_rings = (first second : EdgeNumber) (point : RationalPoint) → IsRingOf polygon_rings first.ring → IsRingOf polygon_rings second.ring
-    → ¬ MeetsWrongly rings first second point
 
 -- the fault of a meeting, with the numbers that the rings have in the feature
 abbrev pub fault_of_meeting : PolygonPlace → Meeting → Fault
@@ -59,3 +54,7 @@ fault_of_hole place (nest_faults.InHole ring vertex other) =
 abbrev pub AreWithin : PolygonPlace → NestFault → Type 0
 AreWithin place (nest_faults.Outside ring vertex) = IsRingWithin place ring
 AreWithin place (nest_faults.InHole ring vertex other) = IsRingWithin place ring × IsRingWithin place other
+
+-- the fault of a vertex of the polygon's exterior that is inside another polygon
+abbrev pub fault_of_apart : PolygonPlace → ApartFault → Fault
+fault_of_apart place found = faults.InPolygon place.layer place.feature place.polygon found.vertex found.other

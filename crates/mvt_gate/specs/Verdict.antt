@@ -1,13 +1,19 @@
 -- What the gate says of a tile's bytes.
 use Rattle.std.specs.Prelude.{ℕ, List}
-use Rattle.mvt_confirm.specs.Shows.{Shows}
-use Rattle.mvt_confirm.specs.Valid.{Valid}
+use Rattle.mvt_confirm.specs.Shows.{ShowsBy}
+use Rattle.mvt_confirm.specs.Valid.{ValidBy}
 use Rattle.mvt_fault.specs.Place.{IsLeast}
+use Rattle.mvt_fault.specs.declared.profile.Profile.{Profile}
+use Rattle.mvt_fault.specs.declared.profile.Profile.TheVariants.{Polygon}
 use Rattle.mvt_gate.specs.declared.verdict.Verdict.{Verdict}
 use Rattle.mvt_gate.specs.declared.verdict.Verdict.TheVariants.{Yes, No}
 
--- The bytes are a valid tile; or a fault is true of them, and of all these the one that is named comes first. No bytes have
--- two verdicts, but that of two meetings in one polygon either may be named (the law `one_verdict`).
+-- The bytes are a valid tile by the profile; or a fault is true of them, and of all these the one that is named comes first.
+-- No bytes have two verdicts, but that of two meetings in one polygon either may be named (the law `one_verdict`).
+abbrev pub IsVerdictBy : Profile → List ℕ → Verdict → Type 0
+IsVerdictBy profile bytes Yes = ValidBy profile bytes
+IsVerdictBy profile bytes (No fault) = IsLeast (ShowsBy profile bytes) fault
+
+-- the same by the profile that looks at each polygon by itself
 abbrev pub IsVerdict : List ℕ → Verdict → Type 0
-IsVerdict bytes Yes = Valid bytes
-IsVerdict bytes (No fault) = IsLeast (Shows bytes) fault
+IsVerdict = IsVerdictBy Polygon

@@ -1,13 +1,13 @@
 //! The promise of the gate as one contract: what the judge and the separate checker say of the same bytes.
 ghost use Rattle.std.specs.Prelude.{◌≡◌, ◌↔◌, IfOk, IsTrue};
-ghost use Rattle.mvt_confirm.specs.Shows.{Shows};
-ghost use Rattle.mvt_confirm.specs.Valid.{Valid};
+ghost use Rattle.mvt_confirm.specs.Shows.{Shows, ShowsBy};
+ghost use Rattle.mvt_confirm.specs.Valid.{Valid, ValidBy};
 ghost use Rattle.mvt_fault.specs.Place.{IsLeast};
 ghost use Rattle.mvt_fault.specs.declared.fault.Fault.{Fault};
 
-use crate::verdict::{Verdict, judge};
-use mvt_confirm::confirm;
-use mvt_fault::Fault;
+use crate::verdict::{Verdict, judge_with};
+use mvt_confirm::confirm_with;
+use mvt_fault::{Fault, Profile};
 use std::alloc::{AllocError, Global};
 
 /// What the judge and the checker say of the same bytes.
@@ -43,14 +43,33 @@ pub fn judge_and_confirm(
     ensures is_confirmed_exactly_where_shown { IfOk result (λ said. IsTrue said.is_confirmed ↔ ((fault : Fault) × (said.verdict ≡ Verdict.No fault) × Shows bytes.now fault)) }
     ensures is_other_confirmed_exactly_where_shown { IfOk result (λ said. IsTrue said.is_other_confirmed ↔ Shows bytes.now other.now) }
 {
-    let verdict = judge(alloc, bytes)?;
+    judge_and_confirm_with(alloc, Profile::Polygon, bytes, other)
+}
+
+/// The same by a profile: the promise of the gate for `judge_with` and `confirm_with`.
+pub fn judge_and_confirm_with(
+    alloc: Global,
+    profile: Profile,
+    bytes: &[u8],
+    other: &Fault,
+) -> Result<Agreement, AllocError>
+    ensures yes_exactly_where_valid { IfOk result (λ said. said.verdict ≡ Verdict.Yes ↔ ValidBy profile bytes.now) }
+    ensures else_no_with_a_confirmed_fault { IfOk result (λ said. ¬ ValidBy profile bytes.now → (fault : Fault) × (said.verdict ≡ Verdict.No fault) × IsTrue said.is_confirmed) }
+    ensures the_fault_of_least_place { IfOk result (λ said. (fault : Fault) → said.verdict ≡ Verdict.No fault → IsLeast (ShowsBy profile bytes.now) fault) }
+    ensures no_fault_of_a_valid_tile { IfOk result (λ said. ValidBy profile bytes.now → ¬ IsTrue said.is_other_confirmed) }
+
+    // Both answers are the checker's own.
+    ensures is_confirmed_exactly_where_shown { IfOk result (λ said. IsTrue said.is_confirmed ↔ ((fault : Fault) × (said.verdict ≡ Verdict.No fault) × ShowsBy profile bytes.now fault)) }
+    ensures is_other_confirmed_exactly_where_shown { IfOk result (λ said. IsTrue said.is_other_confirmed ↔ ShowsBy profile bytes.now other.now) }
+{
+    let verdict = judge_with(alloc, profile, bytes)?;
     let is_confirmed = match &verdict {
         Verdict::Yes => false,
-        Verdict::No(fault) => confirm(bytes, fault),
+        Verdict::No(fault) => confirm_with(profile, bytes, fault),
     };
     Ok(Agreement {
         verdict,
         is_confirmed,
-        is_other_confirmed: confirm(bytes, other),
+        is_other_confirmed: confirm_with(profile, bytes, other),
     })
 }

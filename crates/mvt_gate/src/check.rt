@@ -1,13 +1,14 @@
 //! The engine of `check`: whether an input is a tile that keeps the rules, as one line of JSON.
 ghost use Rattle.std.specs.Prelude.{◌≡◌, ◌≢◌, ℕ, List, IfOk, IfErr, OnOk};
-ghost use Rattle.mvt_gate.specs.Check.{IsCheckAnswer};
+ghost use Rattle.mvt_gate.specs.Check.{IsCheckAnswer, IsCheckAnswerBy};
 ghost use Rattle.mvt_gate.specs.Engine.{Answers, BreaksOff, HasFailed, IsClean, IsOfClaim, IsTooLarge, ReadsBytes};
 ghost use Rattle.mvt_gate.specs.Tally.{IsUntouched, counts_of};
 
 use crate::engine;
 use crate::engine::{EngineFault, Outcome, Task, fault_line};
 use crate::tally::Tally;
-use crate::verdict::{Verdict, judge};
+use crate::verdict::{Verdict, judge_with};
+use mvt_fault::Profile;
 use std::alloc::{AllocError, Global};
 use std::io::{Read, Write};
 
@@ -44,17 +45,49 @@ pub fn check_stream<R: Read, W: Write>(
     ensures prefix { result ≡ Err EngineFault.Write → BreaksOff IsCheckAnswer
         R.remaining W.contents reader.old reader.new writer.old writer.new }
 {
-    engine::run(alloc, &CheckTile, reader, writer)
+    check_stream_with(alloc, Profile::Polygon, reader, writer)
 }
 
-/// To judge a tile.
-struct CheckTile;
+/// The same by a profile: `judge_with` has the rules.
+pub fn check_stream_with<R: Read, W: Write>(
+    alloc: Global,
+    profile: Profile,
+    reader: &mut Tally<R>,
+    writer: &mut Tally<W>,
+) -> Result<Outcome, EngineFault>
+    // The line is that of all that the reader gave, and it went out once and whole.
+    ensures answers { IfOk result (Answers (IsCheckAnswerBy profile)
+        R.remaining W.contents reader.old reader.new writer.old writer.new) }
+    ensures clean { OnOk result (IsClean writer.new (counts_of reader.new).interrupted) }
+
+    ensures read { result ≡ Err EngineFault.Read → HasFailed reader.new (counts_of writer.new).interrupted }
+    ensures too_large { result ≡ Err EngineFault.TooLarge → IsTooLarge reader.new (counts_of writer.new).interrupted }
+    ensures memory { result ≡ Err EngineFault.Memory → IsClean reader.new (counts_of writer.new).interrupted }
+    ensures write { result ≡ Err EngineFault.Write → HasFailed writer.new (counts_of reader.new).interrupted }
+    // The bytes that the reader's tally counted came in this run.
+    ensures counted { IfErr result (λ _. (input : List ℕ) × ReadsBytes R.remaining reader.old reader.new input) }
+    // There is no second input that could be wrong.
+    ensures no_claim { IfErr result (λ fault. ¬ IsOfClaim fault) }
+
+    // Before the line is whole, nothing goes out; after a failed write, a first part of the line.
+    ensures untouched { IfErr result (λ fault. fault ≢ EngineFault.Write → IsUntouched writer.old writer.new) }
+    ensures prefix { result ≡ Err EngineFault.Write → BreaksOff (IsCheckAnswerBy profile)
+        R.remaining W.contents reader.old reader.new writer.old writer.new }
+{
+    engine::run(alloc, &CheckTile { profile }, reader, writer)
+}
+
+/// To judge a tile by a profile.
+#[derive(Clone, Copy)]
+struct CheckTile {
+    profile: Profile,
+}
 
 impl Task for CheckTile {
-    ghost IsAnswer = { λ _. IsCheckAnswer };
+    ghost IsAnswer = { λ task. IsCheckAnswerBy task.profile };
 
     fn answer(&self, alloc: Global, input: &[u8]) -> Result<(Outcome, String), AllocError> {
-        match judge(alloc, input)? {
+        match judge_with(alloc, self.profile, input)? {
             Verdict::Yes => Ok((Outcome::Yes, String::from_str(alloc, "{\"ok\":true}\n")?)),
             Verdict::No(fault) => Ok((Outcome::No, fault_line(alloc, &fault)?)),
         }

@@ -1,15 +1,16 @@
 //! Laws of the answers: an input has one answer of `fields`, with one line, and at most one of `check`, `dump`
 //! and `confirm`; but of the meetings of edges in one polygon `check` may name any.
 ghost use Rattle.std.specs.Prelude.{◌≡◌, ◌⊎◌, ℕ, List};
-ghost use Rattle.mvt_confirm.specs.Shows.{Shows};
+ghost use Rattle.mvt_confirm.specs.Shows.{ShowsBy};
 ghost use Rattle.mvt_fault.specs.Place.{AreMeetingsInOne, IsLeast};
 ghost use Rattle.mvt_fault.specs.declared.fault.Fault.{Fault};
-ghost use Rattle.mvt_gate.specs.Check.{IsCheckAnswer};
-ghost use Rattle.mvt_gate.specs.Confirm.{IsConfirmAnswer};
+ghost use Rattle.mvt_fault.specs.declared.profile.Profile.{Profile};
+ghost use Rattle.mvt_gate.specs.Check.{IsCheckAnswerBy};
+ghost use Rattle.mvt_gate.specs.Confirm.{IsConfirmAnswerBy};
 ghost use Rattle.mvt_gate.specs.Dump.{IsDumpAnswer};
 ghost use Rattle.mvt_gate.specs.FaultLine.{fault_line};
 ghost use Rattle.mvt_gate.specs.Fields.{IsFieldsAnswer};
-ghost use Rattle.mvt_gate.specs.Verdict.{IsVerdict};
+ghost use Rattle.mvt_gate.specs.Verdict.{IsVerdictBy};
 ghost use Rattle.mvt_gate.specs.declared.engine.Outcome.{Outcome};
 ghost use Rattle.mvt_gate.specs.declared.verdict.Verdict.{Verdict};
 
@@ -23,20 +24,20 @@ pub fn one_fields_answer()
 /// Of the faults that are true of bytes, one alone has the least place; or all that have it are meetings in
 /// one polygon.
 pub fn one_least_fault()
-    ensures { (bytes : List ℕ) (fault other : Fault) → IsLeast (Shows bytes) fault → IsLeast (Shows bytes) other →
+    ensures { (profile : Profile) (bytes : List ℕ) (fault other : Fault) → IsLeast (ShowsBy profile bytes) fault → IsLeast (ShowsBy profile bytes) other →
         (fault ≡ other) ⊎ AreMeetingsInOne fault other }
 {}
 
 /// No bytes have two verdicts, but for those that name two meetings in one polygon.
 pub fn one_verdict()
-    ensures { (bytes : List ℕ) (first second : Verdict) → IsVerdict bytes first → IsVerdict bytes second →
+    ensures { (profile : Profile) (bytes : List ℕ) (first second : Verdict) → IsVerdictBy profile bytes first → IsVerdictBy profile bytes second →
         (first ≡ second) ⊎ ((fault : Fault) × (other : Fault) × (first ≡ Verdict.No fault) × (second ≡ Verdict.No other) × AreMeetingsInOne fault other) }
 {}
 
 /// No input has two answers of `check`, or two lines, but for those of two meetings in one polygon.
 pub fn one_check_answer()
-    ensures { (input : List ℕ) (first second : Outcome) (line other : List ℕ) →
-        IsCheckAnswer input first line → IsCheckAnswer input second other →
+    ensures { (profile : Profile) (input : List ℕ) (first second : Outcome) (line other : List ℕ) →
+        IsCheckAnswerBy profile input first line → IsCheckAnswerBy profile input second other →
         (first ≡ second) × ((line ≡ other) ⊎
         ((fault : Fault) × (its : Fault) × (line ≡ fault_line fault) × (other ≡ fault_line its) × AreMeetingsInOne fault its)) }
 {}
@@ -49,7 +50,7 @@ pub fn one_dump_answer()
 
 /// No tile and claim have two answers of `confirm`, or two lines: a text is one fault's at most.
 pub fn one_confirm_answer()
-    ensures { (input claimed : List ℕ) (first second : Outcome) (line other : List ℕ) →
-        IsConfirmAnswer input claimed first line → IsConfirmAnswer input claimed second other →
+    ensures { (profile : Profile) (input claimed : List ℕ) (first second : Outcome) (line other : List ℕ) →
+        IsConfirmAnswerBy profile input claimed first line → IsConfirmAnswerBy profile input claimed second other →
         (first ≡ second) × (line ≡ other) }
 {}

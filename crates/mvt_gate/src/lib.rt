@@ -17,11 +17,11 @@ mod runs;
 mod tally;
 mod verdict;
 
-pub use agreement::{Agreement, judge_and_confirm};
-pub use check::check_stream;
-pub use confirm::confirm_streams;
+pub use agreement::{Agreement, judge_and_confirm, judge_and_confirm_with};
+pub use check::{check_stream, check_stream_with};
+pub use confirm::{confirm_streams, confirm_streams_with};
 pub use dump::{dump_stream, dump_text};
 pub use engine::{EngineFault, Outcome};
 pub use fields::fields_stream;
 pub use tally::Tally;
-pub use verdict::{Verdict, judge};
+pub use verdict::{Verdict, judge, judge_with};

@@ -2,44 +2,52 @@
 //! Specification 2.1, section 4.3.4.4).
 ghost use Rattle.std.specs.Prelude.{◌≡◌, ℕ, ◌≤◌, List, length, IfOk, IfNone, IfSome};
 ghost use Rattle.mvt_confirm.specs.PolygonFault.{IsPolygonOf};
-ghost use Rattle.mvt_confirm.specs.Valid.{AreValidRings, IsValidPolygon};
+ghost use Rattle.mvt_confirm.specs.Valid.{AreValidRings, AreValidRingsBy, IsValidPolygon};
+ghost use Rattle.mvt_fault.specs.declared.profile.Profile.TheVariants.{Polygon};
 ghost use Rattle.mvt_plane.specs.Geometry.{HasRings};
 ghost use Rattle.mvt_plane.specs.Ring.{ArePolygonRings};
 ghost use Rattle.mvt_polygon.specs.Rings.{rings_of, AreProperRings};
 ghost use Rattle.mvt_gate.specs.Polygons.{IsFirstOfRings, AreValidBefore, AreWithin, IsRingWithin, fault_of_hole, fault_of_meeting, rings_at};
 
-use mvt_fault::{Fault, RingEdge};
+mod apart;
+
+use apart::feature_fault;
+use mvt_fault::{Fault, Profile, RingEdge};
 use mvt_plane::{Count, Point};
 use mvt_polygon::{Meeting, NestFault, PolygonFault, check_polygon, check_rings, polygon_end};
 use std::alloc::{AllocError, Global};
 
-/// The first fault of the rings that the geometry of a feature draws, or None where they are those of valid
-/// polygons: faults that rings have of their own come first, and then those of the polygons, one polygon
+/// The first fault of the rings that the geometry of a feature draws, or None where they are those of polygons that are
+/// valid by the profile: faults that rings have of their own come first, and then those of the polygons, one polygon
 /// after another. `layer` and `feature` are the ordinals of the layer in its tile and of the feature in its
 /// layer, which the fault reports. The only error is that memory was refused.
 pub(crate) fn rings_fault(
     alloc: Global,
+    profile: Profile,
     rings: &[Vec<Point>],
     count: &mut Count,
     layer: usize,
     feature: usize,
 ) -> Result<Option<Fault>, AllocError>
     requires { (numbers : List ℕ) × HasRings 3 numbers (rings_of rings.now) }
-    ensures valid { IfOk result (λ found. IfNone found (AreValidRings (rings_of rings.now))) }
-    ensures least { IfOk result (λ found. IfSome found (IsFirstOfRings (rings_of rings.now) layer feature)) }
+    ensures valid { IfOk result (λ found. IfNone found (AreValidRingsBy profile (rings_of rings.now))) }
+    ensures least { IfOk result (λ found. IfSome found (IsFirstOfRings profile (rings_of rings.now) layer feature)) }
 {
-    match check_rings(rings) {
-        Some(fault) => Ok(Some(Fault::Ring {
+    if let Some(fault) = check_rings(rings) {
+        return Ok(Some(Fault::Ring {
             code: fault.code,
             layer,
             feature,
             ring: fault.ring,
-        })),
-        None => polygons_fault(alloc, rings, count, layer, feature),
+        }));
+    }
+    match profile {
+        Profile::Polygon => polygons_fault(alloc, rings, count, layer, feature),
+        Profile::Feature => feature_fault(alloc, rings, count, layer, feature),
     }
 }
 
-/// The first fault of the polygons of a feature, one after another, or None where all of them are valid. No
+/// The first fault of the polygons of a feature, one after another, or None where each of them is valid by itself. No
 /// ring has a fault of its own.
 fn polygons_fault(
     alloc: Global,
@@ -51,7 +59,7 @@ fn polygons_fault(
     requires sound { ArePolygonRings (rings_of rings.now) }
     requires drawn { AreProperRings (rings_of rings.now) }
     ensures valid { IfOk result (λ found. IfNone found (AreValidRings (rings_of rings.now))) }
-    ensures least { IfOk result (λ found. IfSome found (IsFirstOfRings (rings_of rings.now) layer feature)) }
+    ensures least { IfOk result (λ found. IfSome found (IsFirstOfRings Polygon (rings_of rings.now) layer feature)) }
 {
     let mut polygon = 0;
     let mut exterior = 0;
@@ -87,7 +95,7 @@ struct PolygonPlace {
     after: usize,
 }
 
-/// The first fault of one polygon of a feature, or None where it is valid: edges that meet wrongly, and then
+/// The first fault of one polygon of a feature, or None where it is valid by itself: edges that meet wrongly, and then
 /// the holes. The polygons before it are valid.
 fn polygon_fault(
     alloc: Global,
@@ -98,9 +106,9 @@ fn polygon_fault(
     requires polygon { IsPolygonOf (rings_of rings.now) place.polygon (rings_at place) }
     requires within { place.after ≤ length rings.now }
     requires drawn { AreProperRings (rings_of rings.now) }
-    requires before { AreValidBefore (rings_of rings.now) place.polygon }
+    requires before { AreValidBefore Polygon (rings_of rings.now) place.polygon }
     ensures valid { IfOk result (λ found. IfNone found (IsValidPolygon (rings_of rings.now) (rings_at place))) }
-    ensures least { IfOk result (λ found. IfSome found (IsFirstOfRings (rings_of rings.now) place.layer place.feature)) }
+    ensures least { IfOk result (λ found. IfSome found (IsFirstOfRings Polygon (rings_of rings.now) place.layer place.feature)) }
 {
     match check_polygon(alloc, &rings[place.exterior..place.after], count)? {
         Some(PolygonFault::Meeting(meeting)) => Ok(Some(tell_meeting(place, meeting))),

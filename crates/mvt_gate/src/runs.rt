@@ -1,11 +1,12 @@
 //! Runs of the engines, for tests.
-use crate::check::check_stream;
-use crate::confirm::confirm_streams;
+use crate::check::{check_stream, check_stream_with};
+use crate::confirm::{confirm_streams, confirm_streams_with};
 use crate::device::{CALM, Manner, Sink, Source, bytes_of};
 use crate::dump::dump_stream;
 use crate::engine::{EngineFault, Outcome};
 use crate::fields::fields_stream;
 use crate::tally::Tally;
+use mvt_fault::Profile;
 use std::test::Fail;
 
 mod devices;
@@ -23,6 +24,10 @@ pub enum Engine {
     Check,
     Dump,
     Confirm,
+    /// `check` by a profile.
+    CheckBy(Profile),
+    /// `confirm` by a profile.
+    ConfirmBy(Profile),
 }
 
 /// Runs an engine on a tile, and `confirm` on a claim too, with devices of these manners for the tile, for the claim and
@@ -42,6 +47,12 @@ pub fn run(
         Engine::Check => check_stream(rt.alloc(), &mut tile, &mut writer),
         Engine::Dump => dump_stream(rt.alloc(), &mut tile, &mut writer),
         Engine::Confirm => confirm_streams(rt.alloc(), &mut tile, &mut claim, &mut writer),
+        Engine::CheckBy(profile) => {
+            check_stream_with(rt.alloc(), profile, &mut tile, &mut writer)
+        }
+        Engine::ConfirmBy(profile) => {
+            confirm_streams_with(rt.alloc(), profile, &mut tile, &mut claim, &mut writer)
+        }
     }
 }
 

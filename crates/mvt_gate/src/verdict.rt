@@ -1,19 +1,24 @@
-ghost use Rattle.std.specs.Prelude.{◌≡◌, IfOk};
-ghost use Rattle.mvt_confirm.specs.Shows.{Shows};
-ghost use Rattle.mvt_confirm.specs.Valid.{Valid};
+ghost use Rattle.std.specs.Prelude.{◌≡◌, IfNone, IfOk, IfSome};
+ghost use Rattle.mvt_confirm.specs.Geometry.{IsFaultOfGeometryBy};
+ghost use Rattle.mvt_confirm.specs.Shows.{Shows, ShowsBy};
+ghost use Rattle.mvt_confirm.specs.Valid.{IsValidGeometryBy, Valid, ValidBy};
+ghost use Rattle.mvt_fault.specs.Place.{IsLeast};
 ghost use Rattle.mvt_fault.specs.declared.fault.Fault.{Fault};
-ghost use Rattle.mvt_gate.specs.Verdict.{IsVerdict};
+ghost use Rattle.mvt_tile.specs.RuleFaults.{BreaksAnyRule, KeepsRules};
+ghost use Rattle.mvt_wire.specs.Tile.{IsTile, TileRecord};
+ghost use Rattle.mvt_gate.specs.Verdict.{IsVerdict, IsVerdictBy};
 ghost use Rattle.mvt_gate.specs.declared.verdict.Verdict.{Verdict};
 
-use crate::geometry::GeometryRule;
-use mvt_fault::Fault;
+use crate::geometry::{FeatureGeometry, PolygonGeometry};
+use mvt_fault::{Fault, Profile};
 use mvt_tile::{rule_fault, wire_fault};
 use std::alloc::{AllocError, Global};
 
 /// What the gate says of the bytes of a tile.
 #[derive(Clone, Copy, Debug, PartialEq, Eq)]
 pub enum Verdict {
-    /// The bytes are a valid tile: one that keeps every rule that `judge` names.
+    /// The bytes are a valid tile: one that keeps every rule that `judge` names, or in the profile
+    /// `Profile::Feature` every rule that `judge_with` names.
     Yes,
     /// They are not. Of all faults that are true of them this one comes first. All meetings of edges in one
     /// polygon have one place in that order; any of them may be reported.
@@ -38,12 +43,45 @@ pub fn judge(alloc: Global, bytes: &[u8]) -> Result<Verdict, AllocError>
     ensures verdict { IfOk result (IsVerdict bytes.now) }
     ensures invalid { IfOk result (λ verdict. ¬ Valid bytes.now → (fault : Fault) × (verdict ≡ Verdict.No fault) × Shows bytes.now fault) }
 {
+    judge_with(alloc, Profile::Polygon, bytes)
+}
+
+/// The same by a profile. `Profile::Polygon` asks what `judge` asks. `Profile::Feature` also asks that the polygons of a
+/// feature are apart: no two edges of all its rings cross or touch, but that neighbours share their vertex; and no
+/// vertex of a polygon's exterior is inside another polygon of the feature, which is inside that one's exterior and inside
+/// none of its holes. So a polygon may lie in a hole of another.
+///
+/// In the profile `Profile::Feature` each polygon is held against the rings before it and against all other polygons, so the
+/// work on a feature of many polygons grows with their number times that of its vertices. The only error is that memory
+/// was refused.
+pub fn judge_with(alloc: Global, profile: Profile, bytes: &[u8]) -> Result<Verdict, AllocError>
+    ensures verdict { IfOk result (IsVerdictBy profile bytes.now) }
+    ensures invalid { IfOk result (λ verdict. ¬ ValidBy profile bytes.now → (fault : Fault) × (verdict ≡ Verdict.No fault) × ShowsBy profile bytes.now fault) }
+{
     if let Some(fault) = wire_fault(bytes) {
         return Ok(Verdict::No(fault));
     }
-    match rule_fault(alloc, bytes, &mut GeometryRule::new(alloc))? {
+    match fault_of_rules(alloc, profile, bytes)? {
         None => Ok(Verdict::Yes),
         Some(fault) => Ok(Verdict::No(fault)),
+    }
+}
+
+/// The first fault of a tile by its rules and those of the profile, or None where it keeps them. The bytes have no wire
+/// fault. The only error is that memory was refused.
+fn fault_of_rules(
+    alloc: Global,
+    profile: Profile,
+    bytes: &[u8],
+) -> Result<Option<Fault>, AllocError>
+    requires { (tile : TileRecord) × IsTile bytes.now tile }
+    ensures none { IfOk result (λ found. IfNone found ((tile : TileRecord) → IsTile bytes.now tile → KeepsRules (IsValidGeometryBy profile) tile)) }
+    ensures least { IfOk result (λ found. IfSome found (λ fault. (tile : TileRecord) → IsTile bytes.now tile
+        → IsLeast (BreaksAnyRule (IsFaultOfGeometryBy profile) tile) fault)) }
+{
+    match profile {
+        Profile::Polygon => rule_fault(alloc, bytes, &mut PolygonGeometry::new(alloc)),
+        Profile::Feature => rule_fault(alloc, bytes, &mut FeatureGeometry::new(alloc)),
     }
 }
 

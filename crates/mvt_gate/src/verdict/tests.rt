@@ -6,6 +6,7 @@ mod bytes;
 mod calls;
 mod large;
 mod meetings;
+mod profiles;
 
 const TOOTH_BELOW: &str = "04 00 00 14 04 00 00 13";
 

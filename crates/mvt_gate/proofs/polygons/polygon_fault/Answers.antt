@@ -1,4 +1,5 @@
 use Rattle.std.proofs.Common.{Some, sym, ◌∙◌, ap, subst}
+use Rattle.mvt_fault.specs.declared.profile.Profile.TheVariants.{Polygon}
 use Rattle.mvt_polygon.specs.PolygonFault.{IsPolygonAnswer}
 use Rattle.mvt_polygon.specs.Rings.{rings_of}
 use Rattle.mvt_gate.proofs.PolygonPlaces.{own_is_drawn, meeting_is_within, hole_is_within, least_of_meeting, least_of_hole, apart_by_slice, valid_by_slice}
@@ -26,14 +27,14 @@ tell_hole-requires c =
 pub returns-in-Some-Meeting-clause-least : goal.returns-in-Some-Meeting-clause-least
 returns-in-Some-Meeting-clause-least c =
     let answer = subst (IsPolygonAnswer _) (c.in-Some-Meeting.is ∙ ap Some c.in-Some-Meeting.field-0-is) c.in_ok-meeting.ensures.answer in
-    subst (IsFirstOfRings (rings_of c.args.rings.now) c.args.place.layer c.args.place.feature) (sym c.tell_meeting.ensures)
-    (least_of_meeting c.args.rings.now c.args.place c.in-Some-Meeting.meeting c.requires.within c.requires.polygon c.requires.before answer)
+    subst (IsFirstOfRings Polygon (rings_of c.args.rings.now) c.args.place.layer c.args.place.feature) (sym c.tell_meeting.ensures)
+    (least_of_meeting Polygon c.args.rings.now c.args.place c.in-Some-Meeting.meeting c.requires.within c.requires.polygon c.requires.before answer)
 
 pub returns-in-Some-Nesting-clause-least : goal.returns-in-Some-Nesting-clause-least
 returns-in-Some-Nesting-clause-least c =
     let answer = subst (IsPolygonAnswer _) (c.in-Some-Nesting.is ∙ ap Some c.in-Some-Nesting.field-0-is) c.in_ok-meeting.ensures.answer in
-    subst (IsFirstOfRings (rings_of c.args.rings.now) c.args.place.layer c.args.place.feature) (sym c.tell_hole.ensures)
-    (least_of_hole c.args.rings.now c.args.place c.in-Some-Nesting.fault c.requires.within c.requires.polygon c.requires.before
+    subst (IsFirstOfRings Polygon (rings_of c.args.rings.now) c.args.place.layer c.args.place.feature) (sym c.tell_hole.ensures)
+    (least_of_hole Polygon c.args.rings.now c.args.place c.in-Some-Nesting.fault c.requires.within c.requires.polygon c.requires.before
     (apart_by_slice c.args.rings.now c.args.place answer.0) answer.1)
 
 pub returns-in-None-clause-valid : goal.returns-in-None-clause-valid

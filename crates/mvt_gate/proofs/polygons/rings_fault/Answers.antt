@@ -4,8 +4,11 @@ use Rattle.mvt_gate.proofs.FirstFaults.{ring_is_least}
 use Rattle.mvt_gate.proofs.polygons.rings_fault.Goals as goal
 
 pub polygons_fault-requires-clause-drawn : goal.polygons_fault-requires-clause-drawn
-polygons_fault-requires-clause-drawn c = rings_are_drawn 3 c.requires.0 (rings_of c.args.rings.now) c.requires.1 c.in-None.ensures.none
+polygons_fault-requires-clause-drawn c = rings_are_drawn 3 c.requires.0 (rings_of c.args.rings.now) c.requires.1 c.in_default.ensures.none
+
+pub feature_fault-requires-clause-drawn : goal.feature_fault-requires-clause-drawn
+feature_fault-requires-clause-drawn c = rings_are_drawn 3 c.requires.0 (rings_of c.args.rings.now) c.requires.1 c.in_default.ensures.none
 
 pub returns-in-Some-clause-least : goal.returns-in-Some-clause-least
 returns-in-Some-clause-least c =
-    λ it has. ring_is_least it c.args.layer c.args.feature (rings_of c.args.rings.now) c.in-Some.fault has c.in-Some.ensures.least
+    λ it has. ring_is_least c.args.profile it c.args.layer c.args.feature (rings_of c.args.rings.now) c.in-Some.fault has c.in-Some.ensures.least

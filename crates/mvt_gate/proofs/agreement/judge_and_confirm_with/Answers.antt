@@ -1,7 +1,7 @@
 use Rattle.std.proofs.Common.{◌≡◌, subst}
-use Rattle.mvt_confirm.specs.Shows.{Shows}
-use Rattle.mvt_gate.proofs.agreement.judge_and_confirm.Goals as goal
-use Rattle.mvt_gate.proofs.agreement.judge_and_confirm.Goals.{in-Yes, in-No}
+use Rattle.mvt_confirm.specs.Shows.{ShowsBy}
+use Rattle.mvt_gate.proofs.agreement.judge_and_confirm_with.Goals as goal
+use Rattle.mvt_gate.proofs.agreement.judge_and_confirm_with.Goals.{in-Yes, in-No}
 
 pub returns-clause-is_confirmed_exactly_where_shown : goal.returns-clause-is_confirmed_exactly_where_shown
 returns-clause-is_confirmed_exactly_where_shown c =
@@ -13,12 +13,12 @@ returns-clause-is_confirmed_exactly_where_shown c =
       | in-No w ↦
           let is = w.in-No.is in
           let answer = w.is_confirmed-is in
-          let shown = w.confirm-is_confirmed.ensures.shown in (
+          let shown = w.confirm_with-is_confirmed.ensures.shown in (
             λ told. (w.in-No.fault, is, shown.0 (cc)),
             λ has.
                 let no = has.1 in
                 let same : has.0 ≡ w.in-No.fault = cc in
-                let accepted = shown.1 (subst (Shows c.args.bytes.now) same has.2) in
+                let accepted = shown.1 (subst (ShowsBy c.args.profile c.args.bytes.now) same has.2) in
                 cc,
           )
     ]

@@ -1,0 +1,105 @@
+//! The first fault of the polygons of a feature where they are kept apart.
+ghost use Rattle.std.specs.Prelude.{◌≡◌, ◌≤◌, ◌<◌, ℕ, length, IfNone, IfOk, IfSome};
+ghost use Rattle.mvt_confirm.specs.PolygonFault.{IsPolygonOf};
+ghost use Rattle.mvt_confirm.specs.Valid.{AreValidRingsBy, IsValidPolygonBy};
+ghost use Rattle.mvt_fault.specs.declared.profile.Profile.TheVariants.{Feature};
+ghost use Rattle.mvt_plane.specs.Ring.{ArePolygonRings};
+ghost use Rattle.mvt_polygon.specs.Apart.{IsApartFault, IsFirstApartFault};
+ghost use Rattle.mvt_polygon.specs.Polygons.{ArePolygons};
+ghost use Rattle.mvt_polygon.specs.Rings.{rings_of, AreProperRings};
+ghost use Rattle.mvt_polygon.specs.declared.apart.ApartFault.{ApartFault};
+ghost use Rattle.mvt_gate.specs.Polygons.{IsFirstOfRings, AreValidBefore, fault_of_apart, rings_at};
+
+use super::{PolygonPlace, tell_hole, tell_meeting};
+use mvt_fault::Fault;
+use mvt_plane::{Count, Point};
+use mvt_polygon::{PolygonFault, check_apart, check_polygon, find_meeting, groups};
+use std::alloc::{AllocError, Global};
+
+/// The first fault of the polygons of a feature, one after another, or None where all of them are valid and apart. No ring
+/// has a fault of its own. Each polygon is held against the rings before it and against all other polygons, so the work
+/// grows with the number of polygons times that of vertices. The only error is that memory was refused.
+pub(super) fn feature_fault(
+    alloc: Global,
+    rings: &[Vec<Point>],
+    count: &mut Count,
+    layer: usize,
+    feature: usize,
+) -> Result<Option<Fault>, AllocError>
+    requires sound { ArePolygonRings (rings_of rings.now) }
+    requires drawn { AreProperRings (rings_of rings.now) }
+    ensures valid { IfOk result (λ found. IfNone found (AreValidRingsBy Feature (rings_of rings.now))) }
+    ensures least { IfOk result (λ found. IfSome found (IsFirstOfRings Feature (rings_of rings.now) layer feature)) }
+{
+    let polygons = groups(alloc, rings)?;
+    for polygon in 0..polygons.len() {
+        let (exterior, after) = polygons[polygon];
+        let place = PolygonPlace {
+            layer,
+            feature,
+            polygon,
+            exterior,
+            after,
+        };
+        if let Some(fault) = fault_in_feature(alloc, rings, &polygons, count, place)? {
+            return Ok(Some(fault));
+        }
+    }
+    Ok(None)
+}
+
+/// The first fault of one polygon of a feature, or None where it is valid and apart from all others: an edge of it that
+/// meets one of its own or of the polygons before it wrongly, then its holes, then a vertex of its exterior that is inside
+/// another polygon. The polygons before it are valid and apart.
+fn fault_in_feature(
+    alloc: Global,
+    rings: &[Vec<Point>],
+    polygons: &[(usize, usize)],
+    count: &mut Count,
+    place: PolygonPlace,
+) -> Result<Option<Fault>, AllocError>
+    requires polygon { IsPolygonOf (rings_of rings.now) place.polygon (rings_at place) }
+    requires within { place.after ≤ length rings.now }
+    requires drawn { AreProperRings (rings_of rings.now) }
+    requires before { AreValidBefore Feature (rings_of rings.now) place.polygon }
+    requires polygons { ArePolygons (rings_of rings.now) polygons.now }
+    requires there { place.polygon < length polygons.now }
+    ensures valid { IfOk result (λ found. IfNone found (IsValidPolygonBy Feature (rings_of rings.now) (rings_at place))) }
+    ensures least { IfOk result (λ found. IfSome found (IsFirstOfRings Feature (rings_of rings.now) place.layer place.feature)) }
+{
+    // the rings up to the polygon's last one
+    let front = PolygonPlace {
+        exterior: 0,
+        ..place
+    };
+    if let Some(meeting) = find_meeting(alloc, &rings[front.exterior..front.after], count)? {
+        return Ok(Some(tell_meeting(front, meeting)));
+    }
+    match check_polygon(alloc, &rings[place.exterior..place.after], count)? {
+        Some(PolygonFault::Meeting(meeting)) => Ok(Some(tell_meeting(place, meeting))),
+        Some(PolygonFault::Nesting(fault)) => Ok(Some(tell_hole(place, fault))),
+        None => Ok(fault_among_others(rings, polygons, place)),
+    }
+}
+
+/// The first fault of a polygon's exterior that is inside another polygon, or None.
+fn fault_among_others(
+    rings: &[Vec<Point>],
+    polygons: &[(usize, usize)],
+    place: PolygonPlace,
+) -> Option<Fault>
+    requires sound { ArePolygonRings (rings_of rings.now) }
+    requires polygons { ArePolygons (rings_of rings.now) polygons.now }
+    requires there { place.polygon < length polygons.now }
+    ensures none { IfNone result ((vertex other : ℕ) → ¬ IsApartFault (rings_of rings.now) place.polygon vertex other) }
+    ensures first { IfSome result (λ fault. (found : ApartFault) × (fault ≡ fault_of_apart place found) × IsFirstApartFault (rings_of rings.now) place.polygon found) }
+{
+    let found = check_apart(rings, polygons, place.polygon)?;
+    Some(Fault::InPolygon {
+        layer: place.layer,
+        feature: place.feature,
+        polygon: place.polygon,
+        vertex: found.vertex,
+        other: found.other,
+    })
+}
