@@ -1,6 +1,6 @@
 -- What the program's words have answered.
 use Rattle.std.specs.Prelude.{ℕ, List}
-use Rattle.mvt_gate.specs.Check.{IsCheckAnswer}
+use Rattle.mvt_gate.specs.Check.{IsCheckAnswerBy}
 use Rattle.mvt_gate.specs.Dump.{IsDumpAnswer}
 use Rattle.mvt_gate.specs.Fields.{IsFieldsAnswer}
 use Rattle.mvt_gate.specs.declared.engine.Outcome.{Outcome}
@@ -10,5 +10,5 @@ use Rattle.mvtgate.specs.declared.run.Engine.TheVariants.{Fields, Check, Dump}
 -- the outcome and the line that an engine answers an input with
 abbrev pub IsAnswer : Engine → List ℕ → Outcome → List ℕ → Type 0
 IsAnswer Fields = IsFieldsAnswer
-IsAnswer Check = IsCheckAnswer
+IsAnswer (Check profile) = IsCheckAnswerBy profile
 IsAnswer Dump = IsDumpAnswer

@@ -1,13 +1,15 @@
 //! The whole run of the program: its words, its devices and its exit status.
-ghost use Rattle.std.specs.Prelude.{◌≡◌, ◌≢◌, ◌≤◌, ◌⊎◌, IfOk, IfErr};
-ghost use Rattle.clap.specs.Words.{kind_of};
+ghost use Rattle.std.specs.Prelude.{◌≡◌, ◌≢◌, ◌≤◌, ◌⊎◌, codes, IfOk, IfErr, Some};
+ghost use Rattle.clap.specs.Words.{first_value, found_of, kind_of};
 ghost use Rattle.mvt_gate.specs.Engine.{Answers, IsOfClaim};
 ghost use Rattle.mvtgate.specs.Status.{status_of};
 
 use clap::error::ErrorKind;
 use clap::{Arg, ArgMatches, Command};
+use mvt_fault::Profile;
 use mvt_gate::{
-    EngineFault, Outcome, Tally, check_stream, confirm_streams, dump_stream, fields_stream,
+    EngineFault, Outcome, Tally, check_stream_with, confirm_streams_with, dump_stream,
+    fields_stream,
 };
 use std::alloc::{AllocError, Global};
 use std::io::{Read, Write};
@@ -39,11 +41,20 @@ Exit status:
   4  out of memory
   5  the fault file holds no fault";
 
+/// The names of the profiles, that by which each polygon is looked at by itself first.
+static PROFILES: [&str; 2] = ["polygon", "feature"];
+
+/// What the help of a command says of profiles.
+const PROFILE_RULES: &str = "\
+Profiles:
+  polygon  the rings of each polygon neither cross nor touch, and its holes are inside it and not inside each other
+  feature  the same, and the polygons of one feature neither cross nor touch, and lie in each other only in a hole";
+
 /// What the program does with a tile alone.
 #[derive(Clone, Copy)]
 enum Engine {
     Fields,
-    Check,
+    Check(Profile),
     Dump,
 }
 
@@ -53,7 +64,11 @@ enum Call<'a> {
     /// An engine on a tile, of a file or of standard input.
     OneTile(Engine, Option<&'a str>),
     /// Whether a fault is true of a tile, each of a file.
-    Confirm { tile: &'a str, fault: &'a str },
+    Confirm {
+        profile: Profile,
+        tile: &'a str,
+        fault: &'a str,
+    },
 }
 
 impl Engine {
@@ -71,7 +86,7 @@ impl Engine {
     {
         match self {
             Engine::Fields => fields_stream(alloc, reader, writer),
-            Engine::Check => check_stream(alloc, reader, writer),
+            Engine::Check(profile) => check_stream_with(alloc, profile, reader, writer),
             Engine::Dump => dump_stream(alloc, reader, writer),
         }
     }
@@ -88,7 +103,13 @@ pub fn run<R: Files + Input + Print + Eprint + AllocGlobal>(rt: &R, words: &[Str
     match command.try_get_matches_from(words) {
         Ok(matches) => match call_of(&matches) {
             Some(Call::OneTile(engine, file)) => run_engine(rt, engine, file),
-            Some(Call::Confirm { tile, fault }) => run_confirm(rt, tile, fault),
+            Some(
+                Call::Confirm {
+                    profile,
+                    tile,
+                    fault,
+                },
+            ) => run_confirm(rt, profile, tile, fault),
             // a command line with no command, which `clap` refuses itself
             None => BAD_WORDS,
         },
@@ -123,12 +144,16 @@ pub fn command_words<R: Env + Eprint + AllocGlobal>(rt: &R) -> Result<Vec<String
 
 fn command_line<'a>(alloc: Global) -> Result<Command<'a>, AllocError> {
     let command = program(alloc);
-    let fields = "Lists the outermost fields of a tile";
-    let command = with_tile_command(alloc, command, "fields", fields)?;
-    let check = "Says whether a tile is valid, and else names its first fault";
-    let command = with_tile_command(alloc, command, "check", check)?;
-    let command = with_tile_command(alloc, command, "dump", "Lists what a tile holds")?;
-    command.subcommand(confirm_command(alloc)?)
+    let fields = tile_command(alloc, "fields", "Lists the outermost fields of a tile")?;
+    let about = "Says whether a tile is valid, and else names its first fault";
+    let check = with_profile(alloc, tile_command(alloc, "check", about)?)?;
+    let dump = tile_command(alloc, "dump", "Lists what a tile holds")?;
+    let confirm = with_profile(alloc, confirm_command(alloc)?)?;
+    command
+        .subcommand(fields)?
+        .subcommand(check)?
+        .subcommand(dump)?
+        .subcommand(confirm)
 }
 
 /// The program, with no command yet.
@@ -142,16 +167,25 @@ fn program<'a>(alloc: Global) -> Command<'a> {
         .subcommand_required(true)
 }
 
-/// The same with one more command, which reads one tile.
-fn with_tile_command<'a>(
+/// A command that reads one tile.
+fn tile_command<'a>(
     alloc: Global,
-    command: Command<'a>,
     name: &'a str,
     about: &'a str,
 ) -> Result<Command<'a>, AllocError> {
     let file = Arg::new(alloc, "FILE").help("The tile; without it standard input");
-    let one = Command::new(alloc, name).about(about).arg(file)?;
-    command.subcommand(one)
+    Command::new(alloc, name).about(about).arg(file)
+}
+
+/// The command with the option that names a profile.
+fn with_profile<'a>(alloc: Global, command: Command<'a>) -> Result<Command<'a>, AllocError> {
+    let profile = Arg::new(alloc, "profile")
+        .long("profile")
+        .value_name("PROFILE")
+        .value_parser(PROFILES.as_slice())
+        .default_value(PROFILES[0])
+        .help("What the polygons of a feature are held against");
+    command.after_help(PROFILE_RULES).arg(profile)
 }
 
 /// The command that reads a tile and a fault.
@@ -172,14 +206,26 @@ fn call_of<'a>(matches: &ArgMatches<'a>) -> Option<Call<'a>> {
     let file = found.get_str("FILE");
     Some(match name {
         "fields" => Call::OneTile(Engine::Fields, file),
-        "check" => Call::OneTile(Engine::Check, file),
+        "check" => Call::OneTile(Engine::Check(profile_of(found)), file),
         "dump" => Call::OneTile(Engine::Dump, file),
         "confirm" => Call::Confirm {
+            profile: profile_of(found),
             tile: file?,
             fault: found.get_str("FAULTFILE")?,
         },
         _ => return None,
     })
+}
+
+/// The profile that the words name, which `clap` has checked; without one that of polygons.
+fn profile_of(found: &ArgMatches<'_>) -> Profile
+    ensures feature { first_value (found_of found.now) (codes "profile") ≡ Some (codes "feature") → result ≡ Profile.Feature }
+    ensures polygon { first_value (found_of found.now) (codes "profile") ≢ Some (codes "feature") → result ≡ Profile.Polygon }
+{
+    match found.get_str("profile") {
+        Some("feature") => Profile::Feature,
+        _ => Profile::Polygon,
+    }
 }
 
 /// Prints what `clap` has to say: help and the version on standard output, and anything else as an error.
@@ -222,6 +268,7 @@ fn run_engine<R: Files + Input + Print + Eprint + AllocGlobal>(
 /// Runs `confirm`. Both files are opened before a byte is read, the tile first.
 fn run_confirm<R: Files + Input + Print + Eprint + AllocGlobal>(
     rt: &R,
+    profile: Profile,
     tile: &str,
     fault: &str,
 ) -> u8
@@ -238,7 +285,13 @@ fn run_confirm<R: Files + Input + Print + Eprint + AllocGlobal>(
     let mut tile_reader = Tally::new(opened_tile);
     let mut fault_reader = Tally::new(opened_fault);
     let mut writer = Tally::new(io::writer(rt));
-    let answer = confirm_streams(rt.alloc(), &mut tile_reader, &mut fault_reader, &mut writer);
+    let answer = confirm_streams_with(
+        rt.alloc(),
+        profile,
+        &mut tile_reader,
+        &mut fault_reader,
+        &mut writer,
+    );
     end(rt, answer)
 }
 

@@ -41,6 +41,43 @@ fn exits_by_the_words(rt: HostRuntime) -> Result<(), Fail> {
     assert!(rt; status(&rt, &["mvtgate", "check", "--help"])? == 0);
     assert!(rt; status(&rt, &["mvtgate", "confirm", "--help"])? == 0);
     assert!(rt; status(&rt, &["mvtgate", "--version"])? == 0);
+    assert!(rt; status(&rt, &["mvtgate", "check", "--profile", "ring"])? == 2);
+    assert!(rt; status(&rt, &["mvtgate", "check", "--profile"])? == 2);
+    assert!(rt; status(&rt, &["mvtgate", "dump", "--profile", "polygon"])? == 2);
+    assert!(rt; status(&rt, &["mvtgate", "fields", "--profile", "polygon"])? == 2);
+    Ok(())
+}
+
+/// Two squares that overlap.
+const OVERLAP: &[u8] =
+    b"\x1a\x21\x78\x02\x0a\x01\x61\x12\x1a\x18\x03\x22\x16\x09\x00\x00\x1a\x14\x00\x00\x14\x13\x00\x0f\x09\x0a\x09\x1a\x14\x00\x00\x14\x13\x00\x0f";
+
+const IN_POLYGON: &[u8] =
+    b"{\"code\":507,\"feature\":0,\"layer\":0,\"other\":1,\"polygon\":0,\"vertex\":2}";
+
+#[test]
+fn exits_by_the_profile(rt: HostRuntime) -> Result<(), Fail> {
+    let name = format!(in rt.alloc(); "mvtgate_profiles_{}", process::id(rt.process()))?;
+    let folder = env::temp_dir(&rt)?.join(rt.alloc(), name.as_str())?;
+    fs::create_dir_all(&rt, &folder)?;
+    let overlap = folder.join(rt.alloc(), "overlap.mvt")?;
+    fs::write(&rt, &overlap, OVERLAP)?;
+    let fault = folder.join(rt.alloc(), "fault.json")?;
+    fs::write(&rt, &fault, IN_POLYGON)?;
+    let (tile, text) = (overlap.as_str(), fault.as_str());
+    let mut got = Vec::new(rt.alloc());
+    got.push(status(&rt, &["mvtgate", "check", tile])?)?;
+    got.push(status(&rt, &["mvtgate", "confirm", tile, text])?)?;
+    for profile in ["polygon", "feature"] {
+        got.push(status(&rt, &["mvtgate", "check", "--profile", profile, tile])?)?;
+        got.push(status(
+            &rt,
+            &["mvtgate", "confirm", "--profile", profile, tile, text],
+        )?)?;
+    }
+    // the folder goes before a wrong status ends the test
+    fs::remove_dir_all(&rt, &folder)?;
+    assert!(rt; got.as_slice() == [0, 1, 0, 1, 1, 0].as_slice());
     Ok(())
 }
 
