@@ -1,7 +1,7 @@
 //! Calls on the bytes of a tile or of a fault.
 use crate::stop::Stop;
-use mvt_fault::{FaultTextError, fault_from_text, fault_text};
-use mvt_gate::{dump_text, judge};
+use mvt_fault::{FaultTextError, Profile, fault_from_text, fault_text};
+use mvt_gate::{dump_text, judge, judge_with};
 use mvt_tile::{ReadFault, Tile, check_layers, check_tags, read_tile, wire_fault};
 use std::alloc::Global;
 
@@ -11,6 +11,8 @@ pub enum TileCall {
     Judge,
     /// `judge`, and then `judge` again, whatever the first one answered.
     JudgeTwice,
+    /// `judge_with` in the profile that keeps the polygons of a feature apart.
+    JudgeFeature,
     ReadTile,
     CheckLayers,
     /// `check_tags` of the first layer's first feature.
@@ -27,6 +29,7 @@ impl TileCall {
         Some(match name {
             "judge" => TileCall::Judge,
             "judge_twice" => TileCall::JudgeTwice,
+            "judge_with_feature" => TileCall::JudgeFeature,
             "read_tile" => TileCall::ReadTile,
             "check_layers" => TileCall::CheckLayers,
             "check_tags" => TileCall::CheckTags,
@@ -48,6 +51,10 @@ impl TileCall {
                 let first = judge(rt.alloc(), bytes);
                 let second = judge(rt.alloc(), bytes);
                 println!(rt; "{first:?}, {second:?}")?;
+            }
+            TileCall::JudgeFeature => {
+                let verdict = judge_with(rt.alloc(), Profile::Feature, bytes)?;
+                println!(rt; "{verdict:?}")?;
             }
             TileCall::ReadTile => tell_tile(rt, bytes)?,
             TileCall::CheckLayers => {
