@@ -1,5 +1,5 @@
 -- The polygons of a feature that are kept apart, one after another.
-use Rattle.std.proofs.Common.{◌≡◌, ℕ, ◌+◌, ◌<◌, ◌≤◌, ◌⊎◌, inl, inr, List, [], ◌∷◌, length, get_or, Option, Some, IfSome, refl, sym, ap, ◌∙◌, subst, arith}
+use Rattle.std.proofs.Common.{◌≡◌, ℕ, ◌+◌, ◌<◌, ◌≤◌, ◌⊎◌, inl, inr, Bool, not, true≢false, List, [], ◌∷◌, length, get_or, slice_get, Option, None, Some, IfNone, IfSome, IsTrue, is_some, refl, sym, ap, ◌∙◌, subst, arith}
 use Rattle.std.proofs.lemmas.Bool.{cases_lt}
 use Rattle.std.proofs.lemmas.Option.{IfSome_then, slice_get_within, slice_get-get_or}
 use Rattle.mvt_fault.specs.declared.fault.Fault.{Fault}
@@ -81,6 +81,11 @@ valid_in_feature parts place of_it apart good none = record {
 }
 
 -- All polygons
+
+-- what is known where nothing is found is known where that is told
+pub none_told : {X Known : Type 0} (found : Option X) (told : Bool) → is_some found ≡ not told → IfNone found Known → IsTrue told → Known
+none_told None told is known holds = known
+none_told (Some it) told is known holds = absurd (true≢false (is ∙ ap not holds))
 
 -- before the first there is none
 pub none_before : (parts : List (List Position)) → AreValidBefore Feature parts 0

@@ -1,6 +1,8 @@
 -- What is found in the rings of one polygon, as a fault of its feature.
-use Rattle.std.proofs.Common.{◌≡◌, ℕ, suc, ◌+◌, ◌-◌, ◌<◌, ◌≤◌, ◌⊎◌, inl, inr, List, length, take, drop, sym, subst, Vec, arith}
+use Rattle.std.proofs.Common.{◌≡◌, IfNone, IfOk, IfSome, Option, Result, ℕ, suc, ◌+◌, ◌-◌, ◌<◌, ◌≤◌, ◌⊎◌, inl, inr, List, length, take, drop, sym, subst, Vec, arith}
 use Rattle.std.proofs.lemmas.List.{take-map, drop-map, length-map}
+use Rattle.std.proofs.lemmas.Option.{IfSome_then}
+use Rattle.std.proofs.lemmas.Result.{IfOk-weaker}
 use Rattle.std.specs.declared.alloc.Global.{Global}
 use Rattle.mvt_confirm.specs.PolygonFault.{IsPolygonOf}
 use Rattle.mvt_confirm.specs.Valid.{AreApartBy, IsValidPolygon, AreValidRings}
@@ -12,12 +14,13 @@ use Rattle.mvt_plane.specs.Polygon.{IsExterior, NoExterior}
 use Rattle.mvt_plane.specs.Position.{Position}
 use Rattle.mvt_plane.specs.RationalPoint.{RationalPoint}
 use Rattle.mvt_plane.specs.Ring.{ArePolygonRings}
-use Rattle.mvt_polygon.specs.Meeting.{IsMeetingOf}
+use Rattle.mvt_polygon.specs.Meeting.{IsMeetingOf, NoMeeting}
 use Rattle.mvt_polygon.specs.Nesting.{IsNestFault, IsFirstNestFault}
 use Rattle.mvt_polygon.specs.Rings.{rings_of, AreProperRings}
 use Rattle.mvt_polygon.specs.declared.meeting.Meeting.{Meeting}
 use Rattle.mvt_polygon.specs.declared.nesting.NestFault.{NestFault}
 use Rattle.mvt_polygon.specs.declared.nesting.NestFault.TheVariants.{Outside, InHole}
+use Rattle.mvt_wire.proofs.NothingFound.{IfNone_then}
 use Rattle.mvt_gate.proofs.PolygonFaults.{HasGoodHoles, meeting_is_least, outside_is_least, in_hole_is_least}
 use Rattle.mvt_gate.proofs.PolygonParts.{part_is_drawn, meeting_within, apart_in_whole, enclosed_in_whole, edge_in_whole, meeting_in_whole, meeting_of_front, apart_of_front, outside_in_whole, in_hole_in_whole, outside_is_first, in_hole_is_first}
 use Rattle.mvt_gate.proofs.PolygonWalk.{HasPassed, polygon_here, one_passed, all_passed}
@@ -33,7 +36,7 @@ own_part : (rings : List (Vec Position Global)) (place : PolygonPlace) → Own r
 own_part rings place = simp (take-map, drop-map)
 
 -- there are as many rings as there are lists of vertices
-within_rings : (rings : List (Vec Position Global)) (place : PolygonPlace) → place.after ≤ length rings → place.after ≤ length (rings_of rings)
+pub within_rings : (rings : List (Vec Position Global)) (place : PolygonPlace) → place.after ≤ length rings → place.after ≤ length (rings_of rings)
 within_rings rings place within = rw length-map within
 
 -- the rings of the polygon are drawn
@@ -82,15 +85,27 @@ front_place place = record { layer = place.layer; feature = place.feature; polyg
 
 -- a meeting of them is the first fault of the feature
 pub least_of_front : (rings : List (Vec Position Global)) (place : PolygonPlace) (found : Meeting) → place.after ≤ length rings → IsPolygonOf (rings_of rings) place.polygon (rings_at place)
-    → AreValidBefore Feature (rings_of rings) place.polygon → IsMeetingOf (Own rings (front_place place)) found → IsFirstOfRings Feature (rings_of rings) place.layer place.feature (fault_of_meeting (front_place place) found)
+    → AreValidBefore Feature (rings_of rings) place.polygon → IsMeetingOf (part_of (rings_of rings) (rings_at (front_place place))) found → IsFirstOfRings Feature (rings_of rings) place.layer place.feature (fault_of_meeting (front_place place) found)
 least_of_front rings place found within of_it valid meets =
     meeting_is_least Feature (rings_of rings) place.layer place.feature place.polygon (edge_in_whole 0 found.first_ring found.first_edge) (edge_in_whole 0 found.second_ring found.second_edge)
     found.point.x found.point.y found.point.w valid
-    (meeting_of_front (rings_of rings) place.polygon (rings_at place) found (within_rings rings place within) of_it valid (subst (λ (parts : List (List Position)). IsMeetingOf parts found) (own_part rings (front_place place)) meets))
+    (meeting_of_front (rings_of rings) place.polygon (rings_at place) found (within_rings rings place within) of_it valid meets)
 
--- where none of their edges meet wrongly, the polygon is apart from those before it
-pub apart_by_front : (rings : List (Vec Position Global)) (place : PolygonPlace) → ((first second : EdgeNumber) (point : RationalPoint) → ¬ MeetsWrongly (Own rings (front_place place)) first second point) → AreApartBy Feature (rings_of rings) (rings_at place)
-apart_by_front rings place none = apart_of_front (rings_of rings) (rings_at place) (apart_by_slice rings (front_place place) none)
+-- What is found among the rings of a place
+
+-- a meeting of the slice is one of the part
+pub some_of_slice : {E : Type 0} (rings : List (Vec Position Global)) (place : PolygonPlace) (found : Result (Option Meeting) E) → IfOk found (λ meeting. IfSome meeting (IsMeetingOf (Own rings place)))
+    → IfOk found (λ meeting. IfSome meeting (IsMeetingOf (part_of (rings_of rings) (rings_at place))))
+some_of_slice rings place found some =
+    IfOk-weaker found (λ meeting. IfSome meeting (IsMeetingOf (Own rings place))) (λ meeting. IfSome meeting (IsMeetingOf (part_of (rings_of rings) (rings_at place))))
+    (λ meeting told. IfSome_then meeting told (λ it meets. subst (λ (parts : List (List Position)). IsMeetingOf parts it) (own_part rings place) meets)) some
+
+-- where the slice has none, the rings are apart
+pub none_of_slice : {E : Type 0} (rings : List (Vec Position Global)) (place : PolygonPlace) (found : Result (Option Meeting) E) → IfOk found (λ meeting. IfNone meeting (NoMeeting (Own rings place)))
+    → IfOk found (λ meeting. IfNone meeting (AreApartBy Polygon (rings_of rings) (rings_at place)))
+none_of_slice rings place found none =
+    IfOk-weaker found (λ meeting. IfNone meeting (NoMeeting (Own rings place))) (λ meeting. IfNone meeting (AreApartBy Polygon (rings_of rings) (rings_at place)))
+    (λ meeting told. IfNone_then meeting told (apart_by_slice rings place)) none
 
 -- Holes
 
