@@ -16,3 +16,4 @@ pub mod Names
 pub mod TagNeeds
 pub mod PassedLayers
 pub mod FeatureRules
+pub mod Advice

@@ -2,12 +2,14 @@
 //! first fault of the rules between their parts.
 #![tactic(auto)]
 
+mod advice;
 mod lists;
 mod read;
 mod record;
 mod rules;
 mod wire;
 
+pub use advice::Advice;
 pub use read::{ReadFault, read_tile};
 pub use record::{Feature, Kind, Layer, Tile, Value};
 pub use rules::{FeatureRule, check_layers, check_tags, rule_fault};
