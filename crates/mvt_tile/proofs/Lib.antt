@@ -29,3 +29,6 @@ pub mod FeatureFaults
 pub mod FeatureScan
 pub mod TileScan
 pub mod RuleOrder
+pub mod Repetitions
+pub mod HeldPlaces
+pub mod Advised

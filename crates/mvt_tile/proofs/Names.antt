@@ -59,11 +59,11 @@ of_one_name xs ys m n same not =
           absurd (true≢false (ap is_lt (nat_cmp_is m n Less below) ∙ ap (λ (it : Ordering). is_lt (ordering_then it (nat_cmp m n))) (sym ((equal_tells (slice_cmp nat_cmp xs ys) xs ys refl).1 same)) ∙ not))
     ]
 
-module _ {X : Type 0} (name : X → List ℕ) (ordinal : X → ℕ) (names : List (List ℕ)) where
-  -- the layers' names in any order, each once and with its ordinal
+module _ {X : Type 0} (name : X → List ℕ) (ordinal : X → ℕ) (At : ℕ → List ℕ → Type 0) where
+  -- what is at the places, as layers' names at those of the layers, in any order, each once and with its ordinal
   pub record IsNaming (xs : List X) : Type 0 where
-    pub known : (at : ℕ) (x : X) → slice_get xs at ≡ Some x → slice_get names (ordinal x) ≡ Some (name x)
-    pub all : (number : ℕ) (it : List ℕ) → slice_get names number ≡ Some it → (at : ℕ) × (x : X) × (slice_get xs at ≡ Some x) × (ordinal x ≡ number)
+    pub known : (at : ℕ) (x : X) → slice_get xs at ≡ Some x → At (ordinal x) (name x)
+    pub all : (number : ℕ) (it : List ℕ) → At number it → (at : ℕ) × (x : X) × (slice_get xs at ≡ Some x) × (ordinal x ≡ number) × (name x ≡ it)
     pub once : (at other : ℕ) (x y : X) → slice_get xs at ≡ Some x → slice_get xs other ≡ Some y → ordinal x ≡ ordinal y → at ≡ other
 
   naming_swapped : (xs : List X) (one other : ℕ) → one < length xs → other < length xs → IsNaming xs → IsNaming (swap xs one other)
@@ -74,7 +74,7 @@ module _ {X : Type 0} (name : X → List ℕ) (ordinal : X → ℕ) (names : Lis
         record {
           known = λ at x there. it.known (place_before one other at) x (sym (moved at) ∙ there);
           all = λ number its there. let found = it.all number its there in
-              (place_before one other found.0, found.1, moved (place_before one other found.0) ∙ ap (slice_get xs) (place_twice one other found.0) ∙ found.2, found.3);
+              (place_before one other found.0, found.1, moved (place_before one other found.0) ∙ ap (slice_get xs) (place_twice one other found.0) ∙ found.2, found.3, found.4);
           once = λ at another x y there elsewhere same.
               sym (place_twice one other at)
               ∙ ap (place_before one other) (it.once (place_before one other at) (place_before one other another) x y (sym (moved at) ∙ there) (sym (moved another) ∙ elsewhere) same)
@@ -141,6 +141,11 @@ module _ {X : Type 0} (name : X → List ℕ) (ordinal : X → ℕ) (names : Lis
             let second = first_not_less (name y) (name z) (nat_cmp (ordinal y) (ordinal z)) (of_one_key (key y) (key z) (compare_named name ordinal y z) (omega arith) high) in
             neither_less (name x) (name z) (λ less. second (ap (λ (it : List ℕ). slice_cmp nat_cmp it (name z)) (sym same) ∙ less)) first
 
+-- a layer has this name
+abbrev pub IsNamed : List (List ℕ) → ℕ → List ℕ → Type 0
+IsNamed names number name = slice_get names number ≡ Some name
+
+module _ {X : Type 0} (name : X → List ℕ) (ordinal : X → ℕ) (names : List (List ℕ)) where
   -- a pair of neighbours that have one name
   pub record AreAlike (xs : List X) (at first second : ℕ) : Type 0 where
     pub one : X
@@ -225,7 +230,7 @@ module _ {X : Type 0} (name : X → List ℕ) (ordinal : X → ℕ) (names : Lis
     pub pair_taken : name x ≡ name y → IfSome found (λ pair. ordinal y < pair.1) → IsLeastPair xs (at + 1) (Some (ordinal x, ordinal y))
     pair_taken same earlier = forward (Some (ordinal x, ordinal y)) (IsLeastPair-taken xs (at - 1) x y first_there second_there found before same earlier)
 
-  module _ (xs : List X) (grouped : AreGrouped xs) (found : Option (ℕ × ℕ)) (is : IsLeastPair xs (length xs) found) where
+  module _ (xs : List X) (grouped : AreGrouped name ordinal (IsNamed names) xs) (found : Option (ℕ × ℕ)) (is : IsLeastPair xs (length xs) found) where
     -- two layers of one name are one behind the other
     behind : (first second at other : ℕ) (x y : X) → first < second → slice_get xs at ≡ Some x → slice_get xs other ≡ Some y → ordinal x ≡ first → ordinal y ≡ second → name x ≡ name y → at < other
     behind first second at other x y before there elsewhere its others same = elim (cases_lt at other) [
@@ -318,7 +323,7 @@ module _ {X : Type 0} (name : X → List ℕ) (ordinal : X → ℕ) (names : Lis
               ];
         }
 
-module _ {X : Type 0} (name : X → List ℕ) (ordinal : X → ℕ) (names : List (List ℕ)) (xs : List X) (grouped : AreGrouped name ordinal names xs) where
+module _ {X : Type 0} (name : X → List ℕ) (ordinal : X → ℕ) (names : List (List ℕ)) (xs : List X) (grouped : AreGrouped name ordinal (IsNamed names) xs) where
   -- all neighbours were passed
   to_the_end : (end : ℕ) (found : Option (ℕ × ℕ)) → length xs ≤ end → IsLeastPair name ordinal names xs end found → IsLeastPair name ordinal names xs (length xs) found
   to_the_end end found all is = record { alike = is.alike; least = λ at first second before alike. is.least at first second (omega arith) alike }
@@ -332,7 +337,7 @@ module _ {X : Type 0} (name : X → List ℕ) (ordinal : X → ℕ) (names : Lis
   if_some end (Some pair) all is = first_repeated name ordinal names xs grouped (Some pair) (to_the_end end (Some pair) all is) pair.0 pair.1 refl
 
 -- names that are in the order of their layers
-pub IsNaming-numbered : {X : Type 0} (name : X → List ℕ) (ordinal : X → ℕ) (xs : List X) → AreNumbered (map ordinal xs) → IsNaming name ordinal (map name xs) xs
+pub IsNaming-numbered : {X : Type 0} (name : X → List ℕ) (ordinal : X → ℕ) (xs : List X) → AreNumbered (map ordinal xs) → IsNaming name ordinal (IsNamed (map name xs)) xs
 IsNaming-numbered name ordinal xs numbered = record { known = known; all = all; once = λ at other x y there elsewhere same. sym (place at x there) ∙ same ∙ place other y elsewhere }
   where
     place : (at : ℕ) (x : _) → slice_get xs at ≡ Some x → ordinal x ≡ at
@@ -341,9 +346,11 @@ IsNaming-numbered name ordinal xs numbered = record { known = known; all = all; 
     known : (at : ℕ) (x : _) → slice_get xs at ≡ Some x → slice_get (map name xs) (ordinal x) ≡ Some (name x)
     known at x there = ap (slice_get (map name xs)) (place at x there) ∙ slice_get-map name xs at ∙ ap (option_map name) there
 
-    all : (number : ℕ) (it : List ℕ) → slice_get (map name xs) number ≡ Some it → (at : ℕ) × (x : _) × (slice_get xs at ≡ Some x) × (ordinal x ≡ number)
+    all : (number : ℕ) (it : List ℕ) → slice_get (map name xs) number ≡ Some it → (at : ℕ) × (x : _) × (slice_get xs at ≡ Some x) × (ordinal x ≡ number) × (name x ≡ it)
     all number it there = elim (slice_get_cases xs number).1 [
-      | inl inside ↦ (number, inside.0, inside.2, place number inside.0 inside.2)
+      | inl inside ↦
+          let number_is = place number inside.0 inside.2 in
+          (number, inside.0, inside.2, number_is, same_Some _ _ (sym (known number inside.0 inside.2) ∙ ap (slice_get (map name xs)) number_is ∙ there))
       | inr past ↦ let both : None ≡ Some it = sym (slice_get-map name xs number ∙ ap (option_map name) past.1) ∙ there in cc
     ]
 

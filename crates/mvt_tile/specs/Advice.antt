@@ -12,11 +12,15 @@ pub record IsRepetition {X : Type 0} (At : ℕ → X → Type 0) (first second :
   pub again : At second it
   pub least : (other : ℕ) → At other it → first ≤ other
 
--- the pairs of all such places, in the order of the second one, each once
-pub record AreRepetitions {X : Type 0} (At : ℕ → X → Type 0) (pairs : List (ℕ × ℕ)) : Type 0 where
-  pub each : (place : ℕ) (pair : ℕ × ℕ) → slice_get pairs place ≡ Some pair → IsRepetition At pair.0 pair.1
-  pub all : (first second : ℕ) → IsRepetition At first second → (place : ℕ) × (slice_get pairs place ≡ Some (first, second))
+-- the pairs of places of which this is said, in the order of the second one, each once
+pub record ArePairs (Are : ℕ → ℕ → Type 0) (pairs : List (ℕ × ℕ)) : Type 0 where
+  pub each : (place : ℕ) (pair : ℕ × ℕ) → slice_get pairs place ≡ Some pair → Are pair.0 pair.1
+  pub all : (first second : ℕ) → Are first second → (place : ℕ) × (slice_get pairs place ≡ Some (first, second))
   pub rising : (place next : ℕ) (pair other : ℕ × ℕ) → place < next → slice_get pairs place ≡ Some pair → slice_get pairs next ≡ Some other → pair.1 < other.1
+
+-- the pairs of all places that hold the same, the first of them before all others that do
+abbrev pub AreRepetitions : {X : Type 0} → (ℕ → X → Type 0) → List (ℕ × ℕ) → Type 0
+AreRepetitions At pairs = ArePairs (IsRepetition At) pairs
 
 -- the key at a place of the layer
 abbrev pub KeyAt : LayerRecord → ℕ → List ℕ → Type 0

@@ -17,3 +17,4 @@ pub mod TagNeeds
 pub mod PassedLayers
 pub mod FeatureRules
 pub mod Advice
+pub mod Equal

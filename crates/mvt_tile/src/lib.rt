@@ -1,5 +1,5 @@
-//! The messages of a vector tile, over borrowed bytes: their first wire fault, their records, and the
-//! first fault of the rules between their parts.
+//! The messages of a vector tile, over borrowed bytes: their first wire fault, their records, the first fault of the
+//! rules between their parts, and advice on what no rule forbids.
 #![tactic(auto)]
 
 mod advice;
@@ -9,7 +9,7 @@ mod record;
 mod rules;
 mod wire;
 
-pub use advice::Advice;
+pub use advice::{Advice, advise};
 pub use read::{ReadFault, read_tile};
 pub use record::{Feature, Kind, Layer, Tile, Value};
 pub use rules::{FeatureRule, check_layers, check_tags, rule_fault};

@@ -14,7 +14,7 @@ mod key_marks;
 mod layer_rules;
 mod layer_scan;
 mod layers;
-mod names;
+pub(crate) mod names;
 mod summary;
 mod tags;
 #[cfg(test)]

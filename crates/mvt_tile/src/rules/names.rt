@@ -82,7 +82,7 @@ impl<'a> LayerNames<'a> {
 }
 
 /// The first eight bytes of a name as one number, the first of them highest. A shorter name has zeros behind it.
-fn key_of(name: &[u8]) -> u64
+pub(crate) fn key_of(name: &[u8]) -> u64
     ensures { result ≡ key_of name.now }
 {
     let mut bytes = [0; 8];

@@ -5,7 +5,7 @@ use Rattle.std.proofs.lemmas.Option.{slice_get_read}
 use Rattle.std.proofs.lemmas.Slice.Eq.{bytes_eq-Decides}
 use Rattle.mvt_tile.specs.Names.{key_of}
 use Rattle.mvt_tile.specs.declared.rules.names.NamedLayer.{NamedLayer}
-use Rattle.mvt_tile.proofs.Names.{IsLeastPair, IsLeastPair-none, pair_kept, pair_taken, one_key, IsNaming-numbered, grouped_by_sort, IsNaming, if_none, if_some}
+use Rattle.mvt_tile.proofs.Names.{IsNamed, IsLeastPair, IsLeastPair-none, pair_kept, pair_taken, one_key, IsNaming-numbered, grouped_by_sort, IsNaming, if_none, if_some}
 use Rattle.mvt_tile.proofs.rules.names.LayerNames.first_repeated.Goals.{then-layer-next+then-eq+then-comes_first, else-layer-next, else-layer-next-via-then-layer-next+then-eq+else-comes_first, else-layer-next-via-then-layer-next+else-eq, else-layer-next-via-else-layer-next}
 use Rattle.mvt_tile.proofs.rules.names.LayerNames.first_repeated.Goals as goal
 
@@ -47,16 +47,16 @@ loop-at-preserved c =
             | else-layer-next-via-then-layer-next+then-eq+else-comes_first v ↦ v.comes_first.ensures.later v.if-comes_first.false
             | else-layer-next-via-then-layer-next+else-eq v ↦ absurd (true≢false (sym ((bytes_eq-Decides _ _).1 same) ∙ sym v.eq.ensures ∙ v.if-eq.false))
             | else-layer-next-via-else-layer-next v ↦
-                absurd (v.if-layer-next.false (one_key name ordinal c.args.self key key_of xs keyed (at - 1) at x y (slice_get_read xs (length xs) (at - 1) x refl (omega arith) c.index.ensures) (slice_get_read xs (length xs) at y refl within c.index-in-loop-at.ensures) same))
+                absurd (v.if-layer-next.false (one_key name ordinal (IsNamed c.args.self) key key_of xs keyed (at - 1) at x y (slice_get_read xs (length xs) (at - 1) x refl (omega arith) c.index.ensures) (slice_get_read xs (length xs) at y refl within c.index-in-loop-at.ensures) same))
           ]))
     ]
 
 pub returns-clause-none : goal.returns-clause-none
 returns-clause-none c = if_none name ordinal c.args.self c.sort_unstable.new.self.items
-    (grouped_by_sort name ordinal c.args.self key key_of c.self.inside.names.items c.sort_unstable.new.self.items (subst (λ (names : List (List ℕ)). IsNaming name ordinal names c.self.inside.names.items) c.self.view_is (IsNaming-numbered name ordinal c.self.inside.names.items c.self.invariant.0)) c.self.invariant.1 c.sort_unstable.ensures.permutation c.sort_unstable.ensures.sorted)
+    (grouped_by_sort name ordinal (IsNamed c.args.self) key key_of c.self.inside.names.items c.sort_unstable.new.self.items (subst (λ (names : List (List ℕ)). IsNaming name ordinal (IsNamed names) c.self.inside.names.items) c.self.view_is (IsNaming-numbered name ordinal c.self.inside.names.items c.self.invariant.0)) c.self.invariant.1 c.sort_unstable.ensures.permutation c.sort_unstable.ensures.sorted)
     c.loop-at.at c.loop-at.found (omega (arith, c.len-at-end.ensures, c.loop-at-test.false)) c.loop-at.invariant
 
 pub returns-clause-first : goal.returns-clause-first
 returns-clause-first c = if_some name ordinal c.args.self c.sort_unstable.new.self.items
-    (grouped_by_sort name ordinal c.args.self key key_of c.self.inside.names.items c.sort_unstable.new.self.items (subst (λ (names : List (List ℕ)). IsNaming name ordinal names c.self.inside.names.items) c.self.view_is (IsNaming-numbered name ordinal c.self.inside.names.items c.self.invariant.0)) c.self.invariant.1 c.sort_unstable.ensures.permutation c.sort_unstable.ensures.sorted)
+    (grouped_by_sort name ordinal (IsNamed c.args.self) key key_of c.self.inside.names.items c.sort_unstable.new.self.items (subst (λ (names : List (List ℕ)). IsNaming name ordinal (IsNamed names) c.self.inside.names.items) c.self.view_is (IsNaming-numbered name ordinal c.self.inside.names.items c.self.invariant.0)) c.self.invariant.1 c.sort_unstable.ensures.permutation c.sort_unstable.ensures.sorted)
     c.loop-at.at c.loop-at.found (omega (arith, c.len-at-end.ensures, c.loop-at-test.false)) c.loop-at.invariant

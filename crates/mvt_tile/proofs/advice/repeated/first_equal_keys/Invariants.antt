@@ -1,0 +1,10 @@
+use Rattle.mvt_tile.specs.Equal.{held_value}
+use Rattle.mvt_tile.specs.View.{layer_of}
+use Rattle.mvt_tile.proofs.HeldPlaces.{place_of, KeyHeldAt}
+use Rattle.mvt_tile.proofs.Names.{IsNaming}
+use Rattle.mvt_tile.proofs.Repetitions.{Before}
+use Rattle.mvt_tile.proofs.advice.repeated.first_equal_keys.Given as goal
+
+-- the keys that were passed are held
+abbrev pub invariant-loop-place : goal.invariant-loop-place
+invariant-loop-place l = IsNaming held_value place_of (Before (KeyHeldAt (layer_of l.layer)) l.place) l.held.items
