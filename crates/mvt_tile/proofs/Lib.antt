@@ -32,3 +32,4 @@ pub mod RuleOrder
 pub mod Repetitions
 pub mod HeldPlaces
 pub mod Advised
+pub mod OneAdvice

@@ -6,6 +6,8 @@ ghost use Rattle.mvt_tile.specs.View.{layer_of, tile_of};
 
 mod first_places;
 mod repeated;
+#[cfg(test)]
+mod tests;
 
 use crate::record::{Layer, Tile};
 use repeated::{first_equal_ids, first_equal_keys};

@@ -3,6 +3,7 @@
 #![tactic(auto)]
 
 mod advice;
+pub mod laws;
 mod lists;
 mod read;
 mod record;
