@@ -20,18 +20,25 @@ pub enum Advice {
     NoLayer,
     /// A layer has no feature (Mapbox Vector Tile Specification 2.1, section 4.1).
     NoFeature {
+        /// The layer's ordinal in the tile.
         layer: usize,
     },
-    /// Two keys of a layer are the same, byte for byte, and the first is the earliest such key.
+    /// Two keys of a layer are the same, byte for byte (section 4.1).
     EqualKey {
+        /// The layer's ordinal in the tile.
         layer: usize,
+        /// The ordinal of the earliest key that is the same.
         first: usize,
+        /// The ordinal of the other key.
         second: usize,
     },
-    /// Two features of a layer have one id (section 4.2), and the first is the earliest such feature.
+    /// Two features of a layer have one id (section 4.2).
     EqualId {
+        /// The layer's ordinal in the tile.
         layer: usize,
+        /// The ordinal of the earliest feature with this id.
         first: usize,
+        /// The ordinal of the other feature.
         second: usize,
     },
 }
