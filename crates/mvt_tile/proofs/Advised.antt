@@ -1,15 +1,15 @@
 -- Advice on layers, one after the other, and on pairs of places.
-use Rattle.std.proofs.Common.{◌≡◌, ◌∙◌, sym, ap, subst, refl, true≢false, true, false, ◌==◌, ℕ, suc, ◌+◌, ◌<◌, ◌≤◌, List, [], ◌∷◌, ◌++◌, length, get_or, slice_get, map, take, Option, Some, None, ◌⊎◌, inl, inr, arith}
+use Rattle.std.proofs.Common.{◌≡◌, ◌∙◌, sym, ap, subst, refl, true≢false, true, false, ◌==◌, ℕ, suc, ◌+◌, ◌<◌, ◌≤◌, List, [], ◌∷◌, ◌++◌, length, get_or, map, take, Option, Some, None, inl, inr, arith}
 use Rattle.std.proofs.Math.Seq.{take-suc}
 use Rattle.std.proofs.lemmas.Bool.{cases_lt, cases_eq, eqb-true}
 use Rattle.std.proofs.lemmas.List.{length-map, map-append, append_assoc, append-nil, get_or_past, length-take-le}
 use Rattle.std.proofs.lemmas.Option.{slice_get_within, same_Some}
 use Rattle.mvt_wire.proofs.Payloads.{slice_get-last}
 use Rattle.mvt_wire.specs.Tile.{FeatureRecord, LayerRecord}
-use Rattle.mvt_tile.specs.Advice.{ArePairs, AreRepetitions, AreLayersAdvice, AreAllLayersAdvice, IsLayerAdvice, KeyAt, IdAt, no_feature, equal_keys, equal_ids}
+use Rattle.mvt_tile.specs.Advice.{ArePairs, AreRepetitions, AreLayersAdvice, IsLayerAdvice, KeyAt, IdAt, no_feature, equal_keys, equal_ids}
 use Rattle.mvt_tile.specs.Equal.{AreFirstPlaces, StandsAt, equal_advice}
 use Rattle.mvt_tile.specs.declared.advice.Advice.{Advice}
-use Rattle.mvt_tile.specs.declared.advice.Advice.TheVariants.{NoLayer, NoFeature}
+use Rattle.mvt_tile.specs.declared.advice.Advice.TheVariants.{NoFeature}
 use Rattle.mvt_tile.specs.declared.advice.Equal.{Equal}
 use Rattle.mvt_tile.specs.declared.advice.Equal.TheVariants.{Keys, Ids}
 use Rattle.mvt_tile.proofs.Names.{slice_get-push}

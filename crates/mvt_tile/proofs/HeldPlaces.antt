@@ -1,5 +1,5 @@
 -- What the places of a list hold, sorted so that those that hold the same are neighbours.
-use Rattle.std.proofs.Common.{◌≡◌, ◌∙◌, ◌↔◌, ◌<◌, ◌≤◌, refl, sym, ap, subst, ℕ, List, [], ◌∷◌, length, map, get_or, slice_get, Option, Some, None, All, arith}
+use Rattle.std.proofs.Common.{◌≡◌, ◌∙◌, ◌↔◌, ◌<◌, ◌≤◌, refl, sym, ap, subst, ℕ, List, [], ◌∷◌, length, map, get_or, slice_get, Some, All, arith}
 use Rattle.std.specs.Cmp.Lexicographic.{slice_cmp}
 use Rattle.std.specs.List.Sorted.{IsPermutation, IsSorted}
 use Rattle.std.specs.Ordering.{nat_cmp, ordering_then}
@@ -7,7 +7,7 @@ use Rattle.std.specs.declared.cmp.Ordering.{Ordering}
 use Rattle.std.specs.declared.cmp.Ordering.TheVariants.{Less, Equal, Greater}
 use Rattle.std.proofs.lemmas.Option.{slice_get_within, same_Some, slice_get-map, slice_get-get_or}
 use Rattle.std.specs.Option.{option_map}
-use Rattle.mvt_tile.specs.Advice.{IsRepetition, KeyAt, IdAt}
+use Rattle.mvt_tile.specs.Advice.{KeyAt, IdAt}
 use Rattle.mvt_tile.specs.Equal.{AreFirstPlaces, HavePlaces, HeldAt, held_value}
 use Rattle.mvt_tile.specs.Names.{key_of}
 use Rattle.mvt_tile.specs.declared.advice.first_places.Held.{Held}

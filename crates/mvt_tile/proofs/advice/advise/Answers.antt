@@ -1,10 +1,7 @@
 use Rattle.std.proofs.Common.{◌+◌, sym, map, subst, take}
-use Rattle.std.proofs.lemmas.List.{length-map}
-use Rattle.mvt_wire.specs.Tile.{LayerRecord}
 use Rattle.mvt_tile.specs.Advice.{AreLayersAdvice}
 use Rattle.mvt_tile.specs.View.{layer_of}
-use Rattle.mvt_tile.specs.declared.advice.Advice.{Advice}
-use Rattle.mvt_tile.proofs.Advised.{next_layer, of_layers, of_no_layers}
+use Rattle.mvt_tile.proofs.Advised.{next_layer}
 use Rattle.mvt_tile.proofs.advice.advise.Goals as goal
 
 pub loop-number-preserved : goal.loop-number-preserved

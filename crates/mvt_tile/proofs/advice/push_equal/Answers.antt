@@ -1,4 +1,4 @@
-use Rattle.std.proofs.Common.{◌≡◌, ◌∙◌, ◌+◌, sym, ap, ℕ, List, [], ◌∷◌, ◌++◌, Vec, Global, length, get_or, Some, None, arith}
+use Rattle.std.proofs.Common.{◌≡◌, ◌∙◌, sym, ap, List, [], ◌∷◌, ◌++◌, Vec, Global, get_or, Some, None, arith}
 use Rattle.std.proofs.lemmas.List.{append_assoc, get_or_default}
 use Rattle.mvt_tile.specs.Equal.{equal_advice}
 use Rattle.mvt_tile.specs.declared.advice.Advice.{Advice}

@@ -1,6 +1,6 @@
-use Rattle.std.proofs.Common.{◌≡◌, ◌++◌, ◌<◌, ℕ, List}
+use Rattle.std.proofs.Common.{◌≡◌, ◌++◌, ℕ, List}
 use Rattle.mvt_tile.specs.Advice.{ArePairs}
-use Rattle.mvt_tile.specs.Equal.{StandsAt, equal_advice}
+use Rattle.mvt_tile.specs.Equal.{equal_advice}
 use Rattle.mvt_tile.proofs.Advised.{StandsBefore}
 use Rattle.mvt_tile.proofs.advice.push_equal.Given as goal
 

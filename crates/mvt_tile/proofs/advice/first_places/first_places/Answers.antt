@@ -5,8 +5,7 @@ use Rattle.std.proofs.lemmas.Option.{slice_get_read}
 use Rattle.std.proofs.lemmas.Slice.Eq.{bytes_eq-Decides}
 use Rattle.mvt_tile.specs.Equal.{HeldAt, held_value}
 use Rattle.mvt_tile.specs.declared.advice.first_places.Held.{Held}
-use Rattle.mvt_tile.proofs.HeldPlaces.{place_of, grouped, below_bound, too_few}
-use Rattle.mvt_tile.proofs.Names.{AreGrouped}
+use Rattle.mvt_tile.proofs.HeldPlaces.{place_of, grouped, below_bound}
 use Rattle.mvt_tile.proofs.Repetitions.{AreNoted, AreNoted-none, AreNoted-same, AreNoted-other, all_noted}
 use Rattle.mvt_tile.proofs.advice.first_places.first_places.Goals.{then-before-item+then-eq, else-before-item, else-before-item-via-then-before-item+else-eq, else-before-item-via-else-before-item}
 use Rattle.mvt_tile.proofs.advice.first_places.first_places.Goals as goal
