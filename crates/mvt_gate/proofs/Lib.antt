@@ -1,3 +1,5 @@
+pub mod AdviceAnswers
+pub mod AdviceTexts
 pub mod ConfirmAnswers
 pub mod DrawnRings
 pub mod DumpAnswers

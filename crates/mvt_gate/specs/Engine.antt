@@ -60,7 +60,8 @@ pub record IsTooLarge {T : Type 0} (t : Tally T) (others : ℕ) : Type 0 where
 abbrev pub IsOfClaim : EngineFault → Type 0
 IsOfClaim fault = (fault ≡ NotJson) ⊎ (fault ≡ NotAFault) ⊎ (fault ≡ FaultRange)
 
--- An engine is described by its answers: which outcome and which line answer an input.
+-- An engine is described by its answers: which outcome and which line answer an input. Where there are two lines, both in
+-- turn stand for the line.
 
 -- the engine read its whole input, and the line of an answer to it went out, once and whole
 pub record Answers {R W : Type 0} (IsAnswer : List ℕ → Outcome → List ℕ → Type 0)

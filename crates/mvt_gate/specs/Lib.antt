@@ -1,3 +1,4 @@
+pub mod Advice
 pub mod Check
 pub mod Claim
 pub mod Confirm

@@ -79,8 +79,8 @@ pub fn check_stream_with<R: Read, W: Write>(
 
 /// To judge a tile by a profile.
 #[derive(Clone, Copy)]
-struct CheckTile {
-    profile: Profile,
+pub(crate) struct CheckTile {
+    pub(crate) profile: Profile,
 }
 
 impl Task for CheckTile {

@@ -13,6 +13,7 @@ use crate::engine;
 use crate::engine::{EngineFault, Outcome, Task, fault_line};
 use crate::tally::Tally;
 use mvt_tile::{ReadFault, read_tile};
+pub(crate) use part::{Part, push_list};
 use std::alloc::{AllocError, Global};
 use std::io::{Read, Write};
 pub use text::dump_text;

@@ -1,4 +1,4 @@
-//! What every engine does: read its whole input, and write one line.
+//! What every engine does: read its whole input, and write the line, or the lines, of its answer.
 ghost use Rattle.std.specs.Prelude.{◌≡◌, ◌≢◌, ℕ, ◌+◌, ◌<◌, ◌≤◌, ◌⊎◌, List, length, take, IsTrue, IsFalse, IfOk, IfErr, OnOk, OnErr, string_bytes};
 ghost use Rattle.std.specs.Io.KnownBytes.{Keeps};
 ghost use Rattle.std.specs.IoError.{error_kind};
@@ -67,7 +67,7 @@ pub trait Task {
     // this outcome and this line answer the input
     ghost IsAnswer: { Self → List ℕ → Outcome → List ℕ → Type 0 };
 
-    /// An answer to the input, and its line with the LF.
+    /// An answer to the input, and its line with the LF. A task with two lines gives both in one text.
     fn answer(&self, alloc: Global, input: &[u8]) -> Result<(Outcome, String), AllocError>
         ensures { IfOk result (λ r. IsAnswer self.now input.now r.0 (string_bytes r.1)) };
 }

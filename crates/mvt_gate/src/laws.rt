@@ -1,10 +1,11 @@
-//! Laws of the answers: an input has one answer of `fields`, with one line, and at most one of `check`, `dump`
-//! and `confirm`; but of the meetings of edges in one polygon `check` may name any.
-ghost use Rattle.std.specs.Prelude.{◌≡◌, ◌⊎◌, ℕ, List};
+//! Laws of the answers: an input has one answer of `fields`, with one line, and at most one of `check`, with advice or
+//! without, of `dump` and of `confirm`; but of the meetings of edges in one polygon `check` may name any.
+ghost use Rattle.std.specs.Prelude.{◌≡◌, ◌⊎◌, ◌++◌, ℕ, List};
 ghost use Rattle.mvt_confirm.specs.Shows.{ShowsBy};
 ghost use Rattle.mvt_fault.specs.Place.{AreMeetingsInOne, IsLeast};
 ghost use Rattle.mvt_fault.specs.declared.fault.Fault.{Fault};
 ghost use Rattle.mvt_fault.specs.declared.profile.Profile.{Profile};
+ghost use Rattle.mvt_gate.specs.Advice.{IsAdviseAnswerBy};
 ghost use Rattle.mvt_gate.specs.Check.{IsCheckAnswerBy};
 ghost use Rattle.mvt_gate.specs.Confirm.{IsConfirmAnswerBy};
 ghost use Rattle.mvt_gate.specs.Dump.{IsDumpAnswer};
@@ -40,6 +41,15 @@ pub fn one_check_answer()
         IsCheckAnswerBy profile input first line → IsCheckAnswerBy profile input second other →
         (first ≡ second) × ((line ≡ other) ⊎
         ((fault : Fault) × (its : Fault) × (line ≡ fault_line fault) × (other ≡ fault_line its) × AreMeetingsInOne fault its)) }
+{}
+
+/// No input has two answers of `check` with advice, or other lines, but that the first lines may be those of two meetings in
+/// one polygon. What is behind the first line is the same.
+pub fn one_advise_answer()
+    ensures { (profile : Profile) (input : List ℕ) (first second : Outcome) (lines others : List ℕ) →
+        IsAdviseAnswerBy profile input first lines → IsAdviseAnswerBy profile input second others →
+        (first ≡ second) × ((lines ≡ others) ⊎
+        ((fault : Fault) × (its : Fault) × (behind : List ℕ) × (lines ≡ fault_line fault ++ behind) × (others ≡ fault_line its ++ behind) × AreMeetingsInOne fault its)) }
 {}
 
 /// No input has two answers of `dump`, or two lines.

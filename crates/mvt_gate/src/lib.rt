@@ -1,6 +1,7 @@
-//! The gate: it judges a tile, and its engines read a tile from a device and write one line of answer.
+//! The gate: it judges a tile, and its engines read a tile from a device and write their answer, of one line or two.
 #![tactic(auto)]
 
+mod advice;
 mod agreement;
 mod check;
 mod confirm;
@@ -17,6 +18,7 @@ mod runs;
 mod tally;
 mod verdict;
 
+pub use advice::{advice_text, advise_stream};
 pub use agreement::{Agreement, judge_and_confirm, judge_and_confirm_with};
 pub use check::{check_stream, check_stream_with};
 pub use confirm::{confirm_streams, confirm_streams_with};

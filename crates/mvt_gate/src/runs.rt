@@ -1,4 +1,5 @@
 //! Runs of the engines, for tests.
+use crate::advice::advise_stream;
 use crate::check::{check_stream, check_stream_with};
 use crate::confirm::{confirm_streams, confirm_streams_with};
 use crate::device::{CALM, Manner, Sink, Source, bytes_of};
@@ -26,6 +27,8 @@ pub enum Engine {
     Confirm,
     /// `check` by a profile.
     CheckBy(Profile),
+    /// `check` by a profile, with advice.
+    AdviseBy(Profile),
     /// `confirm` by a profile.
     ConfirmBy(Profile),
 }
@@ -50,13 +53,14 @@ pub fn run(
         Engine::CheckBy(profile) => {
             check_stream_with(rt.alloc(), profile, &mut tile, &mut writer)
         }
+        Engine::AdviseBy(profile) => advise_stream(rt.alloc(), profile, &mut tile, &mut writer),
         Engine::ConfirmBy(profile) => {
             confirm_streams_with(rt.alloc(), profile, &mut tile, &mut claim, &mut writer)
         }
     }
 }
 
-/// Whether an engine of one input answers so: its outcome, and the line, which it ends with one LF.
+/// Whether an engine of one input answers so: its outcome, and the line or lines, which it ends with one LF.
 pub fn writes(rt: &HostRuntime, engine: Engine, bytes: &[u8], line: &str) -> bool {
     let mut taken = Vec::new(rt.alloc());
     let got = run(rt, engine, (bytes, ""), [CALM; 3], &mut taken);

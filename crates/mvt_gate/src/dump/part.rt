@@ -8,7 +8,7 @@ ghost use Rattle.mvt_gate.specs.Dump.{list_data};
 use std::alloc::{AllocError, Global};
 use std::fmt::Write;
 
-/// A part of a tile.
+/// A part of a tile, or a piece of advice on one.
 pub(crate) trait Part {
     // the part as JSON
     ghost part_data: { Self → Data };

@@ -2,6 +2,7 @@
 use super::{CROSSED, CROSSING, Engine, outcome_of, run};
 use crate::device::{CALM, Manner, bytes_of, fails, interrupted};
 use crate::engine::EngineFault;
+use mvt_fault::Profile;
 use std::io::ErrorKind;
 use std::test::Fail;
 
@@ -10,7 +11,11 @@ use std::test::Fail;
 /// the writer's last call is the flush.
 type Row = (Engine, &'static str, &'static str, &'static str, [u16; 3]);
 
-const ROWS: [Row; 4] = [
+/// The line of a verdict, and that of the advice behind it, which a failing writer breaks off too.
+const ADVISED: &str =
+    "{\"ok\":true}\n{\"advice\":[{\"kind\":\"no_feature\",\"layer\":0},{\"first\":0,\"kind\":\"equal_key\",\"layer\":0,\"second\":1}]}";
+
+const ROWS: [Row; 5] = [
     (
         Engine::Fields,
         "1a 0e 78 02 0a 01 61 12 07 18 01 22 03 09 32 22",
@@ -31,6 +36,13 @@ const ROWS: [Row; 4] = [
         "",
         r#"{"layers":[{"extent":4096,"features":[{"geometry":[9,50,34],"id":7,"tags":[0,0],"type":1}],"keys":["k"],"name":"a","values":[{"string":"v"}],"version":2}]}"#,
         [12, 0, 53],
+    ),
+    (
+        Engine::AdviseBy(Profile::Polygon),
+        "1a 0b 78 02 0a 01 61 1a 01 6b 1a 01 6b",
+        "",
+        ADVISED,
+        [6, 0, 38],
     ),
     (
         Engine::Confirm,
