@@ -58,7 +58,7 @@ impl Written {
     }
 
     /// The text of these bytes without the LF at its end, or None where they are none.
-    pub fn line(&self) -> Option<&str> {
+    pub fn text(&self) -> Option<&str> {
         let text = str::from_utf8(self.bytes.get(..self.count)?).ok()?;
         text.strip_suffix('\n')
     }

@@ -2,8 +2,10 @@
 use crate::devices::{Sink, Source, Written};
 use crate::input::word;
 use crate::stop::Stop;
+use mvt_fault::Profile;
 use mvt_gate::{
-    EngineFault, Outcome, Tally, check_stream, confirm_streams, dump_stream, fields_stream,
+    EngineFault, Outcome, Tally, advise_stream, check_stream, confirm_streams, dump_stream,
+    fields_stream,
 };
 use std::rt::Env;
 
@@ -12,6 +14,7 @@ use std::rt::Env;
 pub enum Engine {
     Fields,
     Check,
+    Advise,
     Dump,
     /// The text of the fault is the second word.
     Confirm,
@@ -27,6 +30,7 @@ impl Engine {
         Some(match name {
             "fields_stream" => Engine::Fields,
             "check_stream" => Engine::Check,
+            "advise_stream" => Engine::Advise,
             "dump_stream" => Engine::Dump,
             "confirm_streams" => Engine::Confirm,
             "check_stream_unread" => Engine::CheckUnread,
@@ -48,11 +52,14 @@ impl Engine {
         let mut written = Written::new();
         let answer = self.answer(rt, bytes, claim, &mut written);
         let count = written.count();
-        match (answer, written.line()) {
+        match (answer, written.text()) {
             (Err(EngineFault::Memory), _) => println!(rt; "memory refused, {count} bytes written")?,
-            (Ok(outcome), Some(line)) => {
-                println!(rt; "{outcome:?}, {count} bytes written: {line}")?
-            }
+            (Ok(outcome), Some(text)) => match text.split_once('\n') {
+                Some((line, advice)) => {
+                    println!(rt; "{outcome:?}, {count} bytes written: {line} and {advice}")?
+                }
+                None => println!(rt; "{outcome:?}, {count} bytes written: {text}")?,
+            },
             (answer, _) => println!(rt; "{answer:?}, {count} bytes written")?,
         }
         Ok(())
@@ -80,6 +87,9 @@ impl Engine {
             Engine::Dump => dump_stream(rt.alloc(), &mut reader, &mut writer),
             Engine::Check | Engine::CheckUnread | Engine::CheckUnwritten => {
                 check_stream(rt.alloc(), &mut reader, &mut writer)
+            }
+            Engine::Advise => {
+                advise_stream(rt.alloc(), Profile::Polygon, &mut reader, &mut writer)
             }
             Engine::Confirm => {
                 let mut claimed = Tally::new(Source::new(claim));

@@ -1,8 +1,8 @@
 //! Calls on the bytes of a tile or of a fault.
 use crate::stop::Stop;
 use mvt_fault::{FaultTextError, Profile, fault_from_text, fault_text};
-use mvt_gate::{dump_text, judge, judge_with};
-use mvt_tile::{ReadFault, Tile, check_layers, check_tags, read_tile, wire_fault};
+use mvt_gate::{advice_text, dump_text, judge, judge_with};
+use mvt_tile::{Advice, ReadFault, Tile, advise, check_layers, check_tags, read_tile, wire_fault};
 use std::alloc::Global;
 
 /// A call on bytes.
@@ -17,6 +17,9 @@ pub enum TileCall {
     CheckLayers,
     /// `check_tags` of the first layer's first feature.
     CheckTags,
+    Advise,
+    /// `advice_text` of the advice on the tile.
+    AdviceText,
     DumpText,
     /// `fault_text` of the tile's first wire fault.
     FaultText,
@@ -33,6 +36,8 @@ impl TileCall {
             "read_tile" => TileCall::ReadTile,
             "check_layers" => TileCall::CheckLayers,
             "check_tags" => TileCall::CheckTags,
+            "advise" => TileCall::Advise,
+            "advice_text" => TileCall::AdviceText,
             "dump_text" => TileCall::DumpText,
             "fault_text" => TileCall::FaultText,
             "fault_from_text" => TileCall::FaultFromText,
@@ -62,6 +67,14 @@ impl TileCall {
                 println!(rt; "{fault:?}")?;
             }
             TileCall::CheckTags => tell_tags(rt, &tile_of(rt.alloc(), bytes)?)?,
+            TileCall::Advise => {
+                let advice = advise(rt.alloc(), &tile_of(rt.alloc(), bytes)?)?;
+                println!(rt; "{advice:?}")?;
+            }
+            TileCall::AdviceText => {
+                let text = advice_text(rt.alloc(), &advice_of(rt.alloc(), bytes)?)?;
+                println!(rt; "{text}")?;
+            }
             TileCall::DumpText => {
                 let text = dump_text(rt.alloc(), &tile_of(rt.alloc(), bytes)?)?;
                 println!(rt; "{text}")?;
@@ -82,6 +95,14 @@ fn tile_of(alloc: Global, bytes: &[u8]) -> Result<Tile<'_>, Stop> {
         Ok(tile) => Ok(tile),
         Err(ReadFault::Memory) => Err(Stop::NoInput),
         Err(ReadFault::Wire(_)) => Err(Stop::NoCall),
+    }
+}
+
+/// The advice that a call is made on.
+fn advice_of(alloc: Global, bytes: &[u8]) -> Result<Vec<Advice>, Stop> {
+    match advise(alloc, &tile_of(alloc, bytes)?) {
+        Ok(advice) => Ok(advice),
+        Err(_) => Err(Stop::NoInput),
     }
 }
 

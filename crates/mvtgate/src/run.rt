@@ -1,15 +1,15 @@
 //! The whole run of the program: its words, its devices and its exit status.
-ghost use Rattle.std.specs.Prelude.{◌≡◌, ◌≢◌, ◌≤◌, ◌⊎◌, codes, IfOk, IfErr, Some};
-ghost use Rattle.clap.specs.Words.{first_value, found_of, kind_of};
+ghost use Rattle.std.specs.Prelude.{◌≡◌, ◌≢◌, ◌≤◌, ◌⊎◌, codes, IfOk, IfErr, None, Some};
+ghost use Rattle.clap.specs.Words.{first_value, found_of, kind_of, one_text};
 ghost use Rattle.mvt_gate.specs.Engine.{Answers, IsOfClaim};
 ghost use Rattle.mvtgate.specs.Status.{status_of};
 
 use clap::error::ErrorKind;
-use clap::{Arg, ArgMatches, Command};
+use clap::{Arg, ArgAction, ArgMatches, Command};
 use mvt_fault::Profile;
 use mvt_gate::{
-    EngineFault, Outcome, Tally, check_stream_with, confirm_streams_with, dump_stream,
-    fields_stream,
+    EngineFault, Outcome, Tally, advise_stream, check_stream_with, confirm_streams_with,
+    dump_stream, fields_stream,
 };
 use std::alloc::{AllocError, Global};
 use std::io::{Read, Write};
@@ -55,6 +55,8 @@ Profiles:
 enum Engine {
     Fields,
     Check(Profile),
+    /// To check it, with advice behind the verdict.
+    Advise(Profile),
     Dump,
 }
 
@@ -87,6 +89,7 @@ impl Engine {
         match self {
             Engine::Fields => fields_stream(alloc, reader, writer),
             Engine::Check(profile) => check_stream_with(alloc, profile, reader, writer),
+            Engine::Advise(profile) => advise_stream(alloc, profile, reader, writer),
             Engine::Dump => dump_stream(alloc, reader, writer),
         }
     }
@@ -147,6 +150,7 @@ fn command_line<'a>(alloc: Global) -> Result<Command<'a>, AllocError> {
     let fields = tile_command(alloc, "fields", "Lists the outermost fields of a tile")?;
     let about = "Says whether a tile is valid, and else names its first fault";
     let check = with_profile(alloc, tile_command(alloc, "check", about)?)?;
+    let check = with_advice(alloc, check)?;
     let dump = tile_command(alloc, "dump", "Lists what a tile holds")?;
     let confirm = with_profile(alloc, confirm_command(alloc)?)?;
     command
@@ -188,6 +192,15 @@ fn with_profile<'a>(alloc: Global, command: Command<'a>) -> Result<Command<'a>, 
     command.after_help(PROFILE_RULES).arg(profile)
 }
 
+/// The command with the flag that asks for advice.
+fn with_advice<'a>(alloc: Global, command: Command<'a>) -> Result<Command<'a>, AllocError> {
+    let advice = Arg::new(alloc, "advice")
+        .long("advice")
+        .action(ArgAction::SetTrue)
+        .help("Adds a line of what may be mistakes: no layer, no feature in a layer, equal keys, equal ids");
+    command.arg(advice)
+}
+
 /// The command that reads a tile and a fault.
 fn confirm_command<'a>(alloc: Global) -> Result<Command<'a>, AllocError> {
     let tile = Arg::new(alloc, "FILE").help("The tile").required(true);
@@ -206,7 +219,7 @@ fn call_of<'a>(matches: &ArgMatches<'a>) -> Option<Call<'a>> {
     let file = found.get_str("FILE");
     Some(match name {
         "fields" => Call::OneTile(Engine::Fields, file),
-        "check" => Call::OneTile(Engine::Check(profile_of(found)), file),
+        "check" => Call::OneTile(check_of(found, profile_of(found)), file),
         "dump" => Call::OneTile(Engine::Dump, file),
         "confirm" => Call::Confirm {
             profile: profile_of(found),
@@ -225,6 +238,19 @@ fn profile_of(found: &ArgMatches<'_>) -> Profile
     match found.get_str("profile") {
         Some("feature") => Profile::Feature,
         _ => Profile::Polygon,
+    }
+}
+
+/// What `check` does by a profile, with advice where the words ask for it.
+fn check_of(found: &ArgMatches<'_>, profile: Profile) -> Engine
+    ensures advice { one_text (found_of found.now) (codes "advice") ≡ Some (codes "true") → result ≡ Engine.Advise profile }
+    ensures plain { one_text (found_of found.now) (codes "advice") ≡ Some (codes "false") → result ≡ Engine.Check profile }
+    ensures none { one_text (found_of found.now) (codes "advice") ≡ None → result ≡ Engine.Check profile }
+{
+    if found.get_flag("advice") {
+        Engine::Advise(profile)
+    } else {
+        Engine::Check(profile)
     }
 }
 

@@ -29,6 +29,15 @@ fn statuses(rt: &HostRuntime, word: &str, files: &[&str]) -> Result<Vec<u8>, Fai
     Ok(statuses)
 }
 
+/// The statuses of `check` with advice on some files.
+fn statuses_of_advice(rt: &HostRuntime, files: &[&str]) -> Result<Vec<u8>, Fail> {
+    let mut statuses = Vec::new(rt.alloc());
+    for file in files {
+        statuses.push(status(rt, &["mvtgate", "check", "--advice", *file])?)?;
+    }
+    Ok(statuses)
+}
+
 #[test]
 fn exits_by_the_words(rt: HostRuntime) -> Result<(), Fail> {
     assert!(rt; status(&rt, &["mvtgate"])? == 2);
@@ -45,6 +54,10 @@ fn exits_by_the_words(rt: HostRuntime) -> Result<(), Fail> {
     assert!(rt; status(&rt, &["mvtgate", "check", "--profile"])? == 2);
     assert!(rt; status(&rt, &["mvtgate", "dump", "--profile", "polygon"])? == 2);
     assert!(rt; status(&rt, &["mvtgate", "fields", "--profile", "polygon"])? == 2);
+    assert!(rt; status(&rt, &["mvtgate", "check", "--advice=true", "a"])? == 2);
+    assert!(rt; status(&rt, &["mvtgate", "check", "--advise", "a"])? == 2);
+    assert!(rt; status(&rt, &["mvtgate", "dump", "--advice", "a"])? == 2);
+    assert!(rt; status(&rt, &["mvtgate", "confirm", "--advice", "a", "b"])? == 2);
     Ok(())
 }
 
@@ -72,12 +85,16 @@ fn exits_by_the_profile(rt: HostRuntime) -> Result<(), Fail> {
         got.push(status(&rt, &["mvtgate", "check", "--profile", profile, tile])?)?;
         got.push(status(
             &rt,
+            &["mvtgate", "check", "--profile", profile, "--advice", tile],
+        )?)?;
+        got.push(status(
+            &rt,
             &["mvtgate", "confirm", "--profile", profile, tile, text],
         )?)?;
     }
     // the folder goes before a wrong status ends the test
     fs::remove_dir_all(&rt, &folder)?;
-    assert!(rt; got.as_slice() == [0, 1, 0, 1, 1, 0].as_slice());
+    assert!(rt; got.as_slice() == [0, 1, 0, 0, 1, 1, 1, 0].as_slice());
     Ok(())
 }
 
@@ -109,12 +126,14 @@ fn exits_by_the_file(rt: HostRuntime) -> Result<(), Fail> {
     ];
     let listed = statuses(&rt, "fields", &files)?;
     let checked = statuses(&rt, "check", &files)?;
+    let advised = statuses_of_advice(&rt, &files)?;
     let dumped = statuses(&rt, "dump", &files)?;
     // the folder goes before a wrong status ends the test
     fs::remove_dir_all(&rt, &folder)?;
     // (the third and the fourth tell each command from the others)
     assert!(rt; listed.as_slice() == [0, 1, 0, 0, 3, 3, 3].as_slice());
     assert!(rt; checked.as_slice() == [0, 1, 1, 1, 3, 3, 3].as_slice());
+    assert!(rt; advised.as_slice() == checked.as_slice());
     assert!(rt; dumped.as_slice() == [0, 1, 1, 0, 3, 3, 3].as_slice());
     Ok(())
 }
