@@ -197,7 +197,9 @@ fn with_advice<'a>(alloc: Global, command: Command<'a>) -> Result<Command<'a>, A
     let advice = Arg::new(alloc, "advice")
         .long("advice")
         .action(ArgAction::SetTrue)
-        .help("Adds a line of what may be mistakes: no layer, no feature in a layer, equal keys, equal ids");
+        .help(
+            "Adds a line of what may be mistakes: no layer, no feature in a layer, equal keys, equal ids",
+        );
     command.arg(advice)
 }
 
