@@ -1,5 +1,5 @@
 -- Vertices of an exterior that are inside another polygon: polygon by polygon, and vertex by vertex.
-use Rattle.std.proofs.Common.{◌≡◌, ◌≢◌, ℕ, ◌+◌, ◌<◌, ◌≤◌, inl, inr, List, length, get_or, slice_get, slice_index_or, Some, Vec, refl, sym, ◌∙◌, ap, subst, arith}
+use Rattle.std.proofs.Common.{◌≡◌, ◌≢◌, ℕ, ◌<◌, ◌≤◌, inl, inr, List, length, get_or, slice_get, slice_index_or, Some, Vec, refl, sym, ◌∙◌, ap, subst, arith}
 use Rattle.std.proofs.lemmas.Bool.{cases_order, cases_lt}
 use Rattle.std.proofs.lemmas.Option.{slice_get-get_or, slice_get_read, slice_get_within, same_Some}
 use Rattle.std.specs.declared.alloc.Global.{Global}
@@ -53,13 +53,13 @@ vertex_there rings polygons polygon vertex exterior position listed within is be
 -- Different polygons
 
 -- polygons of different numbers have different exteriors
-other_exterior : (rings : List (List Position)) (polygon other : ℕ) (it its : PolygonRings) → IsPolygon rings polygon it → IsPolygon rings other its → other ≢ polygon → its.exterior ≢ it.exterior
+pub other_exterior : (rings : List (List Position)) (polygon other : ℕ) (it its : PolygonRings) → IsPolygon rings polygon it → IsPolygon rings other its → other ≢ polygon → its.exterior ≢ it.exterior
 other_exterior rings polygon other it its is_it is_its different same =
     let further : it.exterior < it.after = is_it.further in
     different (one_polygon rings its.exterior other polygon its it is_its (record { from = omega arith; before = is_its.further }) is_it (record { from = omega arith; before = omega arith })).0
 
 -- and a polygon has one exterior, so those with different exteriors have different numbers
-other_number : (rings : List (List Position)) (polygon other : ℕ) (it its : PolygonRings) → IsPolygon rings polygon it → IsPolygon rings other its → its.exterior ≢ it.exterior → other ≢ polygon
+pub other_number : (rings : List (List Position)) (polygon other : ℕ) (it its : PolygonRings) → IsPolygon rings polygon it → IsPolygon rings other its → its.exterior ≢ it.exterior → other ≢ polygon
 other_number rings polygon other it its is_it is_its different same =
     different (ap (λ (it : PolygonRings). it.exterior) (same_polygon rings polygon its it (subst (λ (number : ℕ). IsPolygon rings number its) same is_its) is_it))
 
@@ -68,10 +68,6 @@ other_number rings polygon other it its is_it is_its different same =
 -- the position is inside none of its holes before this ring
 abbrev pub IsInNoHole : List (List Position) → ℕ → Position → ℕ → Type 0
 IsInNoHole rings exterior position to = (hole : ℕ) → hole < to → (vertices : List Position) → exterior < hole → slice_get rings hole ≡ Some vertices → ¬ IsInside position vertices
-
--- there is none before the first one
-pub no_hole_yet : (rings : List (List Position)) (exterior : ℕ) (position : Position) → IsInNoHole rings exterior position (exterior + 1)
-no_hole_yet rings exterior position hole before vertices behind there inside = omega arith
 
 -- a ring that it isn't inside
 pub not_in_ring : (rings : List (List Position)) (exterior ring : ℕ) (position : Position) (vertices : List Position) → slice_get rings ring ≡ Some vertices → ¬ IsInside position vertices → (its : List Position) → exterior < ring → slice_get rings ring ≡ Some its → ¬ IsInside position its
@@ -119,7 +115,7 @@ none_around rings polygons polygon position listed none other around =
 -- A vertex
 
 -- one with another polygon around its position is inside it
-around_vertex : (rings : List (List Position)) (polygon vertex other : ℕ) (it : PolygonRings) (position : Position) → IsPolygon rings polygon it → IsVertexOf rings it.exterior vertex position → IsPolygonAround rings polygon position other → IsApartFault rings polygon vertex other
+pub around_vertex : (rings : List (List Position)) (polygon vertex other : ℕ) (it : PolygonRings) (position : Position) → IsPolygon rings polygon it → IsVertexOf rings it.exterior vertex position → IsPolygonAround rings polygon position other → IsApartFault rings polygon vertex other
 around_vertex rings polygon vertex other it position is_it here around = record {
   polygon_rings = it;
   there = is_it;

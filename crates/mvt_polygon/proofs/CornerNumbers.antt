@@ -8,9 +8,10 @@ use Rattle.std.proofs.lemmas.Option.{same_Some, slice_get_within, slice_get-get_
 use Rattle.mvt_plane.specs.Meeting.{EdgeNumber, ComesBefore}
 use Rattle.mvt_plane.specs.Position.{Position}
 use Rattle.mvt_plane.specs.Ring.{next_round}
-use Rattle.mvt_polygon.specs.Corners.{AreCorners, IsCornerOf, IsNumbered, corner_at, far_end_of, next_at, no_corner, position_at, previous_at, vertex_count}
+use Rattle.mvt_polygon.specs.Corners.{IsListOf, IsCornerOf, IsNumbered, far_end_of, vertex_count}
+use Rattle.mvt_polygon.specs.Links.{corner_in, next_in, no_corner, position_in, previous_in}
 use Rattle.mvt_polygon.specs.Rings.{AreProperRings}
-use Rattle.mvt_polygon.specs.declared.sweep.corners.Corner.{Corner}
+use Rattle.mvt_polygon.specs.declared.sweep.corner.Corner.{Corner}
 use Rattle.mvt_polygon.proofs.ChainParts.{in_longer, take_there}
 
 -- Going round
@@ -126,23 +127,23 @@ one_place rings number one other is its =
     ]
 
 -- the corners that are there are those of rings
-pub corner_there : (rings : List (List Position)) (corners : List Corner) (number : ℕ) → AreCorners rings corners → number < length corners → IsCornerOf rings number (corner_at corners number)
-corner_there rings corners number are within = are.each number (corner_at corners number) (slice_get-get_or corners number no_corner within)
+pub corner_there : (rings : List (List Position)) (corners : List Corner) (number : ℕ) → IsListOf rings corners → number < length corners → IsCornerOf rings number (corner_in corners number)
+corner_there rings corners number are within = are.each number (corner_in corners number) (slice_get-get_or corners number no_corner within)
 
 -- each vertex is there
-pub numbered_within : (rings : List (List Position)) (corners : List Corner) (number : ℕ) (place : EdgeNumber) → AreCorners rings corners → IsNumbered rings number place
+pub numbered_within : (rings : List (List Position)) (corners : List Corner) (number : ℕ) (place : EdgeNumber) → IsListOf rings corners → IsNumbered rings number place
     → number < length corners
 numbered_within rings corners number place are is = omega (arith, are.count, is.numbered, is.within, count_within rings place.ring is.ring is.there)
 
 -- the corner of this number is that vertex of the ring, and knows those behind and before it
 pub record IsVertex (rings : List (List Position)) (corners : List Corner) (number : ℕ) (place : EdgeNumber) (ring : List Position) : Type 0 where
-  pub here : slice_get ring place.edge ≡ Some (position_at corners number)
-  pub far_end : (corner_at corners number).far_end ≡ vertex_count (take place.ring rings) + far_end_of (length ring) place.edge
-  pub next : next_at corners number ≡ vertex_count (take place.ring rings) + next_round (length ring) place.edge
-  pub previous : previous_at corners number ≡ vertex_count (take place.ring rings) + previous_round (length ring) place.edge
+  pub here : slice_get ring place.edge ≡ Some (position_in corners number)
+  pub far_end : (corner_in corners number).far_end ≡ vertex_count (take place.ring rings) + far_end_of (length ring) place.edge
+  pub next : next_in corners number ≡ vertex_count (take place.ring rings) + next_round (length ring) place.edge
+  pub previous : previous_in corners number ≡ vertex_count (take place.ring rings) + previous_round (length ring) place.edge
 
 -- so do those of proper rings
-pub vertex_at : (rings : List (List Position)) (corners : List Corner) (number : ℕ) (place : EdgeNumber) → AreProperRings rings → AreCorners rings corners
+pub vertex_at : (rings : List (List Position)) (corners : List Corner) (number : ℕ) (place : EdgeNumber) → AreProperRings rings → IsListOf rings corners
     → (is : IsNumbered rings number place)
     → IsVertex rings corners number place is.ring
 vertex_at rings corners number place proper are is =
@@ -151,7 +152,7 @@ vertex_at rings corners number place proper are is =
     let same : its.is.ring ≡ is.ring = same_Some its.is.ring is.ring (sym its.is.there ∙ ap (λ (p : EdgeNumber). slice_get rings p.ring) alike ∙ is.there) in
     let before = vertex_count (take place.ring rings) in
     let several = proper.several place.ring is.ring is.there in
-    let far : (corner_at corners number).far_end ≡ before + far_end_of (length is.ring) place.edge =
+    let far : (corner_in corners number).far_end ≡ before + far_end_of (length is.ring) place.edge =
     its.far_end ∙ ap₂ (λ (p : EdgeNumber) (r : List Position). vertex_count (take p.ring rings) + far_end_of (length r) p.edge) alike same in
     record {
       here = ap₂ (λ (r : List Position) (p : EdgeNumber). slice_get r p.edge) (sym same) (sym alike) ∙ its.here;
@@ -168,20 +169,20 @@ pub record AreFirst (rings : List (List Position)) (many : ℕ) (corners : List 
   pub each : (number : ℕ) (it : Corner) → slice_get corners number ≡ Some it → IsCornerOf rings number it
 
 -- a corner of a ring, as the code makes it
-pub corner_of_ring : (rings : List (List Position)) (number : ℕ) (ring : List Position) (edge before far_end : ℕ) (position : Position) → slice_get rings number ≡ Some ring
-    → edge < length ring → slice_get ring edge ≡ Some position → before ≡ vertex_count (take number rings) → far_end ≡ far_end_of (length ring) edge
-    → IsCornerOf rings (before + edge) (record { position = position; far_end = before + far_end })
-corner_of_ring rings number ring edge before far_end position there within here count is_far_end = record {
+pub corner_of_ring : (rings : List (List Position)) (number : ℕ) (ring : List Position) (edge before far_end : ℕ) (it : Corner) → slice_get rings number ≡ Some ring
+    → edge < length ring → slice_get ring edge ≡ Some it.position → before ≡ vertex_count (take number rings) → far_end ≡ far_end_of (length ring) edge → it.far_end ≡ before + far_end
+    → IsCornerOf rings (before + edge) it
+corner_of_ring rings number ring edge before far_end it there within here count is_far_end is = record {
   place = record { ring = number; edge = edge };
   is = record { ring = ring; there = there; within = within; numbered = ap (λ (n : ℕ). n + edge) count };
   here = here;
-  far_end = ap₂ (λ (a b : ℕ). a + b) count is_far_end;
+  far_end = is ∙ ap₂ (λ (a b : ℕ). a + b) count is_far_end;
 }
 
 -- one more is added
-pub first_more : (rings : List (List Position)) (many next : ℕ) (corners items : List Corner) (last : Corner) → AreFirst rings many corners → IsCornerOf rings many last → next ≡ many + 1
-    → items ≡ corners ++ last ∷ [] → AreFirst rings next items
-first_more rings many next corners items last are is one_more pushed = record {
+pub first_more : (rings : List (List Position)) (many next : ℕ) (corners items : List Corner) (last : Corner) → items ≡ corners ++ last ∷ [] → AreFirst rings many corners
+    → IsCornerOf rings many last → next ≡ many + 1 → AreFirst rings next items
+first_more rings many next corners items last pushed are is one_more = record {
   count = omega (arith, ap length pushed, are.count, length-append corners (last ∷ []));
   each = λ number it there. elim (in_longer corners last number it (ap (λ (list : List Corner). slice_get list number) (sym pushed) ∙ there)) [
     | inl before ↦ are.each number it before
@@ -202,7 +203,7 @@ corner_moved rings others number it is there before =
     }
 
 -- corners of the first rings are corners of the rings
-pub first_of_whole : (rings : List (List Position)) (many : ℕ) (corners : List Corner) → AreCorners (take many rings) corners → AreFirst rings (vertex_count (take many rings)) corners
+pub first_of_whole : (rings : List (List Position)) (many : ℕ) (corners : List Corner) → IsListOf (take many rings) corners → AreFirst rings (vertex_count (take many rings)) corners
 first_of_whole rings many corners are = record {
   count = are.count;
   each = λ number it there.
@@ -212,7 +213,7 @@ first_of_whole rings many corners are = record {
 }
 
 -- the same back
-pub whole_of_first : (rings : List (List Position)) (many : ℕ) (corners : List Corner) → AreFirst rings (vertex_count (take many rings)) corners → AreCorners (take many rings) corners
+pub whole_of_first : (rings : List (List Position)) (many : ℕ) (corners : List Corner) → AreFirst rings (vertex_count (take many rings)) corners → IsListOf (take many rings) corners
 whole_of_first rings many corners are = record {
   count = are.count;
   each = λ number it there.

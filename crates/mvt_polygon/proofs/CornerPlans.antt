@@ -13,12 +13,14 @@ use Rattle.mvt_plane.proofs.CommonPoints.{only_at_the_shared_vertex}
 use Rattle.mvt_plane.proofs.RationalPoints.{lies_on_reversed, begin_lies_on}
 use Rattle.mvt_plane.proofs.RingEdges.{one_edge}
 use Rattle.mvt_polygon.specs.CornerOrder.{AreTogether}
-use Rattle.mvt_polygon.specs.Corners.{AreCorners, AreLinked, AreInRange, IsNumbered, IsNamedMeeting, position_at, edge_at, next_at, plan_of, previous_at, shared_at, vertex_count, IsMeetingAt, NoneWrong}
+use Rattle.mvt_polygon.specs.Corners.{AreCorners, IsListOf, IsMeetingAt, IsNamedMeeting, IsNumbered, NoneWrong, corner_at, corner_count, edge_at, next_at, plan_of, position_at, shared_at, vertex_count}
+use Rattle.mvt_polygon.specs.Links.{AreLinked, next_in, position_in, previous_in}
 use Rattle.mvt_polygon.specs.Meeting.{IsMeetingOf, first_of, second_of}
 use Rattle.mvt_polygon.specs.Rings.{AreProperRings}
 use Rattle.mvt_polygon.specs.Sweep.{IsPlan, Tested}
 use Rattle.mvt_polygon.specs.declared.meeting.Meeting.{Meeting}
-use Rattle.mvt_polygon.specs.declared.sweep.corners.Corner.{Corner}
+use Rattle.mvt_polygon.specs.declared.sweep.corner.Corner.{Corner}
+use Rattle.mvt_polygon.specs.declared.sweep.corners.Corners.{Corners}
 use Rattle.mvt_polygon.specs.declared.sweep.corners.Pair.{Pair}
 use Rattle.mvt_polygon.proofs.CornerNumbers.{IsVertex, corner_there, vertex_at, numbered_within, one_place, in_order, next_within, previous_within, previous_round, next_previous, previous_next, next_but_one}
 use Rattle.mvt_polygon.proofs.EdgeNumbers.{edge_read, within_ring}
@@ -37,9 +39,9 @@ abbrev previous_place : EdgeNumber → List Position → EdgeNumber
 previous_place place ring = record { ring = place.ring; edge = previous_round (length ring) place.edge }
 
 -- the corner behind a vertex is the next vertex
-pub next_numbered : (rings : List (List Position)) (corners : List Corner) (number : ℕ) (place : EdgeNumber) → AreProperRings rings → AreCorners rings corners
+pub next_numbered : (rings : List (List Position)) (corners : List Corner) (number : ℕ) (place : EdgeNumber) → AreProperRings rings → IsListOf rings corners
     → (is : IsNumbered rings number place)
-    → IsNumbered rings (next_at corners number) (next_place place is.ring)
+    → IsNumbered rings (next_in corners number) (next_place place is.ring)
 next_numbered rings corners number place proper are is = record {
   ring = is.ring;
   there = is.there;
@@ -48,9 +50,9 @@ next_numbered rings corners number place proper are is = record {
 }
 
 -- the one before it the previous vertex
-pub previous_numbered : (rings : List (List Position)) (corners : List Corner) (number : ℕ) (place : EdgeNumber) → AreProperRings rings → AreCorners rings corners
+pub previous_numbered : (rings : List (List Position)) (corners : List Corner) (number : ℕ) (place : EdgeNumber) → AreProperRings rings → IsListOf rings corners
     → (is : IsNumbered rings number place)
-    → IsNumbered rings (previous_at corners number) (previous_place place is.ring)
+    → IsNumbered rings (previous_in corners number) (previous_place place is.ring)
 previous_numbered rings corners number place proper are is = record {
   ring = is.ring;
   there = is.there;
@@ -59,30 +61,30 @@ previous_numbered rings corners number place proper are is = record {
 }
 
 -- so it knows the one behind it
-next_vertex : (rings : List (List Position)) (corners : List Corner) (number : ℕ) (place : EdgeNumber) → AreProperRings rings → AreCorners rings corners
+next_vertex : (rings : List (List Position)) (corners : List Corner) (number : ℕ) (place : EdgeNumber) → AreProperRings rings → IsListOf rings corners
     → (is : IsNumbered rings number place)
-    → IsVertex rings corners (next_at corners number) (next_place place is.ring) is.ring
+    → IsVertex rings corners (next_in corners number) (next_place place is.ring) is.ring
 unfolding next_numbered
 next_vertex rings corners number place proper are is =
-    vertex_at rings corners (next_at corners number) (next_place place is.ring) proper are (next_numbered rings corners number place proper are is)
+    vertex_at rings corners (next_in corners number) (next_place place is.ring) proper are (next_numbered rings corners number place proper are is)
 
 -- and the one before it
-previous_vertex : (rings : List (List Position)) (corners : List Corner) (number : ℕ) (place : EdgeNumber) → AreProperRings rings → AreCorners rings corners
+previous_vertex : (rings : List (List Position)) (corners : List Corner) (number : ℕ) (place : EdgeNumber) → AreProperRings rings → IsListOf rings corners
     → (is : IsNumbered rings number place)
-    → IsVertex rings corners (previous_at corners number) (previous_place place is.ring) is.ring
+    → IsVertex rings corners (previous_in corners number) (previous_place place is.ring) is.ring
 unfolding previous_numbered
 previous_vertex rings corners number place proper are is =
-    vertex_at rings corners (previous_at corners number) (previous_place place is.ring) proper are (previous_numbered rings corners number place proper are is)
+    vertex_at rings corners (previous_in corners number) (previous_place place is.ring) proper are (previous_numbered rings corners number place proper are is)
 
 -- the corners of proper rings are linked
-pub linked_corners : (rings : List (List Position)) (corners : List Corner) → AreProperRings rings → AreCorners rings corners → AreLinked corners
+pub linked_corners : (rings : List (List Position)) (corners : List Corner) → AreProperRings rings → IsListOf rings corners → AreLinked corners
 linked_corners rings corners proper are = record {
   next_known = λ number within.
       let it = corner_there rings corners number are within in
-      numbered_within rings corners (next_at corners number) (next_place it.place it.is.ring) are (next_numbered rings corners number it.place proper are it.is);
+      numbered_within rings corners (next_in corners number) (next_place it.place it.is.ring) are (next_numbered rings corners number it.place proper are it.is);
   previous_known = λ number within.
       let it = corner_there rings corners number are within in
-      numbered_within rings corners (previous_at corners number) (previous_place it.place it.is.ring) are (previous_numbered rings corners number it.place proper are it.is);
+      numbered_within rings corners (previous_in corners number) (previous_place it.place it.is.ring) are (previous_numbered rings corners number it.place proper are it.is);
   there_and_back = λ number within.
       let it = corner_there rings corners number are within in
       (next_vertex rings corners number it.place proper are it.is).previous
@@ -98,13 +100,13 @@ linked_corners rings corners proper are = record {
   apart = λ number within same.
       let it = corner_there rings corners number are within in
       let next = next_vertex rings corners number it.place proper are it.is in
-      proper.apart it.place.ring it.place.edge it.is.ring (position_at corners number) (position_at corners (next_at corners number)) it.is.there it.here next.here (sym same);
+      proper.apart it.place.ring it.place.edge it.is.ring (position_in corners number) (position_in corners (next_in corners number)) it.is.there it.here next.here (sym same);
 }
 
 -- Corners are a plan
 
 -- what two edges share, by their numbers
-data SharedWay (corners : List Corner) (first second : ℕ) : Type 0 where
+data SharedWay (corners : Corners) (first second : ℕ) : Type 0 where
   ahead : next_at corners first ≡ second → shared_at corners first second ≡ Some (position_at corners second) → SharedWay corners first second
   back : next_at corners first ≢ second → next_at corners second ≡ first → shared_at corners first second ≡ Some (position_at corners first)
       → SharedWay corners first second
@@ -120,24 +122,24 @@ same_or_not number other =
     ]
 
 -- the first goes on to the second
-pub when_ahead : (corners : List Corner) (first second : ℕ) → next_at corners first ≡ second → shared_at corners first second ≡ Some (position_at corners second)
+pub when_ahead : (corners : Corners) (first second : ℕ) → next_at corners first ≡ second → shared_at corners first second ≡ Some (position_at corners second)
 when_ahead corners first second same = cond-true (next_at corners first == second) _ _ (eq-eqb (next_at corners first) second same)
 
 -- the second to the first
-pub when_back : (corners : List Corner) (first second : ℕ) → next_at corners first ≢ second → next_at corners second ≡ first
+pub when_back : (corners : Corners) (first second : ℕ) → next_at corners first ≢ second → next_at corners second ≡ first
     → shared_at corners first second ≡ Some (position_at corners first)
 when_back corners first second not same =
     cond-false (next_at corners first == second) _ _ (ne_eqb (next_at corners first) second not)
     ∙ cond-true (next_at corners second == first) _ _ (eq-eqb (next_at corners second) first same)
 
 -- neither
-when_apart : (corners : List Corner) (first second : ℕ) → next_at corners first ≢ second → next_at corners second ≢ first → shared_at corners first second ≡ None
+when_apart : (corners : Corners) (first second : ℕ) → next_at corners first ≢ second → next_at corners second ≢ first → shared_at corners first second ≡ None
 when_apart corners first second not nor =
     cond-false (next_at corners first == second) _ _ (ne_eqb (next_at corners first) second not)
     ∙ cond-false (next_at corners second == first) _ _ (ne_eqb (next_at corners second) first nor)
 
 -- and it is known in which way
-shared_way : (corners : List Corner) (first second : ℕ) → SharedWay corners first second
+shared_way : (corners : Corners) (first second : ℕ) → SharedWay corners first second
 shared_way corners first second = either (same_or_not (next_at corners first) second) (same_or_not (next_at corners second) first)
   where
     either : (next_at corners first ≡ second) ⊎ (next_at corners first ≢ second)
@@ -147,12 +149,12 @@ shared_way corners first second = either (same_or_not (next_at corners first) se
     either (inr not) (inr nor) = apart not nor (when_apart corners first second not nor)
 
 -- edges that follow one another share what they share either way
-shared_alike : (corners : List Corner) (first second : ℕ) → AreLinked corners → first < length corners → second < length corners → shared_at corners first second ≡ shared_at corners second first
-shared_alike corners first second linked within inside = either (shared_way corners first second) (shared_way corners second first)
+shared_alike : (corners : Corners) (first second : ℕ) → first < corner_count corners → second < corner_count corners → shared_at corners first second ≡ shared_at corners second first
+shared_alike corners first second within inside = either (shared_way corners first second) (shared_way corners second first)
   where
     either : SharedWay corners first second → SharedWay corners second first → shared_at corners first second ≡ shared_at corners second first
     either (ahead next is) (ahead its was) =
-        absurd (linked.longer first within (ap (next_at corners) next ∙ its))
+        absurd (corners.linked.longer first within (ap (next_at corners) next ∙ its))
     either (ahead next is) (back not its was) = is ∙ sym was
     either (ahead next is) (apart not nor was) = absurd (nor next)
     either (back not its is) (ahead next was) = is ∙ sym was
@@ -163,7 +165,7 @@ shared_alike corners first second linked within inside = either (shared_way corn
     either (apart not nor is) (apart other others was) = is ∙ sym was
 
 -- what is shared is an end of the first
-shared_on_first : (corners : List Corner) (first second : ℕ) (vertex : Position) → shared_at corners first second ≡ Some vertex → IsEndOf vertex ((plan_of corners).segment first)
+shared_on_first : (corners : Corners) (first second : ℕ) (vertex : Position) → shared_at corners first second ≡ Some vertex → IsEndOf vertex ((plan_of corners).segment first)
 shared_on_first corners first second vertex there =
     elim (shared_way corners first second) [
       | ahead next is ↦
@@ -175,20 +177,20 @@ shared_on_first corners first second vertex there =
       | apart not nor is ↦ absurd (none-some vertex (sym is ∙ there))
     ]
 
--- corners that are linked are a plan
-pub plan_of_corners : (corners : List Corner) → AreLinked corners → AreInRange corners → IsPlan (plan_of corners)
-plan_of_corners corners linked in_range = record {
-  rising = λ edge within. rising_between (position_at corners edge) (position_at corners (next_at corners edge)) (in_range edge within)
-      (in_range (next_at corners edge) (linked.next_known edge within)) (λ same. linked.apart edge within (sym same));
+-- corners are a plan
+pub plan_of_corners : (corners : Corners) → IsPlan (plan_of corners)
+plan_of_corners corners = record {
+  rising = λ edge within. rising_between (position_at corners edge) (position_at corners (next_at corners edge)) (corner_at corners edge).in_range
+      (corner_at corners (next_at corners edge)).in_range (λ same. corners.linked.apart edge within (sym same));
   on_first = λ first second vertex within inside there. shared_on_first corners first second vertex there;
-  on_second = λ first second vertex within inside there. shared_on_first corners second first vertex (sym (shared_alike corners first second linked within inside) ∙ there);
-  alike = λ first second within inside. shared_alike corners first second linked within inside;
+  on_second = λ first second vertex within inside there. shared_on_first corners second first vertex (sym (shared_alike corners first second within inside) ∙ there);
+  alike = λ first second within inside. shared_alike corners first second within inside;
 }
 
 -- Points of edges
 
 -- edges as the sweep and as the ring goes have the same points
-pub on_edge_at : (corners : List Corner) (number : ℕ) (point : RationalPoint) → LiesOn point (edge_at corners number) → LiesOn point (edge_along ((plan_of corners).segment number))
+pub on_edge_at : (corners : Corners) (number : ℕ) (point : RationalPoint) → LiesOn point (edge_at corners number) → LiesOn point (edge_along ((plan_of corners).segment number))
 on_edge_at corners number point lies =
     elim (between_them (position_at corners number) (position_at corners (next_at corners number))) [
       | up rises is ↦ subst (λ (it : Segment). LiesOn point (edge_along it)) (sym is) lies
@@ -196,7 +198,7 @@ on_edge_at corners number point lies =
     ]
 
 -- the same back
-pub on_segment_at : (corners : List Corner) (number : ℕ) (point : RationalPoint) → LiesOn point (edge_along ((plan_of corners).segment number)) → LiesOn point (edge_at corners number)
+pub on_segment_at : (corners : Corners) (number : ℕ) (point : RationalPoint) → LiesOn point (edge_along ((plan_of corners).segment number)) → LiesOn point (edge_at corners number)
 on_segment_at corners number point lies =
     elim (between_them (position_at corners number) (position_at corners (next_at corners number))) [
       | up rises is ↦ subst (λ (it : Segment). LiesOn point (edge_along it)) is lies
@@ -208,66 +210,66 @@ on_segment_at corners number point lies =
 -- Tests
 
 -- what is named is so of these edges
-pub named_of_corners : (corners : List Corner) (first second : ℕ) (shared : Option Position) (one other : Edge) (answer : Option RationalPoint) → shared ≡ shared_at corners first second
+pub named_of_corners : (corners : Corners) (first second : ℕ) (shared : Option Position) (one other : Edge) (answer : Option RationalPoint) → shared ≡ shared_at corners first second
     → one ≡ edge_at corners first → other ≡ edge_at corners second → IsNamed shared one other answer → IsNamed (shared_at corners first second) (edge_at corners first) (edge_at corners second) answer
 named_of_corners corners first second shared one other answer is_shared is_one is_other named =
     subst (λ (it : Edge). IsNamed (shared_at corners first second) (edge_at corners first) it answer) is_other
     (subst (λ (it : Edge). IsNamed (shared_at corners first second) it other answer) is_one (subst (λ (it : Option Position). IsNamed it one other answer) is_shared named))
 
 -- where no point is named, two edges were tested
-pub tested_by_name : (corners : List Corner) (first second : ℕ) → IsNamed (shared_at corners first second) (edge_at corners first) (edge_at corners second) None
+pub tested_by_name : (corners : Corners) (first second : ℕ) → IsNamed (shared_at corners first second) (edge_at corners first) (edge_at corners second) None
     → Tested (plan_of corners) first second
 tested_by_name corners first second named point on_first on_second =
     only_at_the_shared_vertex (shared_at corners first second) (edge_at corners first) (edge_at corners second) point named (on_segment_at corners first point on_first)
     (on_segment_at corners second point on_second)
 
 -- a test of two edges is one of them the other way round
-pub tested_either_way : (corners : List Corner) (first second : ℕ) → AreLinked corners → first < length corners → second < length corners → Tested (plan_of corners) first second
+pub tested_either_way : (corners : Corners) (first second : ℕ) → first < corner_count corners → second < corner_count corners → Tested (plan_of corners) first second
     → Tested (plan_of corners) second first
-tested_either_way corners first second linked within inside tested point on_second on_first =
+tested_either_way corners first second within inside tested point on_second on_first =
     let it = tested point on_first on_second in
-    (it.0, sym (shared_alike corners first second linked within inside) ∙ it.1, it.2)
+    (it.0, sym (shared_alike corners first second within inside) ∙ it.1, it.2)
 
 -- so it holds both ways
-pub tested_both_ways : (corners : List Corner) (first second : ℕ) (answer : Option Pair) → AreLinked corners → first < length corners → second < length corners
+pub tested_both_ways : (corners : Corners) (first second : ℕ) (answer : Option Pair) → first < corner_count corners → second < corner_count corners
     → IfNone answer (Tested (plan_of corners) first second) → IfNone answer (Tested (plan_of corners) first second × Tested (plan_of corners) second first)
-tested_both_ways corners first second None linked within inside tested = (tested, tested_either_way corners first second linked within inside tested)
-tested_both_ways corners first second (Some pair) linked within inside tested = tt
+tested_both_ways corners first second None within inside tested = (tested, tested_either_way corners first second within inside tested)
+tested_both_ways corners first second (Some pair) within inside tested = tt
 
 -- the same, the other way round
-pub tested_back_and_forth : (corners : List Corner) (first second : ℕ) (answer : Option Pair) → AreLinked corners → first < length corners → second < length corners
+pub tested_back_and_forth : (corners : Corners) (first second : ℕ) (answer : Option Pair) → first < corner_count corners → second < corner_count corners
     → IfNone answer (Tested (plan_of corners) second first) → IfNone answer (Tested (plan_of corners) first second × Tested (plan_of corners) second first)
-tested_back_and_forth corners first second None linked within inside tested = (tested_either_way corners second first linked inside within tested, tested)
-tested_back_and_forth corners first second (Some pair) linked within inside tested = tt
+tested_back_and_forth corners first second None within inside tested = (tested_either_way corners second first inside within tested, tested)
+tested_back_and_forth corners first second (Some pair) within inside tested = tt
 
 -- corners at one position share no vertex there
-none_together : (corners : List Corner) (first second : ℕ) (vertex : Position) → AreLinked corners → AreTogether corners first second → shared_at corners first second ≡ Some vertex → ⊥
-none_together corners first second vertex linked together there =
+none_together : (corners : Corners) (first second : ℕ) (vertex : Position) → AreTogether corners first second → shared_at corners first second ≡ Some vertex → ⊥
+none_together corners first second vertex together there =
     elim (shared_way corners first second) [
-      | ahead next is ↦ linked.apart first together.first_known (ap (position_at corners) next ∙ sym together.together)
-      | back not next is ↦ linked.apart second together.second_known (ap (position_at corners) next ∙ together.together)
+      | ahead next is ↦ corners.linked.apart first together.first_known (ap (position_at corners) next ∙ sym together.together)
+      | back not next is ↦ corners.linked.apart second together.second_known (ap (position_at corners) next ∙ together.together)
       | apart not nor is ↦ none-some vertex (sym is ∙ there)
     ]
 
 -- edges of corners at one position meet wrongly
-pub together_meets : (corners : List Corner) (first second : ℕ) → AreLinked corners → AreTogether corners first second → ¬ Tested (plan_of corners) first second
-together_meets corners first second linked together tested =
+pub together_meets : (corners : Corners) (first second : ℕ) → AreTogether corners first second → ¬ Tested (plan_of corners) first second
+together_meets corners first second together tested =
     let point = whole (position_at corners first) in
     let on_first = on_edge_at corners first point (begin_lies_on (edge_at corners first)) in
     let begin : LiesOn (whole (position_at corners second)) (edge_at corners second) = begin_lies_on (edge_at corners second) in
     let moved : LiesOn (whole (position_at corners first)) (edge_at corners second) = subst (λ (p : Position). LiesOn (whole p) (edge_at corners second)) (sym together.together) begin in
     let it = tested point on_first (on_edge_at corners second point moved) in
-    none_together corners first second it.0 linked together it.1
+    none_together corners first second it.0 together it.1
 
 -- Meetings
 
 -- the edge that begins in a corner of rings
-pub edge_of_corner : (rings : List (List Position)) (corners : List Corner) (number : ℕ) (place : EdgeNumber) → AreProperRings rings → AreCorners rings corners
+pub edge_of_corner : (rings : List (List Position)) (corners : Corners) (number : ℕ) (place : EdgeNumber) → AreProperRings rings → AreCorners rings corners
     → IsNumbered rings number place
     → IsEdgeOf rings place (edge_at corners number)
 edge_of_corner rings corners number place proper are is =
-    let here = (vertex_at rings corners number place proper are is).here in
-    let behind = (next_vertex rings corners number place proper are is).here in
+    let here = (vertex_at rings corners.list.items number place proper are is).here in
+    let behind = (next_vertex rings corners.list.items number place proper are is).here in
     let next = next_round (length is.ring) place.edge in
     let a = position_at corners number in
     let b = position_at corners (next_at corners number) in
@@ -279,14 +281,14 @@ edge_of_corner rings corners number place proper are is =
     }
 
 -- the next corner is that of the edge that follows
-next_is_follower : (rings : List (List Position)) (corners : List Corner) (first second : ℕ) (one other : EdgeNumber) → AreProperRings rings → AreCorners rings corners
+next_is_follower : (rings : List (List Position)) (corners : Corners) (first second : ℕ) (one other : EdgeNumber) → AreProperRings rings → AreCorners rings corners
     → (is : IsNumbered rings first one)
     → IsNumbered rings second other → other.ring ≡ one.ring → other.edge ≡ next_round (length is.ring) one.edge → next_at corners first ≡ second
 next_is_follower rings corners first second one other proper are is its same follows =
-    (vertex_at rings corners first one proper are is).next ∙ ap₂ (λ (r e : ℕ). vertex_count (take r rings) + e) (sym same) (sym follows) ∙ sym its.numbered
+    (vertex_at rings corners.list.items first one proper are is).next ∙ ap₂ (λ (r e : ℕ). vertex_count (take r rings) + e) (sym same) (sym follows) ∙ sym its.numbered
 
 -- what corners share is what the edges do
-sharing : (rings : List (List Position)) (corners : List Corner) (first second : ℕ) (one other : EdgeNumber) → AreProperRings rings → AreCorners rings corners
+sharing : (rings : List (List Position)) (corners : Corners) (first second : ℕ) (one other : EdgeNumber) → AreProperRings rings → AreCorners rings corners
     → IsNumbered rings first one
     → IsNumbered rings second other → AreSharing rings one other (shared_at corners first second)
 sharing rings corners first second one other proper are is its = either (shared_way corners first second)
@@ -294,7 +296,7 @@ sharing rings corners first second one other proper are is its = either (shared_
     follow : (from to : ℕ) (here behind : EdgeNumber) → (there : IsNumbered rings from here) → IsNumbered rings to behind → next_at corners from ≡ to
         → Follows rings here behind (position_at corners to)
     follow from to here behind there its_there next =
-        let moved = subst (λ (n : ℕ). IsNumbered rings n (next_place here there.ring)) next (next_numbered rings corners from here proper are there) in
+        let moved = subst (λ (n : ℕ). IsNumbered rings n (next_place here there.ring)) next (next_numbered rings corners.list.items from here proper are there) in
         let same : behind ≡ next_place here there.ring = one_place rings to behind (next_place here there.ring) its_there moved in
         follows_next rings here behind (edge_at corners to) there.ring (edge_of_corner rings corners to behind proper are its_there) there.there
         (ap (λ (p : EdgeNumber). p.ring) same) (ap (λ (p : EdgeNumber). p.edge) same)
@@ -318,7 +320,7 @@ sharing rings corners first second one other proper are is its = either (shared_
             (next_is_follower rings corners second first other one proper are its is same (next ∙ ap (λ (r : List Position). next_round (length r) other.edge) (sym alike))))
 
 -- a meeting of corners is one of the rings
-pub meeting_of_rings : (rings : List (List Position)) (corners : List Corner) (pair : Pair) (meeting : Meeting) → AreProperRings rings → AreCorners rings corners
+pub meeting_of_rings : (rings : List (List Position)) (corners : Corners) (pair : Pair) (meeting : Meeting) → AreProperRings rings → AreCorners rings corners
     → IsMeetingAt corners pair
     → IsNamedMeeting rings pair meeting → IsMeetingOf rings meeting
 meeting_of_rings rings corners pair meeting proper are is named =
@@ -331,14 +333,14 @@ meeting_of_rings rings corners pair meeting proper are is named =
     (subst (λ (point : RationalPoint). IsNamed shared one other (Some point)) (sym named.point) is.named) (subst IsBounded (sym named.point) is.bounded)
 
 -- an edge of rings begins in a corner
-pub record HasCorner (rings : List (List Position)) (corners : List Corner) (number : EdgeNumber) (it : Edge) : Type 0 where
+pub record HasCorner (rings : List (List Position)) (corners : Corners) (number : EdgeNumber) (it : Edge) : Type 0 where
   pub at : ℕ
-  pub within : at < length corners
+  pub within : at < corner_count corners
   pub numbered : IsNumbered rings at number
   pub its_edge : edge_at corners at ≡ it
 
 -- each does
-pub corner_of_edge : (rings : List (List Position)) (corners : List Corner) (number : EdgeNumber) (it : Edge) → AreProperRings rings → AreCorners rings corners
+pub corner_of_edge : (rings : List (List Position)) (corners : Corners) (number : EdgeNumber) (it : Edge) → AreProperRings rings → AreCorners rings corners
     → IsEdgeOf rings number it
     → HasCorner rings corners number it
 corner_of_edge rings corners number it proper are is =
@@ -346,13 +348,13 @@ corner_of_edge rings corners number it proper are is =
     let numbered : IsNumbered rings at number = record { ring = is.ring; there = is.there; within = within_ring rings number it is.ring is is.there; numbered = refl } in
     record {
       at = at;
-      within = numbered_within rings corners at number are numbered;
+      within = numbered_within rings corners.list.items at number are numbered;
       numbered = numbered;
       its_edge = one_edge rings number (edge_at corners at) it (edge_of_corner rings corners at number proper are numbered) is;
     }
 
 -- and where the corners have none, the rings have none
-pub none_of_rings : (rings : List (List Position)) (corners : List Corner) → AreProperRings rings → AreCorners rings corners → NoneWrong corners
+pub none_of_rings : (rings : List (List Position)) (corners : Corners) → AreProperRings rings → AreCorners rings corners → NoneWrong corners
     → (first second : EdgeNumber) (point : RationalPoint) → ¬ MeetsWrongly rings first second point
 none_of_rings rings corners proper are none first second point meets =
     let one = corner_of_edge rings corners first meets.one proper are meets.one_there in

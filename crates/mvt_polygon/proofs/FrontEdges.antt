@@ -1,5 +1,5 @@
 -- Where two edges begin in a corner, the edges of the sweep below it are those that pass below it.
-use Rattle.std.proofs.Common.{◌≡◌, ◌≢◌, ◌⊎◌, inl, inr, ℕ, ◌<◌, List, ◌++◌, length, ℤ, pos, ◌<ℤ◌, ◌≤ℤ◌, sym, ◌∙◌, ap, subst, arith}
+use Rattle.std.proofs.Common.{◌≡◌, ◌≢◌, ◌⊎◌, inl, inr, ℕ, ◌<◌, List, ◌++◌, ℤ, pos, ◌<ℤ◌, ◌≤ℤ◌, sym, ◌∙◌, ap, subst, arith}
 use Rattle.mvt_plane.specs.Below.{IsNotAbove, IsAboveRising, PassesBelow}
 use Rattle.mvt_plane.specs.EdgeOrder.{Segment, segment, segment_between}
 use Rattle.mvt_plane.specs.Inside.{Differ}
@@ -9,10 +9,10 @@ use Rattle.mvt_plane.proofs.Order.{zs, le_or_lt}
 use Rattle.mvt_plane.proofs.EdgesBelow.{below_back}
 use Rattle.mvt_polygon.specs.Chain.{Has, Ordered}
 use Rattle.mvt_polygon.specs.CornerOrder.{IsNextCorner}
-use Rattle.mvt_polygon.specs.Corners.{AreLinked, AreInRange, edge_at, next_at, plan_of, position_at, previous_at}
+use Rattle.mvt_polygon.specs.Corners.{corner_count, edge_at, next_at, plan_of, position_at, previous_at}
 use Rattle.mvt_polygon.specs.FrontEdges.{AreBelow}
 use Rattle.mvt_polygon.specs.Sweep.{Plan, IsPlan, IsSwept, IsEvent, IsActive, IsUnder, IsCut, IsSlab, BeginThere}
-use Rattle.mvt_polygon.specs.declared.sweep.corners.Corner.{Corner}
+use Rattle.mvt_polygon.specs.declared.sweep.corners.Corners.{Corners}
 use Rattle.mvt_polygon.proofs.ChainParts.{each_has, each_by_has, has_left, has_either, ordered_parts, ordered_map}
 use Rattle.mvt_polygon.proofs.CornerPlans.{plan_of_corners}
 use Rattle.mvt_polygon.proofs.SegmentEnds.{up, down, between_them}
@@ -124,16 +124,16 @@ front_ordered : (R : ℕ → ℕ → Type 0) (edges front rest : List ℕ) → e
 front_ordered R edges front rest whole ordered = (ordered_parts R front rest (subst (Ordered R) whole ordered)).0
 
 -- the edges of the front pass below the corner, and no other edges do
-pub front_is_below : (corners : List Corner) (number : ℕ) (edges front rest : List ℕ) → AreLinked corners → AreInRange corners → number < length corners
+pub front_is_below : (corners : Corners) (number : ℕ) (edges front rest : List ℕ) → number < corner_count corners
     → IsNextCorner corners number (previous_at corners number) number edges → BeginThere (plan_of corners) (position_at corners number) (previous_at corners number) number
     → IsCut (plan_of corners) (position_at corners number) edges front rest → AreBelow corners (position_at corners number) front
-front_is_below corners number edges front rest linked in_range known next begin cut =
+front_is_below corners number edges front rest known next begin cut =
     let plan : Plan = plan_of corners in
     let vertex : Position = position_at corners number in
-    let is_plan : IsPlan (plan_of corners) = plan_of_corners corners linked in_range in
+    let is_plan : IsPlan (plan_of corners) = plan_of_corners corners in
     let active : (edge : ℕ) → Has front edge → IsActive (plan_of corners) next.key edge = λ edge here. front_active (plan_of corners) next.key (position_at corners number) edge edges front rest next.swept cut here in
     record {
-      known = each_by_has (λ (edge : ℕ). edge < length corners) front (λ edge here. (active edge here).known);
+      known = each_by_has (λ (edge : ℕ). edge < corner_count corners) front (λ edge here. (active edge here).known);
       once = front_ordered (λ (one other : ℕ). one ≢ other) edges front rest cut.whole (swept_differ plan next.key edges is_plan next.swept);
       below = each_by_has (λ (edge : ℕ). PassesBelow vertex (edge_at corners edge)) front (λ edge here.
           below_between vertex (position_at corners edge) (position_at corners (next_at corners edge))

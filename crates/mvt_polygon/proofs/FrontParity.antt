@@ -11,7 +11,7 @@ use Rattle.mvt_plane.proofs.InsideParity.{apart, apart_assoc, false_apart, no_tr
 use Rattle.mvt_plane.proofs.RingEdges.{count_of_edges}
 use Rattle.mvt_polygon.specs.Chain.{Has, Each, Ordered}
 use Rattle.mvt_polygon.specs.Corners.{vertex_count}
-use Rattle.mvt_polygon.specs.RingNotes.{is_odd_number}
+use Rattle.mvt_polygon.specs.RingsBelow.{is_odd_number}
 use Rattle.mvt_polygon.proofs.ChainParts.{each_has}
 use Rattle.mvt_polygon.proofs.CornerNumbers.{count_cons, count_take}
 

@@ -14,21 +14,20 @@ use Rattle.mvt_plane.proofs.Gaps.{gap_to_itself}
 use Rattle.mvt_plane.proofs.InsideParity.{no_truth, parts_differ}
 use Rattle.mvt_plane.proofs.Order.{zs}
 use Rattle.mvt_polygon.specs.Chain.{Has, Ordered}
-use Rattle.mvt_polygon.specs.Corners.{AreCorners, AreInRange, IsNumbered, edge_at, position_at, vertex_count}
+use Rattle.mvt_polygon.specs.Corners.{AreCorners, IsNumbered, corner_at, corner_count, edge_at, position_at, vertex_count}
 use Rattle.mvt_polygon.specs.FrontEdges.{AreBelow}
-use Rattle.mvt_polygon.specs.RingNotes.{is_odd_number}
 use Rattle.mvt_polygon.specs.Rings.{AreProperRings}
-use Rattle.mvt_polygon.specs.RingsBelow.{AreRingsInRange, HaveNoneBelow, HaveOddBelow, IsRingBelow}
-use Rattle.mvt_polygon.specs.declared.sweep.corners.Corner.{Corner}
+use Rattle.mvt_polygon.specs.RingsBelow.{is_odd_number, AreRingsInRange, HaveNoneBelow, HaveOddBelow, IsRingBelow}
+use Rattle.mvt_polygon.specs.declared.sweep.corners.Corners.{Corners}
 use Rattle.mvt_polygon.proofs.ChainParts.{each_has, has_place}
-use Rattle.mvt_polygon.proofs.CornerNumbers.{numbered_within, vertex_at}
+use Rattle.mvt_polygon.proofs.CornerNumbers.{vertex_at}
 use Rattle.mvt_polygon.proofs.CornerPlans.{corner_of_edge, edge_of_corner}
 use Rattle.mvt_polygon.proofs.FrontParity.{odd_from, odd_alike, is_in, in_by_has, has_by_in, odd_of_list, odd_of_all, odd_of_rings}
 
 -- Edges in the front
 
 -- an edge of rings that passes below the position is in the front
-front_has : (rings : List (List Position)) (corners : List Corner) (position : Position) (front : List ℕ) (number : EdgeNumber) (edge : Edge)
+front_has : (rings : List (List Position)) (corners : Corners) (position : Position) (front : List ℕ) (number : EdgeNumber) (edge : Edge)
     → AreProperRings rings → AreCorners rings corners → AreBelow corners position front → IsEdgeOf rings number edge → PassesBelow position edge → (at : ℕ) × (edge_at corners at ≡ edge) × Has front at
 front_has rings corners position front number edge proper are below is passes =
     let it = corner_of_edge rings corners number edge proper are is in
@@ -40,7 +39,7 @@ none_in [] at none has = has
 none_in (first ∷ rest) at none has = omega arith
 
 -- where the front has no edges, none passes below the position
-pub none_of_front : (rings : List (List Position)) (corners : List Corner) (position : Position) (front : List ℕ) → AreProperRings rings → AreCorners rings corners
+pub none_of_front : (rings : List (List Position)) (corners : Corners) (position : Position) (front : List ℕ) → AreProperRings rings → AreCorners rings corners
     → AreBelow corners position front → length front ≡ 0 → HaveNoneBelow position rings
 none_of_front rings corners position front proper are below none number edge is passes =
     let found = front_has rings corners position front number edge proper are below is passes in
@@ -72,7 +71,7 @@ not_above_itself : (position : Position) (edge : Edge) → IsNotAbove position e
 not_above_itself position edge = let none = gap_to_itself (segment_between edge.a edge.b) (key_of position) (pos 1) in omega (arith, zs, none)
 
 -- of the edges that pass below the position none is above the last one of the front
-pub ring_of_front : (rings : List (List Position)) (corners : List Corner) (position : Position) (front : List ℕ) (at : EdgeNumber)
+pub ring_of_front : (rings : List (List Position)) (corners : Corners) (position : Position) (front : List ℕ) (at : EdgeNumber)
     → AreProperRings rings → AreCorners rings corners → AreBelow corners position front → 0 < length front → IsNumbered rings (slice_index front (length front - 1)) at → IsRingBelow position rings at.ring
 ring_of_front rings corners position front at proper are below some is = record {
   number = at;
@@ -98,15 +97,15 @@ ring_of_front rings corners position front at proper are below some is = record 
 
 -- Vertices
 
--- where the corners are in range, all vertices are
-pub rings_in_range : (rings : List (List Position)) (corners : List Corner) → AreProperRings rings → AreCorners rings corners → AreInRange corners → AreRingsInRange rings
-rings_in_range rings corners proper are in_range number vertex ring position there here =
+-- all vertices are in range, since corners are
+pub rings_in_range : (rings : List (List Position)) (corners : Corners) → AreProperRings rings → AreCorners rings corners → AreRingsInRange rings
+rings_in_range rings corners proper are number vertex ring position there here =
     let place : EdgeNumber = record { ring = number; edge = vertex } in
     let at = vertex_count (take number rings) + vertex in
     let is : IsNumbered rings at place = record { ring = ring; there = there; within = slice_get_within ring vertex position here; numbered = refl } in
-    let it = vertex_at rings corners at place proper are is in
+    let it = vertex_at rings corners.list.items at place proper are is in
     let same : position_at corners at ≡ position = same_Some (position_at corners at) position (sym it.here ∙ here) in
-    subst IsPosition same (in_range at (numbered_within rings corners at place are is))
+    subst IsPosition same (corner_at corners at).in_range
 
 -- The parity of the front
 
@@ -126,13 +125,13 @@ all_tell position tells each (ring ∷ rest) =
     (all_tell position tells each rest)
 
 -- an odd number of edges are in the front where an odd number of all the rings' edges pass below the position
-pub odd_of_front : (rings : List (List Position)) (corners : List Corner) (position : Position) (front : List ℕ) → AreProperRings rings → AreCorners rings corners
+pub odd_of_front : (rings : List (List Position)) (corners : Corners) (position : Position) (front : List ℕ) → AreProperRings rings → AreCorners rings corners
     → AreBelow corners position front → IsTrue (is_odd_number (length front)) ↔ HaveOddBelow position rings
 odd_of_front rings corners position front proper are below =
     let tells : Edge → Bool = λ edge. test (below_or_not position edge.a edge.b) in
     let each : (edge : Edge) → IsTrue (tells edge) ↔ PassesBelow position edge = λ edge. test_tells (below_or_not position edge.a edge.b) in
     let meets : ℕ → Bool = λ number. tells (edge_at corners number) in
-    let in_front : (number : ℕ) → number < length corners → is_in front number ≡ meets number = λ number within.
+    let in_front : (number : ℕ) → number < corner_count corners → is_in front number ≡ meets number = λ number within.
     same_tests (is_in front number) (meets number)
     (λ there. (each (edge_at corners number)).1
     (each_has (λ (edge : ℕ). PassesBelow position (edge_at corners edge)) front number below.below (has_by_in front number there)))
@@ -142,8 +141,8 @@ odd_of_front rings corners position front proper are below =
     let at : 0 + (vertex_count (take number.ring rings) + number.edge) ≡ it.at = omega (arith, it.numbered.numbered) in
     ap meets at ∙ ap tells it.its_edge in
     let same : is_odd_number (length front) ≡ odd_of_all tells rings =
-    odd_of_list front (length corners) below.known
-    ∙ odd_alike (is_in front) meets 0 (length corners) (λ number least most. in_front number (omega arith))
+    odd_of_list front (corner_count corners) below.known
+    ∙ odd_alike (is_in front) meets 0 (corner_count corners) (λ number least most. in_front number (omega arith))
     ∙ ap (odd_from meets 0) are.count ∙ odd_of_rings meets tells rings 0 of_edge in
     let told = all_tell position tells each rings in (
       λ is_odd. told.0 (subst IsTrue same is_odd),

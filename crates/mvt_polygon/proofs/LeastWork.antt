@@ -1,22 +1,17 @@
 -- What is counted at least.
-use Rattle.std.proofs.Common.{add-one, ◌≡◌, ◌≢◌, ℕ, zero, suc, ◌+◌, ◌*◌, ◌≤◌, List, [], ◌∷◌, Option, Some, None, IfNone, IfSome, option_map, refl, sym, subst, arith}
+use Rattle.std.proofs.Common.{add-one, ◌≡◌, ℕ, zero, suc, ◌+◌, ◌*◌, ◌≤◌, List, [], ◌∷◌, Option, Some, None, IfNone, IfSome, refl, sym, subst, arith}
 use Rattle.std.proofs.Math.Nat.{mul-le-mul_right}
 use Rattle.mvt_plane.specs.Counted.{Counted, ticked}
 use Rattle.mvt_plane.specs.Position.{Position}
 use Rattle.mvt_polygon.specs.CornerOrder.{IsCounted}
 use Rattle.mvt_polygon.specs.Corners.{vertex_count}
 use Rattle.mvt_polygon.specs.Pairs.{pairs_of}
-use Rattle.mvt_polygon.specs.PolygonFault.{meeting_in}
 use Rattle.mvt_polygon.specs.Rings.{AreProperRings}
 use Rattle.mvt_polygon.specs.Steps.{after_an_end, met_by}
 use Rattle.mvt_polygon.proofs.CornerNumbers.{count_cons}
-use Rattle.mvt_polygon.specs.declared.meeting.Meeting.{Meeting as MeetingOf}
-use Rattle.mvt_polygon.specs.declared.nesting.NestFault.{NestFault}
-use Rattle.mvt_polygon.specs.declared.polygon.PolygonFault.{PolygonFault}
-use Rattle.mvt_polygon.specs.declared.polygon.PolygonFault.TheVariants.{Meeting, Nesting}
 use Rattle.mvt_polygon.specs.declared.sweep.corners.Pair.{Pair}
 use Rattle.mvt_polygon.specs.declared.sweep.step.Step.{Step}
-use Rattle.mvt_polygon.specs.declared.sweep.step.Step.TheVariants.{Meets, Begins, Ends}
+use Rattle.mvt_polygon.specs.declared.sweep.step.Step.TheVariants.{Meets}
 use Rattle.mvt_status.specs.Counts.{raised}
 
 -- so many comparisons were made before a last test, which found what is answered
@@ -36,11 +31,6 @@ pub counted_named : {T U : Type 0} (P : U → T → Type 0) (probes : ℕ) (befo
 counted_named P probes before after found None same is counted = subst (IsCounted probes before after) same counted
 counted_named P probes before after found (Some it) same is counted = subst (IsCounted probes before after) is.1 counted
 
--- where something is named always, a test is enough
-pub tested_named : {T : Type 0} (probes : ℕ) (before after : Counted) (named : Option T) → IfNone named ⊥ → ticked before.tests ≤ after.tests → IsCounted probes before after named
-tested_named probes before after None none tested = absurd none
-tested_named probes before after (Some it) none tested = tested
-
 -- A step
 
 -- a step over a corner in which an edge ended
@@ -49,40 +39,9 @@ pub counted_after_an_end : (before after : Counted) (found : Option Pair) (step 
 counted_after_an_end before after None step is counted = subst (λ (step : Step). IsCounted 1 before after (met_by step)) (sym is) counted
 counted_after_an_end before after (Some pair) step is counted = subst (λ (step : Step). IsCounted 1 before after (met_by step)) (sym is) counted
 
--- a step that came to no meeting made a comparison
-pub compared : (before after : Counted) (step : Step) → ((pair : Pair) → step ≢ Meets pair) → IsCounted 1 before after (met_by step) → raised 1 before.probes ≤ after.probes
-compared before after (Meets pair) none counted = absurd (none pair refl)
-compared before after (Begins place) none counted = counted
-compared before after Ends none counted = counted
-
--- one that came to a meeting made a test
+-- a step that came to a meeting made a test
 pub tested_step : (before after : Counted) (step : Step) (pair : Pair) → step ≡ Meets pair → IsCounted 1 before after (met_by step) → ticked before.tests ≤ after.tests
 tested_step before after step pair is counted = subst (λ (step : Step). IsCounted 1 before after (met_by step)) is counted
-
--- Of a polygon
-
--- the meeting in a fault is the one that was found
-pub counted_fault : (probes : ℕ) (before after : Counted) (found : Option MeetingOf) (fault : Option PolygonFault) → fault ≡ option_map Meeting found
-    → IsCounted probes before after found → IsCounted probes before after (meeting_in fault)
-counted_fault probes before after None fault is counted = subst (λ (fault : Option PolygonFault). IsCounted probes before after (meeting_in fault)) (sym is) counted
-counted_fault probes before after (Some meeting) fault is counted = subst (λ (fault : Option PolygonFault). IsCounted probes before after (meeting_in fault)) (sym is) counted
-
--- the meeting that the sweep found
-pub counted_meeting : (probes : ℕ) (before after : Counted) (named : Option MeetingOf) (meeting : MeetingOf) (fault : Option PolygonFault) → named ≡ Some meeting
-    → fault ≡ Some (Meeting meeting) → IsCounted probes before after named → IsCounted probes before after (meeting_in fault)
-counted_meeting probes before after named meeting fault one is counted =
-    subst (λ (fault : Option PolygonFault). IsCounted probes before after (meeting_in fault)) (sym is) (subst (IsCounted probes before after) one counted)
-
--- or the look at the holes, where it found none
-pub counted_nesting : (probes : ℕ) (before between after : Counted) (named : Option MeetingOf) (found : Option NestFault) (fault : Option PolygonFault) → named ≡ None
-    → fault ≡ option_map Nesting found → between.probes ≤ after.probes → IsCounted probes before between named → IsCounted probes before after (meeting_in fault)
-counted_nesting probes before between after named found fault none is more counted =
-    let least : raised probes before.probes ≤ between.probes = subst (IsCounted probes before between) none counted in
-    subst (λ (fault : Option PolygonFault). IsCounted probes before after (meeting_in fault)) (sym is) (whole found (omega (arith, least, more)))
-  where
-    whole : (found : Option NestFault) → raised probes before.probes ≤ after.probes → IsCounted probes before after (meeting_in (option_map Nesting found))
-    whole None least = least
-    whole (Some hole) least = least
 
 -- Pairs
 

@@ -1,15 +1,15 @@
 -- The work of a sweep, step by step, and what follows for the rings from what it finds.
-use Rattle.std.proofs.Common.{◌≡◌, ℕ, ◌+◌, ◌*◌, ◌<◌, ◌≤◌, List, Option, Some, None, IfNone, IfSome, subst, arith}
+use Rattle.std.proofs.Common.{◌≡◌, ℕ, ◌+◌, ◌*◌, ◌≤◌, List, Option, Some, None, IfNone, IfSome, subst, arith}
 use Rattle.std.proofs.Math.Nat.{mul-le-mul_right}
 use Rattle.mvt_plane.specs.Counted.{Counted}
 use Rattle.mvt_plane.specs.Position.{Position}
 use Rattle.mvt_polygon.specs.CornerOrder.{AddsWork, AreTogether}
-use Rattle.mvt_polygon.specs.Corners.{AreCorners, AreLinked, IsMeetingAt, IsNamedMeeting, plan_of, vertex_count}
+use Rattle.mvt_polygon.specs.Corners.{AreCorners, IsMeetingAt, IsNamedMeeting, plan_of}
 use Rattle.mvt_polygon.specs.Meeting.{IsMeetingOf}
 use Rattle.mvt_polygon.specs.Rings.{AreProperRings}
 use Rattle.mvt_polygon.specs.Sweep.{Tested}
 use Rattle.mvt_polygon.specs.declared.meeting.Meeting.{Meeting}
-use Rattle.mvt_polygon.specs.declared.sweep.corners.Corner.{Corner}
+use Rattle.mvt_polygon.specs.declared.sweep.corners.Corners.{Corners}
 use Rattle.mvt_polygon.specs.declared.sweep.corners.Pair.{Pair}
 use Rattle.mvt_polygon.proofs.CornerPlans.{together_meets, meeting_of_rings}
 use Rattle.mvt_polygon.proofs.StatusCounts.{work_then, work_within}
@@ -29,24 +29,12 @@ so_many_steps at many probes visits before after most work = work_within (omega 
 
 -- What is found
 
--- the edges that were found have vertices of the rings
-pub first_within : (rings : List (List Position)) (corners : List Corner) (found : Option Pair) → AreCorners rings corners → IfSome found (IsMeetingAt corners)
-    → IfSome found (λ pair. pair.first < vertex_count rings)
-first_within rings corners None are is = is
-first_within rings corners (Some pair) are is = omega (arith, are.count, is.in_order, is.known)
-
--- so has the second
-pub second_within : (rings : List (List Position)) (corners : List Corner) (found : Option Pair) → AreCorners rings corners → IfSome found (IsMeetingAt corners)
-    → IfSome found (λ pair. pair.second < vertex_count rings)
-second_within rings corners None are is = is
-second_within rings corners (Some pair) are is = omega (arith, are.count, is.known)
-
 -- the meeting that is returned is that of the two edges found
 abbrev pub IsNamedMeetingOf : List (List Position) → Option Pair → Meeting → Type 0
 IsNamedMeetingOf rings found meeting = (pair : Pair) × (found ≡ Some pair) × IsNamedMeeting rings pair meeting
 
 -- a meeting of corners' edges is one of the rings
-pub some_named : (rings : List (List Position)) (corners : List Corner) (found : Option Pair) (result : Option Meeting) → AreProperRings rings → AreCorners rings corners
+pub some_named : (rings : List (List Position)) (corners : Corners) (found : Option Pair) (result : Option Meeting) → AreProperRings rings → AreCorners rings corners
     → IfSome found (IsMeetingAt corners) → IfSome result (IsNamedMeetingOf rings found) → IfSome result (IsMeetingOf rings)
 some_named rings corners found None proper are is named = named
 some_named rings corners found (Some meeting) proper are is (pair, same, named) =
@@ -58,7 +46,7 @@ none_named found None P same is = subst (λ (it : Option Pair). IfNone it P) sam
 none_named found (Some meeting) P same is = same
 
 -- of two corners at one position the edges meet, so that a meeting is found
-pub together_found : (corners : List Corner) (first second : ℕ) (found : Option Pair) (P : Type 0) → AreLinked corners → AreTogether corners first second
+pub together_found : (corners : Corners) (first second : ℕ) (found : Option Pair) (P : Type 0) → AreTogether corners first second
     → IfNone found (Tested (plan_of corners) first second × Tested (plan_of corners) second first) → IfNone found P
-together_found corners first second None P linked together tested = absurd (together_meets corners first second linked together tested.0)
-together_found corners first second (Some it) P linked together tested = tested
+together_found corners first second None P together tested = absurd (together_meets corners first second together tested.0)
+together_found corners first second (Some it) P together tested = tested

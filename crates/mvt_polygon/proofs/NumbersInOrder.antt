@@ -6,7 +6,7 @@ use Rattle.std.proofs.lemmas.Option.{slice_get-map, slice_get-get_or}
 use Rattle.mvt_plane.specs.Measure.{key_of}
 use Rattle.mvt_polygon.specs.CornerOrder.{IsOrder, IsStrict, with_keys}
 use Rattle.mvt_polygon.specs.Corners.{position_at}
-use Rattle.mvt_polygon.specs.declared.sweep.corners.Corner.{Corner}
+use Rattle.mvt_polygon.specs.declared.sweep.corners.Corners.{Corners}
 
 -- one more number
 pub number_more : (order : List (ℤ × ℕ)) (numbers longer : List ℕ) (at : ℕ) (pair : ℤ × ℕ) → at < length order → pair ≡ get_or order at pair → numbers ≡ map (λ (pair : ℤ × ℕ). pair.1) (take at order)
@@ -17,7 +17,7 @@ number_more order numbers longer at pair within here before more =
     ∙ ap (map (λ (it : ℤ × ℕ). it.1)) (sym (take_more order at pair within))
 
 -- pairs of numbers and keys come back from the numbers
-keys_again : (corners : List Corner) (order : List (ℤ × ℕ))
+keys_again : (corners : Corners) (order : List (ℤ × ℕ))
     → ((at : ℕ) (key : ℤ) (number : ℕ) → slice_get order at ≡ Some (key, number) → key ≡ key_of (position_at corners number))
     → with_keys corners (map (λ (pair : ℤ × ℕ). pair.1) order) ≡ order
 keys_again corners [] keyed = refl
@@ -25,22 +25,22 @@ keys_again corners (pair ∷ rest) keyed =
     ap₂ (λ (key : ℤ) (list : List (ℤ × ℕ)). (key, pair.1) ∷ list) (sym (keyed 0 pair.0 pair.1 refl)) (keys_again corners rest (λ at key number there. keyed (suc at) key number there))
 
 -- with their keys, the numbers of corners in order are these again
-order_again : (corners : List Corner) (order : List (ℤ × ℕ)) (numbers : List ℕ) → IsOrder corners order → numbers ≡ map (λ (pair : ℤ × ℕ). pair.1) order
+order_again : (corners : Corners) (order : List (ℤ × ℕ)) (numbers : List ℕ) → IsOrder corners order → numbers ≡ map (λ (pair : ℤ × ℕ). pair.1) order
     → with_keys corners numbers ≡ order
 order_again corners order numbers is same = ap (with_keys corners) same ∙ keys_again corners order is.keyed
 
 -- so they are in order by themselves
-pub order_kept : (corners : List Corner) (order : List (ℤ × ℕ)) (numbers : List ℕ) → IsOrder corners order → numbers ≡ map (λ (pair : ℤ × ℕ). pair.1) order
+pub order_kept : (corners : Corners) (order : List (ℤ × ℕ)) (numbers : List ℕ) → IsOrder corners order → numbers ≡ map (λ (pair : ℤ × ℕ). pair.1) order
     → IsOrder corners (with_keys corners numbers)
 order_kept corners order numbers is same = subst (IsOrder corners) (sym (order_again corners order numbers is same)) is
 
 -- and no two have one key
-pub strict_kept : (corners : List Corner) (order : List (ℤ × ℕ)) (numbers : List ℕ) → IsOrder corners order → numbers ≡ map (λ (pair : ℤ × ℕ). pair.1) order
+pub strict_kept : (corners : Corners) (order : List (ℤ × ℕ)) (numbers : List ℕ) → IsOrder corners order → numbers ≡ map (λ (pair : ℤ × ℕ). pair.1) order
     → IsStrict order → IsStrict (with_keys corners numbers)
 strict_kept corners order numbers is same strict = subst IsStrict (sym (order_again corners order numbers is same)) strict
 
 -- what is at a place
-pub number_there : (corners : List Corner) (numbers : List ℕ) (at : ℕ) → at < length numbers
+pub number_there : (corners : Corners) (numbers : List ℕ) (at : ℕ) → at < length numbers
     → slice_get (with_keys corners numbers) at ≡ Some (key_of (position_at corners (get_or numbers at 0)), get_or numbers at 0)
 number_there corners numbers at within =
     let keyed : ℕ → ℤ × ℕ = λ number. (key_of (position_at corners number), number) in
@@ -48,5 +48,5 @@ number_there corners numbers at within =
     mapped ∙ ap (option_map keyed) (slice_get-get_or numbers at 0 within)
 
 -- with keys there are as many
-pub with_keys_size : (corners : List Corner) (numbers : List ℕ) → length (with_keys corners numbers) ≡ length numbers
+pub with_keys_size : (corners : Corners) (numbers : List ℕ) → length (with_keys corners numbers) ≡ length numbers
 with_keys_size corners numbers = let keyed : ℕ → ℤ × ℕ = λ number. (key_of (position_at corners number), number) in length-map {B = ℤ × ℕ} numbers keyed

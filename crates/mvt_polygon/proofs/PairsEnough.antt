@@ -13,10 +13,10 @@ use Rattle.mvt_plane.proofs.CrossingLines.{one_crossing}
 use Rattle.mvt_plane.proofs.Order.{mono_lt_right, zs}
 use Rattle.mvt_plane.proofs.Polynomials.{◌⊖◌, ◌⊗◌, identity}
 use Rattle.mvt_plane.proofs.RationalPoints.{begin_lies_on, end_lies_on, times_one}
-use Rattle.mvt_polygon.specs.Corners.{AreLinked, NoneWrong, edge_at, next_at, plan_of, position_at, shared_at}
+use Rattle.mvt_polygon.specs.Corners.{NoneWrong, corner_count, edge_at, next_at, plan_of, position_at, shared_at}
 use Rattle.mvt_polygon.specs.Pairs.{AreBoxesApart, left, right, below, above, AreEnough, AreEnoughForAll, AreLess, IsPair}
 use Rattle.mvt_polygon.specs.Sweep.{Tested}
-use Rattle.mvt_polygon.specs.declared.sweep.corners.Corner.{Corner}
+use Rattle.mvt_polygon.specs.declared.sweep.corners.Corners.{Corners}
 use Rattle.mvt_polygon.proofs.CornerPlans.{tested_by_name, tested_either_way, when_ahead, when_back}
 
 -- Neighbours
@@ -45,7 +45,7 @@ turns_by_test found turn is test flat =
     cc
 
 -- an edge and the next one that make a turn need no test
-pub next_apart : (corners : List Corner) (first second : ℕ) (turn : ℤ) → next_at corners first ≡ second
+pub next_apart : (corners : Corners) (first second : ℕ) (turn : ℤ) → next_at corners first ≡ second
     → turn ≡ orientation (edge_at corners first).a (edge_at corners first).b (edge_at corners second).b → (of_z w128 turn == 0) ≡ false → Tested (plan_of corners) first second
 next_apart corners first second turn next is test =
     let at = position_at corners in
@@ -54,7 +54,7 @@ next_apart corners first second turn next is test =
     (subst (λ (n : ℕ). LiesOn point (between (at n) (at (next_at corners second)))) (sym next) common.on_second)))))
 
 -- nor do an edge and the one before it
-pub previous_apart : (corners : List Corner) (first second : ℕ) (turn : ℤ) → next_at corners first ≢ second → next_at corners second ≡ first
+pub previous_apart : (corners : Corners) (first second : ℕ) (turn : ℤ) → next_at corners first ≢ second → next_at corners second ≡ first
     → turn ≡ orientation (edge_at corners second).a (edge_at corners second).b (edge_at corners first).b → (of_z w128 turn == 0) ≡ false → Tested (plan_of corners) first second
 previous_apart corners first second turn not next is test =
     let at = position_at corners in
@@ -79,7 +79,7 @@ less_multiples a b c d z w positive less =
     (record { a_c = mono_lt_right less.a_c some; a_d = mono_lt_right less.a_d some; b_c = mono_lt_right less.b_c some; b_d = mono_lt_right less.b_d some })
 
 -- so edges whose boxes are apart need no test
-pub no_test_apart : (corners : List Corner) (first second : ℕ) → AreBoxesApart (edge_at corners first) (edge_at corners second) → Tested (plan_of corners) first second
+pub no_test_apart : (corners : Corners) (first second : ℕ) → AreBoxesApart (edge_at corners first) (edge_at corners second) → Tested (plan_of corners) first second
 no_test_apart corners first second apart = tested_by_name corners first second (none refl (nothing_common (edge_at corners first) (edge_at corners second) apart))
   where
     nothing_common : (one other : Edge) → AreBoxesApart one other → (point : RationalPoint) → ¬ IsCommon (shared_at corners first second) one other point
@@ -95,11 +95,11 @@ no_test_apart corners first second apart = tested_by_name corners first second (
 -- The pairs that are left
 
 -- of no edges there are no pairs
-pub enough_of_none : (corners : List Corner) → AreEnough corners [] 0 0
+pub enough_of_none : (corners : Corners) → AreEnough corners [] 0 0
 enough_of_none corners = record { few = omega arith; each = All-nil (λ (pair : ℕ × ℕ). IsPair corners pair.0 pair.1); rest = λ tested first second in_order last. elim last [ inl less ↦ absurd (omega (arith, less)) | inr is ↦ absurd (omega (arith, is.1)) ] }
 
 -- an edge was held against all before it, so the next one comes
-pub enough_to_next : (corners : List Corner) (pairs : List (ℕ × ℕ)) (number : ℕ) → AreEnough corners pairs number number → AreEnough corners pairs (number + 1) 0
+pub enough_to_next : (corners : Corners) (pairs : List (ℕ × ℕ)) (number : ℕ) → AreEnough corners pairs number number → AreEnough corners pairs (number + 1) 0
 enough_to_next corners pairs number enough = record {
   few = enough.few;
   each = enough.each;
@@ -114,7 +114,7 @@ enough_to_next corners pairs number enough = record {
 }
 
 -- with one more of those before it
-one_more : (corners : List Corner) (number last : ℕ) → Tested (plan_of corners) last number → ((first second : ℕ) → first < second
+one_more : (corners : Corners) (number last : ℕ) → Tested (plan_of corners) last number → ((first second : ℕ) → first < second
     → (second < number) ⊎ ((second ≡ number) × (first < last)) → Tested (plan_of corners) first second) → (first second : ℕ) → first < second
     → (second < number) ⊎ ((second ≡ number) × (first < last + 1)) → Tested (plan_of corners) first second
 one_more corners number last tested rest first second in_order (inl less) = rest first second in_order (inl less)
@@ -126,14 +126,14 @@ one_more corners number last tested rest first second in_order (inr is) =
     ]
 
 -- it needs no test
-pub enough_with_clear : (corners : List Corner) (pairs : List (ℕ × ℕ)) (number last : ℕ) → AreEnough corners pairs number last → Tested (plan_of corners) last number
+pub enough_with_clear : (corners : Corners) (pairs : List (ℕ × ℕ)) (number last : ℕ) → AreEnough corners pairs number last → Tested (plan_of corners) last number
     → AreEnough corners pairs number (last + 1)
 enough_with_clear corners pairs number last enough clear =
     record { few = enough.few; each = enough.each; rest = λ tested. one_more corners number last clear (enough.rest tested) }
 
 -- or it is to be tested
-pub enough_with_pair : (corners : List Corner) (pairs : List (ℕ × ℕ)) (number last : ℕ) → AreEnough corners pairs number last → last < number → number < length corners
-    → length pairs < 3 * length corners → AreEnough corners (pairs ++ (last, number) ∷ []) number (last + 1)
+pub enough_with_pair : (corners : Corners) (pairs : List (ℕ × ℕ)) (number last : ℕ) → AreEnough corners pairs number last → last < number → number < corner_count corners
+    → length pairs < 3 * corner_count corners → AreEnough corners (pairs ++ (last, number) ∷ []) number (last + 1)
 enough_with_pair corners pairs number last enough in_order known room = record {
   few = omega (arith, length_push pairs (last, number), room);
   each = All-push (λ (pair : ℕ × ℕ). IsPair corners pair.0 pair.1) pairs (last, number) enough.each (record { in_order = in_order; known = known });
@@ -145,13 +145,13 @@ enough_with_pair corners pairs number last enough in_order known room = record {
 -- What holds of all edges
 
 -- where all pairs are tested that are to be, no edges meet wrongly
-pub none_by_pairs : (corners : List Corner) (pairs : List (ℕ × ℕ)) → AreLinked corners → AreEnoughForAll corners pairs → All (λ (pair : ℕ × ℕ). Tested (plan_of corners) pair.0 pair.1) pairs
+pub none_by_pairs : (corners : Corners) (pairs : List (ℕ × ℕ)) → AreEnoughForAll corners pairs → All (λ (pair : ℕ × ℕ). Tested (plan_of corners) pair.0 pair.1) pairs
     → NoneWrong corners
-none_by_pairs corners pairs linked enough tested first second point within inside differ wrong =
+none_by_pairs corners pairs enough tested first second point within inside differ wrong =
     let both : Tested (plan_of corners) first second = elim (cases_order first second) [
       | inl same ↦ absurd (differ same)
       | inr (inl fewer) ↦ enough.rest tested first second fewer (inl inside)
-      | inr (inr more) ↦ tested_either_way corners second first linked inside within (enough.rest tested second first more (inl within))
+      | inr (inr more) ↦ tested_either_way corners second first inside within (enough.rest tested second first more (inl within))
     ] in
     let it = both point wrong.on_first wrong.on_second in
     wrong.apart it.0 it.1 it.2

@@ -12,13 +12,13 @@ use Rattle.mvt_polygon.proofs.ChainParts.{in_longer}
 -- Lists
 
 -- what was there stays
-stays : {X : Type 0} (xs : List X) (y : X) (i : ℕ) (z : X) → slice_get xs i ≡ Some z → slice_get (xs ++ y ∷ []) i ≡ Some z
+pub stays : {X : Type 0} (xs : List X) (y : X) (i : ℕ) (z : X) → slice_get xs i ≡ Some z → slice_get (xs ++ y ∷ []) i ≡ Some z
 stays [] y i z here = absurd (cc)
 stays (x ∷ xs) y zero z here = here
 stays (x ∷ xs) y (suc i) z here = stays xs y i z here
 
 -- the new one is the last
-is_last : {X : Type 0} (xs : List X) (y : X) → slice_get (xs ++ y ∷ []) (length xs) ≡ Some y
+pub is_last : {X : Type 0} (xs : List X) (y : X) → slice_get (xs ++ y ∷ []) (length xs) ≡ Some y
 is_last [] y = refl
 is_last (x ∷ xs) y = is_last xs y
 

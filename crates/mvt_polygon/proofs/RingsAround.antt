@@ -1,11 +1,11 @@
 -- The rings around one whose first vertex is directly above an edge of another ring: those around the other ring, and
 -- that ring itself where an odd number of its edges pass below the vertex.
-use Rattle.std.proofs.Common.{◌≡◌, ◌≢◌, ◌<◌, inl, inr, ◌↔◌, ℕ, zero, suc, Bool, true, false, IsTrue, cond, List, [], ◌∷◌, length, get_or, slice_get, Some, ◌<ℤ◌, ◌≤ℤ◌, refl, sym, ◌∙◌, ap, subst, arith}
+use Rattle.std.proofs.Common.{◌≡◌, ◌≢◌, ◌<◌, ◌⊎◌, inl, inr, ◌↔◌, ℕ, suc, Bool, true, false, not, IsTrue, List, [], ◌∷◌, length, get_or, slice_get, Option, Some, None, ◌<ℤ◌, ◌≤ℤ◌, refl, sym, ◌∙◌, ap, subst, arith}
 use Rattle.std.proofs.lemmas.Bool.{cases_eq}
-use Rattle.std.proofs.lemmas.Option.{same_Some, slice_get_within, slice_get-get_or}
+use Rattle.std.proofs.lemmas.Option.{get_or_from_slice_get, same_Some, slice_get_within, slice_get-get_or}
 use Rattle.mvt_plane.specs.Apart.{HaveNothingInCommon}
 use Rattle.mvt_plane.specs.Below.{PassesBelow, HasOddBelow}
-use Rattle.mvt_plane.specs.Inside.{HoldsOfOdd}
+use Rattle.mvt_plane.specs.Inside.{HoldsOfOdd, IsInside}
 use Rattle.mvt_plane.specs.Measure.{key_of}
 use Rattle.mvt_plane.specs.Position.{Position, IsPosition}
 use Rattle.mvt_plane.specs.RationalPoint.{LiesOn, whole}
@@ -13,16 +13,16 @@ use Rattle.mvt_plane.specs.Ring.{edges}
 use Rattle.mvt_plane.specs.declared.edge.Edge.{Edge}
 use Rattle.mvt_plane.proofs.DirectlyBelow.{odd_as_below_the_edge}
 use Rattle.mvt_plane.proofs.EdgesBelow.{inside_by_edges_below}
-use Rattle.mvt_plane.proofs.InsideParity.{apart, false_apart, no_truth}
+use Rattle.mvt_plane.proofs.InsideParity.{apart, no_truth}
 use Rattle.mvt_plane.proofs.InsideAsAWhole.{one_vertex_decides}
 use Rattle.mvt_plane.proofs.Order.{zs}
 use Rattle.mvt_plane.proofs.RationalPoints.{begin_lies_on}
 use Rattle.mvt_plane.proofs.RingEdges.{count_of_edges, ends_of_edge}
 use Rattle.mvt_polygon.specs.Meeting.{NoMeeting}
-use Rattle.mvt_polygon.specs.RingNotes.{is_odd, with_ring, around_above, IsRingAround, IsNothingAround, IsExteriorAround, AreAround, AreAroundRing}
-use Rattle.mvt_polygon.specs.RingsBelow.{AreRingsInRange, HaveOddBelow, HaveNoneBelow, IsRingBelow, IsLeastVertex}
-use Rattle.mvt_polygon.specs.declared.nesting.around.Around.{Around}
-use Rattle.mvt_polygon.specs.declared.nesting.around.Around.TheVariants.{Nothing, Exterior, Others}
+use Rattle.mvt_polygon.specs.RingNotes.{IsNoteAbove, IsNoteOf}
+use Rattle.mvt_polygon.specs.RingsAround.{IsAround, odd_at, odd_in}
+use Rattle.mvt_polygon.specs.RingsBelow.{AreRingsInRange, HaveOddBelow, HaveNoneBelow, IsRingAround, IsRingBelow, IsLeastVertex}
+use Rattle.mvt_polygon.specs.declared.sweep.notes.Around.{Around}
 use Rattle.mvt_polygon.proofs.NestOnce.{nothing_in_common}
 use Rattle.mvt_polygon.proofs.RingParities.{odd_below, odd_below_tells, one_test, no_test, alike_tests, odd_rings, odd_rings_tell, none_has_odd, all_but_one}
 
@@ -78,135 +78,6 @@ pub vertex_of_ring : (rings : List (List Position)) (ring : ℕ) (position : Pos
 vertex_of_ring rings ring position vertices first there =
     let same : first.vertices ≡ vertices = same_Some first.vertices vertices (sym first.there ∙ there) in
     subst (λ (its : List Position). slice_get its first.vertex ≡ Some position) same first.here
-
--- ---- nothing below
-
--- where no edge passes below a ring's first vertex, no ring is around it
-pub nothing_around : (rings : List (List Position)) (ring : ℕ) (position : Position) → IsLeastVertex rings ring position → HaveNoneBelow position rings → AreAroundRing rings ring Nothing
-nothing_around rings ring position first none =
-    let none_of : (number : ℕ) (vertices : List Position) → slice_get rings number ≡ Some vertices → ¬ HasOddBelow position vertices = λ number vertices there.
-    none_odd (PassesBelow position) (edges vertices)
-    (λ edge it here. none (record { ring = number; edge = edge }) it (record { ring = vertices; there = there; here = here })) in
-    record {
-      position = position;
-      first = first;
-      odd = (λ impossible. absurd (no_truth impossible), λ odd. absurd (none_has_odd position rings none_of odd));
-      are = λ number around. none_of number around.ring around.there around.odd;
-    }
-
--- ---- the rings around two positions
-
--- the rings around one position are those around another, but maybe for this one, which isn't around the other
-record AreAlikeBut (rings : List (List Position)) (position other : Position) (below : ℕ) : Type 0 where
-  there : (number : ℕ) → number ≢ below → IsRingAround rings position number → IsRingAround rings other number
-  back : (number : ℕ) → number ≢ below → IsRingAround rings other number → IsRingAround rings position number
-  without : ¬ IsRingAround rings other below
-
--- what is around the one is around the other
-abbrev AreWithin : List (List Position) → Position → Position → Type 0
-AreWithin rings position other = (number : ℕ) → IsRingAround rings position number → IsRingAround rings other number
-
--- nothing, or the exterior alone, is around the one where it is around the other
-exterior_carries : (rings : List (List Position)) (position other : Position) → AreWithin rings position other → AreWithin rings other position → IsExteriorAround rings other
-    → IsExteriorAround rings position
-exterior_carries rings position other there back it = record {
-  exterior = back 0 it.exterior;
-  alone = λ number behind around. it.alone number behind (there number around);
-}
-
--- so are the same rings
-carries : (rings : List (List Position)) (position other : Position) (around : Around) → AreWithin rings position other → AreWithin rings other position → AreAround rings other around
-    → AreAround rings position around
-carries rings position other Nothing there back are = λ number around. are number (there number around)
-carries rings position other Exterior there back are = exterior_carries rings position other there back are
-carries rings position other (Others odd) there back are = (
-  λ nothing. are.0 (λ number around. nothing number (back number around)),
-  λ exterior. are.1 (exterior_carries rings other position back there exterior),
-)
-
--- where that ring isn't around the one either
-without_ring : (rings : List (List Position)) (position other : Position) (below : ℕ) (around : Around) → AreAlikeBut rings position other below → ¬ IsRingAround rings position below
-    → AreAround rings other around → AreAround rings position around
-without_ring rings position other below around alike none are =
-    let there : AreWithin rings position other = λ number it. elim (cases_eq number below) [
-      | inl same ↦ absurd (none (subst (λ (its : ℕ). IsRingAround rings position its) same it))
-      | inr differ ↦ alike.there number differ it
-    ] in
-    let back : AreWithin rings other position = λ number it. elim (cases_eq number below) [
-      | inl same ↦ absurd (alike.without (subst (λ (its : ℕ). IsRingAround rings other its) same it))
-      | inr differ ↦ alike.back number differ it
-    ] in
-    carries rings position other around there back are
-
--- where it is around the one, and isn't the exterior, others than the exterior are
-ring_behind : (rings : List (List Position)) (position : Position) (below : ℕ) (odd : Bool) → 0 < below → IsRingAround rings position below → AreAround rings position (Others odd)
-ring_behind rings position below odd behind it = (λ nothing. nothing below it, λ exterior. exterior.alone below behind it)
-
--- nor is the exterior alone around the one where anything is around the other
-not_alone : (rings : List (List Position)) (position other : Position) → AreAlikeBut rings position other 0 → IsExteriorAround rings position → IsNothingAround rings other
-not_alone rings position other alike exterior zero it = alike.without it
-not_alone rings position other alike exterior (suc number) it =
-    exterior.alone (suc number) (omega arith) (alike.back (suc number) (λ none. omega arith) it)
-
--- those around the other, and that ring
-and_ring : (rings : List (List Position)) (position other : Position) (below : ℕ) (around : Around) (odd : Bool) → AreAlikeBut rings position other below → IsRingAround rings position below
-    → AreAround rings other around → AreAround rings position (with_ring around below odd)
-and_ring rings position other zero Nothing odd alike it are = record {
-  exterior = it;
-  alone = λ number behind its. are number (alike.there number (λ none. omega arith) its);
-}
-and_ring rings position other (suc below) Nothing odd alike it are = ring_behind rings position (suc below) odd (omega arith) it
-and_ring rings position other zero Exterior odd alike it are = absurd (alike.without are.exterior)
-and_ring rings position other (suc below) Exterior odd alike it are = ring_behind rings position (suc below) odd (omega arith) it
-and_ring rings position other zero (Others some) odd alike it are = (λ nothing. nothing 0 it, λ exterior. are.0 (not_alone rings position other alike exterior))
-and_ring rings position other (suc below) (Others some) odd alike it are = ring_behind rings position (suc below) odd (omega arith) it
-
--- ---- what is noted
-
--- of two tests that are the same the choice is the first
-chosen_same : {Choice : Type 0} (one other : Bool) (first second : Choice) → one ≡ other → cond one (cond other first second) (cond other second first) ≡ first
-chosen_same true true first second same = refl
-chosen_same true false first second same = absurd (cc)
-chosen_same false true first second same = absurd (cc)
-chosen_same false false first second same = refl
-
--- of two that differ the second
-chosen_other : {Choice : Type 0} (one other : Bool) (first second : Choice) → one ≡ apart true other → cond one (cond other first second) (cond other second first) ≡ second
-chosen_other true true first second differ = absurd (cc)
-chosen_other true false first second differ = refl
-chosen_other false true first second differ = refl
-chosen_other false false first second differ = absurd (cc)
-
--- with one ring more the number is odd or even as it is to be
-odd_with_ring : (around : Around) (below : ℕ) (odd : Bool) → odd ≡ apart true (is_odd around) → is_odd (with_ring around below odd) ≡ odd
-odd_with_ring Nothing zero odd differ = sym differ
-odd_with_ring Nothing (suc below) odd differ = refl
-odd_with_ring Exterior below odd differ = refl
-odd_with_ring (Others some) below odd differ = refl
-
--- these rings are around the position, and are odd as it is to be
-record AreNoted (rings : List (List Position)) (position : Position) (odd : Bool) (around : Around) : Type 0 where
-  parity : is_odd around ≡ odd
-  are : AreAround rings position around
-
--- the test says whether that ring is around the one: so what is noted of the other goes over to the one
-goes_over : (rings : List (List Position)) (position other : Position) (below : ℕ) (around : Around) (odd has : Bool) → AreAlikeBut rings position other below
-    → IsTrue has ↔ IsRingAround rings position below → odd ≡ apart has (is_odd around) → AreAround rings other around → AreNoted rings position odd (around_above around below odd)
-goes_over rings position other below around odd true alike tells parity are =
-    let chosen : around_above around below odd ≡ with_ring around below odd = chosen_other odd (is_odd around) around (with_ring around below odd) parity in
-    let noted : AreNoted rings position odd (with_ring around below odd) = record {
-      parity = odd_with_ring around below odd parity;
-      are = and_ring rings position other below around odd alike (tells.0 refl) are;
-    } in
-    subst (λ (it : Around). AreNoted rings position odd it) (sym chosen) noted
-goes_over rings position other below around odd false alike tells parity are =
-    let same : odd ≡ is_odd around = parity ∙ false_apart (is_odd around) in
-    let chosen : around_above around below odd ≡ around = chosen_same odd (is_odd around) around (with_ring around below odd) same in
-    let noted : AreNoted rings position odd around = record {
-      parity = sym same;
-      are = without_ring rings position other below around alike (λ it. no_truth (tells.1 it)) are;
-    } in
-    subst (λ (it : Around). AreNoted rings position odd it) (sym chosen) noted
 
 -- ---- the other rings
 
@@ -336,6 +207,12 @@ lower_not_below rings ring below position other it = no_odd_of_ring other it.its
 
 -- ---- what is around the upper ring
 
+-- the rings around one position are those around another, but maybe for this one, which isn't around the other
+record AreAlikeBut (rings : List (List Position)) (position other : Position) (below : ℕ) : Type 0 where
+  there : (number : ℕ) → number ≢ below → IsRingAround rings position number → IsRingAround rings other number
+  back : (number : ℕ) → number ≢ below → IsRingAround rings other number → IsRingAround rings position number
+  without : ¬ IsRingAround rings other below
+
 -- the rings around both first vertices are the same but maybe for the one below
 around_alike : (rings : List (List Position)) (ring below : ℕ) (position other : Position) → IsAbove rings ring below position other → AreAlikeBut rings position other below
 around_alike rings ring below position other it = record {
@@ -373,24 +250,153 @@ ring_tells rings position number ring there = (
       (odd_below_tells position ring).1 (subst (λ (vertices : List Position). HasOddBelow position vertices) same around.odd),
 )
 
--- what is noted of a ring whose first vertex is directly above an edge of another
-pub around_directly_above : (rings : List (List Position)) (ring below : ℕ) (position : Position) (around : Around) (odd : Bool) → NoMeeting rings → AreRingsInRange rings
-    → IsLeastVertex rings ring position → IsRingBelow position rings below → AreAroundRing rings below around → IsTrue odd ↔ HaveOddBelow position rings
-    → AreAroundRing rings ring (around_above around below odd)
-around_directly_above rings ring below position around odd none in_range first under noted tells =
-    let other : Position = noted.position in
-    let it : IsAbove rings ring below position other = above_there rings ring below position other none in_range first under noted.first in
-    let has : Bool = odd_below position it.its_ring in
-    let upper : odd ≡ odd_rings (odd_below position) rings = one_test odd (odd_rings (odd_below position) rings) tells (odd_rings_tell position rings) in
-    let lower : odd_rings (odd_below other) rings ≡ is_odd around =
-    one_test (odd_rings (odd_below other) rings) (is_odd around) (odd_rings_tell other rings) noted.odd in
-    let parity : odd ≡ apart has (is_odd around) = upper ∙ parities rings ring below position other it ∙ ap (apart has) lower in
-    let tells_around : IsTrue has ↔ IsRingAround rings position below = ring_tells rings position below it.its_ring it.there in
-    let over : AreNoted rings position odd (around_above around below odd) =
-    goes_over rings position other below around odd has (around_alike rings ring below position other it) tells_around parity noted.are in
+-- ---- rings around rings
+
+-- any vertex is inside another ring exactly where an odd number of the other's edges pass below this one
+inside_as_below : (rings : List (List Position)) → NoMeeting rings → AreRingsInRange rings → (hole number : ℕ) (ring other : List Position) → hole ≢ number
+    → slice_get rings hole ≡ Some ring → slice_get rings number ≡ Some other → (first vertex : ℕ) (position its : Position) → slice_get ring first ≡ Some position
+    → slice_get ring vertex ≡ Some its → IsInside its other ↔ HasOddBelow position other
+inside_as_below rings none in_range hole number ring other differ there its_there first vertex position its here its_here =
+    let apart : HaveNothingInCommon ring other = nothing_in_common rings none hole number ring other differ there its_there in
+    let below : IsInside position other ↔ HasOddBelow position other = inside_by_edges_below position other (in_range hole first ring position there here)
+    (λ vertex it is. in_range number vertex other it its_there is) (vertex_off ring other apart first position here) in (
+      λ inside. below.0 (one_vertex_decides ring other apart vertex first its position its_here here inside),
+      λ has. one_vertex_decides ring other apart first vertex position its here its_here (below.1 has),
+    )
+
+-- so a ring is around another exactly where an odd number of its edges pass below the other's first vertex
+around_by_below : (rings : List (List Position)) (ring : ℕ) (position : Position) → NoMeeting rings → AreRingsInRange rings → IsLeastVertex rings ring position → (outer : ℕ)
+    → IsAround rings outer ring ↔ IsRingAround rings position outer
+around_by_below rings ring position none in_range first outer = (there, back)
+  where
+    there : IsAround rings outer ring → IsRingAround rings position outer
+    there it = record {
+      ring = it.around;
+      there = it.there;
+      odd = (inside_as_below rings none in_range ring outer it.here.vertices it.around (λ same. it.different (sym same)) it.here.there it.there first.vertex 0 position it.position
+          (vertex_of_ring rings ring position it.here.vertices first it.here.there) it.here.here).0 it.inside;
+    }
+
+    its : Position
+    its = get_or first.vertices 0 position
+
+    here : slice_get first.vertices 0 ≡ Some its
+    here = let within = slice_get_within first.vertices first.vertex position first.here in slice_get-get_or first.vertices 0 position (omega (arith, within))
+
+    back : IsRingAround rings position outer → IsAround rings outer ring
+    back it =
+        let different : outer ≢ ring = λ same.
+        let alike : it.ring ≡ first.vertices = same_Some it.ring first.vertices (sym it.there ∙ ap (slice_get rings) same ∙ first.there) in
+        no_odd_of_ring position first.vertices first.first (subst (HasOddBelow position) alike it.odd) in
+        record {
+          different = different;
+          around = it.ring;
+          there = it.there;
+          position = its;
+          here = record { vertices = first.vertices; there = first.there; here = here };
+          inside = (inside_as_below rings none in_range ring outer first.vertices it.ring (λ same. different (sym same)) first.there it.there first.vertex 0 position its first.here here).1 it.odd;
+        }
+
+-- ---- what is noted
+
+-- where no edge passes below its first vertex, no ring is around a ring
+pub note_of_none : (rings : List (List Position)) (notes : List (Option Around)) (ring : ℕ) (position : Position) → NoMeeting rings → AreRingsInRange rings → IsLeastVertex rings ring position
+    → HaveNoneBelow position rings → IsNoteOf rings notes ring (record { nearest = None; odd = false })
+note_of_none rings notes ring position none in_range first nothing =
+    let none_of : (number : ℕ) (vertices : List Position) → slice_get rings number ≡ Some vertices → ¬ HasOddBelow position vertices = λ number vertices there.
+    none_odd (PassesBelow position) (edges vertices)
+    (λ edge it here. nothing (record { ring = number; edge = edge }) it (record { ring = vertices; there = there; here = here })) in
     record {
       position = position;
       first = first;
-      odd = subst (λ (its : Bool). IsTrue its ↔ HaveOddBelow position rings) (sym over.parity) tells;
-      are = over.are;
+      odd = (λ impossible. absurd (no_truth impossible), λ odd. absurd (none_has_odd position rings none_of odd));
+      alone = λ same outer around. let it = (around_by_below rings ring position none in_range first outer).0 around in none_of outer it.ring it.there it.odd;
+      even = λ same. refl;
+      around = λ nearest same. absurd (cc);
+      turned = λ nearest same. absurd (cc);
     }
+
+-- a test that leaves another as it is fails
+leaves : (has one odd : Bool) → odd ≡ one → odd ≡ apart has one → ¬ IsTrue has
+leaves true true odd same is it = absurd (cc)
+leaves true false odd same is it = absurd (cc)
+leaves false one odd same is it = no_truth it
+
+-- one that turns it is met
+turns : (has one odd : Bool) → odd ≡ not one → odd ≡ apart has one → IsTrue has
+turns true one odd same is = refl
+turns false true odd same is = absurd (cc)
+turns false false odd same is = absurd (cc)
+
+-- what is noted of a ring whose first vertex is directly above an edge of another is right
+pub note_of_above : (rings : List (List Position)) (notes : List (Option Around)) (ring below : ℕ) (position : Position) (one new : Around) (odd : Bool) → NoMeeting rings → AreRingsInRange rings
+    → IsLeastVertex rings ring position → IsRingBelow position rings below → slice_get notes below ≡ Some (Some one) → IsNoteOf rings notes below one → IsNoteAbove one below odd new
+    → IsTrue odd ↔ HaveOddBelow position rings → IsNoteOf rings notes ring new
+note_of_above rings notes ring below position one new odd none in_range first under there noted is_above tells = either is_above
+  where
+    it : IsAbove rings ring below position noted.position
+    it = above_there rings ring below position noted.position none in_range first under noted.first
+
+    has : Bool
+    has = odd_below position it.its_ring
+
+    parity : odd ≡ apart has one.odd
+    parity =
+        one_test odd (odd_rings (odd_below position) rings) tells (odd_rings_tell position rings) ∙ parities rings ring below position noted.position it
+        ∙ ap (apart has) (one_test (odd_rings (odd_below noted.position) rings) one.odd (odd_rings_tell noted.position rings) noted.odd)
+
+    own : (outer : ℕ) → IsAround rings outer ring ↔ IsRingAround rings position outer
+    own outer = around_by_below rings ring position none in_range first outer
+
+    its : (outer : ℕ) → IsAround rings outer below ↔ IsRingAround rings noted.position outer
+    its outer = around_by_below rings below noted.position none in_range noted.first outer
+
+    tells_below : IsTrue has ↔ IsAround rings below ring
+    tells_below = let told = ring_tells rings position below it.its_ring it.there in (λ true_it. (own below).1 (told.0 true_it), λ around. told.1 ((own below).0 around))
+
+    alike : AreAlikeBut rings position noted.position below
+    alike = around_alike rings ring below position noted.position it
+
+    others : (outer : ℕ) → outer ≢ below → IsAround rings outer ring ↔ IsAround rings outer below
+    others outer differ = (λ around. (its outer).1 (alike.there outer differ ((own outer).0 around)), λ around. (own outer).1 (alike.back outer differ ((its outer).0 around)))
+
+    all : ¬ IsTrue has → (outer : ℕ) → IsAround rings outer ring ↔ IsAround rings outer below
+    all not outer = elim (cases_eq outer below) [
+      | inl same ↦ (λ around. absurd (not (tells_below.1 (subst (λ (n : ℕ). IsAround rings n ring) same around))), λ around. absurd (around.different same))
+      | inr differ ↦ others outer differ
+    ]
+
+    kept : odd ≡ one.odd → IsNoteOf rings notes ring one
+    kept same =
+        let around = all (leaves has one.odd odd same parity) in
+        record {
+          position = position;
+          first = first;
+          odd = subst (λ (b : Bool). IsTrue b ↔ HaveOddBelow position rings) same tells;
+          alone = λ nothing outer has_it. noted.alone nothing outer ((around outer).0 has_it);
+          even = noted.even;
+          around = λ nearest is outer. (λ has_it. (noted.around nearest is outer).0 ((around outer).0 has_it), λ either. (around outer).1 ((noted.around nearest is outer).1 either));
+          turned = noted.turned;
+        }
+
+    directly : IsTrue has → (outer : ℕ) → IsAround rings outer ring ↔ ((outer ≡ below) ⊎ IsAround rings outer below)
+    directly is outer = elim (cases_eq outer below) [
+      | inl same ↦ (λ around. inl same, λ either. subst (λ (n : ℕ). IsAround rings n ring) (sym same) (tells_below.0 is))
+      | inr differ ↦ (λ around. inr ((others outer differ).0 around), λ either. elim either [ inl same ↦ absurd (differ same) | inr around ↦ (others outer differ).1 around ])
+    ]
+
+    added : odd ≡ not one.odd → IsNoteOf rings notes ring (record { nearest = Some below; odd = odd })
+    added turned =
+        record {
+          position = position;
+          first = first;
+          odd = tells;
+          alone = λ nothing. absurd (cc);
+          even = λ nothing. absurd (cc);
+          around = λ nearest is outer. subst (λ (n : ℕ). IsAround rings outer ring ↔ ((outer ≡ n) ⊎ IsAround rings outer n)) (same_Some below nearest is) (directly (turns has one.odd odd turned parity) outer);
+          turned = λ nearest is. subst (λ (n : ℕ). odd ≡ not (odd_at notes n)) (same_Some below nearest is) (turned ∙ ap (λ (it : Option Around). not (odd_in it)) (sym (get_or_from_slice_get notes below (Some one) None there)));
+        }
+
+    either : IsNoteAbove one below odd new → IsNoteOf rings notes ring new
+    either (inl (same, is)) = subst (IsNoteOf rings notes ring) (sym is) (kept same)
+    either (inr (turned, is)) = subst (IsNoteOf rings notes ring) (sym is) (added turned)

@@ -1,11 +1,11 @@
 -- The ends of an edge between two positions, from the lesser key on.
-use Rattle.std.proofs.Common.{◌≡◌, ◌≢◌, ◌↔◌, ◌⊎◌, inl, inr, [], ◌∷◌, true, false, IsTrue, Ordering, ℤ, pos, ◌+ℤ◌, ◌<ℤ◌, ◌≤ℤ◌, int_cmp, refl, sym, ◌∙◌, ap, subst, arith}
+use Rattle.std.proofs.Common.{◌≡◌, ◌≢◌, ◌↔◌, ◌⊎◌, inl, inr, [], ◌∷◌, Bool, true, false, IsTrue, Ordering, ℤ, pos, ◌+ℤ◌, ◌<ℤ◌, ◌≤ℤ◌, int_cmp, SFits, to_z, of_z, w64, refl, sym, ◌∙◌, ap, subst, arith}
 use Rattle.std.specs.Ordering.{MatchOrdering, is_gt, is_lt}
 use Rattle.std.specs.declared.cmp.Ordering.TheVariants.{Less, Equal, Greater}
 use Rattle.std.proofs.lemmas.Cmp.{int_ranked}
 use lib.Signed.{lt_z}
 use Rattle.std.proofs.lemmas.Bool.{cond-true, cond-false}
-use Rattle.std.proofs.lemmas.Int.{ints}
+use Rattle.std.proofs.lemmas.Int.{ints, to_z-of_z}
 use Rattle.mvt_plane.specs.EdgeOrder.{Segment, segment, IsRising, IsEndOf, segment_between}
 use Rattle.mvt_plane.specs.Measure.{key_of, orientation}
 use Rattle.mvt_plane.specs.Position.{Position, IsPosition}
@@ -79,6 +79,12 @@ high_is one other =
       | up rises is ↦ inr (ap (λ (it : Segment). it.high) is)
       | down falls is ↦ inl (ap (λ (it : Segment). it.high) is)
     ]
+
+-- a comparison of keys, as the code makes it
+pub test_of_keys : (one other : Position) (left right : ℤ) (answer : Bool) → SFits w64 left → SFits w64 right → left ≡ key_of one → right ≡ key_of other
+    → lt_z (to_z w64 (of_z w64 left)) (to_z w64 (of_z w64 right)) ≡ answer → lt_z (key_of one) (key_of other) ≡ answer
+test_of_keys one other left right answer left_fits right_fits left_is right_is test =
+    rw (← (to_z-of_z w64 left left_fits ∙ left_is), ← (to_z-of_z w64 right right_fits ∙ right_is)) test
 
 -- where the first has the lesser key, the edge begins in it
 pub rises_between : (one other : Position) → lt_z (key_of one) (key_of other) ≡ true → segment_between one other ≡ segment one other

@@ -183,11 +183,11 @@ pass_over plan key vertex ending beginning place edges more back is_plan swept e
     (pass_step plan key vertex ending beginning edges (take place edges) back is_plan swept event passes (subst (IsCut plan vertex edges (take place edges)) first cut)
     below (subst (Head (Tested plan) beginning) (ap (λ (at : ℕ). drop at edges) behind ∙ rest_behind edges place ending back out.within first) above))
 
--- two edges begin at the place, and what is before it is kept
+-- two edges begin at the place
 begin_over : (plan : Plan) (key : ℤ) (vertex : Position) (lower upper place : ℕ) (edges more most : List ℕ) → IsPlan plan → IsSwept plan key edges → IsEvent plan key vertex lower upper
     → BothBegin plan vertex lower upper → place ≤ length edges → IsCut plan vertex edges (take place edges) (drop place edges) → Tested plan lower upper
     → Joined (Tested plan) (take place edges) (lower ∷ []) → Head (Tested plan) upper (drop place edges) → more ≡ insert edges place upper → most ≡ insert more place lower
-    → IsSwept plan (key_of vertex) most × (take place most ≡ take place edges)
+    → IsSwept plan (key_of vertex) most
 begin_over plan key vertex lower upper place edges more most is_plan swept event begins within cut tested below above one other =
     let front = take place edges in
     let back = drop place edges in
@@ -195,17 +195,15 @@ begin_over plan key vertex lower upper place edges more most is_plan swept event
     let parts = parts_at front (upper ∷ back) place long in
     let is : most ≡ front ++ lower ∷ upper ∷ back =
     other ∙ ap (λ (list : List ℕ). take place list ++ lower ∷ drop place list) one
-    ∙ ap (λ (list : List ℕ). list ++ lower ∷ drop place (front ++ upper ∷ back)) parts.0 ∙ ap (λ (list : List ℕ). front ++ lower ∷ list) parts.1 in (
-      subst (IsSwept plan (key_of vertex)) (sym is) (begin_step plan key vertex lower upper edges front back is_plan swept event begins cut tested below above),
-      ap (take place) is ∙ (parts_at front (lower ∷ upper ∷ back) place long).0,
-    )
+    ∙ ap (λ (list : List ℕ). list ++ lower ∷ drop place (front ++ upper ∷ back)) parts.0 ∙ ap (λ (list : List ℕ). front ++ lower ∷ list) parts.1 in
+    subst (IsSwept plan (key_of vertex)) (sym is) (begin_step plan key vertex lower upper edges front back is_plan swept event begins cut tested below above)
 
 -- two edges begin, in one order or the other
 pub begin_in_order : (plan : Plan) (key : ℤ) (vertex : Position) (first second : ℕ) (pair : ℕ × ℕ) (place : ℕ) (edges more most : List ℕ) → IsPlan plan → IsSwept plan key edges
     → IsEvent plan key vertex first second → (pair ≡ (first, second)) ⊎ (pair ≡ (second, first)) → BothBegin plan vertex pair.0 pair.1 → place ≤ length edges
     → IsCut plan vertex edges (take place edges) (drop place edges) → Tested plan first second × Tested plan second first → Joined (Tested plan) (take place edges) (pair.0 ∷ [])
     → Head (Tested plan) pair.1 (drop place edges) → more ≡ insert edges place pair.1 → most ≡ insert more place pair.0
-    → IsSwept plan (key_of vertex) most × (take place most ≡ take place edges)
+    → IsSwept plan (key_of vertex) most
 begin_in_order plan key vertex first second pair place edges more most is_plan swept event order begins within cut tested below above one other =
     let told : IsEvent plan key vertex pair.0 pair.1 × Tested plan pair.0 pair.1 = elim order [
       | inl forward ↦ subst (λ (it : ℕ × ℕ). IsEvent plan key vertex it.0 it.1 × Tested plan it.0 it.1) (sym forward) (event, tested.0)

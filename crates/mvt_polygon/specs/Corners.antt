@@ -1,17 +1,18 @@
 -- The vertices of rings in one list. Each has the number of the edge that begins in it.
-use Rattle.std.specs.Prelude.{◌≡◌, ◌≢◌, ◌-◌, ◌+◌, ◌==◌, ◌<◌, ltb, cond, ℕ, List, length, map, take, slice_get, slice_index_or, Option, Some, None}
+use Rattle.std.specs.Prelude.{◌≡◌, ◌≢◌, ◌-◌, ◌+◌, ◌==◌, ◌<◌, cond, ℕ, List, length, map, take, slice_get, Option, Some, None}
 use Rattle.std.specs.List.{sum}
 use Rattle.mvt_plane.specs.CommonPoint.{IsNamed}
 use Rattle.mvt_plane.specs.EdgeOrder.{segment_between}
 use Rattle.mvt_plane.specs.Meeting.{EdgeNumber}
-use Rattle.mvt_plane.specs.Position.{Position, IsPosition, origin}
+use Rattle.mvt_plane.specs.Position.{Position}
 use Rattle.mvt_plane.specs.RationalPoint.{RationalPoint, IsBounded}
 use Rattle.mvt_plane.specs.declared.edge.Edge.{Edge}
+use Rattle.mvt_polygon.specs.Links.{corner_in, next_in, position_in, previous_in}
 use Rattle.mvt_polygon.specs.Meeting.{first_of, second_of}
-use Rattle.mvt_polygon.specs.Rings.{AreProperRings}
 use Rattle.mvt_polygon.specs.Sweep.{Plan, IsWrong}
 use Rattle.mvt_polygon.specs.declared.meeting.Meeting.{Meeting}
-use Rattle.mvt_polygon.specs.declared.sweep.corners.Corner.{Corner}
+use Rattle.mvt_polygon.specs.declared.sweep.corner.Corner.{Corner}
+use Rattle.mvt_polygon.specs.declared.sweep.corners.Corners.{Corners}
 use Rattle.mvt_polygon.specs.declared.sweep.corners.Pair.{Pair}
 
 -- how many vertices rings have
@@ -40,68 +41,53 @@ pub record IsCornerOf (rings : List (List Position)) (number : ℕ) (corner : Co
   pub here : slice_get is.ring place.edge ≡ Some corner.position
   pub far_end : corner.far_end ≡ vertex_count (take place.ring rings) + far_end_of (length is.ring) place.edge
 
--- these are all corners of the rings
-pub record AreCorners (rings : List (List Position)) (corners : List Corner) : Type 0 where
-  pub count : length corners ≡ vertex_count rings
-  pub each : (number : ℕ) (corner : Corner) → slice_get corners number ≡ Some corner → IsCornerOf rings number corner
+-- the list has all corners of the rings
+pub record IsListOf (rings : List (List Position)) (list : List Corner) : Type 0 where
+  pub count : length list ≡ vertex_count rings
+  pub each : (number : ℕ) (corner : Corner) → slice_get list number ≡ Some corner → IsCornerOf rings number corner
 
--- these are all corners of proper rings
-pub record AreOfRings (corners : List Corner) : Type 0 where
-  pub rings : List (List Position)
-  pub proper : AreProperRings rings
-  pub are : AreCorners rings corners
+-- these are all corners of the rings
+abbrev pub AreCorners : List (List Position) → Corners → Type 0
+AreCorners rings corners = IsListOf rings corners.list.items
 
 -- Corners by themselves
 
--- in place of a corner that isn't there
-abbrev pub no_corner : Corner
-no_corner = record { position = origin; far_end = 0 }
+-- how many there are
+abbrev pub corner_count : Corners → ℕ
+corner_count corners = length corners.list.items
 
 -- the corner of this number
-abbrev pub corner_at : List Corner → ℕ → Corner
-corner_at corners number = slice_index_or corners number no_corner
+abbrev pub corner_at : Corners → ℕ → Corner
+corner_at corners number = corner_in corners.list.items number
 
 -- its position
-abbrev pub position_at : List Corner → ℕ → Position
-position_at corners number = (corner_at corners number).position
+abbrev pub position_at : Corners → ℕ → Position
+position_at corners number = position_in corners.list.items number
 
 -- the number of the corner behind it in its ring, where its edge ends
-abbrev pub next_at : List Corner → ℕ → ℕ
-next_at corners number = cond (ltb (corner_at corners number).far_end number) (corner_at corners number).far_end (number + 1)
+abbrev pub next_at : Corners → ℕ → ℕ
+next_at corners number = next_in corners.list.items number
 
 -- and of the corner before it, whose edge ends in it
-abbrev pub previous_at : List Corner → ℕ → ℕ
-previous_at corners number = cond (ltb number (corner_at corners number).far_end) (corner_at corners number).far_end (number - 1)
+abbrev pub previous_at : Corners → ℕ → ℕ
+previous_at corners number = previous_in corners.list.items number
 
 -- the edge that begins in it, as its ring goes
-abbrev pub edge_at : List Corner → ℕ → Edge
+abbrev pub edge_at : Corners → ℕ → Edge
 edge_at corners number = record { a = position_at corners number; b = position_at corners (next_at corners number) }
-
--- next and previous lead round, in rings of three corners or more, none at the position of the next one
-pub record AreLinked (corners : List Corner) : Type 0 where
-  pub next_known : (number : ℕ) → number < length corners → next_at corners number < length corners
-  pub previous_known : (number : ℕ) → number < length corners → previous_at corners number < length corners
-  pub there_and_back : (number : ℕ) → number < length corners → previous_at corners (next_at corners number) ≡ number
-  pub back_and_there : (number : ℕ) → number < length corners → next_at corners (previous_at corners number) ≡ number
-  pub longer : (number : ℕ) → number < length corners → next_at corners (next_at corners number) ≢ number
-  pub apart : (number : ℕ) → number < length corners → position_at corners (next_at corners number) ≢ position_at corners number
-
--- their positions are in range
-abbrev pub AreInRange : List Corner → Type 0
-AreInRange corners = (number : ℕ) → number < length corners → IsPosition (position_at corners number)
 
 -- Their edges, to be swept over
 
 -- the vertex that two edges share as neighbours in a ring
-abbrev pub shared_at : List Corner → ℕ → ℕ → Option Position
+abbrev pub shared_at : Corners → ℕ → ℕ → Option Position
 shared_at corners first second =
     cond (next_at corners first == second) (Some (position_at corners second))
     (cond (next_at corners second == first) (Some (position_at corners first)) None)
 
 -- the edges that begin in the corners
-abbrev pub plan_of : List Corner → Plan
+abbrev pub plan_of : Corners → Plan
 plan_of corners = record {
-  count = length corners;
+  count = corner_count corners;
   segment = λ (number : ℕ). segment_between (position_at corners number) (position_at corners (next_at corners number));
   shared = shared_at corners;
 }
@@ -109,9 +95,9 @@ plan_of corners = record {
 -- Their meetings
 
 -- the two edges, in order, meet at the point that is named for them
-pub record IsMeetingAt (corners : List Corner) (pair : Pair) : Type 0 where
+pub record IsMeetingAt (corners : Corners) (pair : Pair) : Type 0 where
   pub in_order : pair.first < pair.second
-  pub known : pair.second < length corners
+  pub known : pair.second < corner_count corners
   pub named : IsNamed (shared_at corners pair.first pair.second) (edge_at corners pair.first) (edge_at corners pair.second) (Some pair.point)
   pub bounded : IsBounded pair.point
 
@@ -122,5 +108,5 @@ pub record IsNamedMeeting (rings : List (List Position)) (pair : Pair) (meeting 
   pub point : meeting.point ≡ pair.point
 
 -- no two of these edges meet wrongly
-abbrev pub NoneWrong : List Corner → Type 0
-NoneWrong corners = (first second : ℕ) (point : RationalPoint) → first < length corners → second < length corners → first ≢ second → ¬ IsWrong (plan_of corners) point first second
+abbrev pub NoneWrong : Corners → Type 0
+NoneWrong corners = (first second : ℕ) (point : RationalPoint) → first < corner_count corners → second < corner_count corners → first ≢ second → ¬ IsWrong (plan_of corners) point first second

@@ -1,9 +1,9 @@
 -- Pairs of edges that are to be tested, in place of all that there are.
 use Rattle.std.specs.Prelude.{◌≡◌, ◌⊎◌, ℕ, zero, suc, ◌+◌, ◌*◌, ◌<◌, ◌≤◌, All, List, length, ℤ, ◌<ℤ◌}
 use Rattle.mvt_plane.specs.declared.edge.Edge.{Edge}
-use Rattle.mvt_polygon.specs.Corners.{plan_of}
+use Rattle.mvt_polygon.specs.Corners.{corner_count, plan_of}
 use Rattle.mvt_polygon.specs.Sweep.{Tested}
-use Rattle.mvt_polygon.specs.declared.sweep.corners.Corner.{Corner}
+use Rattle.mvt_polygon.specs.declared.sweep.corners.Corners.{Corners}
 
 -- how many pairs so many edges have
 unfoldable pub pairs_of : ℕ → ℕ
@@ -11,21 +11,21 @@ pairs_of zero = 0
 pairs_of (suc edges) = pairs_of edges + edges
 
 -- two different edges, the lesser number first
-pub record IsPair (corners : List Corner) (first second : ℕ) : Type 0 where
+pub record IsPair (corners : Corners) (first second : ℕ) : Type 0 where
   pub in_order : first < second
-  pub known : second < length corners
+  pub known : second < corner_count corners
 
 -- At most three pairs for each edge. Where these are tested, so are all two edges below this number, and the edge of
 -- this number with each one below another number.
-pub record AreEnough (corners : List Corner) (pairs : List (ℕ × ℕ)) (number below : ℕ) : Type 0 where
-  pub few : length pairs ≤ 3 * length corners
+pub record AreEnough (corners : Corners) (pairs : List (ℕ × ℕ)) (number below : ℕ) : Type 0 where
+  pub few : length pairs ≤ 3 * corner_count corners
   pub each : All (λ (pair : ℕ × ℕ). IsPair corners pair.0 pair.1) pairs
   pub rest : All (λ (pair : ℕ × ℕ). Tested (plan_of corners) pair.0 pair.1) pairs → (first second : ℕ) → first < second
       → (second < number) ⊎ ((second ≡ number) × (first < below)) → Tested (plan_of corners) first second
 
 -- the same for all edges
-abbrev pub AreEnoughForAll : List Corner → List (ℕ × ℕ) → Type 0
-AreEnoughForAll corners pairs = AreEnough corners pairs (length corners) 0
+abbrev pub AreEnoughForAll : Corners → List (ℕ × ℕ) → Type 0
+AreEnoughForAll corners pairs = AreEnough corners pairs (corner_count corners) 0
 
 -- each of two numbers is less than each of two others
 pub record AreLess (a b c d : ℤ) : Type 0 where

@@ -1,94 +1,66 @@
--- What a sweep notes of each ring of a polygon: which other rings are around it.
-use Rattle.std.specs.Prelude.{◌≡◌, ◌≢◌, ℕ, suc, zero, ◌-◌, ◌<◌, Bool, true, false, not, cond, IsTrue, ◌↔◌, List, length, slice_get, slice_index, Option, Some, None}
-use Rattle.mvt_plane.specs.Below.{HasOddBelow}
+-- What a sweep notes of each ring: which other rings are around it.
+use Rattle.std.specs.Prelude.{◌≡◌, ◌⊎◌, ℕ, ◌<◌, Bool, false, not, IsTrue, ◌↔◌, List, [], length, slice_get, Option, Some, None, ℤ, ◌≤ℤ◌}
+use Rattle.mvt_plane.specs.Measure.{key_of}
 use Rattle.mvt_plane.specs.Meeting.{EdgeNumber}
 use Rattle.mvt_plane.specs.Position.{Position}
-use Rattle.mvt_polygon.specs.Corners.{IsNumbered}
+use Rattle.mvt_polygon.specs.Corners.{AreCorners, IsNumbered, position_at}
+use Rattle.mvt_polygon.specs.Meeting.{NoMeeting}
+use Rattle.mvt_polygon.specs.Rings.{AreProperRings}
+use Rattle.mvt_polygon.specs.RingsAround.{IsAround, nearest_at, odd_at}
 use Rattle.mvt_polygon.specs.RingsBelow.{HaveOddBelow, IsLeastVertex}
-use Rattle.mvt_polygon.specs.declared.nesting.around.Around.{Around}
-use Rattle.mvt_polygon.specs.declared.nesting.around.Around.TheVariants.{Nothing, Exterior, Others}
+use Rattle.mvt_polygon.specs.declared.sweep.corners.Corners.{Corners}
+use Rattle.mvt_polygon.specs.declared.sweep.notes.Around.{Around}
+use Rattle.mvt_polygon.specs.declared.sweep.notes.RingNotes.{RingNotes}
 
--- What is noted
+-- Nothing noted
 
--- whether so many are an odd number
-abbrev pub is_odd_number : ℕ → Bool
-is_odd_number zero = false
-is_odd_number (suc number) = not (is_odd_number number)
+-- by the number of each corner of the rings, its ring
+abbrev pub AreRingsOf : List (List Position) → List ℕ → Type 0
+AreRingsOf rings ring_of = (number : ℕ) (at : EdgeNumber) → IsNumbered rings number at → slice_get ring_of number ≡ Some at.ring
 
--- whether these rings are an odd number
-abbrev pub is_odd : Around → Bool
-is_odd Nothing = false
-is_odd Exterior = true
-is_odd (Others odd) = odd
+-- nothing is noted of any of the rings
+pub record IsNew (rings : List (List Position)) (notes : RingNotes) : Type 0 where
+  pub numbers : AreRingsOf rings notes.ring_of.items
+  pub count : length notes.around.items ≡ length rings
+  pub none : (ring : ℕ) → ring < length rings → slice_get notes.around.items ring ≡ Some None
+  pub nothing : notes.come_to.items ≡ []
 
--- these rings and one more
-abbrev pub with_ring : Around → ℕ → Bool → Around
-with_ring Nothing zero odd = Exterior
-with_ring Nothing (suc ring) odd = Others odd
-with_ring Exterior ring odd = Others odd
-with_ring (Others some) ring odd = Others odd
+-- One ring
 
--- Around a ring whose first vertex is directly above an edge of another: the rings that are around the other one, and
--- the other one too where this makes the number of rings odd or even, as it is to be
-abbrev pub around_above : Around → ℕ → Bool → Around
-around_above around below odd = cond odd (cond (is_odd around) around (with_ring around below odd)) (cond (is_odd around) (with_ring around below odd) around)
+-- something is noted of the ring
+abbrev pub IsNoted : List (Option Around) → ℕ → Type 0
+IsNoted notes ring = (around : Around) × (slice_get notes ring ≡ Some (Some around))
 
--- What it means
+-- The note of a ring whose first vertex is directly above an edge of another, above an odd number of edges or an even
+-- one: that of the other one, or the other one is the nearest
+abbrev pub IsNoteAbove : Around → ℕ → Bool → Around → Type 0
+IsNoteAbove around below odd new = ((odd ≡ around.odd) × (new ≡ around)) ⊎ ((odd ≡ not around.odd) × (new ≡ record { nearest = Some below; odd = odd }))
 
--- the position is inside the ring of this number: an odd number of its edges pass below the position
-pub record IsRingAround (rings : List (List Position)) (position : Position) (number : ℕ) : Type 0 where
-  pub ring : List Position
-  pub there : slice_get rings number ≡ Some ring
-  pub odd : HasOddBelow position ring
-
--- no ring is around the position
-abbrev pub IsNothingAround : List (List Position) → Position → Type 0
-IsNothingAround rings position = (number : ℕ) → ¬ IsRingAround rings position number
-
--- the exterior is around the position, and no other ring
-pub record IsExteriorAround (rings : List (List Position)) (position : Position) : Type 0 where
-  pub exterior : IsRingAround rings position 0
-  pub alone : (number : ℕ) → 0 < number → ¬ IsRingAround rings position number
-
--- these rings are around the position
-abbrev pub AreAround : List (List Position) → Position → Around → Type 0
-AreAround rings position Nothing = IsNothingAround rings position
-AreAround rings position Exterior = IsExteriorAround rings position
-AreAround rings position (Others odd) = (¬ IsNothingAround rings position) × (¬ IsExteriorAround rings position)
-
--- they are around the ring of this number: around its first vertex
-pub record AreAroundRing (rings : List (List Position)) (ring : ℕ) (around : Around) : Type 0 where
+-- this is right of the ring, by what is noted of the one directly around it
+pub record IsNoteOf (rings : List (List Position)) (notes : List (Option Around)) (ring : ℕ) (note : Around) : Type 0 where
   pub position : Position
   pub first : IsLeastVertex rings ring position
-  pub odd : IsTrue (is_odd around) ↔ HaveOddBelow position rings
-  pub are : AreAround rings position around
+  pub odd : IsTrue note.odd ↔ HaveOddBelow position rings
+  pub alone : note.nearest ≡ None → (outer : ℕ) → ¬ IsAround rings outer ring
+  pub even : note.nearest ≡ None → note.odd ≡ false
+  pub around : (nearest : ℕ) → note.nearest ≡ Some nearest → (outer : ℕ) → IsAround rings outer ring ↔ ((outer ≡ nearest) ⊎ IsAround rings outer nearest)
+  pub turned : (nearest : ℕ) → note.nearest ≡ Some nearest → note.odd ≡ not (odd_at notes nearest)
 
--- of each vertex it is noted which rings are around its ring
-abbrev pub AreAllNoted : List (List Position) → List (Option Around) → Type 0
-AreAllNoted rings notes = (number : ℕ) (at : EdgeNumber) → IsNumbered rings number at → (around : Around) × (slice_get notes number ≡ Some (Some around)) × AreAroundRing rings at.ring around
+-- All rings
 
--- One step
+-- The line is behind this key: of each ring that it came to something is noted, and what is noted is right.
+pub record AreListsNotedTo (rings : List (List Position)) (corners : Corners) (key : ℤ) (ring_of : List ℕ) (notes : List (Option Around)) (come_to : List ℕ) : Type 0 where
+  pub proper : AreProperRings rings
+  pub are : AreCorners rings corners
+  pub numbers : AreRingsOf rings ring_of
+  pub count : length notes ≡ length rings
+  pub there : (number : ℕ) (at : EdgeNumber) → IsNumbered rings number at → key_of (position_at corners number) ≤ℤ key → IsNoted notes at.ring
+  pub right : NoMeeting rings → (ring : ℕ) (around : Around) → slice_get notes ring ≡ Some (Some around) → IsNoteOf rings notes ring around
+  pub listed : (ring : ℕ) → IsNoted notes ring → (at : ℕ) × (slice_get come_to at ≡ Some ring)
+  pub only : (at ring : ℕ) → slice_get come_to at ≡ Some ring → IsNoted notes ring
+  pub behind : (at ring nearest : ℕ) → slice_get come_to at ≡ Some ring → nearest_at notes ring ≡ Some nearest
+      → (before : ℕ) × (before < at) × (slice_get come_to before ≡ Some nearest)
 
--- nothing is noted of any of so many vertices
-pub record IsNothingNoted (many : ℕ) (notes : List (Option Around)) : Type 0 where
-  pub count : length notes ≡ many
-  pub none : (number : ℕ) → number < many → slice_get notes number ≡ Some None
-
--- something is noted of the vertex of this number
-abbrev pub IsNotedOf : List (Option Around) → ℕ → Type 0
-IsNotedOf notes number = (around : Around) × (slice_get notes number ≡ Some (Some around))
-
--- of all vertices of this ring it is noted what is around it, and of the others what it was before
-pub record IsNoted (rings : List (List Position)) (ring : ℕ) (around : Around) (before after : List (Option Around)) : Type 0 where
-  pub here : (number : ℕ) (at : EdgeNumber) → IsNumbered rings number at → at.ring ≡ ring → slice_get after number ≡ Some (Some around)
-  pub others : (number : ℕ) (at : EdgeNumber) → IsNumbered rings number at → at.ring ≢ ring → slice_get after number ≡ slice_get before number
-  pub count : length after ≡ length before
-
--- The line comes to a corner in which both edges begin, behind so many of the edges that it meets. If nothing is noted
--- of the corner, what is around its ring is noted.
-pub data IsNoting (rings : List (List Position)) (edges : List ℕ) (place number : ℕ) (at : EdgeNumber) (before after : List (Option Around)) : Type 0 where
-  known : (around : Around) → slice_get before number ≡ Some (Some around) → after ≡ before → IsNoting rings edges place number at before after
-  nothing_below : slice_get before number ≡ Some None → place ≡ 0 → IsNoted rings at.ring Nothing before after → IsNoting rings edges place number at before after
-  above : slice_get before number ≡ Some None → 0 < place → (below : EdgeNumber) → IsNumbered rings (slice_index edges (place - 1)) below
-      → (around : Around) → slice_get before (slice_index edges (place - 1)) ≡ Some (Some around)
-      → IsNoted rings at.ring (around_above around below.ring (is_odd_number place)) before after → IsNoting rings edges place number at before after
+-- so these notes are
+abbrev pub AreNotedTo : List (List Position) → Corners → ℤ → RingNotes → Type 0
+AreNotedTo rings corners key notes = AreListsNotedTo rings corners key notes.ring_of.items notes.around.items notes.come_to.items

@@ -1,5 +1,5 @@
--- The rings of a polygon whose edges pass below a position.
-use Rattle.std.specs.Prelude.{◌≡◌, ℕ, List, [], ◌∷◌, slice_get, Some, ◌≤ℤ◌}
+-- The rings whose edges pass below a position, and the rings around it.
+use Rattle.std.specs.Prelude.{◌≡◌, ℕ, zero, suc, Bool, false, not, List, [], ◌∷◌, slice_get, Some, ◌≤ℤ◌}
 use Rattle.mvt_plane.specs.Below.{HasOddBelow, IsNotAbove, PassesBelow}
 use Rattle.mvt_plane.specs.Inside.{Differ}
 use Rattle.mvt_plane.specs.Measure.{key_of}
@@ -36,3 +36,14 @@ pub record IsLeastVertex (rings : List (List Position)) (ring : ℕ) (position :
   pub vertex : ℕ
   pub here : slice_get vertices vertex ≡ Some position
   pub first : (another : ℕ) (other : Position) → slice_get vertices another ≡ Some other → key_of position ≤ℤ key_of other
+
+-- the position is inside the ring of this number: an odd number of its edges pass below the position
+pub record IsRingAround (rings : List (List Position)) (position : Position) (number : ℕ) : Type 0 where
+  pub ring : List Position
+  pub there : slice_get rings number ≡ Some ring
+  pub odd : HasOddBelow position ring
+
+-- whether so many are an odd number
+abbrev pub is_odd_number : ℕ → Bool
+is_odd_number zero = false
+is_odd_number (suc number) = not (is_odd_number number)

@@ -48,7 +48,7 @@ pub fn check_apart(
 
 /// The first of the other polygons that the position is inside. Of two polygons of a feature each has an exterior of its
 /// own, so they are told apart by their ordinals.
-fn polygon_around(
+pub(crate) fn polygon_around(
     rings: &[Vec<Point>],
     groups: &[(usize, usize)],
     polygon: usize,
@@ -68,7 +68,12 @@ fn polygon_around(
 }
 
 /// Whether the position is inside the polygon of these rings: inside its exterior, and inside none of its holes.
-fn is_in_polygon(rings: &[Vec<Point>], exterior: usize, after: usize, position: Point) -> bool
+pub(crate) fn is_in_polygon(
+    rings: &[Vec<Point>],
+    exterior: usize,
+    after: usize,
+    position: Point,
+) -> bool
     requires further { exterior < after }
     requires within { after ≤ length rings.now }
     ensures { IsTrue result ↔ IsInsidePolygon (rings_of rings.now) (record { exterior = exterior; after = after }) position }

@@ -4,6 +4,7 @@
 #![tactic(auto)]
 
 mod apart;
+mod feature;
 mod meeting;
 mod nesting;
 mod pairs;
@@ -13,6 +14,7 @@ mod rings;
 mod sweep;
 
 pub use apart::{ApartFault, check_apart};
+pub use feature::{FeatureCause, FeatureFault, check_feature};
 pub use meeting::{Meeting, find_meeting, find_meeting_with};
 pub use nesting::{NestFault, check_nesting, check_nesting_once};
 pub use polygon::{PolygonFault, check_polygon};

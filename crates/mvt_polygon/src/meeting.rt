@@ -6,9 +6,7 @@ ghost use Rattle.mvt_polygon.specs.Meeting.{IsMeetingOf, NoMeeting};
 ghost use Rattle.mvt_polygon.specs.Rings.{rings_of, AreProperRings};
 ghost use Rattle.mvt_status.specs.Counts.{bits};
 
-use crate::sweep::{
-    Corner, Pair, corners_of, meeting_at, numbers_of, one_position, order_of, sweep,
-};
+use crate::sweep::{Corners, NoNotes, Pair, Swept, sweep_over};
 use mvt_plane::{Count, Hpoint, Point};
 use mvt_status::{Status, TreeStatus};
 use std::alloc::{AllocError, Global};
@@ -68,7 +66,7 @@ pub fn find_meeting_with<S: Status>(
     ensures counted { let vertices = vertex_count (rings_of rings.now) in AddsWork (3 * vertices) (vertices * (2 * bits vertices + 2)) (vertices * (20 * bits vertices)) count.old count.new }
     ensures least { IfOk result (IsCounted (vertex_count (rings_of rings.now)) count.old count.new) }
 {
-    let corners = corners_of(alloc, rings)?;
+    let corners = Corners::of_rings(alloc, rings)?;
     meeting_by_sweep(alloc, rings, &corners, status, count)
 }
 
@@ -76,7 +74,7 @@ pub fn find_meeting_with<S: Status>(
 pub(crate) fn meeting_by_sweep<S: Status>(
     alloc: Global,
     rings: &[Vec<Point>],
-    corners: &[Corner],
+    corners: &Corners,
     status: &mut S,
     count: &mut Count,
 ) -> Result<Option<Meeting>, AllocError>
@@ -88,13 +86,12 @@ pub(crate) fn meeting_by_sweep<S: Status>(
     ensures counted { let vertices = vertex_count (rings_of rings.now) in AddsWork (3 * vertices) (vertices * (2 * bits vertices + 2)) (vertices * (20 * bits vertices)) count.old count.new }
     ensures least { IfOk result (IsCounted (vertex_count (rings_of rings.now)) count.old count.new) }
 {
-    let order = order_of(alloc, corners)?;
-    if let Some((first, second)) = one_position(corners, &order) {
-        return Ok(named_meeting(rings, meeting_at(corners, first, second, count)));
-    }
-    let order = numbers_of(alloc, order)?;
-    let found = sweep(corners, &order, status, count)?;
-    Ok(named_meeting(rings, found))
+    Ok(
+        match sweep_over::<S, NoNotes>(alloc, rings, corners, status, count)? {
+            Swept::Meets(meeting) => Some(meeting),
+            Swept::Clear(_) => None,
+        },
+    )
 }
 
 /// The meeting that was found, if any, with its edges named by ring and ordinal.

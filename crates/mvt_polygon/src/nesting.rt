@@ -5,9 +5,8 @@ ghost use Rattle.mvt_polygon.specs.Nesting.{IsNestFault, IsFirstNestFault, IsFir
 ghost use Rattle.mvt_polygon.specs.Rings.{rings_of};
 ghost use Rattle.mvt_polygon.specs.declared.nesting.NestFault.{NestFault};
 
-pub(crate) mod around;
 pub(crate) mod noted;
-mod once;
+pub(crate) mod once;
 #[cfg(test)]
 pub(crate) mod tests;
 

@@ -3,12 +3,12 @@
 ghost use Rattle.std.specs.Prelude.{◌≡◌, ◌*◌, ◌<◌, ◌≤◌, IfNone, IfSome, IsTrue, false, [], length};
 ghost use Rattle.mvt_plane.specs.Counted.{ticked};
 ghost use Rattle.mvt_polygon.specs.CornerOrder.{AddsWork, IsCounted};
-ghost use Rattle.mvt_polygon.specs.Corners.{AreLinked, IsMeetingAt, NoneWrong, edge_at, plan_of};
+ghost use Rattle.mvt_polygon.specs.Corners.{IsMeetingAt, NoneWrong, corner_count, edge_at, plan_of};
 ghost use Rattle.mvt_polygon.specs.Pairs.{AreBoxesApart, AreEnough, AreEnoughForAll, AreLess, pairs_of};
 ghost use Rattle.mvt_polygon.specs.Sweep.{Tested};
 ghost use Rattle.mvt_status.specs.Counts.{raised};
 
-use crate::sweep::{Corner, Pair, edge_at, meeting_at, next_of};
+use crate::sweep::{Corners, Pair};
 use arrayvec::ArrayVec;
 use mvt_plane::{Count, Edge, orient};
 
@@ -24,12 +24,11 @@ pub(crate) type Pairs = ArrayVec<(usize, usize), MOST_PAIRS>;
 /// Finds the pairs of edges that may meet wrongly, and answers whether these are all. It gives up where the edges are
 /// many, or such pairs more than three times as many as the edges. Ticks a probe for each pair that it looks at: for all
 /// pairs where it doesn't give up, and at most eight for each edge.
-pub(crate) fn find_pairs(corners: &[Corner], pairs: &mut Pairs, count: &mut Count) -> bool
-    requires linked { AreLinked corners.now }
+pub(crate) fn find_pairs(corners: &Corners, pairs: &mut Pairs, count: &mut Count) -> bool
     requires empty { pairs.old.items ≡ [] }
     ensures enough { IsTrue result → AreEnoughForAll corners.now pairs.new.items }
-    ensures counted { AddsWork 0 (8 * length corners.now) 0 count.old count.new }
-    ensures probed { IsTrue result → raised (pairs_of (length corners.now)) count.old.probes ≤ count.new.probes }
+    ensures counted { AddsWork 0 (8 * corner_count corners.now) 0 count.old count.new }
+    ensures probed { IsTrue result → raised (pairs_of (corner_count corners.now)) count.old.probes ≤ count.new.probes }
 {
     if corners.len() > MOST_EDGES {
         return false;
@@ -44,16 +43,15 @@ pub(crate) fn find_pairs(corners: &[Corner], pairs: &mut Pairs, count: &mut Coun
 
 /// Adds the pairs of an edge with those of lesser numbers that it may meet wrongly, and answers whether there was room.
 /// Ticks a probe for each pair that it looks at.
-fn add_pairs(corners: &[Corner], second: usize, pairs: &mut Pairs, count: &mut Count) -> bool
-    requires linked { AreLinked corners.now }
-    requires few { length corners.now < 17 }
-    requires known { second < length corners.now }
+fn add_pairs(corners: &Corners, second: usize, pairs: &mut Pairs, count: &mut Count) -> bool
+    requires few { corner_count corners.now < 17 }
+    requires known { second < corner_count corners.now }
     requires before { AreEnough corners.now pairs.old.items second 0 }
     ensures enough { IsTrue result → AreEnough corners.now pairs.new.items second second }
     ensures counted { AddsWork 0 second 0 count.old count.new }
     ensures probed { IsTrue result → raised second count.old.probes ≤ count.new.probes }
 {
-    let other = edge_at(corners, second);
+    let other = corners.edge(second);
     // (a count of its own stays in a register)
     let mut looked = *count;
     for first in 0..second {
@@ -72,29 +70,22 @@ fn add_pairs(corners: &[Corner], second: usize, pairs: &mut Pairs, count: &mut C
 /// Whether two edges may meet wrongly: the boxes around them overlap, and if they are neighbours in a ring, they lie along
 /// one line. `other` is the second one. Ticks a probe.
 #[inline]
-fn may_meet(
-    corners: &[Corner],
-    first: usize,
-    second: usize,
-    other: &Edge,
-    count: &mut Count,
-) -> bool
-    requires linked { AreLinked corners.now }
-    requires first { first < length corners.now }
-    requires second { second < length corners.now }
+fn may_meet(corners: &Corners, first: usize, second: usize, other: &Edge, count: &mut Count) -> bool
+    requires first { first < corner_count corners.now }
+    requires second { second < corner_count corners.now }
     requires other { other.now ≡ edge_at corners.now second }
     ensures clear { result ≡ false → Tested (plan_of corners.now) first second }
     ensures counted { AddsWork 0 1 0 count.old count.new }
     ensures probed { count.new.probes ≡ ticked count.old.probes }
 {
     count.tick_probe();
-    let one = edge_at(corners, first);
+    let one = corners.edge(first);
     if boxes_apart(&one, other) {
         return false;
     }
-    if next_of(corners, first) == second {
+    if corners.next(first) == second {
         orient(one.a, one.b, other.b) == 0
-    } else if next_of(corners, second) == first {
+    } else if corners.next(second) == first {
         orient(other.a, other.b, one.b) == 0
     } else {
         true
@@ -128,11 +119,10 @@ fn is_under(one: &Edge, other: &Edge) -> bool
 /// The first wrong meeting of edges of which these pairs are to be tested. Makes one test for each pair, up to the one
 /// that it answers.
 pub(crate) fn meeting_among(
-    corners: &[Corner],
+    corners: &Corners,
     pairs: &[(usize, usize)],
     count: &mut Count,
 ) -> Option<Pair>
-    requires linked { AreLinked corners.now }
     requires pairs { AreEnoughForAll corners.now pairs.now }
     ensures none { IfNone result (NoneWrong corners.now) }
     ensures some { IfSome result (IsMeetingAt corners.now) }
@@ -142,7 +132,7 @@ pub(crate) fn meeting_among(
 {
     for at in 0..pairs.len() {
         let (first, second) = pairs[at];
-        if let Some(pair) = meeting_at(corners, first, second, count) {
+        if let Some(pair) = corners.meeting(first, second, count) {
             return Some(pair);
         }
     }

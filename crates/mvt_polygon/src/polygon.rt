@@ -12,9 +12,7 @@ use crate::meeting::{Meeting, meeting_by_sweep, named_meeting};
 use crate::nesting::NestFault;
 use crate::nesting::noted::fault_of_holes;
 use crate::pairs::{Pairs, find_pairs, meeting_among};
-use crate::sweep::{
-    Corner, corners_of, meeting_at, nothing_noted, numbers_of, one_position, order_of, sweep_rings,
-};
+use crate::sweep::{Corners, Swept, sweep_rings};
 use mvt_plane::{Count, Point};
 use mvt_status::TreeStatus;
 use std::alloc::{AllocError, Global};
@@ -69,7 +67,7 @@ fn meeting_in_ring(
     ensures counted { let vertices = vertex_count (rings_of rings.now) in AddsWork (3 * vertices) (vertices * (2 * bits vertices + 10)) (vertices * (20 * bits vertices)) count.old count.new }
     ensures least { IfOk result (IsCounted (vertex_count (rings_of rings.now)) count.old count.new) }
 {
-    let corners = corners_of(alloc, rings)?;
+    let corners = Corners::of_rings(alloc, rings)?;
     let mut pairs = Pairs::new();
     if find_pairs(&corners, &mut pairs, count) {
         return Ok(named_meeting(rings, meeting_among(&corners, &pairs, count)));
@@ -88,19 +86,9 @@ fn check_with_holes(
     ensures counted { let vertices = vertex_count (rings_of rings.now) in AddsWork (3 * vertices) (vertices * (2 * bits vertices + 3)) (vertices * (20 * bits vertices)) count.old count.new }
     ensures least { IfOk result (λ found. IsCounted (vertex_count (rings_of rings.now)) count.old count.new (meeting_in found)) }
 {
-    let corners = corners_of(alloc, rings)?;
-    let order = order_of(alloc, &corners)?;
-    if let Some((first, second)) = one_position(&corners, &order) {
-        let found = named_meeting(rings, meeting_at(&corners, first, second, count));
-        return Ok(fault_of_meeting(found));
-    }
-    let order = numbers_of(alloc, order)?;
-    let mut notes = nothing_noted(alloc, &corners)?;
-    let mut status = TreeStatus::new(alloc);
-    let found = sweep_rings(rings, &corners, &order, &mut notes, &mut status, count)?;
-    Ok(match named_meeting(rings, found) {
-        Some(meeting) => Some(PolygonFault::Meeting(meeting)),
-        None => fault_of_nesting(fault_of_holes(rings, &notes, count)),
+    Ok(match sweep_rings(alloc, rings, count)? {
+        Swept::Meets(meeting) => Some(PolygonFault::Meeting(meeting)),
+        Swept::Clear(notes) => fault_of_nesting(fault_of_holes(rings, &notes, count)),
     })
 }
 

@@ -37,7 +37,7 @@ pub fn check_nesting_once(rings: &[Vec<Point>], count: &mut Count) -> Option<Nes
 
 /// Why the first vertex of a hole isn't where it should be: it isn't inside the exterior, or else it is inside another
 /// hole, of which the first is returned.
-pub(super) fn fault_of_first_vertex(
+pub(crate) fn fault_of_first_vertex(
     rings: &[Vec<Point>],
     ring: usize,
     position: Point,

@@ -1,93 +1,165 @@
-//! What a sweep notes of the rings that it comes to, for each of their vertices.
-ghost use Rattle.std.specs.Prelude.{◌≡◌, ℕ, ◌-◌, ◌*◌, ◌<◌, ◌≤◌, IfOk, List, length, slice_index, take};
-ghost use Rattle.mvt_plane.specs.Meeting.{EdgeNumber};
+//! What a sweep notes of the rings that its line comes to.
+ghost use Rattle.std.specs.Prelude.{◌≡◌, ℕ, ℤ, ◌<◌, ◌++◌, List, IfOk, OnOk, Some, length, replicate, slice_get};
 ghost use Rattle.mvt_plane.specs.Position.{Position};
-ghost use Rattle.mvt_polygon.specs.CornerOrder.{AddsWork};
-ghost use Rattle.mvt_polygon.specs.Corners.{AreCorners, AreOfRings, IsNumbered, vertex_count};
-ghost use Rattle.mvt_polygon.specs.RingNotes.{IsNoted, IsNothingNoted, IsNotedOf, IsNoting};
+ghost use Rattle.mvt_polygon.specs.Corners.{AreCorners, position_at};
+ghost use Rattle.mvt_polygon.specs.RingNotes.{AreNotedTo, IsNew, IsNoteAbove};
 ghost use Rattle.mvt_polygon.specs.Rings.{rings_of, AreProperRings};
-ghost use Rattle.mvt_status.specs.Counts.{bits};
+ghost use Rattle.mvt_polygon.specs.RingsAround.{nearest_at, odd_at};
+ghost use Rattle.mvt_polygon.specs.Steps.{AtFirst, IsPassed};
+ghost use Rattle.mvt_polygon.specs.declared.sweep.corners.Corners.{Corners};
+ghost use Rattle.mvt_polygon.specs.declared.sweep.notes.Around.{Around};
+ghost use Rattle.mvt_plane.specs.Measure.{key_of};
 
-use crate::nesting::around::{Around, around_above};
-use crate::sweep::corners::Corner;
-use mvt_plane::{Count, Point};
-use mvt_status::Status;
+use mvt_plane::Point;
+use mvt_status::Split;
 use std::alloc::{AllocError, Global};
 
-/// Notes of the corners of a polygon, with nothing noted of any. The only error is that memory was refused.
-pub(crate) fn nothing_noted(
-    alloc: Global,
-    corners: &[Corner],
-) -> Result<Vec<Option<Around>>, AllocError>
-    ensures { IfOk result (λ notes. IsNothingNoted (length corners.now) notes.items) }
-{
-    let mut notes = Vec::with_capacity(alloc, corners.len())?;
-    for _corner in 0..corners.len() {
-        notes.push(None)?;
-    }
-    Ok(notes)
+/// What is noted while a line goes over all corners of rings.
+pub(crate) trait Notes: Drop {
+    /// What is noted of rings, which have these corners, is right of all corners up to a key.
+    ghost are_noted: { List (List Position) → Corners → ℤ → Self → Type 0 };
+
+    /// With nothing noted. The only error is that memory was refused.
+    fn new(alloc: Global, rings: &[Vec<Point>]) -> Result<Self, AllocError>
+        ensures { IfOk result (λ notes. (corners : Corners) → AreProperRings (rings_of rings.now) → AreCorners (rings_of rings.now) corners → AtFirst corners (λ key. are_noted (rings_of rings.now) corners key notes)) };
+
+    /// The line went over the corner of this number: both edges of it began there, in this place among those that the line
+    /// met; or an edge ended. The only error is that memory was refused.
+    fn pass(&mut self, number: usize, begun: Option<Split>) -> Result<(), AllocError>
+        requires { (rings : List (List Position)) × (corners : Corners) × (key : ℤ) × (edges : List ℕ) × are_noted rings corners key self.old × IsPassed corners key number begun edges }
+        ensures { (rings : List (List Position)) (corners : Corners) (key : ℤ) (edges : List ℕ) → are_noted rings corners key self.old → IsPassed corners key number begun edges → OnOk result (are_noted rings corners (key_of (position_at corners number)) self.new) };
 }
 
-/// Notes what is around the ring of corner `number`, unless that is noted already. Both edges of the corner begin in
-/// it; `place` edges of the status are below it, and of the last of them it is noted what is around its ring.
-pub(crate) fn note_ring<S: Status>(
-    rings: &[Vec<Point>],
-    corners: &[Corner],
-    notes: &mut [Option<Around>],
-    number: usize,
-    place: usize,
-    status: &S,
-    count: &mut Count,
-)
-    requires proper { AreProperRings (rings_of rings.now) }
-    requires corners { AreCorners (rings_of rings.now) corners.now }
-    requires size { length notes.old ≡ length corners.now }
-    requires number { number < length corners.now }
-    requires place { place ≤ length (S.edges status.now) }
-    requires below { 0 < place → (slice_index (S.edges status.now) (place - 1) < length corners.now) × IsNotedOf notes.old (slice_index (S.edges status.now) (place - 1)) }
-    ensures noted { (at : EdgeNumber) → IsNumbered (rings_of rings.now) number at → IsNoting (rings_of rings.now) (S.edges status.now) place number at notes.old notes.new }
-    ensures counted { AddsWork 0 0 (2 * bits (length (S.edges status.now))) count.old count.new }
-{
-    if notes[number].is_some() {
-        return;
+/// Nothing is noted.
+#[derive(Drop)]
+pub(crate) struct NoNotes;
+
+impl Notes for NoNotes {
+    ghost are_noted = { λ _ _ _ _. Unit {0} };
+
+    fn new(_alloc: Global, _rings: &[Vec<Point>]) -> Result<NoNotes, AllocError> {
+        Ok(NoNotes)
     }
-    let around = if place == 0 {
-        Around::Nothing
-    } else {
-        let below = status.get(place - 1, count);
-        match notes[below] {
-            Some(around) => around_above(around, below < rings[0].len(), place % 2 == 1),
-            None => unreachable!(),
+
+    fn pass(&mut self, _number: usize, _begun: Option<Split>) -> Result<(), AllocError> {
+        Ok(())
+    }
+}
+
+/// Which rings are around a ring.
+#[derive(Clone, Copy)]
+pub(crate) struct Around {
+    /// The one directly around it: all others are around that one too.
+    nearest: Option<usize>,
+    /// Whether they are an odd number.
+    odd: bool,
+}
+
+/// Of each ring which rings are around it.
+#[derive(Drop)]
+pub(crate) struct RingNotes {
+    /// By the number of each corner, its ring.
+    ring_of: Vec<usize>,
+    /// By the number of each ring, what is around it, if the line came to it.
+    around: Vec<Option<Around>>,
+    /// The rings that the line came to, in this order: each behind those around it.
+    come_to: Vec<usize>,
+}
+
+impl RingNotes {
+    /// With nothing noted. The only error is that memory was refused.
+    pub(crate) fn new(alloc: Global, rings: &[Vec<Point>]) -> Result<RingNotes, AllocError>
+        ensures { IfOk result (IsNew (rings_of rings.now)) }
+    {
+        let mut ring_of = Vec::new(alloc);
+        let mut around = Vec::with_capacity(alloc, rings.len())?;
+        for ring in 0..rings.len() {
+            add_corners(&mut ring_of, ring, rings[ring].len())?;
+            around.push(None)?;
         }
-    };
-    note_vertices(corners, notes, number, around);
+        Ok(RingNotes {
+            ring_of,
+            around,
+            come_to: Vec::with_capacity(alloc, rings.len())?,
+        })
+    }
+
+    /// The ring directly around this one, if any ring is around it.
+    pub(crate) fn nearest(&self, ring: usize) -> Option<usize>
+        requires { ring < length self.now.around.items }
+        ensures { result ≡ nearest_at self.now.around.items ring }
+    {
+        self.around[ring]?.nearest
+    }
+
+    /// Whether an odd number of rings are around this one.
+    pub(crate) fn is_odd(&self, ring: usize) -> bool
+        requires { ring < length self.now.around.items }
+        ensures { result ≡ odd_at self.now.around.items ring }
+    {
+        match self.around[ring] {
+            Some(around) => around.odd,
+            None => false,
+        }
+    }
+
+    /// All rings, each behind the one directly around it.
+    pub(crate) fn come_to(&self) -> &[usize]
+        ensures { result.now ≡ self.now.come_to.items }
+    {
+        &self.come_to
+    }
+
+    /// What is around a ring that the line comes to directly above an edge of another one, above an odd number of edges or
+    /// an even one: what is around the other one; and that one too, where this makes the rings an odd or an even number.
+    fn around_above(&self, below: usize, odd: bool) -> Around
+        requires { below < length self.now.around.items }
+        ensures { (around : Around) → slice_get self.now.around.items below ≡ Some (Some around) → IsNoteAbove around below odd result }
+    {
+        match self.around[below] {
+            Some(around) if around.odd == odd => around,
+            _ => Around {
+                nearest: Some(below),
+                odd,
+            },
+        }
+    }
 }
 
-/// Notes of all corners of the ring of this corner what is around the ring.
-fn note_vertices(corners: &[Corner], notes: &mut [Option<Around>], number: usize, around: Around)
-    requires rings { AreOfRings corners.now }
-    requires size { length notes.old ≡ length corners.now }
-    requires number { number < length corners.now }
-    ensures { (rings : List (List Position)) (at : EdgeNumber) → AreProperRings rings → AreCorners rings corners.now → IsNumbered rings number at → IsNoted rings at.ring around notes.old notes.new }
-{
-    let first = first_corner(corners, number);
-    let last = corners[first].far_end;
-    for corner in first..last {
-        notes[corner] = Some(around);
+impl Notes for RingNotes {
+    ghost are_noted = { AreNotedTo };
+
+    fn new(alloc: Global, rings: &[Vec<Point>]) -> Result<RingNotes, AllocError> {
+        RingNotes::new(alloc, rings)
     }
-    notes[last] = Some(around);
+
+    fn pass(&mut self, number: usize, begun: Option<Split>) -> Result<(), AllocError> {
+        let Some(place) = begun else {
+            return Ok(());
+        };
+        let ring = self.ring_of[number];
+        if self.around[ring].is_some() {
+            return Ok(());
+        }
+        let around = match place.front {
+            Some(edge) => self.around_above(self.ring_of[edge], place.point % 2 == 1),
+            None => Around {
+                nearest: None,
+                odd: false,
+            },
+        };
+        self.around[ring] = Some(around);
+        self.come_to.push(ring)?;
+        Ok(())
+    }
 }
 
-/// The first corner of the ring that has the corner of this number.
-fn first_corner(corners: &[Corner], number: usize) -> usize
-    requires rings { AreOfRings corners.now }
-    requires number { number < length corners.now }
-    ensures within { result ≤ number }
-    ensures first { (rings : List (List Position)) (at : EdgeNumber) → AreProperRings rings → AreCorners rings corners.now → IsNumbered rings number at → result ≡ vertex_count (take at.ring rings) }
+/// Adds the ring of so many corners.
+fn add_corners(ring_of: &mut Vec<usize>, ring: usize, corners: usize) -> Result<(), AllocError>
+    ensures { OnOk result (ring_of.new.items ≡ ring_of.old.items ++ replicate corners ring) }
 {
-    let mut first = number;
-    'back: while corners[first].far_end <= first {
-        first -= 1;
+    for _corner in 0..corners {
+        ring_of.push(ring)?;
     }
-    first
+    Ok(())
 }

@@ -3,40 +3,36 @@ ghost use Rattle.std.specs.Prelude.{◌≡◌, ◌↔◌, ◌*◌, ◌<◌, ◌�
 ghost use Rattle.mvt_plane.specs.Counted.{ticked};
 ghost use Rattle.mvt_polygon.specs.Chain.{Each};
 ghost use Rattle.mvt_polygon.specs.CornerOrder.{AddsWork};
-ghost use Rattle.mvt_polygon.specs.Corners.{AreInRange, AreLinked, plan_of, position_at};
+ghost use Rattle.mvt_polygon.specs.Corners.{corner_count, plan_of, position_at};
 ghost use Rattle.mvt_polygon.specs.Sweep.{IsCut, IsUnder};
 ghost use Rattle.mvt_status.specs.Counts.{bits};
 ghost use Rattle.mvt_status.specs.Split.{AreBeside};
 
-use crate::sweep::corners::{Corner, next_of};
+use crate::sweep::corners::Corners;
 use mvt_plane::{Count, Point, side, sweep_key};
 use mvt_status::{Split, Status};
 
 /// How many edges of the status are below a corner (they come before the others), and the edges directly below and
 /// above it.
 pub(crate) fn place_of<S: Status>(
-    corners: &[Corner],
+    corners: &Corners,
     number: usize,
     status: &S,
     count: &mut Count,
 ) -> Split
-    requires linked { AreLinked corners.now }
-    requires in_range { AreInRange corners.now }
-    requires number { number < length corners.now }
-    requires known { Each (λ edge. edge < length corners.now) (S.edges status.now) }
-    requires few { length (S.edges status.now) ≤ length corners.now }
+    requires number { number < corner_count corners.now }
+    requires known { Each (λ edge. edge < corner_count corners.now) (S.edges status.now) }
+    requires few { length (S.edges status.now) ≤ corner_count corners.now }
     requires cut { (front : List ℕ) × (rest : List ℕ) × IsCut (plan_of corners.now) (position_at corners.now number) (S.edges status.now) front rest }
     ensures within { result.point ≤ length (S.edges status.now) }
     ensures cut { IsCut (plan_of corners.now) (position_at corners.now number) (S.edges status.now) (take result.point (S.edges status.now)) (drop result.point (S.edges status.now)) }
     ensures beside { AreBeside (S.edges status.now) result }
-    ensures counted { AddsWork 0 (2 * bits (length corners.now)) (6 * bits (length corners.now)) count.old count.new }
+    ensures counted { AddsWork 0 (2 * bits (corner_count corners.now)) (6 * bits (corner_count corners.now)) count.old count.new }
     ensures probed { 0 < length (S.edges status.now) → ticked count.old.probes ≤ count.new.probes }
 {
-    let position = corners[number].position;
+    let position = *corners.position(number);
     let below = |edge: usize| -> bool
-        requires linked { AreLinked corners.now }
-        requires in_range { AreInRange corners.now }
-        requires edge { edge < length corners.now }
+        requires edge { edge < corner_count corners.now }
         ensures { IsTrue result ↔ IsUnder (plan_of corners.entry.now) position edge }
     { is_below(corners, edge, position) };
     status.split_around(&below, count)
@@ -44,14 +40,12 @@ pub(crate) fn place_of<S: Status>(
 
 /// Whether an edge is below a position.
 #[inline]
-fn is_below(corners: &[Corner], edge: usize, position: Point) -> bool
-    requires linked { AreLinked corners.now }
-    requires in_range { AreInRange corners.now }
-    requires edge { edge < length corners.now }
+fn is_below(corners: &Corners, edge: usize, position: Point) -> bool
+    requires edge { edge < corner_count corners.now }
     ensures { IsTrue result ↔ IsUnder (plan_of corners.now) position edge }
 {
-    let from = corners[edge].position;
-    let to = corners[next_of(corners, edge)].position;
+    let from = *corners.position(edge);
+    let to = *corners.position(corners.next(edge));
     let side = side(from, to, position);
     if sweep_key(from) < sweep_key(to) {
         side.is_gt()

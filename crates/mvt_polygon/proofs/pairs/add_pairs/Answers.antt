@@ -3,7 +3,7 @@ use Rattle.mvt_polygon.specs.Pairs.{AreEnough}
 use Rattle.mvt_polygon.proofs.PairsEnough.{enough_with_clear, enough_with_pair}
 use Rattle.mvt_polygon.proofs.StatusCounts.{no_work, work_then}
 use Rattle.mvt_polygon.proofs.pairs.add_pairs.Goals as goal
-use Rattle.mvt_polygon.proofs.pairs.add_pairs.Goals.{then-may_meet+else-len-corners, else-may_meet}
+use Rattle.mvt_polygon.proofs.pairs.add_pairs.Goals.{then-may_meet+else-len, else-may_meet}
 
 pub loop-first-init : goal.loop-first-init
 loop-first-init c = record { enough = c.requires.before; counted = no_work c.args.count.now; probed = omega arith }
@@ -15,10 +15,10 @@ loop-first-preserved c =
     let enough = λ (pairs : List (ℕ × ℕ)). AreEnough corners pairs c.args.second (c.loop-first.first + 1) in
     record {
       enough = elim c.if-may_meet.branch [
-        | then-may_meet+else-len-corners w ↦
+        | then-may_meet+else-len w ↦
             subst enough (sym w.push.ensures.items ∙ ap (λ pairs. pairs.items) (sym w.pairs-is))
             (enough_with_pair corners c.loop-first.pairs.items c.args.second c.loop-first.first so_far.enough c.loop-first-test.true c.requires.known
-            (omega (arith, w.len.ensures.value, w.if-len-corners.false)))
+            (omega (arith, w.len.ensures.value, w.if-len.false)))
         | else-may_meet w ↦
             subst enough (ap (λ pairs. pairs.items) (sym w.pairs-is))
             (enough_with_clear corners c.loop-first.pairs.items c.args.second c.loop-first.first so_far.enough (c.may_meet.ensures.clear w.if-may_meet.false))

@@ -12,14 +12,14 @@ loop-at-init c = record { tested = λ k d none. absurd (omega arith); counted = 
 
 pub loop-at-preserved : goal.loop-at-preserved
 loop-at-preserved c =
-    let tested = rw c.in_default.is at c.meeting_at.ensures.none in
+    let tested = rw c.in_default.is at c.meeting.ensures.none in
     record {
       tested = All-more (λ (pair : ℕ × ℕ). Tested (plan_of c.args.corners.now) pair.0 pair.1) c.args.pairs.now c.loop-at.at (0, 0) c.loop-at-test.true c.loop-at.invariant.tested tested.0;
-      counted = work_then c.loop-at.invariant.counted c.meeting_at.ensures.counted;
-      least = omega (arith, c.loop-at.invariant.least, c.meeting_at.ensures.tested);
+      counted = work_then c.loop-at.invariant.counted c.meeting.ensures.counted;
+      least = omega (arith, c.loop-at.invariant.least, c.meeting.ensures.tested);
     }
 
 pub returns-clause-none : goal.returns-clause-none
 returns-clause-none c =
-    none_by_pairs c.args.corners.now c.args.pairs.now c.requires.linked c.requires.pairs
+    none_by_pairs c.args.corners.now c.args.pairs.now c.requires.pairs
     (subst (All (λ (pair : ℕ × ℕ). Tested (plan_of c.args.corners.now) pair.0 pair.1)) (take_all c.loop-at.at c.args.pairs.now (omega (arith, c.loop-at-test.false))) c.loop-at.invariant.tested)

@@ -1,11 +1,9 @@
-use Rattle.std.proofs.Common.{◌≡◌, ◌↔◌, ℕ, IsTrue, Bool, true, false, true≢false, List, ◌++◌, drop, length, slice_index_or, take, pos, refl, sym, ap, subst, arith}
+use Rattle.std.proofs.Common.{◌≡◌, ◌↔◌, ℕ, IsTrue, Bool, true, false, true≢false, List, ◌++◌, drop, length, take, pos, refl, sym, subst, arith}
 use Rattle.std.proofs.lemmas.Int.{ints, by_lt_z}
-use Rattle.std.proofs.lemmas.List.{get_or_default}
 use Rattle.mvt_plane.specs.Measure.{orientation}
 use Rattle.mvt_plane.specs.Position.{Position}
-use Rattle.mvt_polygon.specs.Corners.{no_corner}
+use Rattle.mvt_polygon.specs.Corners.{corner_count}
 use Rattle.mvt_polygon.specs.Sweep.{Plan, IsUnder, IsCut}
-use Rattle.mvt_polygon.specs.declared.sweep.corners.Corner.{Corner}
 use Rattle.mvt_polygon.proofs.ChainParts.{split_of_parts, parts_of_split, take_drop}
 use Rattle.mvt_polygon.proofs.StatusCounts.{work_of_split}
 use Rattle.mvt_status.specs.Split.{IsSplit}
@@ -46,13 +44,11 @@ cut_of plan here there edges point same split =
 
 pub split_around-requires-clause-splits : goal.split_around-requires-clause-splits
 split_around-requires-clause-splits g c =
-    splits _ (slice_index_or c.args.corners.now c.args.number c.index-corners-number.result).position _ (g.S.Status.edges c.args.status.now)
-    (ap (λ (corner : Corner). corner.position) (get_or_default c.args.corners.now c.args.number c.index-corners-number.result no_corner c.requires.number)) c.requires.cut
+    splits _ c.position.result.now _ (g.S.Status.edges c.args.status.now) c.position.ensures c.requires.cut
 
 pub returns-clause-cut : goal.returns-clause-cut
 returns-clause-cut g c =
-    cut_of _ (slice_index_or c.args.corners.now c.args.number c.index-corners-number.result).position _ (g.S.Status.edges c.args.status.now) c.split_around.result.point
-    (ap (λ (corner : Corner). corner.position) (get_or_default c.args.corners.now c.args.number c.index-corners-number.result no_corner c.requires.number)) c.split_around.ensures.split
+    cut_of _ c.position.result.now _ (g.S.Status.edges c.args.status.now) c.split_around.result.point c.position.ensures c.split_around.ensures.split
 
 pub returns-clause-counted : goal.returns-clause-counted
-returns-clause-counted g c = work_of_split (length (g.S.Status.edges c.args.status.now)) (length c.args.corners.now) c.requires.few c.split_around.ensures.counted
+returns-clause-counted g c = work_of_split (length (g.S.Status.edges c.args.status.now)) (corner_count c.args.corners.now) c.requires.few c.split_around.ensures.counted

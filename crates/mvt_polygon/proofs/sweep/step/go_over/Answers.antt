@@ -1,14 +1,12 @@
-use Rattle.std.proofs.Common.{◌≡◌, ◌<◌, ℕ, Bool, true, false, List, length, slice_index_or, ℤ, SFits, to_z, of_z, w64, refl, sym, ap₂, subst, ◌∙◌}
+use Rattle.std.proofs.Common.{◌≡◌, ℕ, Bool, true, false, ℤ, SFits, to_z, of_z, w64, sym, ap, subst, ◌∙◌}
 use Rattle.std.specs.Int.Signed.{lt_z}
 use Rattle.mvt_plane.specs.Measure.{key_of}
-use Rattle.mvt_plane.specs.Position.{Position}
 use Rattle.mvt_polygon.specs.CornerOrder.{IsNextCorner}
 use Rattle.mvt_polygon.specs.Steps.{IsStep}
 use Rattle.mvt_polygon.specs.declared.sweep.step.Step.{Step}
 use Rattle.mvt_polygon.specs.Corners.{next_at, plan_of, position_at, previous_at}
 use Rattle.mvt_polygon.specs.Sweep.{PassesOn}
-use Rattle.mvt_polygon.specs.declared.sweep.corners.Corner.{Corner}
-use Rattle.mvt_polygon.proofs.CornerReads.{position_read, test_of_keys}
+use Rattle.mvt_polygon.proofs.SegmentEnds.{test_of_keys}
 use Rattle.mvt_polygon.proofs.CornerSteps.{passes_on, passes_back, both_end, both_begin, next_back}
 use Rattle.mvt_polygon.proofs.LeastWork.{counted_after_an_end}
 use Rattle.mvt_polygon.proofs.StepsAfterAnEnd.{an_end_from_before, an_end_from_behind, step_after_an_end}
@@ -16,51 +14,41 @@ use Rattle.mvt_polygon.proofs.sweep.step.go_over.Given as given
 use Rattle.mvt_polygon.proofs.sweep.step.go_over.Goals as goal
 use Rattle.mvt_polygon.proofs.sweep.step.go_over.Goals.{After-sweep_key}
 
--- a test of two corners, as the code reads them
-test_read : (corners : List Corner) (one other first second : ℕ) (it its : Corner) (left right : ℤ) (answer : Bool) → first < length corners → second < length corners → one ≡ first
-    → other ≡ second → SFits w64 left → SFits w64 right → left ≡ key_of (slice_index_or corners one it).position → right ≡ key_of (slice_index_or corners other its).position
-    → lt_z (to_z w64 (of_z w64 left)) (to_z w64 (of_z w64 right)) ≡ answer → lt_z (key_of (position_at corners first)) (key_of (position_at corners second)) ≡ answer
-test_read corners one other first second it its left right answer within inside one_is other_is left_fits right_fits left_is right_is test =
-    sym (ap₂ (λ (p q : Position). lt_z (key_of p) (key_of q)) (position_read corners one first it within one_is) (position_read corners other second its inside other_is))
-    ∙ test_of_keys (slice_index_or corners one it).position (slice_index_or corners other its).position left right answer left_fits right_fits left_is right_is test
-
 -- the test of whether the edge comes from before
 comes : (g : given.Over) (c : After-sweep_key g) (answer : Bool) → lt_z (to_z w64 (of_z w64 c.sweep_key.result)) (to_z w64 (of_z w64 c.sweep_key-key.result)) ≡ answer
     → lt_z (key_of (position_at c.args.corners.now (previous_at c.args.corners.now c.args.number))) (key_of (position_at c.args.corners.now c.args.number)) ≡ answer
 comes g c answer test =
-    test_read c.args.corners.now c.previous_of-previous.result c.args.number (previous_at c.args.corners.now c.args.number) c.args.number c.index-corners-previous.result
-    c.index-corners-number.result c.sweep_key.result c.sweep_key-key.result answer (c.requires.linked.previous_known c.args.number c.requires.number) c.requires.number
-    c.previous_of-previous.ensures.value refl (record { sfits = c.sweep_key.type_inv }) (record { sfits = c.sweep_key-key.type_inv }) c.sweep_key.ensures.value
-    c.sweep_key-key.ensures.value test
+    test_of_keys (position_at c.args.corners.now (previous_at c.args.corners.now c.args.number)) (position_at c.args.corners.now c.args.number) c.sweep_key.result c.sweep_key-key.result
+    answer (record { sfits = c.sweep_key.type_inv }) (record { sfits = c.sweep_key-key.type_inv })
+    (c.sweep_key.ensures.value ∙ ap key_of (rw c.previous-previous.ensures.value at c.position-before.ensures)) (c.sweep_key-key.ensures.value ∙ ap key_of c.position.ensures) test
 
 -- and of whether the next one goes on
-goes : (g : given.Over) (c : After-sweep_key g) (behind : ℤ) (answer : Bool) → SFits w64 behind
-    → behind ≡ key_of (slice_index_or c.args.corners.now c.next_of.result c.index-corners-next_of.result).position
+goes : (g : given.Over) (c : After-sweep_key g) (behind : ℤ) (answer : Bool) → SFits w64 behind → behind ≡ key_of c.position-behind.result.now
     → lt_z (to_z w64 (of_z w64 c.sweep_key-key.result)) (to_z w64 (of_z w64 behind)) ≡ answer
     → lt_z (key_of (position_at c.args.corners.now c.args.number)) (key_of (position_at c.args.corners.now (next_at c.args.corners.now c.args.number))) ≡ answer
 goes g c behind answer fits is test =
-    test_read c.args.corners.now c.args.number c.next_of.result c.args.number (next_at c.args.corners.now c.args.number) c.index-corners-number.result c.index-corners-next_of.result
-    c.sweep_key-key.result behind answer c.requires.number (c.requires.linked.next_known c.args.number c.requires.number) refl c.next_of.ensures.value
-    (record { sfits = c.sweep_key-key.type_inv }) fits c.sweep_key-key.ensures.value is test
+    test_of_keys (position_at c.args.corners.now c.args.number) (position_at c.args.corners.now (next_at c.args.corners.now c.args.number)) c.sweep_key-key.result behind answer
+    (record { sfits = c.sweep_key-key.type_inv }) fits (c.sweep_key-key.ensures.value ∙ ap key_of c.position.ensures)
+    (is ∙ ap key_of (rw c.next.ensures.value at c.position-behind.ensures)) test
 
 pub pass-requires-clause-passes : goal.pass-requires-clause-passes
 pass-requires-clause-passes g c =
     let corners = c.args.corners.now in
     let number = c.args.number in
-    subst (λ (it : ℕ). PassesOn (plan_of corners) (position_at corners number) it number) (sym c.previous_of-previous.ensures.value)
-    (passes_on corners number c.requires.linked c.requires.number
+    subst (λ (it : ℕ). PassesOn (plan_of corners) (position_at corners number) it number) (sym c.previous-previous.ensures.value)
+    (passes_on corners number c.requires.number
     (comes g (goal.at.pass-requires-clause-passes g c).After-sweep_key true c.if-comes_from_before.true)
     (goes g (goal.at.pass-requires-clause-passes g c).After-sweep_key c.sweep_key-2.result true (record { sfits = c.sweep_key-2.type_inv }) c.sweep_key-2.ensures.value c.if-goes_on.true))
 
 pub end-requires-clause-ends : goal.end-requires-clause-ends
 end-requires-clause-ends g c =
-    both_end c.args.corners.now c.args.number c.requires.linked c.requires.number
+    both_end c.args.corners.now c.args.number c.requires.number
     (comes g (goal.at.end-requires-clause-ends g c).After-sweep_key true c.if-comes_from_before.true)
     (goes g (goal.at.end-requires-clause-ends g c).After-sweep_key c.sweep_key-2.result false (record { sfits = c.sweep_key-2.type_inv }) c.sweep_key-2.ensures.value c.if-goes_on.false)
 
 pub begin-requires-clause-begin : goal.begin-requires-clause-begin
 begin-requires-clause-begin g c =
-    both_begin c.args.corners.now c.args.number c.requires.linked c.requires.number
+    both_begin c.args.corners.now c.args.number c.requires.number
     (comes g (goal.at.begin-requires-clause-begin g c).After-sweep_key false c.if-comes_from_before.false)
     (goes g (goal.at.begin-requires-clause-begin g c).After-sweep_key c.sweep_key-2.result true (record { sfits = c.sweep_key-2.type_inv }) c.sweep_key-2.ensures.value c.if-goes_on-2.true)
 
@@ -68,15 +56,15 @@ pub pass-requires-else-goes_on-2-clause-next : goal.pass-requires-else-goes_on-2
 pass-requires-else-goes_on-2-clause-next g c =
     let corners = c.args.corners.now in
     let number = c.args.number in
-    subst (λ (it : ℕ). IsNextCorner corners number number it (g.S.Status.edges c.args.status.now)) (sym c.previous_of-previous.ensures.value)
-    (next_back corners number (previous_at corners number) number (g.S.Status.edges c.args.status.now) c.requires.linked c.requires.in_range c.requires.next)
+    subst (λ (it : ℕ). IsNextCorner corners number number it (g.S.Status.edges c.args.status.now)) (sym c.previous-previous.ensures.value)
+    (next_back corners number (previous_at corners number) number (g.S.Status.edges c.args.status.now) c.requires.next)
 
 pub pass-requires-else-goes_on-2-clause-passes : goal.pass-requires-else-goes_on-2-clause-passes
 pass-requires-else-goes_on-2-clause-passes g c =
     let corners = c.args.corners.now in
     let number = c.args.number in
-    subst (λ (it : ℕ). PassesOn (plan_of corners) (position_at corners number) number it) (sym c.previous_of-previous.ensures.value)
-    (passes_back corners number c.requires.linked c.requires.number
+    subst (λ (it : ℕ). PassesOn (plan_of corners) (position_at corners number) number it) (sym c.previous-previous.ensures.value)
+    (passes_back corners number c.requires.number
     (comes g (goal.at.pass-requires-else-goes_on-2-clause-passes g c).After-sweep_key false c.if-comes_from_before.false)
     (goes g (goal.at.pass-requires-else-goes_on-2-clause-passes g c).After-sweep_key c.sweep_key-2.result false (record { sfits = c.sweep_key-2.type_inv }) c.sweep_key-2.ensures.value c.if-goes_on-2.false))
 
@@ -102,7 +90,7 @@ returns-in_ok-pass-2-clause-step g c =
     let after = g.S.Status.edges c.pass-else-goes_on-2.new.status in
     subst (λ (step : Step). IsStep c.args.corners.now c.args.number edges after step) (sym c.after_an_end-else-goes_on-2.ensures)
     (step_after_an_end c.args.corners.now c.args.number edges after c.in_ok-pass-2.field-0 c.in_ok-pass-2.ensures.none c.in_ok-pass-2.ensures.some
-    (an_end_from_behind c.args.corners.now c.args.number c.requires.linked c.requires.in_range c.requires.number
+    (an_end_from_behind c.args.corners.now c.args.number c.requires.number
     (goes g (goal.at.returns-in_ok-pass-2-clause-step g c).After-sweep_key c.sweep_key-2.result false (record { sfits = c.sweep_key-2.type_inv }) c.sweep_key-2.ensures.value c.if-goes_on-2.false)))
 
 pub returns-in_ok-pass-clause-least : goal.returns-in_ok-pass-clause-least

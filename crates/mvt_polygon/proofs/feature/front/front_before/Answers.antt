@@ -1,0 +1,111 @@
+use Rattle.std.proofs.Common.{◌+◌, ◌-◌, ◌/◌, ◌<◌, List, length, take, refl, sym, ap, subst, arith}
+use Rattle.std.proofs.lemmas.List.{length-take-le}
+use Rattle.mvt_plane.specs.Position.{Position}
+use Rattle.mvt_polygon.specs.FeatureParts.{listed_at}
+use Rattle.mvt_polygon.specs.Meeting.{IsMeetingOf}
+use Rattle.mvt_polygon.specs.Rings.{rings_of, AreProperRings}
+use Rattle.mvt_polygon.specs.Swept.{IsNotedClear, IsSweptAnswer}
+use Rattle.mvt_polygon.specs.declared.sweep.swept.Swept.TheVariants.{Meets, Clear}
+use Rattle.mvt_polygon.proofs.ApartFaults.{ends_within, rings_listed}
+use Rattle.mvt_polygon.proofs.FirstMeetings.{first_slice, second_within}
+use Rattle.mvt_polygon.proofs.FirstPolygons.{of_listed}
+use Rattle.mvt_polygon.proofs.FirstRings.{count_of_first, first_drawn}
+use Rattle.mvt_polygon.proofs.FrontHalves.{all_halved, clear_half, meeting_half, nearer_less, not_halved, work_of_another, work_of_halves}
+use Rattle.mvt_polygon.proofs.RingReads.{count_of_rings}
+use Rattle.mvt_polygon.proofs.SweepsAdded.{first_sweep}
+use Rattle.mvt_polygon.proofs.NotesBegun.{none_clear}
+use Rattle.mvt_polygon.proofs.feature.front.front_before.Goals as goal
+
+pub polygon_of-meets-requires : goal.polygon_of-meets-requires
+polygon_of-meets-requires c =
+    let rings = rings_of c.args.rings.now in
+    let home = of_listed rings c.args.polygons.now c.args.meeting.second_ring c.requires.sound c.requires.listed (second_within rings c.args.meeting c.requires.meets) in
+    (home.polygon, home.within, home.of)
+
+pub halves-init : goal.halves-init
+halves-init c =
+    not_halved (rings_of c.args.rings.now) c.args.polygons.now c.polygon_of-meets.result c.in_ok-new.field-0 c.args.meeting c.args.count.now c.requires.sound c.requires.listed c.requires.meets
+    c.polygon_of-meets.ensures.within c.polygon_of-meets.ensures.of (none_clear c.in_ok-new.field-0 c.in_ok-new.ensures)
+
+pub slice_bounds-sweep_rings-end : goal.slice_bounds-sweep_rings-end
+slice_bounds-sweep_rings-end c =
+    let rings = rings_of c.args.rings.now in
+    let polygons = c.args.polygons.now in
+    let middle = c.halves.front.polygons + (c.halves.meets - c.halves.front.polygons) / 2 in
+    let within : middle < length polygons = omega (arith, c.halves.invariant.within, c.halves-test.true) in
+    let ends = ends_within rings middle (listed_at polygons middle) (rings_listed rings polygons middle c.requires.listed within) in
+    sym (length-take-le (listed_at polygons middle).after c.args.rings.now (omega (arith, ends, count_of_rings c.args.rings.now)))
+
+pub sweep_rings-requires : goal.sweep_rings-requires
+sweep_rings-requires c =
+    let rings = c.args.rings.now in
+    let after = (listed_at c.args.polygons.now (c.halves.front.polygons + (c.halves.meets - c.halves.front.polygons) / 2)).after in
+    subst AreProperRings (sym (first_slice rings after)) (first_drawn (rings_of rings) after c.requires.drawn)
+
+pub returns-in_err-notes-clause-counted : goal.returns-in_err-notes-clause-counted
+returns-in_err-notes-clause-counted c =
+    let rings = c.args.rings.now in
+    let polygons = c.args.polygons.now in
+    let after = (listed_at polygons (c.halves.front.polygons + (c.halves.meets - c.halves.front.polygons) / 2)).after in
+    work_of_another (rings_of rings) polygons c.halves.front c.halves.meets c.args.count.now c.halves.count c.sweep_rings.new.count c.halves.invariant c.halves-test.true
+    (first_sweep (rings_of rings) after (rings_of (take after rings)) c.halves.count c.sweep_rings.new.count (first_slice rings after) c.sweep_rings.ensures.counted)
+
+pub halves-preserved-in-Clear : goal.halves-preserved-in-Clear
+halves-preserved-in-Clear c =
+    let rings = c.args.rings.now in
+    let polygons = c.args.polygons.now in
+    let middle = c.halves.front.polygons + (c.halves.meets - c.halves.front.polygons) / 2 in
+    let after = (listed_at polygons middle).after in
+    let answer : IsSweptAnswer (rings_of (take after rings)) (Clear c.in-Clear.notes) = subst (IsSweptAnswer (rings_of (take after rings))) c.in-Clear.is c.in_ok-notes.ensures.answer in
+    clear_half (rings_of rings) polygons c.halves.front c.halves.meets middle c.in-Clear.notes c.args.count.now c.halves.count c.sweep_rings.new.count c.requires.sound c.requires.listed
+    c.halves.invariant c.halves-test.true refl
+    (subst (λ (its : List (List Position)). IsNotedClear its c.in-Clear.notes) (first_slice rings after) answer)
+    (first_sweep (rings_of rings) after (rings_of (take after rings)) c.halves.count c.sweep_rings.new.count (first_slice rings after) c.sweep_rings.ensures.counted)
+
+pub polygon_of-meets-requires-in-Meets : goal.polygon_of-meets-requires-in-Meets
+polygon_of-meets-requires-in-Meets c =
+    let rings = c.args.rings.now in
+    let polygons = c.args.polygons.now in
+    let middle = c.halves.front.polygons + (c.halves.meets - c.halves.front.polygons) / 2 in
+    let after = (listed_at polygons middle).after in
+    let found = c.in-Meets.found in
+    let answer : IsSweptAnswer (rings_of (take after rings)) (Meets found) = subst (IsSweptAnswer (rings_of (take after rings))) c.in-Meets.is c.in_ok-notes.ensures.answer in
+    let within : middle < length polygons = omega (arith, c.halves.invariant.within, c.halves-test.true) in
+    let ends = ends_within (rings_of rings) middle (listed_at polygons middle) (rings_listed (rings_of rings) polygons middle c.requires.listed within) in
+    let inside : found.second_ring < length (rings_of rings) = omega (arith, second_within (rings_of (take after rings)) found answer, ap length (first_slice rings after), count_of_first (rings_of rings) after ends, ends) in
+    let home = of_listed (rings_of rings) polygons found.second_ring c.requires.sound c.requires.listed inside in
+    (home.polygon, home.within, home.of)
+
+pub halves-smaller : goal.halves-smaller
+halves-smaller c =
+    let rings = c.args.rings.now in
+    let polygons = c.args.polygons.now in
+    let middle = c.halves.front.polygons + (c.halves.meets - c.halves.front.polygons) / 2 in
+    let after = (listed_at polygons middle).after in
+    let found = c.in-Meets.found in
+    let answer : IsSweptAnswer (rings_of (take after rings)) (Meets found) = subst (IsSweptAnswer (rings_of (take after rings))) c.in-Meets.is c.in_ok-notes.ensures.answer in
+    let range = nearer_less (rings_of rings) polygons c.halves.front c.halves.meets middle c.polygon_of-meets-in-Meets.result found c.args.count.now c.halves.count c.requires.listed
+    c.halves.invariant c.halves-test.true refl (subst (λ (its : List (List Position)). IsMeetingOf its found) (first_slice rings after) answer)
+    c.polygon_of-meets-in-Meets.ensures.of c.polygon_of-meets-in-Meets.ensures.first in
+    omega (arith, range.0, range.1, c.halves-test.true)
+
+pub halves-preserved : goal.halves-preserved
+halves-preserved c =
+    let rings = c.args.rings.now in
+    let polygons = c.args.polygons.now in
+    let middle = c.halves.front.polygons + (c.halves.meets - c.halves.front.polygons) / 2 in
+    let after = (listed_at polygons middle).after in
+    let found = c.in-Meets.found in
+    let answer : IsSweptAnswer (rings_of (take after rings)) (Meets found) = subst (IsSweptAnswer (rings_of (take after rings))) c.in-Meets.is c.in_ok-notes.ensures.answer in
+    meeting_half (rings_of rings) polygons c.halves.front c.halves.meets middle c.polygon_of-meets-in-Meets.result found c.args.count.now c.halves.count c.sweep_rings.new.count c.requires.listed
+    c.halves.invariant c.halves-test.true refl (subst (λ (its : List (List Position)). IsMeetingOf its found) (first_slice rings after) answer)
+    c.polygon_of-meets-in-Meets.ensures.within c.polygon_of-meets-in-Meets.ensures.of c.polygon_of-meets-in-Meets.ensures.first
+    (first_sweep (rings_of rings) after (rings_of (take after rings)) c.halves.count c.sweep_rings.new.count (first_slice rings after) c.sweep_rings.ensures.counted)
+
+pub returns-clause-front : goal.returns-clause-front
+returns-clause-front c =
+    all_halved (rings_of c.args.rings.now) c.args.polygons.now c.halves.front c.halves.meets c.args.count.now c.halves.count c.requires.listed c.halves.invariant c.halves-test.false
+
+pub returns-clause-counted : goal.returns-clause-counted
+returns-clause-counted c =
+    work_of_halves (rings_of c.args.rings.now) c.args.polygons.now c.halves.front c.halves.meets c.args.count.now c.halves.count c.halves.invariant

@@ -1,0 +1,10 @@
+use Rattle.mvt_polygon.proofs.CornerPlans.{tested_both_ways, tested_back_and_forth}
+use Rattle.mvt_polygon.proofs.sweep.corners.Corners.meeting.Goals as goal
+
+pub returns-then-one-other-clause-none : goal.returns-then-one-other-clause-none
+returns-then-one-other-clause-none c =
+    tested_both_ways c.args.self.now c.args.one c.args.other c.meeting_in_order.result c.requires.one c.requires.other c.meeting_in_order.ensures.none
+
+pub returns-else-one-other-clause-none : goal.returns-else-one-other-clause-none
+returns-else-one-other-clause-none c =
+    tested_back_and_forth c.args.self.now c.args.one c.args.other c.meeting_in_order-else-one-other.result c.requires.one c.requires.other c.meeting_in_order-else-one-other.ensures.none

@@ -1,0 +1,206 @@
+//! The first fault of a feature whose polygons are kept apart.
+ghost use Rattle.std.specs.Prelude.{◌≡◌, ℕ, ◌+◌, ◌<◌, ◌≤◌, length, option_map, slice_range, IfNone, IfOk, IfSome};
+ghost use Rattle.mvt_plane.specs.Ring.{ArePolygonRings};
+ghost use Rattle.mvt_polygon.specs.Alone.{earlier_of, own_fault, vertices_alone, IsAloneAnswer, IsOwnAnswer, IsOwnWithin};
+ghost use Rattle.mvt_polygon.specs.Bounds.{AreMarked};
+ghost use Rattle.mvt_polygon.specs.Corners.{vertex_count};
+ghost use Rattle.mvt_polygon.specs.Feature.{AddsSweeps, AreAtMost, IsFeatureAnswer};
+ghost use Rattle.mvt_polygon.specs.Meeting.{NoMeeting};
+ghost use Rattle.mvt_polygon.specs.Polygons.{ArePolygons};
+ghost use Rattle.mvt_polygon.specs.Rings.{rings_of, AreProperRings};
+ghost use Rattle.mvt_status.specs.Counts.{bits, raised};
+
+mod bounds;
+mod crowded;
+mod front;
+mod gathered;
+mod later;
+mod passing;
+mod placed;
+#[cfg(test)]
+mod tests;
+mod together;
+
+use crate::apart::ApartFault;
+use crate::meeting::Meeting;
+use crate::nesting::NestFault;
+use crate::polygon::{PolygonFault, check_polygon};
+use crate::polygons::groups;
+use crowded::crowded;
+use gathered::gather;
+use mvt_plane::{Count, Point};
+use std::alloc::{AllocError, Global};
+use together::check_together;
+
+/// What is wrong with a polygon of a feature whose polygons are kept apart.
+#[derive(Clone, Copy, Debug, PartialEq, Eq)]
+pub enum FeatureCause {
+    /// One of its edges meets another one, of its own or of a polygon before it, wrongly. The rings have the ordinals that
+    /// they have in the feature.
+    Meeting(Meeting),
+    /// None does, but a hole isn't where it should be. The rings have the ordinals that they have in the polygon.
+    Nesting(NestFault),
+    /// All are, but a vertex of its exterior is inside another polygon.
+    Apart(ApartFault),
+}
+
+/// The first polygon of a feature with a fault.
+#[derive(Clone, Copy, Debug, PartialEq, Eq)]
+pub struct FeatureFault {
+    /// The ordinal of the polygon in the feature, counted from 0.
+    pub polygon: usize,
+    /// The ordinal of its exterior among the feature's rings, counted from 0. Its holes are the rings behind it.
+    pub exterior: usize,
+    /// The ordinal behind that of its last ring.
+    pub after: usize,
+    /// What is wrong with it.
+    pub cause: FeatureCause,
+}
+
+/// The first polygon of a feature with a fault, where polygons may not cross, touch or lie in each other. Polygons whose bounds
+/// are apart from those of all others are looked at one by one, the others together.
+pub fn check_feature(
+    alloc: Global,
+    rings: &[Vec<Point>],
+    count: &mut Count,
+) -> Result<Option<FeatureFault>, AllocError>
+    requires sound { ArePolygonRings (rings_of rings.now) }
+    requires drawn { AreProperRings (rings_of rings.now) }
+    ensures answer { IfOk result (IsFeatureAnswer (rings_of rings.now)) }
+    ensures counted { (polygons : ℕ) → AreAtMost (rings_of rings.now) polygons → AddsSweeps (bits polygons + 2) (vertex_count (rings_of rings.now)) count.old count.new }
+    ensures apart { NoMeeting (rings_of rings.now) → AddsSweeps 2 (vertex_count (rings_of rings.now)) count.old count.new }
+    ensures valid { IfOk result (λ found. IfNone found (AddsSweeps 1 (vertex_count (rings_of rings.now)) count.old count.new)) }
+    ensures least { IfOk result (λ found. IfNone found (raised (vertex_count (rings_of rings.now)) count.old.probes ≤ count.new.probes)) }
+{
+    let polygons = groups(alloc, rings)?;
+    if polygons.len() == 1 {
+        return fault_alone(alloc, rings, &polygons, &[false], count);
+    }
+    let crowded = crowded(alloc, rings, &polygons)?;
+    if are_all(&crowded) {
+        return check_together(alloc, rings, count);
+    }
+    check_parted(alloc, rings, &polygons, &crowded, count)
+}
+
+/// What `check_feature` answers: the polygons that aren't crowded are looked at one by one, the others together.
+fn check_parted(
+    alloc: Global,
+    rings: &[Vec<Point>],
+    polygons: &[(usize, usize)],
+    crowded: &[bool],
+    count: &mut Count,
+) -> Result<Option<FeatureFault>, AllocError>
+    requires sound { ArePolygonRings (rings_of rings.now) }
+    requires drawn { AreProperRings (rings_of rings.now) }
+    requires listed { ArePolygons (rings_of rings.now) polygons.now }
+    requires marked { AreMarked (rings_of rings.now) polygons.now crowded.now }
+    ensures answer { IfOk result (IsFeatureAnswer (rings_of rings.now)) }
+    ensures counted { (polygons : ℕ) → AreAtMost (rings_of rings.now) polygons → AddsSweeps (bits polygons + 2) (vertex_count (rings_of rings.now)) count.old count.new }
+    ensures apart { NoMeeting (rings_of rings.now) → AddsSweeps 2 (vertex_count (rings_of rings.now)) count.old count.new }
+    ensures valid { IfOk result (λ found. IfNone found (AddsSweeps 1 (vertex_count (rings_of rings.now)) count.old count.new)) }
+    ensures least { IfOk result (λ found. IfNone found (raised (vertex_count (rings_of rings.now)) count.old.probes ≤ count.new.probes)) }
+{
+    let alone = fault_alone(alloc, rings, polygons, crowded, count)?;
+    let gathered = gather(alloc, rings, polygons, crowded)?;
+    let found = check_together(alloc, &gathered.rings, count)?;
+    Ok(first_of(alone, gathered.in_feature(polygons, found)))
+}
+
+/// Whether all are true.
+fn are_all(marks: &[bool]) -> bool {
+    for mark in marks {
+        if !*mark {
+            return false;
+        }
+    }
+    true
+}
+
+/// The first of the polygons apart from all others that has a fault.
+fn fault_alone(
+    alloc: Global,
+    rings: &[Vec<Point>],
+    polygons: &[(usize, usize)],
+    crowded: &[bool],
+    count: &mut Count,
+) -> Result<Option<FeatureFault>, AllocError>
+    requires drawn { AreProperRings (rings_of rings.now) }
+    requires listed { ArePolygons (rings_of rings.now) polygons.now }
+    requires marked { length crowded.now ≡ length polygons.now }
+    ensures answer { IfOk result (IsAloneAnswer (rings_of rings.now) polygons.now crowded.now) }
+    ensures counted { AddsSweeps 1 (vertices_alone (rings_of rings.now) polygons.now crowded.now (length polygons.now)) count.old count.new }
+    ensures least { IfOk result (λ found. IfNone found (raised (vertices_alone (rings_of rings.now) polygons.now crowded.now (length polygons.now)) count.old.probes ≤ count.new.probes)) }
+{
+    for polygon in 0..polygons.len() {
+        if !crowded[polygon] {
+            let (exterior, after) = polygons[polygon];
+            let found = own_fault_of(alloc, rings, polygon, exterior, after, count)?;
+            if found.is_some() {
+                return Ok(found);
+            }
+        }
+    }
+    Ok(None)
+}
+
+/// The fault of the polygon of these rings by itself.
+fn own_fault_of(
+    alloc: Global,
+    rings: &[Vec<Point>],
+    polygon: usize,
+    exterior: usize,
+    after: usize,
+    count: &mut Count,
+) -> Result<Option<FeatureFault>, AllocError>
+    requires drawn { AreProperRings (rings_of rings.now) }
+    requires in_order { exterior < after }
+    requires within { after ≤ length rings.now }
+    ensures answer { IfOk result (IsOwnAnswer (rings_of rings.now) polygon (record { exterior = exterior; after = after })) }
+    ensures counted { AddsSweeps 1 (vertex_count (slice_range (rings_of rings.now) exterior after)) count.old count.new }
+    ensures least { IfOk result (λ found. IfNone found (raised (vertex_count (slice_range (rings_of rings.now) exterior after)) count.old.probes ≤ count.new.probes)) }
+{
+    let found = check_polygon(alloc, &rings[exterior..after], count)?;
+    Ok(fault_in_feature(polygon, (exterior, after), found))
+}
+
+/// The fault of a polygon by itself, with the numbers that its rings have in the feature.
+fn fault_in_feature(
+    polygon: usize,
+    rings: (usize, usize),
+    found: Option<PolygonFault>,
+) -> Option<FeatureFault>
+    requires { IfSome found (IsOwnWithin rings.0) }
+    ensures { result ≡ option_map (own_fault polygon (record { exterior = rings.0; after = rings.1 })) found }
+{
+    let (exterior, after) = rings;
+    let cause = match found? {
+        PolygonFault::Meeting(meeting) => FeatureCause::Meeting(Meeting {
+            first_ring: exterior + meeting.first_ring,
+            second_ring: exterior + meeting.second_ring,
+            ..meeting
+        }),
+        PolygonFault::Nesting(fault) => FeatureCause::Nesting(fault),
+    };
+    Some(FeatureFault {
+        polygon,
+        exterior,
+        after,
+        cause,
+    })
+}
+
+/// The fault of the first polygon of two.
+fn first_of(one: Option<FeatureFault>, other: Option<FeatureFault>) -> Option<FeatureFault>
+    ensures { result ≡ earlier_of one other }
+{
+    match (one, other) {
+        (Some(fault), Some(its)) => Some(if fault.polygon < its.polygon {
+            fault
+        } else {
+            its
+        }),
+        (Some(fault), None) => Some(fault),
+        (None, its) => its,
+    }
+}

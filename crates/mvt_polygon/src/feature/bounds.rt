@@ -1,0 +1,95 @@
+//! The least and the greatest coordinates of rings.
+ghost use Rattle.std.specs.Prelude.{◌<◌, ◌≤◌, ◌↔◌, IsTrue, length};
+ghost use Rattle.mvt_plane.specs.Position.{Position};
+ghost use Rattle.mvt_polygon.specs.Bounds.{AreBoundsOf, AreBoundsOfPolygon, AreBoundsApart, IsWithin};
+ghost use Rattle.mvt_polygon.specs.Rings.{rings_of, AreProperRings};
+
+use mvt_plane::Point;
+
+/// The least and the greatest coordinates of a ring, or of several.
+#[derive(Clone, Copy)]
+pub(super) struct Bounds {
+    pub(super) left: i32,
+    pub(super) low: i32,
+    pub(super) right: i32,
+    pub(super) high: i32,
+}
+
+impl Bounds {
+    /// Those of a position.
+    fn at(position: Point) -> Bounds {
+        Bounds {
+            left: position.x(),
+            low: position.y(),
+            right: position.x(),
+            high: position.y(),
+        }
+    }
+
+    /// Those of a ring, which has a vertex.
+    pub(super) fn of(ring: &[Point]) -> Bounds
+        requires { 0 < length ring.now }
+        ensures { AreBoundsOf ring.now result }
+    {
+        Bounds::at(ring[0]).with_all(ring)
+    }
+
+    /// Those of all rings of a polygon.
+    pub(super) fn of_polygon(rings: &[Vec<Point>], exterior: usize, after: usize) -> Bounds
+        requires drawn { AreProperRings (rings_of rings.now) }
+        requires further { exterior < after }
+        requires within { after ≤ length rings.now }
+        ensures { AreBoundsOfPolygon (rings_of rings.now) (record { exterior = exterior; after = after }) result }
+    {
+        let mut bounds = Bounds::of(&rings[exterior]);
+        for hole in exterior + 1..after {
+            bounds = bounds.with_all(&rings[hole]);
+        }
+        bounds
+    }
+
+    /// Those that also have all vertices of a ring within them.
+    fn with_all(self, ring: &[Point]) -> Bounds
+        ensures own { (vertex : Position) → IsWithin self vertex → IsWithin result vertex }
+        ensures more { AreBoundsOf ring.now result }
+    {
+        let mut bounds = self;
+        for vertex in ring {
+            bounds = bounds.with(*vertex);
+        }
+        bounds
+    }
+
+    /// Those that also have this position within them.
+    fn with(self, position: Point) -> Bounds
+        ensures own { (vertex : Position) → IsWithin self vertex → IsWithin result vertex }
+        ensures more { IsWithin result position }
+    {
+        Bounds {
+            left: self.left.min(position.x()),
+            low: self.low.min(position.y()),
+            right: self.right.max(position.x()),
+            high: self.high.max(position.y()),
+        }
+    }
+
+    /// Whether no position is within both.
+    pub(super) fn are_apart(&self, other: &Bounds) -> bool
+        ensures { IsTrue result → AreBoundsApart self.now other.now }
+    {
+        self.right < other.left
+            || other.right < self.left
+            || self.high < other.low
+            || other.high < self.low
+    }
+
+    /// Whether the position is within them.
+    pub(super) fn contain(&self, position: Point) -> bool
+        ensures { IsTrue result ↔ IsWithin self.now position }
+    {
+        self.left <= position.x()
+            && position.x() <= self.right
+            && self.low <= position.y()
+            && position.y() <= self.high
+    }
+}

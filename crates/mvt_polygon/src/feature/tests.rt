@@ -1,0 +1,158 @@
+use super::{FeatureCause, FeatureFault, check_feature};
+use crate::apart::check_apart;
+use crate::meeting::find_meeting;
+use crate::meeting::tests::are_drawn;
+use crate::nesting::check_nesting;
+use crate::polygons::groups;
+use crate::rings::check_rings;
+use crate::rings::tests::ring_at;
+use mvt_plane::{Count, Point};
+use std::alloc::Global;
+use std::process::Abort;
+
+/// The first fault of a feature, looked for plainly: of one polygon after another a meeting among all rings up to its own,
+/// then its holes, then all vertices of its exterior in all other polygons.
+fn plain_fault(rt: &impl Abort, alloc: Global, rings: &[Vec<Point>]) -> Option<FeatureFault> {
+    assert!(rt; check_rings(rings).is_none());
+    let polygons = groups(alloc, rings).expect(rt, "memory");
+    for polygon in 0..polygons.len() {
+        let (exterior, after) = polygons[polygon];
+        assert!(rt; exterior <= after && after <= rings.len());
+        assert!(rt; are_drawn(&rings[..after]));
+        let found = find_meeting(alloc, &rings[..after], &mut Count::new()).expect(rt, "memory");
+        let cause = match (found, check_nesting(&rings[exterior..after])) {
+            (Some(meeting), _) => Some(FeatureCause::Meeting(meeting)),
+            (None, Some(fault)) => Some(FeatureCause::Nesting(fault)),
+            (None, None) => check_apart(rings, &polygons, polygon).map(FeatureCause::Apart),
+        };
+        if let Some(cause) = cause {
+            return Some(FeatureFault {
+                polygon,
+                exterior,
+                after,
+                cause,
+            });
+        }
+    }
+    None
+}
+
+/// Whether two causes are the same, but for which of several meetings of one polygon is told.
+fn are_causes_alike(one: &FeatureCause, other: &FeatureCause) -> bool {
+    match (one, other) {
+        (FeatureCause::Meeting(_), FeatureCause::Meeting(_)) => true,
+        (cause, its) => *cause == *its,
+    }
+}
+
+/// Whether two answers are the same, but for that.
+fn are_alike(one: &Option<FeatureFault>, other: &Option<FeatureFault>) -> bool {
+    match (one, other) {
+        (Some(fault), Some(its)) => {
+            fault.polygon == its.polygon
+                && fault.exterior == its.exterior
+                && fault.after == its.after
+                && are_causes_alike(&fault.cause, &its.cause)
+        }
+        (None, None) => true,
+        _ => false,
+    }
+}
+
+/// What is found in a feature, where that is what is found plainly.
+fn found_in(rt: &impl Abort, alloc: Global, rings: &[Vec<Point>]) -> Option<FeatureFault> {
+    assert!(rt; check_rings(rings).is_none() && are_drawn(rings));
+    let plain = plain_fault(rt, alloc, rings);
+    let found = check_feature(alloc, rings, &mut Count::new()).expect(rt, "memory");
+    assert!(rt; are_alike(&found, &plain));
+    found
+}
+
+/// A source of numbers that are the same in each run.
+#[derive(Drop)]
+struct Dice {
+    state: i32,
+}
+
+impl Dice {
+    /// A number from 0 to 7.
+    fn throw(&mut self) -> i32 {
+        self.state = self.state.wrapping_mul(1_103_515_245).wrapping_add(12_345);
+        (self.state >> 16) & 7
+    }
+}
+
+/// A box, the one of this number in its feature, as an exterior or a hole. No two boxes of one feature have a coordinate of
+/// their sides in common.
+fn thrown_box(
+    rt: &impl Abort,
+    alloc: Global,
+    dice: &mut Dice,
+    number: i32,
+    reach: i32,
+) -> Vec<Point> {
+    let left = dice.throw().wrapping_mul(reach).wrapping_add(number);
+    let low = dice.throw().wrapping_mul(reach).wrapping_add(number);
+    let width = dice.throw().wrapping_add(1).wrapping_mul(16);
+    let height = dice.throw().wrapping_add(1).wrapping_mul(16);
+    let right = left
+        .wrapping_add(width)
+        .wrapping_sub(number.wrapping_mul(2));
+    let high = low
+        .wrapping_add(height)
+        .wrapping_sub(number.wrapping_mul(2));
+    if number == 0 || dice.throw() < 5 {
+        ring_at(
+            rt,
+            alloc,
+            &[(left, low), (right, low), (right, high), (left, high)],
+        )
+    } else {
+        ring_at(
+            rt,
+            alloc,
+            &[(left, low), (left, high), (right, high), (right, low)],
+        )
+    }
+}
+
+/// Two to seven such boxes, close to each other or far.
+fn thrown_feature(rt: &impl Abort, alloc: Global, dice: &mut Dice) -> Vec<Vec<Point>> {
+    let mut rings = Vec::new(alloc);
+    let many = (dice.throw() % 6).wrapping_add(2);
+    let reach = if dice.throw() < 4 { 16 } else { 48 };
+    for number in 0..many {
+        let ring = thrown_box(rt, alloc, dice, number, reach);
+        rings.push(ring).expect(rt, "memory");
+    }
+    rings
+}
+
+/// Of generated features, how many have no fault, a meeting, a hole that isn't where it should be, and a vertex in another
+/// polygon.
+fn kinds_found(rt: &impl Abort, alloc: Global) -> [u32; 4] {
+    let mut dice = Dice { state: 1 };
+    let mut kinds = [0_u32; 4];
+    for _feature in 0..600 {
+        let rings = thrown_feature(rt, alloc, &mut dice);
+        let kind = match found_in(rt, alloc, &rings) {
+            None => 0,
+            Some(fault) => match fault.cause {
+                FeatureCause::Meeting(_) => 1,
+                FeatureCause::Nesting(_) => 2,
+                FeatureCause::Apart(_) => 3,
+            },
+        };
+        kinds[kind] = kinds[kind].wrapping_add(1);
+    }
+    kinds
+}
+
+// Each kind is there, and each answer is the plain one.
+#[test]
+fn generated_features(rt: HostRuntime) {
+    let kinds = kinds_found(&rt, rt.alloc());
+    for at in 0..kinds.len() {
+        assert!(rt; kinds[at] > 20);
+    }
+}

@@ -1,0 +1,66 @@
+//! The first fault of a feature whose polygons may all meet or lie in each other.
+ghost use Rattle.std.specs.Prelude.{◌≡◌, ℕ, ◌+◌, ◌<◌, ◌≤◌, IfNone, IfOk, IfSome, length, option_map};
+ghost use Rattle.mvt_plane.specs.Ring.{ArePolygonRings};
+ghost use Rattle.mvt_polygon.specs.Corners.{vertex_count};
+ghost use Rattle.mvt_polygon.specs.Feature.{AddsSweeps, AreAtMost, IsFeatureAnswer};
+ghost use Rattle.mvt_polygon.specs.FeatureParts.{fault_behind, until_of};
+ghost use Rattle.mvt_polygon.specs.Meeting.{NoMeeting};
+ghost use Rattle.mvt_polygon.specs.Rings.{rings_of, AreProperRings};
+ghost use Rattle.mvt_status.specs.Counts.{bits, raised};
+
+use super::{FeatureCause, FeatureFault};
+use crate::feature::front::{Front, clear_front};
+use crate::feature::later::first_inside_later;
+use crate::feature::placed::first_misplaced;
+use crate::polygons::groups;
+use mvt_plane::{Count, Point};
+use std::alloc::{AllocError, Global};
+
+/// The first polygon of a feature with a fault, where polygons may not cross, touch or lie in each other.
+pub(super) fn check_together(
+    alloc: Global,
+    rings: &[Vec<Point>],
+    count: &mut Count,
+) -> Result<Option<FeatureFault>, AllocError>
+    requires sound { ArePolygonRings (rings_of rings.now) }
+    requires drawn { AreProperRings (rings_of rings.now) }
+    ensures answer { IfOk result (IsFeatureAnswer (rings_of rings.now)) }
+    ensures counted { (polygons : ℕ) → AreAtMost (rings_of rings.now) polygons → AddsSweeps (bits polygons + 2) (vertex_count (rings_of rings.now)) count.old count.new }
+    ensures apart { NoMeeting (rings_of rings.now) → AddsSweeps 2 (vertex_count (rings_of rings.now)) count.old count.new }
+    ensures valid { IfOk result (λ found. IfNone found (AddsSweeps 1 (vertex_count (rings_of rings.now)) count.old count.new)) }
+    ensures least { IfOk result (λ found. IfNone found (raised (vertex_count (rings_of rings.now)) count.old.probes ≤ count.new.probes)) }
+{
+    let polygons = groups(alloc, rings)?;
+    let front = clear_front(alloc, rings, &polygons, count)?;
+    let front_rings = &rings[..front.rings];
+    let front_polygons = &polygons[..front.polygons];
+    let misplaced = first_misplaced(alloc, front_rings, front_polygons, &front.notes, count)?;
+    let until = placed_up_to(&misplaced, front.polygons);
+    let inside = first_inside_later(alloc, rings, &polygons, front.polygons, until)?;
+    Ok(inside.or(misplaced).or(fault_of_meeting(&polygons, &front)))
+}
+
+/// Up to which polygon none is misplaced, of so many.
+fn placed_up_to(misplaced: &Option<FeatureFault>, polygons: usize) -> usize
+    ensures { result ≡ until_of polygons misplaced.now }
+{
+    match misplaced {
+        Some(found) => found.polygon,
+        None => polygons,
+    }
+}
+
+/// The fault of the polygon behind the front, where its edges meet.
+fn fault_of_meeting(polygons: &[(usize, usize)], front: &Front) -> Option<FeatureFault>
+    requires { IfSome front.now.meeting (λ _. front.now.polygons < length polygons.now) }
+    ensures { result ≡ option_map (fault_behind polygons.now front.now.polygons) front.now.meeting }
+{
+    let meeting = front.meeting?;
+    let (exterior, after) = polygons[front.polygons];
+    Some(FeatureFault {
+        polygon: front.polygons,
+        exterior,
+        after,
+        cause: FeatureCause::Meeting(meeting),
+    })
+}

@@ -1,0 +1,69 @@
+//! The list of the corners of rings.
+ghost use Rattle.std.specs.Prelude.{◌≡◌, ◌<◌, ◌^◌, IfOk, IfSome, OnOk, suc, length, take};
+ghost use Rattle.mvt_polygon.specs.Corners.{IsListOf, far_end_of, vertex_count};
+ghost use Rattle.mvt_polygon.specs.Rings.{rings_of};
+
+use crate::sweep::corner::Corner;
+use mvt_plane::{GREATEST_COORDINATE, Point};
+use std::alloc::{AllocError, Global};
+
+/// All corners of rings, ring by ring. The only error is that memory was refused, or that a `usize` is too small for
+/// their number.
+pub(crate) fn list_of(alloc: Global, rings: &[Vec<Point>]) -> Result<Vec<Corner>, AllocError>
+    ensures { IfOk result (λ list. IsListOf (rings_of rings.now) list.items) }
+{
+    let count = count_of(rings).ok_or(AllocError)?;
+    let mut list = Vec::with_capacity(alloc, count)?;
+    for ring in 0..rings.len() {
+        add_corners(&mut list, rings, ring)?;
+    }
+    Ok(list)
+}
+
+/// How many vertices rings have, or None where a `usize` is too small for their number.
+fn count_of(rings: &[Vec<Point>]) -> Option<usize>
+    ensures { IfSome result (λ count. count ≡ vertex_count (rings_of rings.now)) }
+{
+    let mut count: usize = 0;
+    for ring in 0..rings.len() {
+        count = count.checked_add(rings[ring].len())?;
+    }
+    Some(count)
+}
+
+/// Adds the corners of the ring of this number behind those of the rings before it.
+fn add_corners(list: &mut Vec<Corner>, rings: &[Vec<Point>], ring: usize) -> Result<(), AllocError>
+    requires ring { ring < length rings.now }
+    requires before { IsListOf (take ring (rings_of rings.now)) list.old.items }
+    requires count { vertex_count (rings_of rings.now) < 2 ^ 64 }
+    ensures { OnOk result (IsListOf (take (suc ring) (rings_of rings.now)) list.new.items) }
+{
+    let vertices = &rings[ring];
+    let before = list.len();
+    for edge in 0..vertices.len() {
+        let position = vertices[edge];
+        // (all positions are in range)
+        prove!(position.x() <= GREATEST_COORDINATE);
+        list.push(Corner {
+            position,
+            far_end: before + far_end_of(vertices.len(), edge),
+        })?;
+    }
+    Ok(())
+}
+
+/// In a ring of so many corners: the number of the last corner for the first one, that of the first for the last one,
+/// and its own for every other corner.
+fn far_end_of(count: usize, number: usize) -> usize
+    requires { number < count }
+    ensures value { result ≡ far_end_of count number }
+    ensures within { result < count }
+{
+    if number == 0 {
+        count - 1
+    } else if number + 1 == count {
+        0
+    } else {
+        number
+    }
+}
