@@ -1,6 +1,6 @@
 -- The lines of a tile behind its verdict; and no input has two answers of `check` with advice, but for two meetings in one
 -- polygon.
-use Rattle.std.proofs.Common.{◌≡◌, ℕ, List, [], ◌++◌, ◌⊎◌, inl, inr, refl, sym, ◌∙◌, ap, subst}
+use Rattle.std.proofs.Common.{◌≡◌, ℕ, List, [], ◌++◌, ◌⊎◌, inl, inr, sym, ◌∙◌, ap, subst}
 use Rattle.std.proofs.lemmas.List.{append-nil}
 use Rattle.mvt_fault.specs.Place.{AreMeetingsInOne}
 use Rattle.mvt_fault.specs.declared.fault.Fault.{Fault}

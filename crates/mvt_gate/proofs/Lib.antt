@@ -6,8 +6,8 @@ pub mod DumpAnswers
 pub mod DumpLists
 pub mod DumpTexts
 pub mod EngineLemmas
+pub mod FeatureFaults
 pub mod FeatureGeometries
-pub mod FeatureWalk
 pub mod FieldsAnswers
 pub mod FieldsLineWalk
 pub mod FirstFaults

@@ -17,15 +17,17 @@ use Rattle.mvt_plane.specs.Part.{part_of, within_part, in_whole}
 use Rattle.mvt_plane.specs.Polygon.{PolygonRings, IsRingOf, IsHoleOf}
 use Rattle.mvt_plane.specs.Position.{Position}
 use Rattle.mvt_plane.specs.RationalPoint.{RationalPoint, IsBounded}
+use Rattle.mvt_polygon.specs.Feature.{front_of}
 use Rattle.mvt_polygon.specs.Meeting.{first_of, second_of, IsMeetingOf}
 use Rattle.mvt_polygon.specs.Nesting.{one_polygon, IsNestFault, outside, in_hole, IsFirstNestFault}
 use Rattle.mvt_polygon.specs.Rings.{AreProperRings}
 use Rattle.mvt_polygon.specs.declared.meeting.Meeting.{Meeting}
 use Rattle.mvt_polygon.specs.declared.nesting.NestFault.{NestFault}
 use Rattle.mvt_polygon.specs.declared.nesting.NestFault.TheVariants.{Outside, InHole}
-use Rattle.mvt_gate.proofs.PolygonFaults.{HasGoodHoles, IsFirstHole}
+use Rattle.mvt_gate.proofs.PolygonFaults.{HasGoodHoles, IsFirstHole, in_hole_is_least, outside_is_least}
 use Rattle.mvt_gate.proofs.PolygonWalk.{begins_in_turn}
-use Rattle.mvt_gate.specs.Polygons.{AreValidBefore}
+use Rattle.mvt_gate.specs.Polygons.{AreValidBefore, AreWithin, IsFirstOfRings, fault_of_hole, rings_at}
+use Rattle.mvt_gate.specs.declared.polygons.PolygonPlace.{PolygonPlace}
 
 -- Rings
 
@@ -120,10 +122,6 @@ meeting_in_whole profile parts polygon its found within of_it meets =
     }
 
 -- The rings up to a polygon's last one
-
--- those of the polygon and of all before it
-abbrev pub front_of : PolygonRings → PolygonRings
-front_of its = record { exterior = 0; after = its.after }
 
 -- where the polygons before this one are valid in their feature, the second edge of a meeting in the front is the polygon's
 second_in_front : (parts : List (List Position)) (polygon : ℕ) (its : PolygonRings) (found : Meeting) → IsPolygonOf parts polygon its → AreValidBefore Feature parts polygon → IsMeetingOfWhole parts (front_of its) found
@@ -279,3 +277,21 @@ in_hole_is_first parts its ring vertex another within least = record {
       subst (λ (n : ℕ). ComesFirst ((its.exterior + ring) ∷ vertex ∷ 506 ∷ (its.exterior + another) ∷ []) (n ∷ place ∷ 506 ∷ other ∷ [])) (sym own.2)
       (shifted its.exterior ring vertex 506 another own.0 place 506 own.1 (its.exterior + another) other (λ codes most. omega arith) behind);
 }
+
+-- the rings of a polygon's first fault of a hole
+pub hole_within : (parts : List (List Position)) (place : PolygonPlace) (fault : NestFault) → place.after ≤ length parts → IsFirstNestFault (part_of parts (rings_at place)) fault → AreWithin place fault
+hole_within parts place (Outside ring vertex) within least = (outside_in_whole parts (rings_at place) ring vertex within least.holds).hole.before
+hole_within parts place (InHole ring vertex other) within least =
+    let wrong = in_hole_in_whole parts (rings_at place) ring vertex other within least.holds in
+    (wrong.hole.before, wrong.other_hole.before)
+
+-- where no edges meet wrongly, it is the first fault of the feature
+pub first_hole_is_least : (profile : Profile) (parts : List (List Position)) (place : PolygonPlace) (fault : NestFault) → place.after ≤ length parts → IsPolygonOf parts place.polygon (rings_at place)
+    → AreValidBefore profile parts place.polygon → AreApartBy profile parts (rings_at place) → IsFirstNestFault (part_of parts (rings_at place)) fault
+    → IsFirstOfRings profile parts place.layer place.feature (fault_of_hole place fault)
+first_hole_is_least profile parts place (Outside ring vertex) within of_it valid apart least =
+    outside_is_least profile parts place.layer place.feature place.polygon (place.exterior + ring) vertex (rings_at place) of_it valid apart
+    (outside_in_whole parts (rings_at place) ring vertex within least.holds) (outside_is_first parts (rings_at place) ring vertex within least)
+first_hole_is_least profile parts place (InHole ring vertex other) within of_it valid apart least =
+    in_hole_is_least profile parts place.layer place.feature place.polygon (place.exterior + ring) vertex (place.exterior + other) (rings_at place) of_it valid apart
+    (in_hole_in_whole parts (rings_at place) ring vertex other within least.holds) (in_hole_is_first parts (rings_at place) ring vertex other within least)

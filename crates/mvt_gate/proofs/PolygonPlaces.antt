@@ -1,28 +1,24 @@
 -- What is found in the rings of one polygon, as a fault of its feature.
-use Rattle.std.proofs.Common.{◌≡◌, IfNone, IfOk, IfSome, Option, Result, ℕ, suc, ◌+◌, ◌-◌, ◌<◌, ◌≤◌, ◌⊎◌, inl, inr, List, length, take, drop, sym, subst, Vec, arith}
+use Rattle.std.proofs.Common.{◌≡◌, ℕ, suc, ◌+◌, ◌-◌, ◌<◌, ◌≤◌, ◌⊎◌, inl, inr, List, length, take, drop, sym, subst, Vec, arith}
 use Rattle.std.proofs.lemmas.List.{take-map, drop-map, length-map}
-use Rattle.std.proofs.lemmas.Option.{IfSome_then}
-use Rattle.std.proofs.lemmas.Result.{IfOk-weaker}
 use Rattle.std.specs.declared.alloc.Global.{Global}
 use Rattle.mvt_confirm.specs.PolygonFault.{IsPolygonOf}
 use Rattle.mvt_confirm.specs.Valid.{AreApartBy, IsValidPolygon, AreValidRings}
 use Rattle.mvt_fault.specs.declared.profile.Profile.{Profile}
-use Rattle.mvt_fault.specs.declared.profile.Profile.TheVariants.{Polygon, Feature}
+use Rattle.mvt_fault.specs.declared.profile.Profile.TheVariants.{Polygon}
 use Rattle.mvt_plane.specs.Meeting.{EdgeNumber, MeetsWrongly}
 use Rattle.mvt_plane.specs.Part.{part_of}
 use Rattle.mvt_plane.specs.Polygon.{IsExterior, NoExterior}
 use Rattle.mvt_plane.specs.Position.{Position}
 use Rattle.mvt_plane.specs.RationalPoint.{RationalPoint}
 use Rattle.mvt_plane.specs.Ring.{ArePolygonRings}
-use Rattle.mvt_polygon.specs.Meeting.{IsMeetingOf, NoMeeting}
+use Rattle.mvt_polygon.specs.Meeting.{IsMeetingOf}
 use Rattle.mvt_polygon.specs.Nesting.{IsNestFault, IsFirstNestFault}
 use Rattle.mvt_polygon.specs.Rings.{rings_of, AreProperRings}
 use Rattle.mvt_polygon.specs.declared.meeting.Meeting.{Meeting}
 use Rattle.mvt_polygon.specs.declared.nesting.NestFault.{NestFault}
-use Rattle.mvt_polygon.specs.declared.nesting.NestFault.TheVariants.{Outside, InHole}
-use Rattle.mvt_wire.proofs.NothingFound.{IfNone_then}
-use Rattle.mvt_gate.proofs.PolygonFaults.{HasGoodHoles, meeting_is_least, outside_is_least, in_hole_is_least}
-use Rattle.mvt_gate.proofs.PolygonParts.{part_is_drawn, meeting_within, apart_in_whole, enclosed_in_whole, edge_in_whole, meeting_in_whole, meeting_of_front, apart_of_front, outside_in_whole, in_hole_in_whole, outside_is_first, in_hole_is_first}
+use Rattle.mvt_gate.proofs.PolygonFaults.{HasGoodHoles, meeting_is_least}
+use Rattle.mvt_gate.proofs.PolygonParts.{part_is_drawn, meeting_within, apart_in_whole, enclosed_in_whole, edge_in_whole, meeting_in_whole, hole_within, first_hole_is_least}
 use Rattle.mvt_gate.proofs.PolygonWalk.{HasPassed, polygon_here, one_passed, all_passed}
 use Rattle.mvt_gate.specs.Polygons.{IsFirstOfRings, AreValidBefore, AreWithin, IsRingWithin, fault_of_hole, fault_of_meeting, rings_at}
 use Rattle.mvt_gate.specs.declared.polygons.PolygonPlace.{PolygonPlace}
@@ -77,36 +73,6 @@ valid_by_slice rings place within apart enclosed =
     let good = good_by_slice rings place within enclosed in
     record { apart = apart; enclosed = good.enclosed; side_by_side = good.side_by_side; beside = λ vertex other other_rings there inside. inside }
 
--- The rings up to the polygon's last one
-
--- as a place of their own
-abbrev pub front_place : PolygonPlace → PolygonPlace
-front_place place = record { layer = place.layer; feature = place.feature; polygon = place.polygon; exterior = 0; after = place.after }
-
--- a meeting of them is the first fault of the feature
-pub least_of_front : (rings : List (Vec Position Global)) (place : PolygonPlace) (found : Meeting) → place.after ≤ length rings → IsPolygonOf (rings_of rings) place.polygon (rings_at place)
-    → AreValidBefore Feature (rings_of rings) place.polygon → IsMeetingOf (part_of (rings_of rings) (rings_at (front_place place))) found → IsFirstOfRings Feature (rings_of rings) place.layer place.feature (fault_of_meeting (front_place place) found)
-least_of_front rings place found within of_it valid meets =
-    meeting_is_least Feature (rings_of rings) place.layer place.feature place.polygon (edge_in_whole 0 found.first_ring found.first_edge) (edge_in_whole 0 found.second_ring found.second_edge)
-    found.point.x found.point.y found.point.w valid
-    (meeting_of_front (rings_of rings) place.polygon (rings_at place) found (within_rings rings place within) of_it valid meets)
-
--- What is found among the rings of a place
-
--- a meeting of the slice is one of the part
-pub some_of_slice : {E : Type 0} (rings : List (Vec Position Global)) (place : PolygonPlace) (found : Result (Option Meeting) E) → IfOk found (λ meeting. IfSome meeting (IsMeetingOf (Own rings place)))
-    → IfOk found (λ meeting. IfSome meeting (IsMeetingOf (part_of (rings_of rings) (rings_at place))))
-some_of_slice rings place found some =
-    IfOk-weaker found (λ meeting. IfSome meeting (IsMeetingOf (Own rings place))) (λ meeting. IfSome meeting (IsMeetingOf (part_of (rings_of rings) (rings_at place))))
-    (λ meeting told. IfSome_then meeting told (λ it meets. subst (λ (parts : List (List Position)). IsMeetingOf parts it) (own_part rings place) meets)) some
-
--- where the slice has none, the rings are apart
-pub none_of_slice : {E : Type 0} (rings : List (Vec Position Global)) (place : PolygonPlace) (found : Result (Option Meeting) E) → IfOk found (λ meeting. IfNone meeting (NoMeeting (Own rings place)))
-    → IfOk found (λ meeting. IfNone meeting (AreApartBy Polygon (rings_of rings) (rings_at place)))
-none_of_slice rings place found none =
-    IfOk-weaker found (λ meeting. IfNone meeting (NoMeeting (Own rings place))) (λ meeting. IfNone meeting (AreApartBy Polygon (rings_of rings) (rings_at place)))
-    (λ meeting told. IfNone_then meeting told (apart_by_slice rings place)) none
-
 -- Holes
 
 -- the first hole of the slice that is wrong is so in the part
@@ -115,26 +81,14 @@ first_in_part rings place fault least = subst (λ (parts : List (List Position))
 
 -- a hole's fault is of rings of the polygon
 pub hole_is_within : (rings : List (Vec Position Global)) (place : PolygonPlace) (fault : NestFault) → place.after ≤ length rings → IsFirstNestFault (Own rings place) fault → AreWithin place fault
-hole_is_within rings place (Outside ring vertex) within least =
-    (outside_in_whole (rings_of rings) (rings_at place) ring vertex (within_rings rings place within) (first_in_part rings place (Outside ring vertex) least).holds).hole.before
-hole_is_within rings place (InHole ring vertex other) within least =
-    let wrong = in_hole_in_whole (rings_of rings) (rings_at place) ring vertex other (within_rings rings place within) (first_in_part rings place (InHole ring vertex other) least).holds in
-    (wrong.hole.before, wrong.other_hole.before)
+hole_is_within rings place fault within least = hole_within (rings_of rings) place fault (within_rings rings place within) (first_in_part rings place fault least)
 
 -- where no edges meet wrongly, it is the first fault of its feature
 pub least_of_hole : (profile : Profile) (rings : List (Vec Position Global)) (place : PolygonPlace) (fault : NestFault) → place.after ≤ length rings → IsPolygonOf (rings_of rings) place.polygon (rings_at place)
     → AreValidBefore profile (rings_of rings) place.polygon → AreApartBy profile (rings_of rings) (rings_at place) → IsFirstNestFault (Own rings place) fault
     → IsFirstOfRings profile (rings_of rings) place.layer place.feature (fault_of_hole place fault)
-least_of_hole profile rings place (Outside ring vertex) within of_it valid apart least =
-    let fits = within_rings rings place within in
-    let its = first_in_part rings place (Outside ring vertex) least in
-    outside_is_least profile (rings_of rings) place.layer place.feature place.polygon (place.exterior + ring) vertex (rings_at place) of_it valid apart
-    (outside_in_whole (rings_of rings) (rings_at place) ring vertex fits its.holds) (outside_is_first (rings_of rings) (rings_at place) ring vertex fits its)
-least_of_hole profile rings place (InHole ring vertex other) within of_it valid apart least =
-    let fits = within_rings rings place within in
-    let its = first_in_part rings place (InHole ring vertex other) least in
-    in_hole_is_least profile (rings_of rings) place.layer place.feature place.polygon (place.exterior + ring) vertex (place.exterior + other) (rings_at place) of_it valid apart
-    (in_hole_in_whole (rings_of rings) (rings_at place) ring vertex other fits its.holds) (in_hole_is_first (rings_of rings) (rings_at place) ring vertex other fits its)
+least_of_hole profile rings place fault within of_it valid apart least =
+    first_hole_is_least profile (rings_of rings) place fault (within_rings rings place within) of_it valid apart (first_in_part rings place fault least)
 
 -- a valid polygon is passed
 pub polygon_passed : (rings : List (Vec Position Global)) (polygon exterior after : ℕ) → ArePolygonRings (rings_of rings) → HasPassed (rings_of rings) polygon exterior → exterior < length rings → exterior < after → after ≤ length rings

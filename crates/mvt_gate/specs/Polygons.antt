@@ -11,6 +11,8 @@ use Rattle.mvt_plane.specs.Geometry.{HasRings}
 use Rattle.mvt_plane.specs.Polygon.{PolygonRings, IsPolygon}
 use Rattle.mvt_plane.specs.Position.{Position}
 use Rattle.mvt_polygon.specs.declared.apart.ApartFault.{ApartFault}
+use Rattle.mvt_polygon.specs.declared.feature.FeatureCause.{FeatureCause}
+use Rattle.mvt_polygon.specs.declared.feature.FeatureCause.TheVariants as causes
 use Rattle.mvt_polygon.specs.declared.meeting.Meeting.{Meeting}
 use Rattle.mvt_polygon.specs.declared.nesting.NestFault.{NestFault}
 use Rattle.mvt_polygon.specs.declared.nesting.NestFault.TheVariants as nest_faults
@@ -58,3 +60,21 @@ AreWithin place (nest_faults.InHole ring vertex other) = IsRingWithin place ring
 -- the fault of a vertex of the polygon's exterior that is inside another polygon
 abbrev pub fault_of_apart : PolygonPlace → ApartFault → Fault
 fault_of_apart place found = faults.InPolygon place.layer place.feature place.polygon found.vertex found.other
+
+-- One polygon of a feature whose polygons are kept apart
+
+-- the rings up to its last one, as a place of their own
+abbrev pub front_place : PolygonPlace → PolygonPlace
+front_place place = record { layer = place.layer; feature = place.feature; polygon = place.polygon; exterior = 0; after = place.after }
+
+-- the fault of what is wrong with the polygon. A meeting has the numbers that its rings have in the feature.
+abbrev pub fault_of_cause : PolygonPlace → FeatureCause → Fault
+fault_of_cause place (causes.Meeting meeting) = fault_of_meeting (front_place place) meeting
+fault_of_cause place (causes.Nesting fault) = fault_of_hole place fault
+fault_of_cause place (causes.Apart found) = fault_of_apart place found
+
+-- the rings that such a fault names are those up to the polygon's last one
+abbrev pub IsTellable : PolygonPlace → FeatureCause → Type 0
+IsTellable place (causes.Meeting meeting) = IsRingWithin (front_place place) meeting.first_ring × IsRingWithin (front_place place) meeting.second_ring
+IsTellable place (causes.Nesting fault) = AreWithin place fault
+IsTellable place (causes.Apart found) = Unit {0}

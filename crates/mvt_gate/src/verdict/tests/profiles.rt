@@ -35,6 +35,26 @@ const FEATURES: &str = r#"
 # an island in a hole, and a polygon with a hole beside another polygon
 1a 34 78 02 0a 01 61 12 2d 18 03 22 29 09 00 00 1a c8 01 00 00 c8 01 c7 01 00 0f 09 14 b3 01 1a 00 a0 01 a0 01 00 00 9f 01 0f 09 8b 01 14 1a 14 00 00 14 13 00 0f => {"ok":true} => {"ok":true}
 1a 2c 78 02 0a 01 61 12 25 18 03 22 21 09 00 00 1a 14 00 00 14 13 00 0f 09 16 02 1a 12 00 00 12 11 00 0f 09 04 0d 1a 00 08 08 00 00 07 0f => {"ok":true} => {"ok":true}
+# ground with a hole, an island in it with a hole, and a stone in that
+1a 48 78 02 0a 01 61 12 41 18 03 22 3d 09 00 00 1a c8 01 00 00 c8 01 c7 01 00 0f 09 14 13 1a a0 01 00 00 9f 01 9f 01 00 0f 09 14 14 1a 78 00 00 78 77 00 0f 09 14 13 1a 50 00 00 4f 4f 00 0f 09 14 14 1a 28 00 00 28 27 00 0f => {"ok":true} => {"ok":true}
+# a square with a hole outside it, which is around the square before it
+1a 2c 78 02 0a 01 61 12 25 18 03 22 21 09 3c 3c 1a 14 00 00 14 13 00 0f 09 3b 4f 1a 14 00 00 14 13 00 0f 09 28 64 1a 50 00 00 4f 4f 00 0f => {"code":505,"feature":0,"layer":0,"polygon":1,"ring":2,"vertex":0} => {"code":505,"feature":0,"layer":0,"polygon":1,"ring":2,"vertex":0}
+# ground with a hole, and in that a square with a hole beside it
+1a 3d 78 02 0a 01 61 12 36 18 03 22 32 09 00 00 1a c8 01 00 00 c8 01 c7 01 00 0f 09 14 13 1a a0 01 00 00 9f 01 9f 01 00 0f 09 04 04 1a 0c 00 00 0c 0b 00 0f 09 10 7c 1a 78 00 00 77 77 00 0f => {"code":505,"feature":0,"layer":0,"polygon":1,"ring":3,"vertex":0} => {"code":505,"feature":0,"layer":0,"polygon":1,"ring":3,"vertex":0}
+# a square in its own hole, on a square around both
+1a 2f 78 02 0a 01 61 12 28 18 03 22 24 09 28 28 1a 14 00 00 14 13 00 0f 09 27 3c 1a 78 00 00 77 77 00 0f 09 13 13 1a a0 01 00 00 a0 01 9f 01 00 0f => {"code":505,"feature":0,"layer":0,"polygon":0,"ring":1,"vertex":0} => {"code":505,"feature":0,"layer":0,"polygon":0,"ring":1,"vertex":0}
+# a square on one that is in its own hole, so that it is inside no polygon
+1a 2c 78 02 0a 01 61 12 25 18 03 22 21 09 2c 2c 1a 0c 00 00 0c 0b 00 0f 09 03 0f 1a 14 00 00 14 13 00 0f 09 27 3c 1a 78 00 00 77 77 00 0f => {"code":505,"feature":0,"layer":0,"polygon":1,"ring":2,"vertex":0} => {"code":505,"feature":0,"layer":0,"polygon":1,"ring":2,"vertex":0}
+# four polygons of which the edges of one cross: of the first
+1a 3a 78 02 0a 01 61 12 33 18 03 22 2f 09 00 10 1a 14 13 00 18 13 13 0f 09 c8 01 00 1a 14 00 00 14 13 00 0f 09 c8 01 13 1a 14 00 00 14 13 00 0f 09 c8 01 13 1a 14 00 00 14 13 00 0f => {"code":504,"feature":0,"first":{"edge":0,"ring":0},"layer":0,"polygon":0,"second":{"edge":2,"ring":0},"w":"200","x":"800","y":"800"} => {"code":504,"feature":0,"first":{"edge":0,"ring":0},"layer":0,"polygon":0,"second":{"edge":2,"ring":0},"w":"200","x":"800","y":"800"}
+# of the third, and the fourth is inside the first
+1a 3a 78 02 0a 01 61 12 33 18 03 22 2f 09 00 00 1a 14 00 00 14 13 00 0f 09 c8 01 13 1a 14 00 00 14 13 00 0f 09 c8 01 03 1a 14 13 00 18 13 13 0f 09 8b 03 04 1a 0c 00 00 0c 0b 00 0f => {"code":504,"feature":0,"first":{"edge":0,"ring":2},"layer":0,"polygon":2,"second":{"edge":2,"ring":2},"w":"200","x":"40800","y":"800"} => {"code":504,"feature":0,"first":{"edge":0,"ring":2},"layer":0,"polygon":2,"second":{"edge":2,"ring":2},"w":"200","x":"40800","y":"800"}
+# of the fourth
+1a 3a 78 02 0a 01 61 12 33 18 03 22 2f 09 00 00 1a 14 00 00 14 13 00 0f 09 c8 01 13 1a 14 00 00 14 13 00 0f 09 c8 01 13 1a 14 00 00 14 13 00 0f 09 c8 01 03 1a 14 13 00 18 13 13 0f => {"code":504,"feature":0,"first":{"edge":0,"ring":3},"layer":0,"polygon":3,"second":{"edge":2,"ring":3},"w":"200","x":"60800","y":"800"} => {"code":504,"feature":0,"first":{"edge":0,"ring":3},"layer":0,"polygon":3,"second":{"edge":2,"ring":3},"w":"200","x":"60800","y":"800"}
+# of the fourth, and the first is inside it
+1a 41 78 02 0a 01 61 12 3a 18 03 22 36 09 8c 01 3c 1a 0a 00 00 0a 09 00 0f 09 84 02 45 1a 14 00 00 14 13 00 0f 09 c8 01 13 1a 14 00 00 14 13 00 0f 09 d7 04 8c 01 1a c8 01 c7 01 00 f0 01 c7 01 c7 01 0f => {"code":507,"feature":0,"layer":0,"other":3,"polygon":0,"vertex":0} => {"code":504,"feature":0,"first":{"edge":0,"ring":3},"layer":0,"polygon":3,"second":{"edge":2,"ring":3},"w":"20000","x":"800000","y":"800000"}
+# two squares corner to corner, the upper one first: no vertex of it is inside the other one
+1a 21 78 02 0a 01 61 12 1a 18 03 22 16 09 14 14 1a 14 00 00 14 13 00 0f 09 13 27 1a 14 00 00 14 13 00 0f => {"code":504,"feature":0,"first":{"edge":0,"ring":0},"layer":0,"polygon":1,"second":{"edge":1,"ring":1},"w":"1","x":"10","y":"10"} or {"code":504,"feature":0,"first":{"edge":0,"ring":0},"layer":0,"polygon":1,"second":{"edge":2,"ring":1},"w":"1","x":"10","y":"10"} or {"code":504,"feature":0,"first":{"edge":3,"ring":0},"layer":0,"polygon":1,"second":{"edge":1,"ring":1},"w":"1","x":"10","y":"10"} or {"code":504,"feature":0,"first":{"edge":3,"ring":0},"layer":0,"polygon":1,"second":{"edge":2,"ring":1},"w":"1","x":"10","y":"10"} => {"ok":true}
 "#;
 
 const YES: &str = r#"{"ok":true}"#;
@@ -135,6 +155,6 @@ fn rows_held(rt: &HostRuntime) -> Result<u32, Fail> {
 
 #[test]
 fn judges_features_by_either_profile(rt: HostRuntime) -> Result<(), Fail> {
-    assert_eq!(rt; rows_held(&rt)?, 13);
+    assert_eq!(rt; rows_held(&rt)?, 23);
     Ok(())
 }

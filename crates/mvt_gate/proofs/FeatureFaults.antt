@@ -1,0 +1,141 @@
+-- What is found wrong with the first polygon of a feature that has a fault, where polygons are kept apart.
+use Rattle.std.proofs.Common.{◌≡◌, ℕ, ◌<◌, ◌≤◌, ◌⊎◌, inl, inr, List, [], ◌∷◌, length, refl, arith}
+use Rattle.std.proofs.lemmas.Bool.{cases_lt}
+use Rattle.mvt_confirm.specs.PolygonFault.{IsPolygonOf, IsVertexInPolygonBy}
+use Rattle.mvt_confirm.specs.Valid.{AreApartBy, AreValidRingsBy, IsValidPolygonBy}
+use Rattle.mvt_fault.specs.declared.profile.Profile.TheVariants.{Feature}
+use Rattle.mvt_fault.specs.Place.{ComesFirst}
+use Rattle.mvt_plane.proofs.PolygonNumbers.{exterior_within}
+use Rattle.mvt_plane.specs.Part.{part_of}
+use Rattle.mvt_plane.specs.Polygon.{PolygonRings, IsPolygon}
+use Rattle.mvt_plane.specs.Position.{Position}
+use Rattle.mvt_plane.specs.Ring.{ArePolygonRings}
+use Rattle.mvt_polygon.specs.Apart.{IsApartFault, IsFirstApartFault}
+use Rattle.mvt_polygon.specs.Feature.{IsCause, IsClear, IsFirstFault, front_of}
+use Rattle.mvt_polygon.specs.Meeting.{IsMeetingOf, NoMeeting}
+use Rattle.mvt_polygon.specs.declared.apart.ApartFault.{ApartFault}
+use Rattle.mvt_polygon.specs.declared.feature.FeatureCause.{FeatureCause}
+use Rattle.mvt_polygon.specs.declared.feature.FeatureCause.TheVariants.{Meeting, Nesting, Apart}
+use Rattle.mvt_polygon.specs.declared.feature.FeatureFault.{FeatureFault}
+use Rattle.mvt_polygon.specs.declared.meeting.Meeting.{Meeting as MeetingOf}
+use Rattle.mvt_gate.proofs.PolygonFaults.{HasGoodHoles, in_polygon_is_least, meeting_is_least}
+use Rattle.mvt_gate.proofs.PolygonParts.{apart_in_whole, apart_of_front, edge_in_whole, enclosed_in_whole, first_hole_is_least, hole_within, meeting_of_front, meeting_within}
+use Rattle.mvt_gate.specs.Polygons.{AreValidBefore, IsFirstOfRings, IsTellable, fault_of_apart, fault_of_cause, fault_of_meeting, front_place, rings_at}
+use Rattle.mvt_gate.specs.declared.polygons.PolygonPlace.{PolygonPlace}
+
+-- Polygons without a fault
+
+-- the rings of a polygon are among all
+rings_within : (parts : List (List Position)) (polygon : ℕ) (its : PolygonRings) → IsPolygon parts polygon its → its.after ≤ length parts
+rings_within parts polygon its there = elim there.ends [
+  | inl last ↦ omega arith
+  | inr is_exterior ↦ let within = exterior_within parts its.after is_exterior in omega arith
+]
+
+-- where no edges of the front meet wrongly, those of the polygon are apart from it
+apart_by_front : (parts : List (List Position)) (its : PolygonRings) → NoMeeting (part_of parts (front_of its)) → AreApartBy Feature parts its
+apart_by_front parts its none = apart_of_front parts its (apart_in_whole parts (front_of its) none)
+
+-- a polygon without a fault is valid
+valid_of_clear : (parts : List (List Position)) (polygon : ℕ) (its : PolygonRings) → IsPolygon parts polygon its → IsClear parts polygon its → IsValidPolygonBy Feature parts its
+valid_of_clear parts polygon its there clear =
+    let good = enclosed_in_whole parts its (rings_within parts polygon its there) clear.placed.nested in
+    record {
+      apart = apart_by_front parts its clear.apart;
+      enclosed = good.enclosed;
+      side_by_side = good.side_by_side;
+      beside = λ vertex other other_rings other_there inside. clear.placed.alone vertex other (record { polygon_rings = its; there = there; other_rings = other_rings; other_there = other_there; inside = inside });
+    }
+
+-- where no polygon has a fault, all of them are valid
+pub valid_of_none : (parts : List (List Position)) → ArePolygonRings parts → ((polygon : ℕ) (its : PolygonRings) → IsPolygon parts polygon its → IsClear parts polygon its) → AreValidRingsBy Feature parts
+valid_of_none parts sound clear = record {
+  sound = sound;
+  polygons = λ polygon its there. valid_of_clear parts polygon its there (clear polygon its there);
+}
+
+-- the polygons before the first one that has a fault are valid
+valid_before : (parts : List (List Position)) (fault : FeatureFault) → IsFirstFault parts fault → AreValidBefore Feature parts fault.polygon
+valid_before parts fault found earlier its less there = valid_of_clear parts earlier its there (found.before earlier its less there)
+
+-- Polygons in others
+
+-- a vertex that is inside another polygon is one of this polygon's exterior, by its rings
+in_other : (parts : List (List Position)) (polygon vertex other : ℕ) → ArePolygonRings parts → IsApartFault parts polygon vertex other → IsVertexInPolygonBy Feature parts polygon vertex other
+in_other parts polygon vertex other sound found = record {
+  polygon_rings = found.polygon_rings;
+  of = record { sound = sound; there = found.there };
+  other_rings = found.other_rings;
+  other_there = found.other_there;
+  inside = found.inside;
+}
+
+-- and the other way round
+of_other : (parts : List (List Position)) (polygon vertex other : ℕ) → IsVertexInPolygonBy Feature parts polygon vertex other → IsApartFault parts polygon vertex other
+of_other parts polygon vertex other found = record {
+  polygon_rings = found.polygon_rings;
+  there = found.of.there;
+  other_rings = found.other_rings;
+  other_there = found.other_there;
+  inside = found.inside;
+}
+
+-- by vertex, and then by the other polygon
+by_vertex : (vertex other place another : ℕ) → (vertex < place) ⊎ ((vertex ≡ place) × (other ≤ another)) → ComesFirst (vertex ∷ 507 ∷ other ∷ 0 ∷ []) (place ∷ 507 ∷ another ∷ 0 ∷ [])
+by_vertex vertex other place another (inl less) = inl less
+by_vertex vertex other place another (inr same) = inr (
+  same.0,
+  inr (
+    refl,
+    elim (cases_lt other another) [
+      | inl less ↦ inl less
+      | inr more ↦ let most = same.1 in inr (omega arith, inr (refl, tt))
+    ],
+  ),
+)
+
+-- The first fault
+
+-- a meeting of the front is the first fault of the feature
+least_of_front : (parts : List (List Position)) (place : PolygonPlace) (found : MeetingOf) → IsPolygonOf parts place.polygon (rings_at place) → AreValidBefore Feature parts place.polygon
+    → IsMeetingOf (part_of parts (front_of (rings_at place))) found → IsFirstOfRings Feature parts place.layer place.feature (fault_of_meeting (front_place place) found)
+least_of_front parts place found of_it valid meets =
+    meeting_is_least Feature parts place.layer place.feature place.polygon (edge_in_whole 0 found.first_ring found.first_edge) (edge_in_whole 0 found.second_ring found.second_edge)
+    found.point.x found.point.y found.point.w valid
+    (meeting_of_front parts place.polygon (rings_at place) found (rings_within parts place.polygon (rings_at place) of_it.there) of_it valid meets)
+
+-- so is the first vertex that is inside another polygon, where the polygon has no other fault
+least_of_apart : (parts : List (List Position)) (place : PolygonPlace) (found : ApartFault) → IsPolygonOf parts place.polygon (rings_at place) → AreValidBefore Feature parts place.polygon → AreApartBy Feature parts (rings_at place)
+    → HasGoodHoles parts (rings_at place) → IsFirstApartFault parts place.polygon found → IsFirstOfRings Feature parts place.layer place.feature (fault_of_apart place found)
+least_of_apart parts place found of_it valid apart good least =
+    in_polygon_is_least Feature parts place.layer place.feature place.polygon found.vertex found.other (rings_at place) of_it valid apart good
+    (in_other parts place.polygon found.vertex found.other of_it.sound least.holds)
+    (λ vertex other wrong. by_vertex found.vertex found.other vertex other (least.first vertex other (of_other parts place.polygon vertex other wrong)))
+
+-- what is wrong with the first polygon that has a fault is the first fault
+least_of_cause : (parts : List (List Position)) (place : PolygonPlace) (cause : FeatureCause) → IsPolygonOf parts place.polygon (rings_at place) → AreValidBefore Feature parts place.polygon
+    → IsCause parts place.polygon (rings_at place) cause → IsFirstOfRings Feature parts place.layer place.feature (fault_of_cause place cause)
+least_of_cause parts place (Meeting found) of_it valid is = least_of_front parts place found of_it valid is
+least_of_cause parts place (Nesting fault) of_it valid is =
+    first_hole_is_least Feature parts place fault (rings_within parts place.polygon (rings_at place) of_it.there) of_it valid (apart_by_front parts (rings_at place) is.0) is.1
+least_of_cause parts place (Apart found) of_it valid is =
+    least_of_apart parts place found of_it valid (apart_by_front parts (rings_at place) is.0)
+    (enclosed_in_whole parts (rings_at place) (rings_within parts place.polygon (rings_at place) of_it.there) is.1) is.2
+
+-- its rings are there
+tellable_of_cause : (parts : List (List Position)) (place : PolygonPlace) (cause : FeatureCause) → IsPolygon parts place.polygon (rings_at place) → IsCause parts place.polygon (rings_at place) cause → IsTellable place cause
+tellable_of_cause parts place (Meeting found) there is = meeting_within parts (front_of (rings_at place)) found (rings_within parts place.polygon (rings_at place) there) is
+tellable_of_cause parts place (Nesting fault) there is = hole_within parts place fault (rings_within parts place.polygon (rings_at place) there) is.1
+tellable_of_cause parts place (Apart found) there is = tt
+
+-- the place of the polygon that has a fault
+abbrev pub place_in : ℕ → ℕ → FeatureFault → PolygonPlace
+place_in layer feature fault = record { layer = layer; feature = feature; polygon = fault.polygon; exterior = fault.exterior; after = fault.after }
+
+-- so of the fault that is found
+pub least_of_found : (parts : List (List Position)) (layer feature : ℕ) (fault : FeatureFault) → ArePolygonRings parts → IsFirstFault parts fault → IsFirstOfRings Feature parts layer feature (fault_of_cause (place_in layer feature fault) fault.cause)
+least_of_found parts layer feature fault sound found =
+    least_of_cause parts (place_in layer feature fault) fault.cause (record { sound = sound; there = found.there }) (valid_before parts fault found) found.is
+
+pub tellable_of_found : (parts : List (List Position)) (layer feature : ℕ) (fault : FeatureFault) → IsFirstFault parts fault → IsTellable (place_in layer feature fault) fault.cause
+tellable_of_found parts layer feature fault found = tellable_of_cause parts (place_in layer feature fault) fault.cause found.there found.is
