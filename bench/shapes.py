@@ -108,6 +108,65 @@ def holes(vertices):
     return [[(-1, -1), (side, -1), (side, side), (-1, side)]] + scattered(vertices // SMALL, True)
 
 
+def scaled(ring, times, x, y):
+    """A small ring so many times as large, around this middle. Greater ones go round lesser ones."""
+    return [(x + times * (to_x - 9), y + times * (to_y - 9)) for to_x, to_y in ring]
+
+
+LAND, WATER = small_ring(0, 0, False), small_ring(0, 0, True)
+
+
+def islands(vertices):
+    """Polygons in rows, each with a hole, and an island in it."""
+    cells = vertices // (3 * SMALL)
+    side = math.isqrt(cells - 1) + 1
+    rings = []
+    for i in range(cells):
+        x, y = 60 * (i % side), 60 * (i // side)
+        rings += [scaled(LAND, 3, x, y), scaled(WATER, 2, x, y), scaled(LAND, 1, x, y)]
+    return rings
+
+
+def islands_in_holes(vertices):
+    """One exterior with holes in rows, and an island in each."""
+    cells = vertices // (2 * SMALL)
+    side = math.isqrt(cells - 1) + 1
+    middles = [(40 * (i % side), 40 * (i // side)) for i in range(cells)]
+    far = 40 * side
+    ground = [(-40, -40), (far, -40), (far, far), (-40, far)]
+    return [ground, *(scaled(WATER, 2, x, y) for x, y in middles), *(scaled(LAND, 1, x, y) for x, y in middles)]
+
+
+def late_pair(vertices):
+    """Small polygons in rows, the last of which crosses the one before it."""
+    *rings, last = small_polygons(vertices)
+    return [*rings, [(x - 9, y + 1) for x, y in last]]
+
+
+def middle_pair(vertices):
+    """The same with the pair in the middle, so that no polygon of the one half may be inside one of the other half."""
+    rings = small_polygons(vertices)
+    side = math.isqrt(len(rings) - 1) + 1
+    middle = side * (side // 2) + side // 2
+    rings[middle] = [(x - 9, y + 1) for x, y in rings[middle]]
+    return rings
+
+
+def slivers(vertices):
+    """Long thin triangles beside each other, whose bounds all overlap. The one in the middle crosses the one before it."""
+    count = vertices // 3
+    far, middle = 4 * count, 4 * (count // 2)
+    rings = [[(x, 0), (x + 1, 0), (x + far, far)] for x in range(0, far, 4)]
+    rings[middle // 4][2] = (middle + far - 6, far)
+    return rings
+
+
+def coasts(vertices):
+    """Four coasts beside each other."""
+    ring = [(x // 4, y // 4) for x, y in coast(vertices // 4)[0]]
+    return [[(x + far_x, y + far_y) for x, y in ring] for far_x in (-REACH // 2, REACH // 2) for far_y in (-REACH // 2, REACH // 2)]
+
+
 def nested_holes(vertices):
     """An exterior, and holes each of which is inside all before it, so that all but the first are in the wrong place."""
     rings = []
@@ -175,6 +234,70 @@ def nested_triangles(size):
     # (the first hole begins near the last corner of the exterior)
     begin = (1, 0, 2)[len(holes) % 3]
     return filled(packed(drawn([corners[begin:] + corners[:begin]])) + b"".join(reversed(holes)))
+
+
+def nested(size, is_turned):
+    """Triangles, each inside all before it, as many as fit: exteriors or, where they are turned, an exterior and a hole in turn.
+    Triangle i, counted from the innermost, has the corners A, B, C at (-i, -i), (2i, -i), (-i, 2i); it begins at the corner near
+    which the one around it ends."""
+    line = [command(MOVE_TO, 1), *parameters([(1, 1)]), command(LINE_TO, 2)]
+    begin_a, begin_b, begin_c = (packed([*line[:1], *parameters([it]), line[3]]) for it in ((1, 1), (-2, 1), (1, -2)))
+    close = packed([command(CLOSE_PATH, 1)])
+    rings, left, i = [], size - REST, 0
+    while True:
+        i += 1
+        there, back = there_and_back(3 * i)
+        if is_turned:
+            # A, B, C; or, as a hole, C, B, A
+            ring = begin_a + there + ZERO + back + there if i % 2 else begin_c + there + back + back + ZERO
+        else:
+            # A, B, C; C, A, B; B, C, A
+            ring = (begin_a + there + ZERO + back + there, begin_b + back + there + ZERO + back, begin_c + ZERO + back + there + ZERO)[i % 3]
+        left -= len(ring) + len(close)
+        if left < 0:
+            break
+        rings.append(ring + close)
+    # (the first one begins at A)
+    while is_turned and len(rings) % 2 == 0 or not is_turned and len(rings) % 3:
+        rings.pop()
+    i = len(rings)
+    rings[-1] = packed(drawn([[(-i, -i), (2 * i, -i), (-i, 2 * i)]]))
+    return filled(b"".join(reversed(rings)))
+
+
+def nested_polygons(size):
+    """Polygons, each inside all before it."""
+    return nested(size, False)
+
+
+def nested_islands(size):
+    """Polygons with a hole, each in the hole of the one before it."""
+    return nested(size, True)
+
+
+def triangles_in_hole(size):
+    """As many of the smallest polygons as fit in rows, in the hole of one around them all."""
+    far = 4 * math.isqrt(size)
+    ground = drawn([[(-9, -9), (far, -9), (far, far), (-9, far)], [(-8, -8), (-8, far - 1), (far - 1, far - 1), (far - 1, -8)]])
+    return filled(packed(ground) + triangle((1 - far, 8), (1, 0), (-1, 1)) + rows_of_triangles(size - 2 * REST))
+
+
+def triangles(size):
+    """As many of the smallest polygons as fit, in rows."""
+    return filled(rows_of_triangles(size - REST))
+
+
+def rows_of_triangles(left):
+    """Triangles in rows to the right and back, which take so many bytes at most. Each begins where the one before it ended, one
+    to the left of it."""
+    forth, back, up = (triangle(it, (1, 0), (-1, 1)) for it in ((2, -1), (-2, -1), (0, 2)))
+    row = math.isqrt(left // len(forth))
+    rows, at = [], 0
+    while len(up) + (row - 1) * len(forth) <= left:
+        rows.append(up + (back if at % 2 else forth) * (row - 1))
+        left -= len(rows[-1])
+        at += 1
+    return b"".join(rows)
 
 
 def equal_polygons(size):
@@ -250,12 +373,12 @@ def zigzag(size):
     return filled(begin + steps * blocks + end)
 
 
-SHAPES = {it.__name__: it for it in (comb, lying_comb, star, coast, small_polygons, holes, nested_holes, late_meeting)}
+SHAPES = {it.__name__: it for it in (comb, lying_comb, star, coast, small_polygons, holes, nested_holes, late_meeting, islands, islands_in_holes, late_pair, middle_pair, slivers, coasts)}
 INPUTS = {f"{name}_{count}": lambda shape=shape, count=count: tile(shape(count)) for name, shape in SHAPES.items() for count in COUNTS}
 # by their names, what fills a size
 SIZED = {
     it.__name__: it
-    for it in (zigzag, triangle_holes, nested_triangles, equal_polygons, equal_holes, column, column_with_side, overlapping_column, spiral)
+    for it in (zigzag, triangle_holes, triangles, triangles_in_hole, nested_polygons, nested_islands, nested_triangles, equal_polygons, equal_holes, column, column_with_side, overlapping_column, spiral)
 }
 INPUTS |= {f"{name}_64_mib": lambda write=write: write(64 << 20) for name, write in SIZED.items()}
 

@@ -1,8 +1,10 @@
-// Says whether the polygons of one uncompressed vector tile are valid, by GEOS: polygons [FILE].
+// Says whether the polygons of one uncompressed vector tile are valid, by GEOS: polygons [--features] [FILE]. With
+// --features those of a feature are looked at together, as a MultiPolygon.
 //
 // Without FILE the tile comes from standard input. It writes {"ok":true} with status 0, or what is wrong with status 1;
 // status 2 says that it could not run. Rings become polygons as `mvtgate check` groups them. What is valid is up to
-// GEOS, by the rules of OGC Simple Features, which let rings touch in a point; nothing else of the tile is looked at.
+// GEOS, by the rules of OGC Simple Features, which let rings, and polygons, touch in a point; nothing else of the tile is
+// looked at.
 #include "rings.hpp"
 
 #include <geos_c.h>
@@ -10,6 +12,8 @@
 #include <cstddef>
 #include <cstdint>
 #include <memory>
+#include <string_view>
+#include <utility>
 #include <vector>
 
 namespace {
@@ -53,10 +57,10 @@ __int128 doubled_area(const Ring& ring) {
     return area;
 }
 
-// The polygons of a feature, one at a time.
+// The polygons of a feature, one at a time or together.
 class Polygons {
 public:
-    explicit Polygons(const Geos& geos) : geos_{geos} {}
+    Polygons(const Geos& geos, bool together) : geos_{geos}, together_{together} {}
 
     void check(Numbers numbers) {
         Cursor cursor;
@@ -73,6 +77,9 @@ public:
             }
         } while (!numbers.at_end());
         end_polygon();
+        if (together_) {
+            end_feature();
+        }
     }
 
 private:
@@ -97,18 +104,37 @@ private:
         }
         holes_.clear();
         const auto count = static_cast<unsigned>(holes.size());
-        const Shape polygon = own(GEOSGeom_createPolygon_r(geos_, exterior_.release(), holes.data(), count));
-        require(GEOSisValid_r(geos_, polygon.get()) == 1, "a polygon isn't valid");
+        Shape polygon = own(GEOSGeom_createPolygon_r(geos_, exterior_.release(), holes.data(), count));
+        if (together_) {
+            polygons_.push_back(std::move(polygon));
+        } else {
+            require(GEOSisValid_r(geos_, polygon.get()) == 1, "a polygon isn't valid");
+        }
+    }
+
+    void end_feature() {
+        std::vector<GEOSGeometry*> parts;
+        for (Shape& polygon : polygons_) {
+            parts.push_back(polygon.release());
+        }
+        polygons_.clear();
+        const auto count = static_cast<unsigned>(parts.size());
+        const Shape feature = own(GEOSGeom_createCollection_r(geos_, GEOS_MULTIPOLYGON, parts.data(), count));
+        require(GEOSisValid_r(geos_, feature.get()) == 1, "a feature isn't valid");
     }
 
     const Geos& geos_;
+    bool together_;
     Shape exterior_{nullptr, Destroy{geos_}};
     std::vector<Shape> holes_;
+    std::vector<Shape> polygons_;
 };
 
 } // namespace
 
 int main(int count, char** words) {
     const Geos geos;
-    return run(count, words, [&](Numbers numbers) { Polygons{geos}.check(numbers); });
+    const bool together = count > 1 && std::string_view{words[1]} == "--features";
+    const int skipped = together ? 1 : 0;
+    return run(count - skipped, words + skipped, [&](Numbers numbers) { Polygons{geos, together}.check(numbers); });
 }
