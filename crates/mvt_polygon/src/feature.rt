@@ -57,8 +57,19 @@ pub struct FeatureFault {
     pub cause: FeatureCause,
 }
 
-/// The first polygon of a feature with a fault, where polygons may not cross, touch or lie in each other. Polygons whose bounds
-/// are apart from those of all others are looked at one by one, the others together.
+/// The first polygon of a feature with a fault, where polygons may not cross, touch or lie in each other but in a hole (Mapbox
+/// Vector Tile Specification 2.1, section 4.3.4.4, more strictly), or None. Its fault is an edge that meets one of its own, or
+/// of a polygon before it, wrongly; or else the first fault of a hole; or else the first vertex of its exterior that is
+/// inside another polygon. No ring has a fault of its own (`check_rings`), and each has three vertices or more, none at the
+/// position of the next one.
+///
+/// Polygons whose bounds are apart from those of all others are looked at one by one, the others by sweeps. `count` counts
+/// the work: of a sweep over n vertices at most 3 * n tests of two edges, n * (2 * bits(n) + 10) comparisons and
+/// n * 20 * bits(n) visits of the status's nodes, where bits(n) is the number of n's binary digits. That is all where there is
+/// no fault. Where no edges meet it is twice as much at most; and where they do, as often as the number of polygons has binary
+/// digits, and twice more. Not counted is that then the polygons before the first one with a meeting are held against those
+/// from it on: where the bounds of most of them overlap, this takes their vertices times the edges of the others. The only
+/// error is that memory was refused.
 pub fn check_feature(
     alloc: Global,
     rings: &[Vec<Point>],

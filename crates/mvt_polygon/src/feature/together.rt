@@ -16,7 +16,7 @@ use crate::polygons::groups;
 use mvt_plane::{Count, Point};
 use std::alloc::{AllocError, Global};
 
-/// The first polygon of a feature with a fault, where polygons may not cross, touch or lie in each other.
+/// What `check_feature` answers, by sweeps over all rings together.
 pub(super) fn check_together(
     alloc: Global,
     rings: &[Vec<Point>],
