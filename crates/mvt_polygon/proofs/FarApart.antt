@@ -1,8 +1,9 @@
--- Polygons whose bounds are apart: no edges of theirs have a point in common, and no vertex of the one is inside a ring of
--- the other.
+-- Polygons and rings whose bounds are apart: no edges of theirs have a point in common, and no vertex of the one polygon is
+-- inside a ring of the other.
 use Rattle.std.proofs.Common.{◌≡◌, inl, inr, ℕ, List, slice_get, Some, ℤ, pos, ◌*ℤ◌, ◌≤ℤ◌, ◌<ℤ◌, arith}
 use Rattle.mvt_plane.proofs.Order.{zs, le_or_lt, mono_le_right, mono_lt_right}
 use Rattle.mvt_plane.proofs.RingEdges.{ends_of_edge}
+use Rattle.mvt_plane.specs.Apart.{HaveNothingInCommon}
 use Rattle.mvt_plane.specs.Inside.{IsInside}
 use Rattle.mvt_plane.specs.Meeting.{EdgeNumber, IsEdgeOf, MeetsWrongly}
 use Rattle.mvt_plane.specs.Nesting.{IsVertexOf}
@@ -11,6 +12,7 @@ use Rattle.mvt_plane.specs.Position.{Position}
 use Rattle.mvt_plane.specs.RationalPoint.{RationalPoint, LiesOn, IsBetween}
 use Rattle.mvt_plane.specs.declared.edge.Edge.{Edge}
 use Rattle.mvt_polygon.specs.Bounds.{IsWithin, AreBoundsApart, AreBoundsOfPolygon, AreFarApart}
+use Rattle.mvt_polygon.specs.Islands.{AreRingsFarApart}
 use Rattle.mvt_polygon.specs.declared.feature.bounds.Bounds.{Bounds}
 use Rattle.mvt_polygon.proofs.OutsideBounds.{outside_bounds}
 
@@ -78,7 +80,7 @@ y_spanned : (bounds : Bounds) (edge : Edge) (point : RationalPoint) → IsWithin
 y_spanned bounds edge point from to on = spanned bounds.low bounds.high edge.a.y edge.b.y point.w point.y on.positive from.low from.high to.low to.high on.y_between
 
 -- edges within bounds that are apart have no point in common
-no_common_point : (one other : Bounds) (first second : Edge) (point : RationalPoint) → AreBoundsApart one other → IsWithin one first.a → IsWithin one first.b → IsWithin other second.a → IsWithin other second.b
+pub no_common_point : (one other : Bounds) (first second : Edge) (point : RationalPoint) → AreBoundsApart one other → IsWithin one first.a → IsWithin one first.b → IsWithin other second.a → IsWithin other second.b
     → LiesOn point first → ¬ LiesOn point second
 no_common_point one other first second point apart first_a first_b second_a second_b on_first on_second =
     let x = common_number one.left one.right other.left other.right point.w point.x on_first.positive (x_spanned one first point first_a first_b on_first) (x_spanned other second point second_a second_b on_second) in
@@ -87,6 +89,17 @@ no_common_point one other first second point apart first_a first_b second_a seco
     apart position
     (record { left = x.1.from; right = x.1.to; low = y.1.from; high = y.1.to })
     (record { left = x.2.from; right = x.2.to; low = y.2.from; high = y.2.to })
+
+-- Rings
+
+-- they have nothing in common
+pub far_rings : (ring other : List Position) → AreRingsFarApart ring other → HaveNothingInCommon ring other
+far_rings ring other far = λ number another one two point here its_here on_one.
+    let ends = ends_of_edge ring number one here in
+    let its_ends = ends_of_edge other another two its_here in
+    no_common_point far.its far.others one two point far.apart (far.of_it _ one.a ends.0) (far.of_it _ one.b ends.1) (far.of_other _ two.a its_ends.0) (far.of_other _ two.b its_ends.1) on_one
+
+-- Polygons
 
 -- the ends of an edge of a polygon are within its bounds
 record AreEndsWithin (bounds : Bounds) (edge : Edge) : Type 0 where
@@ -98,8 +111,6 @@ ends_within : (rings : List (List Position)) (it : PolygonRings) (bounds : Bound
 ends_within rings it bounds number edge are of_it there =
     let ends = ends_of_edge there.ring number.edge edge there.here in
     record { a = are number.ring there.ring of_it there.there _ edge.a ends.0; b = are number.ring there.ring of_it there.there _ edge.b ends.1 }
-
--- Polygons
 
 -- the other way round
 pub far_back : (rings : List (List Position)) (it its : PolygonRings) → AreFarApart rings it its → AreFarApart rings its it

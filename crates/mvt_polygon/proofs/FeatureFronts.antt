@@ -1,5 +1,5 @@
 -- The polygons of a feature that are marked, and those that aren't: edges of theirs that meet, and vertices inside them.
-use Rattle.std.proofs.Common.{◌≡◌, ◌≢◌, ℕ, suc, ◌+◌, ◌-◌, ◌<◌, ◌≤◌, ◌⊎◌, inl, inr, Bool, List, length, slice_get, slice_index, Some, sym, ◌∙◌, ap, subst, arith}
+use Rattle.std.proofs.Common.{◌≡◌, ◌≢◌, ℕ, suc, ◌+◌, ◌-◌, ◌<◌, ◌≤◌, ◌⊎◌, inl, inr, Bool, true, false, List, length, slice_get, slice_index, Some, sym, ◌∙◌, ap, subst, arith}
 use Rattle.std.proofs.lemmas.Bool.{cases_lt, cases_order}
 use Rattle.mvt_plane.specs.Meeting.{EdgeNumber, MeetsWrongly}
 use Rattle.mvt_plane.specs.Nesting.{IsInsidePolygon, IsInPolygon}
@@ -11,15 +11,17 @@ use Rattle.mvt_plane.specs.Ring.{ArePolygonRings}
 use Rattle.mvt_plane.proofs.PartsOfRings.{count_of_part}
 use Rattle.mvt_plane.proofs.SamePolygons.{same_polygon}
 use Rattle.mvt_polygon.specs.Apart.{IsApartFault}
-use Rattle.mvt_polygon.specs.Bounds.{AreFarApart, AreMarked}
+use Rattle.mvt_polygon.specs.Bounds.{AreFarApart}
 use Rattle.mvt_polygon.specs.Feature.{front_of}
 use Rattle.mvt_polygon.specs.FeatureParts.{listed_at}
+use Rattle.mvt_polygon.specs.Islands.{AreApartByHole, AreMarked}
 use Rattle.mvt_polygon.specs.Meeting.{NoMeeting}
 use Rattle.mvt_polygon.specs.Polygons.{ArePolygons}
 use Rattle.mvt_polygon.proofs.ApartFaults.{other_exterior, other_number}
 use Rattle.mvt_polygon.proofs.FarApart.{far_back, far_edges, far_inside}
 use Rattle.mvt_polygon.proofs.GatheredLists.{IsMarked, IsUnmarked, marked_or_not, total_behind}
 use Rattle.mvt_polygon.proofs.GatheredPolygons.{size_of, start_of, rank_of, block_of, parts, places, is_it, ends, place_at, ring_at, first_at, block_within, parts_copies, polygon_at, ranked}
+use Rattle.mvt_polygon.proofs.Islands.{edges_by_hole, vertices_by_hole}
 use Rattle.mvt_polygon.proofs.PolygonOrder.{of_list, in_turn, home_of}
 use Rattle.mvt_polygon.proofs.RingCopies.{ring_within, meets_there, meets_back, part_copies, front_copies, count_of_front}
 
@@ -122,11 +124,23 @@ module _ (rings : List (List Position)) (polygons : List (ℕ × ℕ)) (marks : 
       (meets_back (part_of rings it) rings (λ (ring : ℕ). it.exterior + ring) (part_copies rings it fits) (record { ring = at; edge = first.edge }) (record { ring = its_at; edge = second.edge }) point (omega arith) (omega arith)
       (meets_at rings first second point (it.exterior + at) (it.exterior + its_at) (omega arith) (omega arith) meets))
 
-  -- two polygons of which one isn't marked are far apart
-  are_far : (polygon other : ℕ) → polygon < length polygons → other < length polygons → polygon ≢ other → IsUnmarked marks polygon ⊎ IsUnmarked marks other → AreFarApart rings (listed_at polygons polygon) (listed_at polygons other)
-  are_far polygon other within other_within differ (inl unmarked) = apart.apart polygon other within other_within differ unmarked
-  are_far polygon other within other_within differ (inr unmarked) =
-      far_back rings (listed_at polygons other) (listed_at polygons polygon) (apart.apart other polygon other_within within (λ same. differ (sym same)) unmarked)
+  -- neither of two polygons is marked, and the one lies in a hole of the other
+  record AreUnmarkedByHole (polygon other : ℕ) : Type 0 where
+    one : IsUnmarked marks polygon
+    another : IsUnmarked marks other
+    by_hole : AreApartByHole rings (listed_at polygons polygon) (listed_at polygons other)
+
+  -- two polygons of which one isn't marked are far apart, or this
+  are_apart : (polygon other : ℕ) → polygon < length polygons → other < length polygons → polygon ≢ other → IsUnmarked marks polygon ⊎ IsUnmarked marks other
+      → AreFarApart rings (listed_at polygons polygon) (listed_at polygons other) ⊎ AreUnmarkedByHole polygon other
+  are_apart polygon other within other_within differ (inl unmarked) = elim (apart.apart polygon other within other_within differ unmarked) [
+    | inl far ↦ inl far
+    | inr both ↦ inr (record { one = unmarked; another = both.0; by_hole = both.1 })
+  ]
+  are_apart polygon other within other_within differ (inr unmarked) = elim (apart.apart other polygon other_within within (λ same. differ (sym same)) unmarked) [
+    | inl far ↦ inl (far_back rings (listed_at polygons other) (listed_at polygons polygon) far)
+    | inr both ↦ inr (record { one = both.0; another = unmarked; by_hole = elim both.1 [ inl its ↦ inr its | inr it ↦ inl it ] })
+  ]
 
   -- no edges of a polygon that isn't marked meet, of those before a number
   abbrev pub AreOwnApart : ℕ → Type 0
@@ -154,7 +168,11 @@ module _ (rings : List (List Position)) (polygons : List (ℕ × ℕ)) (marks : 
         none_of_own polygon first second point (omega arith) (own polygon before none) of_it own_ring
     | inr differ ↦
         let apart_numbers : polygon ≢ other = λ same. elim differ [ inl less ↦ omega arith | inr more ↦ omega arith ] in
-        far_edges rings (listed_at polygons polygon) (listed_at polygons other) first second point (are_far polygon other (omega arith) (omega arith) apart_numbers unmarked) of_it of_its
+        elim (are_apart polygon other (omega arith) (omega arith) apart_numbers unmarked) [
+          | inl far ↦ far_edges rings (listed_at polygons polygon) (listed_at polygons other) first second point far of_it of_its
+          | inr both ↦
+              edges_by_hole rings (listed_at polygons polygon) (listed_at polygons other) both.by_hole (own polygon before both.one) (own other other_before both.another) first second point of_it of_its
+        ]
   ]
 
   -- so none of any two do
@@ -204,18 +222,34 @@ module _ (rings : List (List Position)) (polygons : List (ℕ × ℕ)) (marks : 
         inside = subst (λ (it : PolygonRings). IsInPolygon rings it (listed_at polygons other) vertex) one.1 (subst (λ (its : PolygonRings). IsInPolygon rings fault.polygon_rings its vertex) another.1 fault.inside);
       }
 
-  -- both are marked, since a polygon that isn't is far from all others
-  pub are_both_marked : (polygon vertex other : ℕ) → IsApartFault rings polygon vertex other → IsUnmarked marks polygon ⊎ IsUnmarked marks other → ⊥
-  are_both_marked polygon vertex other fault unmarked =
-      let it = in_listed polygon vertex other fault in
+  -- there is none of two polygons that are far apart
+  not_far_apart : (polygon vertex other : ℕ) → IsInListed polygon vertex other → ¬ AreFarApart rings (listed_at polygons polygon) (listed_at polygons other)
+  not_far_apart polygon vertex other it far =
       let own = listed_at polygons polygon in
       let its = listed_at polygons other in
-      far_inside rings own its own.exterior vertex its.exterior it.inside.position it.inside.inside.around
-      (are_far polygon other it.within it.other_within it.differ unmarked)
+      far_inside rings own its own.exterior vertex its.exterior it.inside.position it.inside.inside.around far
       (record { from = omega arith; before = (is_it rings polygons marks able listed polygon it.within).further })
       it.inside.here
       (record { from = omega arith; before = (is_it rings polygons marks able listed other it.other_within).further })
       it.inside.inside.there it.inside.inside.inside
+
+  -- no vertex of a marked polygon is inside one that isn't marked
+  pub marked_in_no_unmarked : (polygon vertex other : ℕ) → IsMarked marks polygon → IsUnmarked marks other → ¬ IsApartFault rings polygon vertex other
+  marked_in_no_unmarked polygon vertex other marked unmarked fault =
+      let it = in_listed polygon vertex other fault in
+      elim (are_apart polygon other it.within it.other_within it.differ (inr unmarked)) [
+        | inl far ↦ not_far_apart polygon vertex other it far
+        | inr both ↦ let wrong : true ≡ false = sym marked ∙ both.one in absurd (cc wrong)
+      ]
+
+  -- none of one that isn't marked is inside another polygon, where no edges of its own meet
+  pub unmarked_in_none : (polygon vertex other : ℕ) → IsUnmarked marks polygon → NoMeeting (part_of rings (listed_at polygons polygon)) → ¬ IsApartFault rings polygon vertex other
+  unmarked_in_none polygon vertex other unmarked none fault =
+      let it = in_listed polygon vertex other fault in
+      elim (are_apart polygon other it.within it.other_within it.differ (inl unmarked)) [
+        | inl far ↦ not_far_apart polygon vertex other it far
+        | inr both ↦ vertices_by_hole rings (listed_at polygons polygon) (listed_at polygons other) both.by_hole none vertex it.inside
+      ]
 
   -- a hole of a marked polygon, among the gathered rings
   hole_there : (polygon hole : ℕ) (vertices : List Position) → polygon < length polygons → IsMarked marks polygon → IsHoleOf (listed_at polygons polygon) hole → slice_get rings hole ≡ Some vertices

@@ -7,10 +7,10 @@ use Rattle.mvt_plane.specs.Position.{Position}
 use Rattle.mvt_plane.specs.Ring.{ArePolygonRings}
 use Rattle.mvt_polygon.specs.Alone.{IsFine, AreFineBefore, IsOwnCause, IsFirstAlone, IsAloneAnswer, earlier_of}
 use Rattle.mvt_polygon.specs.Apart.{IsApartFault, IsFirstApartFault}
-use Rattle.mvt_polygon.specs.Bounds.{AreMarked}
 use Rattle.mvt_polygon.specs.Feature.{front_of, IsPlaced, IsClear, IsCause, rings_in, IsFirstFault, IsFeatureAnswer}
 use Rattle.mvt_polygon.specs.FeatureParts.{listed_at}
 use Rattle.mvt_polygon.specs.Gathered.{cause_moved, fault_moved, IsCauseWithin, IsFaultWithin}
+use Rattle.mvt_polygon.specs.Islands.{AreMarked}
 use Rattle.mvt_polygon.specs.Meeting.{IsMeetingOf, NoMeeting, first_of, second_of}
 use Rattle.mvt_polygon.specs.Nesting.{IsFirstNestFault, IsNestFault}
 use Rattle.mvt_polygon.specs.Polygons.{ArePolygons}
@@ -19,7 +19,7 @@ use Rattle.mvt_polygon.specs.declared.feature.FeatureCause.{FeatureCause}
 use Rattle.mvt_polygon.specs.declared.feature.FeatureCause.TheVariants.{Meeting, Nesting, Apart}
 use Rattle.mvt_polygon.specs.declared.feature.FeatureFault.{FeatureFault}
 use Rattle.mvt_polygon.specs.declared.nesting.NestFault.{NestFault}
-use Rattle.mvt_polygon.proofs.FeatureFronts.{AreOwnApart, AreFrontsApart, none_of_front, are_both_marked, fault_back, fault_there}
+use Rattle.mvt_polygon.proofs.FeatureFronts.{AreOwnApart, AreFrontsApart, none_of_front, marked_in_no_unmarked, unmarked_in_none, fault_back, fault_there}
 use Rattle.mvt_polygon.proofs.GatheredLists.{IsMarked, IsUnmarked, marked_or_not, total_behind}
 use Rattle.mvt_polygon.proofs.GatheredPolygons.{size_of, rank_of, block_of, parts, places, numbers, is_it, ends, number_at, block_within, gathered_of, place_of, parts_copies, polygon_at, ranked, same_part, count_of_parts, count_of_places, count_of_numbers}
 use Rattle.mvt_polygon.proofs.PolygonOrder.{of_list, in_turn}
@@ -106,7 +106,7 @@ module _ (rings : List (List Position)) (polygons : List (ℕ × ℕ)) (marks : 
       record {
         holds = subst (IsApartFault rings polygon fault.vertex) (sym number) there.fault;
         first = λ vertex other wrong. elim (marked_or_not marks other) [
-          | inr unmarked ↦ absurd (are_both_marked rings polygons marks able listed apart polygon vertex other wrong (inr unmarked))
+          | inr unmarked ↦ absurd (marked_in_no_unmarked rings polygons marks able listed apart polygon vertex other marked unmarked wrong)
           | inl other_marked ↦ elim (is.first vertex (rank_of marks other) (fault_back rings polygons marks able listed apart polygon vertex other marked other_marked wrong)) [
             | inl less ↦ inl less
             | inr same ↦
@@ -212,7 +212,7 @@ module _ (rings : List (List Position)) (polygons : List (ℕ × ℕ)) (marks : 
   unmarked_placed : (polygon : ℕ) → IsUnmarked marks polygon → IsFine rings (listed_at polygons polygon) → IsPlaced rings polygon (listed_at polygons polygon)
   unmarked_placed polygon unmarked fine = record {
     nested = fine.nested;
-    alone = λ vertex other wrong. are_both_marked rings polygons marks able listed apart polygon vertex other wrong (inl unmarked);
+    alone = λ vertex other wrong. unmarked_in_none rings polygons marks able listed apart polygon vertex other unmarked fine.apart wrong;
   }
 
   -- a marked one
@@ -220,7 +220,7 @@ module _ (rings : List (List Position)) (polygons : List (ℕ × ℕ)) (marks : 
   marked_placed polygon within marked clear = record {
     nested = subst (λ (all : List (List Position)). (wrong : NestFault) → ¬ IsNestFault all wrong) (same_part rings polygons marks able listed polygon within marked) clear.placed.nested;
     alone = λ vertex other wrong. elim (marked_or_not marks other) [
-      | inr unmarked ↦ are_both_marked rings polygons marks able listed apart polygon vertex other wrong (inr unmarked)
+      | inr unmarked ↦ marked_in_no_unmarked rings polygons marks able listed apart polygon vertex other marked unmarked wrong
       | inl other_marked ↦ clear.placed.alone vertex (rank_of marks other) (fault_back rings polygons marks able listed apart polygon vertex other marked other_marked wrong)
     ];
   }

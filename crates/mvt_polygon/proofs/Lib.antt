@@ -27,8 +27,11 @@ pub mod FrontRings
 pub mod GatheredLists
 pub mod GatheredPolygons
 pub mod GatheredSteps
+pub mod Islands
+pub mod Lakes
 pub mod LaterPolygons
 pub mod LeastWork
+pub mod LyingRings
 pub mod MeetingsFound
 pub mod NestFaults
 pub mod NestOnce
@@ -58,6 +61,7 @@ pub mod RingReads
 pub mod RingsAround
 pub mod RingsNoted
 pub mod SegmentEnds
+pub mod SettledPolygons
 pub mod SharedCells
 pub mod SharedVertices
 pub mod SpreadOrder

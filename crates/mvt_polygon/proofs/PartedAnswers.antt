@@ -5,11 +5,11 @@ use Rattle.mvt_plane.specs.Polygon.{IsPolygon}
 use Rattle.mvt_plane.specs.Position.{Position}
 use Rattle.mvt_plane.specs.Ring.{ArePolygonRings}
 use Rattle.mvt_polygon.specs.Alone.{IsAloneAnswer, earlier_of, vertices_alone}
-use Rattle.mvt_polygon.specs.Bounds.{AreMarked}
 use Rattle.mvt_polygon.specs.Corners.{vertex_count}
 use Rattle.mvt_polygon.specs.Feature.{AddsSweeps, AreAtMost, IsFeatureAnswer}
 use Rattle.mvt_polygon.specs.FeatureParts.{listed_at}
 use Rattle.mvt_polygon.specs.Gathered.{gathered_rings, gathered_places, gathered_numbers, fault_moved, IsFaultWithin}
+use Rattle.mvt_polygon.specs.Islands.{AreMarked}
 use Rattle.mvt_polygon.specs.Meeting.{NoMeeting}
 use Rattle.mvt_polygon.specs.Polygons.{ArePolygons}
 use Rattle.mvt_polygon.specs.Rings.{AreProperRings}
@@ -132,7 +132,7 @@ module _ (rings : List (List Position)) (polygons : List (ℕ × ℕ)) (marks : 
 abbrev not_marked : List Bool
 not_marked = false ∷ []
 
--- so it is far from all others, of which there are none
+-- so it is apart from all others, of which there are none
 one_marked : (rings : List (List Position)) (polygons : List (ℕ × ℕ)) → length polygons ≡ 1 → AreMarked rings polygons not_marked
 one_marked rings polygons one = record { count = sym one; apart = λ polygon other within other_within differ. absurd (differ (omega arith)) }
 

@@ -4,7 +4,7 @@ use Rattle.std.proofs.lemmas.Bool.{cases_eq, cases_lt, cases_order}
 use Rattle.std.proofs.lemmas.Option.{same_Some, slice_get-get_or, slice_get_within}
 use Rattle.std.proofs.Math.ListN.{length-set}
 use Rattle.mvt_plane.proofs.Order.{zs}
-use Rattle.mvt_polygon.specs.Cells.{AreCells, AreCellsOf, AreParted, HasOneCell, IsCellOrder, keyed_number, order_at, span_at}
+use Rattle.mvt_polygon.specs.Cells.{AreCells, AreParted, AreRefined, IsCellOrder, keyed_number, order_at, span_at}
 
 module _ (old : ℕ → ℕ) (least end : ℕ → ℤ) where
   -- at two places, one before the other, the cells differ or the spans are apart
@@ -279,10 +279,10 @@ parted_of_parts spans before order cells cell reach is all one other below its_b
 
 -- ---- one parting after another
 
--- where cells differ in the end, spans came apart along an axis
-pub parted_in_turn : (across upward : List (ℤ × ℤ)) (before first second third : List ℕ) → HasOneCell before → length across ≡ length before → AreParted across before first
-    → AreCells (length before) first → AreParted upward first second → AreCells (length first) second → AreParted across second third → AreCellsOf across upward third
-parted_in_turn across upward before first second third same size by_first first_cells by_second second_cells by_third one other below its_below differ =
+-- where cells came apart, so did spans along an axis
+pub parted_in_turn : (across upward : List (ℤ × ℤ)) (before first second third : List ℕ) → AreParted across before first → AreCells (length before) first → AreParted upward first second → AreCells (length first) second
+    → AreParted across second third → AreRefined across upward before third
+parted_in_turn across upward before first second third by_first first_cells by_second second_cells by_third one other below its_below same differ =
     let first_size = first_cells.size in
     let second_size = second_cells.size in
     elim (by_third one other (omega arith) (omega arith) differ) [
@@ -291,7 +291,7 @@ parted_in_turn across upward before first second third same size by_first first_
         | inr apart ↦ inr apart
         | inl further ↦ elim (by_first one other (omega arith) (omega arith) further) [
           | inr apart ↦ inl apart
-          | inl never ↦ absurd (never (same one other (omega arith) (omega arith)))
+          | inl never ↦ absurd (never same)
         ]
       ]
     ]

@@ -1,5 +1,5 @@
 -- The least and the greatest coordinates of rings, by which most pairs of polygons are told apart.
-use Rattle.std.specs.Prelude.{◌≡◌, ◌≢◌, ℕ, ◌+◌, ◌<◌, ◌≤◌, ◌⊎◌, Bool, false, List, length, slice_get, slice_index_or, Option, Some, None, IfSome, ℤ, ◌≤ℤ◌}
+use Rattle.std.specs.Prelude.{◌≡◌, ℕ, ◌+◌, ◌<◌, ◌≤◌, ◌⊎◌, List, length, slice_get, Option, Some, None, IfSome, ℤ, ◌≤ℤ◌}
 use Rattle.mvt_plane.specs.Nesting.{IsInsidePolygon}
 use Rattle.mvt_plane.specs.Polygon.{PolygonRings, IsRingOf}
 use Rattle.mvt_plane.specs.Position.{Position}
@@ -37,12 +37,6 @@ pub record AreFarApart (rings : List (List Position)) (it its : PolygonRings) : 
   pub of_one : AreBoundsOfPolygon rings it one
   pub of_other : AreBoundsOfPolygon rings its other
   pub apart : AreBoundsApart one other
-
--- a polygon that isn't marked has bounds that are apart from those of each other one
-pub record AreMarked (rings : List (List Position)) (polygons : List (ℕ × ℕ)) (marks : List Bool) : Type 0 where
-  pub count : length marks ≡ length polygons
-  pub apart : (polygon other : ℕ) → polygon < length polygons → other < length polygons → polygon ≢ other → slice_index_or marks polygon false ≡ false
-      → AreFarApart rings (listed_at polygons polygon) (listed_at polygons other)
 
 -- Polygons of a list
 

@@ -1,7 +1,7 @@
 -- Cells of polygons: two of different cells have bounds that are apart along an axis.
 use Rattle.std.specs.Prelude.{◌≡◌, ◌≢◌, ◌⊎◌, ℕ, ◌<◌, ◌≤◌, Bool, false, List, length, slice_get, slice_index, slice_index_or, Some, ℤ, pos, ◌<ℤ◌, ◌≤ℤ◌}
 use Rattle.mvt_plane.specs.Position.{Position}
-use Rattle.mvt_polygon.specs.Bounds.{AreBoundsOfPolygon}
+use Rattle.mvt_polygon.specs.Bounds.{AreBoundsOf, AreBoundsOfPolygon}
 use Rattle.mvt_polygon.specs.FeatureParts.{listed_at}
 use Rattle.mvt_polygon.specs.declared.feature.bounds.Bounds.{Bounds}
 
@@ -36,10 +36,6 @@ pub record AreSpansOf (rings : List (List Position)) (polygons : List (ℕ × �
 pub record AreCells (count : ℕ) (cells : List ℕ) : Type 0 where
   pub size : length cells ≡ count
   pub below : (number : ℕ) → number < count → slice_index cells number < count
-
--- all numbers have the same cell
-abbrev pub HasOneCell : List ℕ → Type 0
-HasOneCell cells = (one other : ℕ) → one < length cells → other < length cells → slice_index cells one ≡ slice_index cells other
 
 -- numbers of different cells had different ones before, or have spans that are apart
 abbrev pub AreParted : List (ℤ × ℤ) → List ℕ → List ℕ → Type 0
@@ -79,3 +75,25 @@ pub record AreSharing (cells : List ℕ) (marks : List Bool) : Type 0 where
   pub size : length marks ≡ length cells
   pub alone : (one other : ℕ) → one < length cells → other < length cells → one ≢ other → slice_index_or marks one false ≡ false
       → slice_index cells one ≢ slice_index cells other
+
+-- Cells of rings
+
+-- the bounds of a ring, of which these are the spans
+pub record HasRingSpans (rings : List (List Position)) (ring : ℕ) (across upward : ℤ × ℤ) : Type 0 where
+  pub bounds : Bounds
+  pub of : (vertices : List Position) → slice_get rings ring ≡ Some vertices → AreBoundsOf vertices bounds
+  pub left : bounds.left ≡ across.0
+  pub right : bounds.right ≡ across.1
+  pub low : bounds.low ≡ upward.0
+  pub high : bounds.high ≡ upward.1
+
+-- the spans of so many rings
+pub record AreRingSpans (rings : List (List Position)) (count : ℕ) (across upward : List (ℤ × ℤ)) : Type 0 where
+  pub across_size : length across ≡ count
+  pub upward_size : length upward ≡ count
+  pub each : (ring : ℕ) → ring < count → HasRingSpans rings ring (span_at across ring) (span_at upward ring)
+
+-- numbers that had one cell before and have different ones now have spans that are apart along one of two axes
+abbrev pub AreRefined : List (ℤ × ℤ) → List (ℤ × ℤ) → List ℕ → List ℕ → Type 0
+AreRefined across upward before cells = (one other : ℕ) → one < length before → other < length before → slice_index before one ≡ slice_index before other
+    → slice_index cells one ≢ slice_index cells other → AreSpansApart (span_at across one) (span_at across other) ⊎ AreSpansApart (span_at upward one) (span_at upward other)

@@ -9,6 +9,8 @@ pub mod Feature
 pub mod FeatureParts
 pub mod FrontEdges
 pub mod Gathered
+pub mod Islands
+pub mod Lands
 pub mod Links
 pub mod Meeting
 pub mod Nesting

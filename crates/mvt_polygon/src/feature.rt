@@ -2,7 +2,7 @@
 ghost use Rattle.std.specs.Prelude.{◌≡◌, ℕ, ◌+◌, ◌<◌, ◌≤◌, length, option_map, slice_range, IfNone, IfOk, IfSome};
 ghost use Rattle.mvt_plane.specs.Ring.{ArePolygonRings};
 ghost use Rattle.mvt_polygon.specs.Alone.{earlier_of, own_fault, vertices_alone, IsAloneAnswer, IsOwnAnswer, IsOwnWithin};
-ghost use Rattle.mvt_polygon.specs.Bounds.{AreMarked};
+ghost use Rattle.mvt_polygon.specs.Islands.{AreMarked};
 ghost use Rattle.mvt_polygon.specs.Corners.{vertex_count};
 ghost use Rattle.mvt_polygon.specs.Feature.{AddsSweeps, AreAtMost, IsFeatureAnswer};
 ghost use Rattle.mvt_polygon.specs.Meeting.{NoMeeting};
@@ -14,7 +14,11 @@ mod bounds;
 mod crowded;
 mod front;
 mod gathered;
+mod islands;
+mod lakes;
+mod lands;
 mod later;
+mod lies_in;
 mod passing;
 mod placed;
 #[cfg(test)]
@@ -63,13 +67,14 @@ pub struct FeatureFault {
 /// inside another polygon. No ring has a fault of its own (`check_rings`), and each has three vertices or more, none at the
 /// position of the next one.
 ///
-/// Polygons whose bounds are apart from those of all others are looked at one by one, the others by sweeps. `count` counts
-/// the work: of a sweep over n vertices at most 3 * n tests of two edges, n * (2 * bits(n) + 10) comparisons and
-/// n * 20 * bits(n) visits of the status's nodes, where bits(n) is the number of n's binary digits. That is all where there is
-/// no fault. Where no edges meet it is twice as much at most; and where they do, as often as the number of polygons has binary
-/// digits, and twice more. Not counted is that then the polygons before the first one with a meeting are held against those
-/// from it on: where the bounds of most of them overlap, this takes their vertices times the edges of the others. The only
-/// error is that memory was refused.
+/// Polygons whose bounds are apart from those of all others are looked at one by one, and so are islands in the lakes of a
+/// polygon, with that polygon; the others by sweeps. `count` counts the work: of a sweep over n vertices at most 3 * n tests
+/// of two edges, n * (2 * bits(n) + 10) comparisons and n * 20 * bits(n) visits of the status's nodes, where bits(n) is the
+/// number of n's binary digits. That is all where there is no fault. Where no edges meet it is twice as much at most; and
+/// where they do, as often as the number of polygons has binary digits, and twice more. Not counted is which bounds are apart
+/// and which polygons are islands, which takes the time of some sorts. Nor is it that, where edges meet, the polygons before
+/// the first one with a meeting are held against those from it on: where the bounds of most of them overlap, this takes their
+/// vertices times the edges of the others. The only error is that memory was refused.
 pub fn check_feature(
     alloc: Global,
     rings: &[Vec<Point>],

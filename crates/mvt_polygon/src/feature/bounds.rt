@@ -4,7 +4,7 @@ ghost use Rattle.mvt_plane.specs.Position.{Position};
 ghost use Rattle.mvt_polygon.specs.Bounds.{AreBoundsOf, AreBoundsOfPolygon, AreBoundsApart, IsWithin};
 ghost use Rattle.mvt_polygon.specs.Rings.{rings_of, AreProperRings};
 
-use mvt_plane::Point;
+use mvt_plane::{Edge, Point};
 
 /// The least and the greatest coordinates of a ring, or of several.
 #[derive(Clone, Copy)]
@@ -17,13 +17,23 @@ pub(super) struct Bounds {
 
 impl Bounds {
     /// Those of a position.
-    fn at(position: Point) -> Bounds {
+    fn at(position: Point) -> Bounds
+        ensures { IsWithin result position }
+    {
         Bounds {
             left: position.x(),
             low: position.y(),
             right: position.x(),
             high: position.y(),
         }
+    }
+
+    /// Those of an edge.
+    pub(super) fn of_edge(edge: &Edge) -> Bounds
+        ensures begin { IsWithin result edge.now.a }
+        ensures end { IsWithin result edge.now.b }
+    {
+        Bounds::at(edge.a).with(edge.b)
     }
 
     /// Those of a ring, which has a vertex.

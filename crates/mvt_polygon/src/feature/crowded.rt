@@ -1,17 +1,20 @@
 //! Polygons of a feature whose bounds may overlap those of others.
 ghost use Rattle.std.specs.Prelude.{◌≡◌, ◌≢◌, ◌⊎◌, ◌-◌, ◌<◌, length, IfOk, IsTrue, ◌<ℤ◌};
 ghost use Rattle.mvt_plane.specs.Ring.{ArePolygonRings};
-ghost use Rattle.mvt_polygon.specs.Bounds.{AreMarked};
-ghost use Rattle.mvt_polygon.specs.Cells.{AreCells, AreCellsOf, AreParted, AreSharing, AreSpansOf, HasOneCell, IsCellOrder, order_at};
+ghost use Rattle.mvt_polygon.specs.Islands.{AreMarked};
+ghost use Rattle.mvt_polygon.specs.Cells.{AreCells, AreCellsOf, AreParted, AreRefined, AreRingSpans, AreSharing, AreSpansOf, IsCellOrder, order_at};
 ghost use Rattle.mvt_polygon.specs.Polygons.{ArePolygons};
 ghost use Rattle.mvt_polygon.specs.Rings.{rings_of, AreProperRings};
 
 use crate::feature::bounds::Bounds;
+use crate::feature::islands::still_crowded;
+use crate::feature::lands::{beside, have_lakes, lands};
 use mvt_plane::Point;
 use std::alloc::{AllocError, Global};
 
-/// Of each polygon whether its bounds may overlap those of another one: where they are not crowded, they are apart from those
-/// of all others. Polygons come into cells along one axis and the other, so this takes the time of three sorts.
+/// Of each polygon whether it may meet or lie in another one. Where it is not crowded, its bounds are apart from those of each
+/// other one, or the one of the two is an island in a lake of the other. Polygons come into cells along one axis and the
+/// other, so this takes the time of three sorts; where a land has lakes, of nine.
 pub(super) fn crowded(
     alloc: Global,
     rings: &[Vec<Point>],
@@ -24,7 +27,16 @@ pub(super) fn crowded(
 {
     let (across, upward) = spans_of(alloc, rings, polygons)?;
     let cells = cells_of(alloc, &across, &upward)?;
-    shared_cells(alloc, &cells)
+    let shared = shared_cells(alloc, &cells)?;
+    let lands = lands(alloc, polygons, &cells)?;
+    if !have_lakes(polygons, &lands, &shared) {
+        return Ok(shared);
+    }
+    let beside = beside(alloc, &across, &upward, &cells, &lands)?;
+    // these take the memory that those of rings will need
+    drop(across);
+    drop(upward);
+    still_crowded(alloc, rings, polygons, &cells, &lands, &beside)
 }
 
 /// Of each polygon the least and the greatest coordinate along one axis, and along the other.
@@ -48,6 +60,24 @@ fn spans_of(
     Ok((across, upward))
 }
 
+/// Of each ring the least and the greatest coordinate along one axis, and along the other.
+pub(super) fn ring_spans(
+    alloc: Global,
+    rings: &[Vec<Point>],
+) -> Result<(Vec<(i32, i32)>, Vec<(i32, i32)>), AllocError>
+    requires { AreProperRings (rings_of rings.now) }
+    ensures { IfOk result (λ spans. AreRingSpans (rings_of rings.now) (length rings.now) spans.0.items spans.1.items) }
+{
+    let mut across = Vec::with_capacity(alloc, rings.len())?;
+    let mut upward = Vec::with_capacity(alloc, rings.len())?;
+    for ring in 0..rings.len() {
+        let bounds = Bounds::of(&rings[ring]);
+        across.push((bounds.left, bounds.right))?;
+        upward.push((bounds.low, bounds.high))?;
+    }
+    Ok((across, upward))
+}
+
 /// A cell for each number, by spans along two axes: where two have different cells, their spans along an axis are apart.
 fn cells_of(
     alloc: Global,
@@ -63,8 +93,8 @@ fn cells_of(
     Ok(cells)
 }
 
-/// Parts one cell along one axis, along the other, and once more along the first one.
-fn part_in_turn(
+/// Parts each cell along one axis, along the other, and once more along the first one.
+pub(super) fn part_in_turn(
     alloc: Global,
     across: &[(i32, i32)],
     upward: &[(i32, i32)],
@@ -72,32 +102,31 @@ fn part_in_turn(
 ) -> Result<(), AllocError>
     requires across { length across.now ≡ length cells.old }
     requires upward { length upward.now ≡ length cells.old }
-    requires one { HasOneCell cells.old }
     ensures known { IfOk result (λ _. AreCells (length cells.old) cells.new) }
-    ensures parted { IfOk result (λ _. AreCellsOf across.now upward.now cells.new) }
+    ensures parted { IfOk result (λ _. AreRefined across.now upward.now cells.old cells.new) }
 {
-    part_cells(alloc, across, cells)?;
-    let last = part_cells(alloc, upward, cells)?;
+    let last = part_cells(alloc, across, cells)?;
+    let last = part_again(alloc, upward, cells, last)?;
     part_again(alloc, across, cells, last)?;
     Ok(())
 }
 
-/// Parts each cell along an axis, unless there are as many cells as numbers.
+/// Parts each cell along an axis, unless there are as many cells as numbers. Answers the last cell.
 fn part_again(
     alloc: Global,
     spans: &[(i32, i32)],
     cells: &mut [usize],
     last: usize,
-) -> Result<(), AllocError>
+) -> Result<usize, AllocError>
     requires spans { length spans.now ≡ length cells.old }
     requires cells { AreCells (length cells.old) cells.old }
     ensures known { IfOk result (λ _. AreCells (length cells.old) cells.new) }
     ensures parted { IfOk result (λ _. AreParted spans.now cells.old cells.new) }
 {
     if last.saturating_add(1) < cells.len() {
-        part_cells(alloc, spans, cells)?;
+        return part_cells(alloc, spans, cells);
     }
-    Ok(())
+    Ok(last)
 }
 
 /// Parts each cell where no span of it, from the least to the greatest coordinate along an axis, goes across. Answers the last
@@ -156,7 +185,7 @@ fn begins_cell(order: &[(usize, i32, usize)], at: usize, reach: i32) -> bool
 }
 
 /// Of each number whether its cell is that of another one too.
-fn shared_cells(alloc: Global, cells: &[usize]) -> Result<Vec<bool>, AllocError>
+pub(super) fn shared_cells(alloc: Global, cells: &[usize]) -> Result<Vec<bool>, AllocError>
     requires { AreCells (length cells.now) cells.now }
     ensures { IfOk result (λ shared. AreSharing cells.now shared.items) }
 {

@@ -128,13 +128,98 @@ fn thrown_feature(rt: &impl Abort, alloc: Global, dice: &mut Dice) -> Vec<Vec<Po
     rings
 }
 
+/// A box as an exterior.
+fn land_at(rt: &impl Abort, alloc: Global, corner: (i32, i32), other: (i32, i32)) -> Vec<Point> {
+    let ((left, low), (right, high)) = (corner, other);
+    ring_at(
+        rt,
+        alloc,
+        &[(left, low), (right, low), (right, high), (left, high)],
+    )
+}
+
+/// A box as a hole.
+fn lake_at(rt: &impl Abort, alloc: Global, corner: (i32, i32), other: (i32, i32)) -> Vec<Point> {
+    let ((left, low), (right, high)) = (corner, other);
+    ring_at(
+        rt,
+        alloc,
+        &[(left, low), (left, high), (right, high), (right, low)],
+    )
+}
+
+/// A land with a lake, and another one that has a bay.
+fn push_land(rt: &impl Abort, alloc: Global, rings: &mut Vec<Vec<Point>>) {
+    let bay = [
+        (120, 10),
+        (120, 210),
+        (150, 210),
+        (150, 60),
+        (210, 60),
+        (210, 10),
+    ];
+    let land = land_at(rt, alloc, (0, 0), (220, 220));
+    rings.push(land).expect(rt, "memory");
+    let lake = lake_at(rt, alloc, (10, 10), (100, 210));
+    rings.push(lake).expect(rt, "memory");
+    rings.push(ring_at(rt, alloc, &bay)).expect(rt, "memory");
+}
+
+/// A small box, mostly in a lake: some are on the land, some touch a shore, and some have a lake of their own.
+fn push_island(
+    rt: &impl Abort,
+    alloc: Global,
+    dice: &mut Dice,
+    number: i32,
+    rings: &mut Vec<Vec<Point>>,
+) {
+    let kind = dice.throw();
+    let left = dice.throw().wrapping_mul(24).wrapping_add(number);
+    let left = if kind == 0 { 10 } else { left.wrapping_add(12) };
+    let low = dice.throw().wrapping_mul(24).wrapping_add(number);
+    let low = low.wrapping_add(12);
+    let right = left.wrapping_add(dice.throw()).wrapping_add(3);
+    let high = low.wrapping_add(dice.throw()).wrapping_add(3);
+    let island = land_at(rt, alloc, (left, low), (right, high));
+    rings.push(island).expect(rt, "memory");
+    if kind == 1 {
+        let corner = (left.wrapping_add(1), low.wrapping_add(1));
+        let lake = lake_at(
+            rt,
+            alloc,
+            corner,
+            (right.wrapping_sub(1), high.wrapping_sub(1)),
+        );
+        rings.push(lake).expect(rt, "memory");
+    }
+}
+
+/// A land with lakes and up to four such islands, before it and behind it.
+fn thrown_islands(rt: &impl Abort, alloc: Global, dice: &mut Dice) -> Vec<Vec<Point>> {
+    let mut rings = Vec::new(alloc);
+    let before = dice.throw() % 3;
+    for number in 0..before {
+        push_island(rt, alloc, dice, number, &mut rings);
+    }
+    push_land(rt, alloc, &mut rings);
+    let many = (dice.throw() % 3).wrapping_add(before);
+    for number in before..many {
+        push_island(rt, alloc, dice, number, &mut rings);
+    }
+    rings
+}
+
 /// Of generated features, how many have no fault, a meeting, a hole that isn't where it should be, and a vertex in another
 /// polygon.
 fn kinds_found(rt: &impl Abort, alloc: Global) -> [u32; 4] {
     let mut dice = Dice { state: 1 };
     let mut kinds = [0_u32; 4];
-    for _feature in 0..600 {
-        let rings = thrown_feature(rt, alloc, &mut dice);
+    for feature in 0..800_u32 {
+        let rings = if feature < 600 {
+            thrown_feature(rt, alloc, &mut dice)
+        } else {
+            thrown_islands(rt, alloc, &mut dice)
+        };
         let kind = match found_in(rt, alloc, &rings) {
             None => 0,
             Some(fault) => match fault.cause {

@@ -1,0 +1,93 @@
+/* mvtgate: judges Mapbox vector tiles in the process (Mapbox Vector Tile Specification 2.1). For C and C++.
+ *
+ * A tile is its uncompressed bytes, of any content and any length: gunzip it first. A text is bytes of UTF-8 without a zero
+ * byte behind it. What the functions do is proved, as far as the caller keeps to these rules, which nothing checks:
+ *
+ *  - No pointer is null, also where its length is 0: give the address of any byte.
+ *  - Each pointer to bytes has as many as its length says, and each length is below 2^63.
+ *  - `text` and `text_length`, which are written, overlap neither each other nor what is read. During the call no other
+ *    thread uses them, and none changes what is read.
+ *  - The processor is an x86-64 of level v2 or above (with SSE4.2; any since about 2010).
+ *
+ * The functions keep nothing from one call to the next, so threads may call them at the same time. They take memory by the
+ * process's malloc and realloc, and free it before they return. So don't call them in a signal handler, or in a child of
+ * fork where the parent had threads. The stack is not proved: 128 KB were enough for each call that was tried.
+ *
+ * docs/FAULTS.md of the repository lists the faults with their codes and texts. */
+#ifndef MVTGATE_H
+#define MVTGATE_H
+
+#include <stddef.h>
+#include <stdint.h>
+
+#ifdef __cplusplus
+extern "C" {
+#endif
+
+/* What the polygons of a feature are held against. POLYGON looks at each by itself: its rings neither cross nor touch, and
+ * its holes are inside it and not inside each other. FEATURE asks also that the polygons of one feature neither cross nor
+ * touch, and lie in each other only in a hole. */
+#define MVTGATE_POLYGON 0
+#define MVTGATE_FEATURE 1
+
+/* In bytes: no text of a fault is longer. */
+#define MVTGATE_TEXT_ROOM 384
+
+/* What the functions return: one set of numbers for all. */
+enum {
+    MVTGATE_VALID = 0,         /* check: the tile is valid */
+    MVTGATE_CONFIRMED = 0,     /* confirm: the fault is true of the tile */
+    MVTGATE_TEXT = 0,          /* dump, advise: the text is written */
+    MVTGATE_FAULT = 1,         /* check, dump, advise: the text of a fault is written */
+    MVTGATE_NOT_CONFIRMED = 1, /* confirm: the fault is not true of the tile */
+    MVTGATE_NO_MEMORY = 2,     /* memory was refused */
+    MVTGATE_NO_ROOM = 3,       /* check, dump, advise: the text is longer than text_room */
+    MVTGATE_NO_PROFILE = 4,    /* check, confirm: no profile has this number */
+    MVTGATE_NOT_JSON = 5,      /* confirm: the text is no JSON */
+    MVTGATE_NOT_A_FAULT = 6,   /* confirm: the text is JSON, and no fault */
+    MVTGATE_FAULT_RANGE = 7    /* confirm: the text is a fault with a number out of range */
+};
+
+/* Judges a tile by a profile.
+ *
+ * MVTGATE_VALID       the tile is valid. *text_length is 0.
+ * MVTGATE_FAULT       it is not. The text of its first fault is at the front of `text`, as the program's `check` writes it
+ *                     but without the line's end, and *text_length is its length.
+ * MVTGATE_NO_ROOM     it is not, and its fault's text is longer than text_room. *text_length is the length that is wanted.
+ *                     This doesn't come where text_room is MVTGATE_TEXT_ROOM or more.
+ * MVTGATE_NO_MEMORY, MVTGATE_NO_PROFILE   *text_length is 0.
+ *
+ * Nothing else is written: in `text` not the bytes behind the fault's text, and where that isn't written, none. */
+int mvtgate_check(uint32_t profile, const uint8_t *tile, size_t tile_length, uint8_t *text, size_t text_room,
+                  size_t *text_length);
+
+/* Whether the fault of a text is true of a tile by a profile. The text is JSON of UTF-8, with its members in any order and
+ * with any space. This is a separate checker, which goes over the tile by itself. It writes nothing.
+ *
+ * MVTGATE_CONFIRMED, MVTGATE_NOT_CONFIRMED   the fault is true of the tile, or it is not.
+ * MVTGATE_NO_MEMORY, MVTGATE_NO_PROFILE, MVTGATE_NOT_JSON, MVTGATE_NOT_A_FAULT, MVTGATE_FAULT_RANGE */
+int mvtgate_confirm(uint32_t profile, const uint8_t *tile, size_t tile_length, const uint8_t *text, size_t text_length);
+
+/* Writes what a tile holds as a JSON text, that of the program's `dump` without the line's end.
+ *
+ * MVTGATE_TEXT        the text is at the front of `text`, and *text_length is its length.
+ * MVTGATE_FAULT       the bytes are no tile. The text of their first wire fault is there instead, with its length.
+ * MVTGATE_NO_ROOM     the text, of either kind, is longer than text_room. *text_length is the length that is wanted; call
+ *                     again with as much.
+ * MVTGATE_NO_MEMORY   *text_length is 0.
+ *
+ * Nothing else is written, as by mvtgate_check. */
+int mvtgate_dump(const uint8_t *tile, size_t tile_length, uint8_t *text, size_t text_room, size_t *text_length);
+
+/* Writes what may be mistakes in a tile, though no rule forbids it, as a JSON text {"advice":[..]}: the second line of the
+ * program's `check --advice` without the line's end. It is written and returned as by mvtgate_dump. */
+int mvtgate_advise(const uint8_t *tile, size_t tile_length, uint8_t *text, size_t text_room, size_t *text_length);
+
+/* The library's version: 10000 times the major number, 100 times the minor one, and the patch number. */
+uint32_t mvtgate_version(void);
+
+#ifdef __cplusplus
+}
+#endif
+
+#endif

@@ -1,0 +1,59 @@
+"""Puts libmvtgate.so and faults.json into the wheel, and names the wheel for the systems that the library runs on.
+
+The library is the one that MVTGATE_LIBRARY names, or the one that ./library of the repository made. There is no compiled module
+of Python's in the wheel, so any Python 3 will do (py3-none), and what ties it to a system is the library: code for x86-64 that
+needs nothing but the C library. The tag manylinux_2_34_x86_64 says so: glibc 2.34 or later. The library itself needs an older
+one, 2.14, but also a processor of level x86-64-v2; distributions of that glibc are the first to be built for it (RHEL 9), and
+installers know no tag for processors. A build stops where the library would need more than the tag says.
+"""
+import os
+import pathlib
+import re
+import shutil
+
+from setuptools import Distribution, setup
+from setuptools.command.build_py import build_py
+from wheel.bdist_wheel import bdist_wheel
+
+GLIBC = (2, 34)
+HERE = pathlib.Path(__file__).resolve().parent
+
+
+def library():
+    path = pathlib.Path(os.environ.get("MVTGATE_LIBRARY") or HERE.parent.parent / "bindings/c/out/libmvtgate.so")
+    if not path.exists():
+        raise SystemExit(f"setup.py: there is no {path}: run ./library")
+    code = path.read_bytes()
+    if code[:5] != b"\x7fELF\x02" or int.from_bytes(code[18:20], "little") != 62:
+        raise SystemExit(f"setup.py: {path} is no library for x86-64")
+    # (versions stand as texts in the table of strings)
+    wanted = {tuple(map(int, it.split(b"."))) for it in re.findall(rb"\0GLIBC_([0-9.]+)(?=\0)", code)}
+    if max(wanted, default=(2, 0)) > GLIBC:
+        raise SystemExit(f"setup.py: {path} needs a later glibc than {GLIBC}, which the wheel's tag says: {sorted(wanted)}")
+    return path
+
+
+class BuildWithLibrary(build_py):
+    def run(self):
+        super().run()
+        package = pathlib.Path(self.build_lib, "mvtgate")
+        # (copy follows the links from libmvtgate.so to the file)
+        shutil.copy(library(), package / "libmvtgate.so")
+        shutil.copy(HERE.parent / "faults.json", package)
+
+
+class WheelOfPlatform(bdist_wheel):
+    def get_tag(self):
+        return "py3", "none", f"manylinux_{GLIBC[0]}_{GLIBC[1]}_x86_64"
+
+
+class DistributionWithLibrary(Distribution):
+    # (so that it is installed where code for one platform goes)
+    def has_ext_modules(self):
+        return True
+
+
+setup(
+    distclass=DistributionWithLibrary,
+    cmdclass={"build_py": BuildWithLibrary, "bdist_wheel": WheelOfPlatform},
+)

@@ -1,0 +1,110 @@
+"""mvtgate: judges Mapbox vector tiles in this process, by the proved library libmvtgate.
+
+    import mvtgate
+
+    fault = mvtgate.check(tile)          # None, or the tile's first Fault
+    if fault:
+        print(mvtgate.explain(fault))
+
+A tile is its uncompressed bytes: bytes, bytearray, memoryview, mmap, or another object with contiguous bytes, which are read in
+place. As long as a call runs nothing may write to them, no other thread or process either, nor cut the file that is mapped: of
+bytes that may change hand over a copy, `bytes(it)`. All calls may be made by several threads at once; the interpreter's lock is
+let go while the library works. They raise TypeError for an object that isn't of the type that is asked, and MemoryError where
+memory was refused, after which they can be called again.
+"""
+from __future__ import annotations
+
+import enum
+import json
+from typing import TYPE_CHECKING, List, Union
+
+from . import _library
+from ._advice import Advice
+from ._dump import Tile
+from ._explain import explain
+from ._faults import Fault, NotAFault, NotATile, RingEdge, fault_of_library
+from ._library import LibraryNotFound
+
+if TYPE_CHECKING:
+    from _typeshed import ReadableBuffer
+
+__all__ = [
+    "Advice",
+    "Fault",
+    "LibraryNotFound",
+    "NotAFault",
+    "NotATile",
+    "Profile",
+    "RingEdge",
+    "Tile",
+    "advise",
+    "check",
+    "confirm",
+    "dump",
+    "explain",
+    "version",
+]
+
+
+class Profile(enum.IntEnum):
+    """What the polygons of a feature are held against: each by itself, or also against each other."""
+
+    POLYGON = 0
+    FEATURE = 1
+
+
+_NO_FAULT = {
+    _library.NOT_JSON: "the text is not JSON",
+    _library.NOT_A_FAULT: "the text holds no fault",
+    _library.OUT_OF_RANGE: "a number of the fault is out of range",
+}
+
+
+def _number_of(profile: Profile) -> int:
+    if not isinstance(profile, Profile):
+        raise TypeError(f"profile is a mvtgate.Profile, not {type(profile).__name__}")
+    return profile
+
+
+def check(tile: ReadableBuffer, profile: Profile = Profile.POLYGON) -> Union[Fault, None]:
+    """None for a valid tile, else its first fault in the order that docs/SPECIFICATION.md of the repository gives."""
+    text = _library.check(_number_of(profile), tile)
+    return None if text is None else fault_of_library(text)
+
+
+def confirm(tile: ReadableBuffer, fault: Union[Fault, str], profile: Profile = Profile.POLYGON) -> bool:
+    """Whether a fault, or the fault of a text, is true of a tile, by the separate checker, which shares no search with `check`.
+
+    NotAFault where the text is no JSON, no fault, or one with a number out of range.
+    """
+    if not isinstance(fault, (Fault, str)):
+        raise TypeError(f"fault is a mvtgate.Fault or a str, not {type(fault).__name__}")
+    text = fault.text if isinstance(fault, Fault) else fault
+    # (a str with half a surrogate pair is no UTF-8, and so no JSON)
+    status = _library.confirm(_number_of(profile), tile, text.encode("utf-8", "surrogatepass"))
+    if status in _NO_FAULT:
+        raise NotAFault(_NO_FAULT[status])
+    return status == _library.OK
+
+
+def dump(tile: ReadableBuffer) -> Tile:
+    """What a tile holds, whatever rules between its parts it breaks. NotATile where the bytes are no tile."""
+    is_tile, text = _library.dump(tile)
+    if not is_tile:
+        raise NotATile(fault_of_library(text))
+    loaded: Tile = json.loads(text)
+    return loaded
+
+
+def advise(tile: ReadableBuffer) -> List[Advice]:
+    """What no rule forbids in a tile and may be a mistake; often nothing. NotATile where the bytes are no tile."""
+    is_tile, text = _library.advise(tile)
+    if not is_tile:
+        raise NotATile(fault_of_library(text))
+    return [Advice(**it) for it in json.loads(text)["advice"]]
+
+
+def version() -> str:
+    """The library's version, such as '0.1.0'."""
+    number = _library.version()
+    return f"{number // 10000}.{number // 100 % 100}.{number % 100}"

@@ -1,0 +1,178 @@
+"""Faults as Python has them, and how they are read from their texts."""
+from __future__ import annotations
+
+import json
+import re
+from dataclasses import dataclass
+from fractions import Fraction
+from typing import Any, Dict, Mapping, Optional, Set, Tuple, Union
+
+from . import _words
+
+
+class NotAFault(ValueError):
+    """A text that isn't JSON, or isn't the text of a fault, or has a number that is out of range."""
+
+
+class NotATile(ValueError):
+    """Bytes that are no tile. `fault` is their first wire fault, of code 101 to 111."""
+
+    def __init__(self, fault: Fault) -> None:
+        super().__init__(fault)
+        self.fault = fault
+
+    def __str__(self) -> str:
+        return f"not a tile: {self.fault}"
+
+
+@dataclass(frozen=True)
+class RingEdge:
+    """An edge of a ring: the ring's number among all rings of the feature, and the edge's in the ring."""
+
+    ring: int
+    edge: int
+
+
+_RING_EDGE = {"edge", "ring"}
+_OF_SCOPE: Dict[str, Set[str]] = {"tile": set(), "layer": {"layer"}, "value": {"layer", "value"}, "feature": {"layer", "feature"}}
+# (the keys of a text beside `code`, for codes 201 to 507)
+_KEYS: Dict[int, Set[str]] = {
+    201: {"layer"},
+    202: {"first", "second"},
+    **{code: {"feature", "index", "layer"} for code in (*range(301, 305), *range(401, 407))},
+    **{code: {"feature", "layer", "ring"} for code in range(501, 504)},
+    504: {"feature", "first", "layer", "polygon", "second", "w", "x", "y"},
+    505: {"feature", "layer", "polygon", "ring", "vertex"},
+    506: {"feature", "layer", "other", "polygon", "ring", "vertex"},
+    507: {"feature", "layer", "other", "polygon", "vertex"},
+}
+_DIGITS = re.compile(r"0|-?[1-9][0-9]*", re.ASCII)
+
+
+def _keys_of(members: Mapping[str, Any]) -> Set[str]:
+    """The keys that a fault's text with this code and scope has. LookupError where there is no such fault."""
+    code = members["code"]
+    if type(code) is not int:
+        raise LookupError
+    if 101 <= code <= 111:
+        return {"at", "code", "field", "scope", *_OF_SCOPE[members["scope"]]}
+    return {"code", *_KEYS[code]}
+
+
+def _is_ordinal(it: object) -> bool:
+    return type(it) is int and 0 <= it < 2**64
+
+
+def _has_kind(code: int, key: str, it: object) -> bool:
+    """Whether this is what the key of such a fault has."""
+    if key == "scope":
+        return isinstance(it, str)
+    if key in ("x", "y", "w"):
+        return isinstance(it, str) and _DIGITS.fullmatch(it) is not None and len(it) <= 40 and -(2**127) <= int(it) < 2**127
+    if code == 504 and key in ("first", "second"):
+        return isinstance(it, dict) and set(it) == _RING_EDGE and all(map(_is_ordinal, it.values()))
+    return _is_ordinal(it) and (key != "field" or isinstance(it, int) and it < 2**32)
+
+
+def _is_fault(members: object) -> bool:
+    try:
+        return (
+            isinstance(members, dict)
+            and set(members) == _keys_of(members)
+            and all(_has_kind(members["code"], key, it) for key, it in members.items())
+        )
+    except (LookupError, TypeError):
+        return False
+
+
+def _member(key: str, it: Any) -> Any:
+    """A member of a text as a Fault has it."""
+    if key in ("x", "y", "w"):
+        return int(it)
+    return RingEdge(**it) if isinstance(it, dict) else it
+
+
+def _no_minus_zero(digits: str) -> int:
+    if digits == "-0":
+        raise ValueError(digits)
+    return int(digits)
+
+
+@dataclass(frozen=True)
+class Fault:
+    """What is wrong with a tile, and where. Faults are equal where their texts are; they can be keys of a dict.
+
+    `text` is the very text, as `mvtgate check` writes it. The other members are those of the text, all counted from 0, and None
+    where such a fault has none. `first` and `second` are layers (202), or edges of rings (504) that meet at (x / w, y / w).
+    `other` is the number of a hole's ring (506), or that of a polygon (507).
+    """
+
+    text: str
+    code: int
+    scope: Optional[str] = None
+    layer: Optional[int] = None
+    feature: Optional[int] = None
+    value: Optional[int] = None
+    at: Optional[int] = None
+    field: Optional[int] = None
+    index: Optional[int] = None
+    polygon: Optional[int] = None
+    ring: Optional[int] = None
+    vertex: Optional[int] = None
+    other: Optional[int] = None
+    first: Union[int, RingEdge, None] = None
+    second: Union[int, RingEdge, None] = None
+    x: Optional[int] = None
+    y: Optional[int] = None
+    w: Optional[int] = None
+
+    @classmethod
+    def from_text(cls, text: Union[str, bytes]) -> Fault:
+        """The fault of a text, such as a line of `mvtgate check` that was kept. NotAFault where it is none.
+
+        Spaces and the order of the keys don't matter; `text` of the fault is the one that `check` would write.
+        """
+        try:
+            members = json.loads(text, parse_int=_no_minus_zero)
+        except (ValueError, RecursionError) as error:
+            raise NotAFault(f"the text is not JSON, or has a number that no fault has: {error}") from None
+        if not _is_fault(members):
+            raise NotAFault("the text holds no fault")
+        compact = json.dumps(members, separators=(",", ":"), sort_keys=True)
+        return cls(compact, **{key: _member(key, it) for key, it in members.items()})
+
+    def __str__(self) -> str:
+        return f"{self.code}: {self.sentence}"
+
+    @property
+    def members(self) -> Dict[str, Any]:
+        """The members as the text has them, in a dict of the caller's own."""
+        loaded: Dict[str, Any] = json.loads(self.text)
+        return loaded
+
+    @property
+    def title(self) -> str:
+        """What the code means, in some words."""
+        return _words.words_of_fault(self.code)["title"]
+
+    @property
+    def sentence(self) -> str:
+        """What is wrong, in a sentence with the fault's numbers."""
+        return _words.fill(_words.words_of_fault(self.code)["sentence"], self.members)
+
+    @property
+    def place(self) -> str:
+        """Where it is, in words: 'layer 0, feature 2, ring 1'."""
+        return _words.fill(_words.words_of_fault(self.code)["place"], self.members)
+
+    @property
+    def point(self) -> Optional[Tuple[Fraction, Fraction]]:
+        """The exact point where two edges meet (504), in the tile's units; None for other codes."""
+        if self.x is None or self.y is None or not self.w:
+            return None
+        return Fraction(self.x, self.w), Fraction(self.y, self.w)
+
+
+def fault_of_library(text: str) -> Fault:
+    """The fault of a text that the library wrote. It needs none of the tests of `from_text`, which take several times as long."""
+    return Fault(text, **{key: _member(key, it) for key, it in json.loads(text).items()})

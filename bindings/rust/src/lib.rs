@@ -1,0 +1,195 @@
+//! Judges uncompressed Mapbox vector tiles in this process, by the library libmvtgate, whose verdicts are proved.
+//!
+//! ```
+//! use mvtgate::{check, Profile};
+//!
+//! let tile = b"\x1a\x05"; // a layer of five bytes, none of which are there
+//! match check(tile, Profile::Polygon)? {
+//!     None => println!("publish it"),
+//!     Some(fault) => eprintln!("keep it back: {} {}", fault, fault.text()),
+//! }
+//! # Ok::<(), mvtgate::OutOfMemory>(())
+//! ```
+//!
+//! A tile is handed over uncompressed: bytes of gzip get the fault 104. No call keeps anything, so any number of threads
+//! may call at once. A call for a tile of n bytes takes memory for a few times n; where that is refused, it says so, and
+//! nothing is known of the tile.
+//!
+//! # Linking
+//!
+//! `build.rs` links the static library of `bindings/c/out` in the repository, or the library in the folder that the
+//! environment variable `MVTGATE_LIB_DIR` names, or the one that pkg-config knows. The library is for x86-64 Linux.
+
+mod advice;
+mod code;
+mod error;
+mod fault;
+mod ffi;
+mod profile;
+mod reader;
+mod sentence;
+mod text;
+#[rustfmt::skip]
+mod words;
+
+pub use advice::Advice;
+pub use code::{CommandCode, RingCode, TagCode, WireCode};
+pub use error::{ConfirmError, DumpError, OutOfMemory};
+pub use fault::{Fault, RingEdge, Scope};
+pub use profile::Profile;
+pub use text::NotAFaultText;
+
+use std::fmt;
+
+/// None where the bytes are a valid tile by the profile, else the first fault. Where several pairs of edges of one
+/// polygon meet, any one of these is told.
+///
+/// ```
+/// # use mvtgate::{check, Profile};
+/// assert_eq!(check(b"", Profile::Polygon), Ok(None)); // a tile without layers
+/// let fault = check(b"\x1f\x8b\x08\x00", Profile::Polygon)?.expect("gzip is no tile");
+/// assert_eq!(fault.code(), 104);
+/// # Ok::<(), mvtgate::OutOfMemory>(())
+/// ```
+///
+/// # Panics
+///
+/// Where the library that is linked tells a fault that this crate doesn't know: it is of another version.
+pub fn check(tile: &[u8], profile: Profile) -> Result<Option<Fault>, OutOfMemory> {
+    let mut room = [0; ffi::TEXT_ROOM];
+    let (status, length) = ffi::check(profile, tile, &mut room);
+    match status {
+        0 => Ok(None),
+        1 => Ok(Some(read_fault(&room[..length]))),
+        ffi::OUT_OF_MEMORY => Err(OutOfMemory),
+        _ => other_version("mvtgate_check", status),
+    }
+}
+
+/// Whether the fault is true of the tile by the profile, by a checker that shares no search with [`check`]. It takes no
+/// memory for the tile, so that a process may doubt another one's fault at little cost.
+///
+/// ```
+/// # use mvtgate::{check, confirm, Profile};
+/// let fault = check(b"\x1a\x05", Profile::Polygon)?.expect("the layer is cut");
+/// assert_eq!(confirm(b"\x1a\x05", &fault, Profile::Polygon), Ok(true));
+/// assert_eq!(confirm(b"", &fault, Profile::Polygon), Ok(false));
+/// # Ok::<(), mvtgate::OutOfMemory>(())
+/// ```
+pub fn confirm(tile: &[u8], fault: &Fault, profile: Profile) -> Result<bool, OutOfMemory> {
+    match confirm_text(tile, fault.text(), profile) {
+        Ok(is_true) => Ok(is_true),
+        Err(ConfirmError::OutOfMemory) => Err(OutOfMemory),
+        Err(error) => panic!("libmvtgate is of another version: {}: {}", fault.text(), error),
+    }
+}
+
+/// The same for the text of a fault, in any spelling of its JSON.
+///
+/// ```
+/// # use mvtgate::{confirm_text, ConfirmError, Profile};
+/// let text = r#"{"scope": "tile", "code": 105, "at": 0, "field": 3}"#;
+/// assert_eq!(confirm_text(b"\x1a\x05", text, Profile::Polygon), Ok(true));
+/// assert_eq!(confirm_text(b"\x1a\x05", "{", Profile::Polygon), Err(ConfirmError::NotJson));
+/// assert_eq!(confirm_text(b"\x1a\x05", "{}", Profile::Polygon), Err(ConfirmError::NoFault));
+/// ```
+pub fn confirm_text(tile: &[u8], text: impl AsRef<[u8]>, profile: Profile) -> Result<bool, ConfirmError> {
+    match ffi::confirm(profile, tile, text.as_ref()) {
+        0 => Ok(true),
+        1 => Ok(false),
+        ffi::OUT_OF_MEMORY => Err(ConfirmError::OutOfMemory),
+        5 => Err(ConfirmError::NotJson),
+        6 => Err(ConfirmError::NoFault),
+        7 => Err(ConfirmError::OutOfRange),
+        status => other_version("mvtgate_confirm", status),
+    }
+}
+
+/// What a tile holds, as JSON: the text of `mvtgate dump`. It asks only that the bytes are a tile, not that it is valid.
+///
+/// ```
+/// # use mvtgate::{dump, DumpError};
+/// assert_eq!(dump(b"").as_deref(), Ok(r#"{"layers":[]}"#));
+/// match dump(b"\x1a\x05") {
+///     Err(DumpError::Fault(fault)) => assert_eq!(fault.code(), 105),
+///     other => panic!("{:?}", other),
+/// }
+/// ```
+pub fn dump(tile: &[u8]) -> Result<String, DumpError> {
+    // (a number of one byte becomes two or three characters; the names of members come on top)
+    let guess = tile.len().saturating_mul(4).saturating_add(ffi::TEXT_ROOM);
+    write(tile, guess, "mvtgate_dump", ffi::dump)
+}
+
+/// What no rule forbids in a tile and may still be a mistake, in the order of the layers. Like [`dump`] it asks only that
+/// the bytes are a tile.
+///
+/// ```
+/// # use mvtgate::{advise, Advice};
+/// assert_eq!(advise(b""), Ok(vec![Advice::NoLayer]));
+/// ```
+///
+/// # Panics
+///
+/// As [`check`] does.
+pub fn advise(tile: &[u8]) -> Result<Vec<Advice>, DumpError> {
+    let text = write(tile, ffi::TEXT_ROOM, "mvtgate_advise", ffi::advise)?;
+    Ok(advice::read(&text).unwrap_or_else(|| unknown_text(&text)))
+}
+
+/// The version of the library, which needn't be that of this crate.
+#[derive(Clone, Copy, Debug, PartialEq, Eq, PartialOrd, Ord)]
+pub struct Version {
+    /// The first number.
+    pub major: u32,
+    /// The second number.
+    pub minor: u32,
+    /// The third number.
+    pub patch: u32,
+}
+
+impl fmt::Display for Version {
+    fn fmt(&self, out: &mut fmt::Formatter<'_>) -> fmt::Result {
+        write!(out, "{}.{}.{}", self.major, self.minor, self.patch)
+    }
+}
+
+/// The version of the library that is linked.
+pub fn version() -> Version {
+    let number = ffi::version();
+    Version { major: number / 10_000, minor: number / 100 % 100, patch: number % 100 }
+}
+
+/// The text that a call writes of a tile. It begins with a room of so many bytes, and calls again where that is too small.
+fn write(tile: &[u8], guess: usize, name: &str, call: ffi::Writer) -> Result<String, DumpError> {
+    let mut wanted = guess;
+    loop {
+        let mut room = Vec::new();
+        room.try_reserve_exact(wanted).map_err(|_| OutOfMemory)?;
+        room.resize(wanted, 0);
+        let (status, length) = call(tile, &mut room);
+        match status {
+            0 => {
+                room.truncate(length);
+                return Ok(String::from_utf8(room).expect("a text of the library is UTF-8"));
+            }
+            1 => return Err(DumpError::Fault(read_fault(&room[..length]))),
+            ffi::OUT_OF_MEMORY => return Err(DumpError::OutOfMemory),
+            ffi::ROOM_TOO_SMALL if length > wanted => wanted = length,
+            _ => other_version(name, status),
+        }
+    }
+}
+
+fn read_fault(text: &[u8]) -> Fault {
+    let text = std::str::from_utf8(text).expect("a fault's text is ASCII");
+    text.parse().unwrap_or_else(|_| unknown_text(text))
+}
+
+fn unknown_text(text: &str) -> ! {
+    panic!("libmvtgate {} is of another version than this crate: it says {}", version(), text)
+}
+
+fn other_version(call: &str, status: i32) -> ! {
+    panic!("libmvtgate {} is of another version than this crate: {} gives {}", version(), call, status)
+}

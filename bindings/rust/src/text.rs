@@ -1,0 +1,192 @@
+//! The JSON text of a fault: written from its members, and read back from just that text.
+
+use crate::code::{CommandCode, RingCode, TagCode, WireCode};
+use crate::fault::{Fault, RingEdge, Scope};
+use crate::reader::Reader;
+use std::fmt;
+use std::str::FromStr;
+
+impl Fault {
+    /// The fault as JSON, to the byte as `mvtgate check` writes it, without the line's end. It has at most 384 bytes.
+    ///
+    /// ```
+    /// let fault = mvtgate::check(b"\x1a\x05", mvtgate::Profile::Polygon)?.expect("the layer is cut");
+    /// assert_eq!(fault.text(), r#"{"at":0,"code":105,"field":3,"scope":"tile"}"#);
+    /// assert_eq!(fault.text().parse(), Ok(fault));
+    /// # Ok::<(), mvtgate::OutOfMemory>(())
+    /// ```
+    pub fn text(&self) -> String {
+        match *self {
+            Fault::Wire { code, scope, at, field } => wire_text(code.code(), scope, at, field),
+            Fault::Version { layer } => format!(r#"{{"code":201,"layer":{}}}"#, layer),
+            Fault::Name { first, second } => format!(r#"{{"code":202,"first":{},"second":{}}}"#, first, second),
+            Fault::Tag { code, layer, feature, index } => index_text(code.code(), layer, feature, index),
+            Fault::Command { code, layer, feature, index } => index_text(code.code(), layer, feature, index),
+            Fault::Ring { code, layer, feature, ring } => {
+                format!(r#"{{"code":{},"feature":{},"layer":{},"ring":{}}}"#, code.code(), feature, layer, ring)
+            }
+            Fault::Meeting { layer, feature, polygon, first, second, x, y, w } => format!(
+                r#"{{"code":504,"feature":{},"first":{},"layer":{},"polygon":{},"second":{},"w":"{}","x":"{}","y":"{}"}}"#,
+                feature,
+                edge_text(first),
+                layer,
+                polygon,
+                edge_text(second),
+                w,
+                x,
+                y
+            ),
+            Fault::Outside { layer, feature, polygon, ring, vertex } => format!(
+                r#"{{"code":505,"feature":{},"layer":{},"polygon":{},"ring":{},"vertex":{}}}"#,
+                feature, layer, polygon, ring, vertex
+            ),
+            Fault::HoleInHole { layer, feature, polygon, ring, vertex, other } => format!(
+                r#"{{"code":506,"feature":{},"layer":{},"other":{},"polygon":{},"ring":{},"vertex":{}}}"#,
+                feature, layer, other, polygon, ring, vertex
+            ),
+            Fault::InPolygon { layer, feature, polygon, vertex, other } => format!(
+                r#"{{"code":507,"feature":{},"layer":{},"other":{},"polygon":{},"vertex":{}}}"#,
+                feature, layer, other, polygon, vertex
+            ),
+        }
+    }
+}
+
+fn wire_text(code: u16, scope: Scope, at: u64, field: u32) -> String {
+    match scope {
+        Scope::Tile => format!(r#"{{"at":{},"code":{},"field":{},"scope":"tile"}}"#, at, code, field),
+        Scope::Layer { layer } => {
+            format!(r#"{{"at":{},"code":{},"field":{},"layer":{},"scope":"layer"}}"#, at, code, field, layer)
+        }
+        Scope::Value { layer, value } => format!(
+            r#"{{"at":{},"code":{},"field":{},"layer":{},"scope":"value","value":{}}}"#,
+            at, code, field, layer, value
+        ),
+        Scope::Feature { layer, feature } => format!(
+            r#"{{"at":{},"code":{},"feature":{},"field":{},"layer":{},"scope":"feature"}}"#,
+            at, code, feature, field, layer
+        ),
+    }
+}
+
+fn index_text(code: u16, layer: u64, feature: u64, index: u64) -> String {
+    format!(r#"{{"code":{},"feature":{},"index":{},"layer":{}}}"#, code, feature, index, layer)
+}
+
+fn edge_text(edge: RingEdge) -> String {
+    format!(r#"{{"edge":{},"ring":{}}}"#, edge.edge, edge.ring)
+}
+
+/// A text that isn't, to the byte, the text of a fault.
+#[derive(Clone, Copy, Debug, PartialEq, Eq)]
+pub struct NotAFaultText;
+
+impl fmt::Display for NotAFaultText {
+    fn fmt(&self, out: &mut fmt::Formatter<'_>) -> fmt::Result {
+        out.write_str("this is not the text of a fault as mvtgate writes it")
+    }
+}
+
+impl std::error::Error for NotAFaultText {}
+
+/// Reads exactly the texts that [`Fault::text`] gives. Other spellings of the same JSON are refused:
+/// [`confirm_text`](crate::confirm_text) takes those too.
+impl FromStr for Fault {
+    type Err = NotAFaultText;
+
+    fn from_str(text: &str) -> Result<Self, NotAFaultText> {
+        let reader = Reader::new(text);
+        let fault = if text.starts_with(r#"{"at":"#) { read_wire(reader) } else { read_rule(reader) };
+        fault.ok_or(NotAFaultText)
+    }
+}
+
+fn read_wire(mut text: Reader) -> Option<Fault> {
+    let at = text.first_number("at")?;
+    let code = WireCode::of(text.number("code")?)?;
+    let feature = text.number("feature");
+    let field = u32::try_from(text.number("field")?).ok()?;
+    let layer = text.number("layer");
+    text.key(",", "scope")?;
+    let scope = match (layer, feature) {
+        (None, None) if text.takes(r#""tile""#) => Scope::Tile,
+        (Some(layer), None) if text.takes(r#""layer""#) => Scope::Layer { layer },
+        (Some(layer), None) => {
+            text.take(r#""value""#)?;
+            let value = text.number("value")?;
+            Scope::Value { layer, value }
+        }
+        (Some(layer), Some(feature)) => {
+            text.take(r#""feature""#)?;
+            Scope::Feature { layer, feature }
+        }
+        _ => return None,
+    };
+    text.take("}")?;
+    text.end()?;
+    Some(Fault::Wire { code, scope, at, field })
+}
+
+fn read_rule(mut text: Reader) -> Option<Fault> {
+    let code = text.first_number("code")?;
+    let fault = match code {
+        201 => Fault::Version { layer: text.number("layer")? },
+        202 => Fault::Name { first: text.number("first")?, second: text.number("second")? },
+        _ => read_in_feature(code, &mut text)?,
+    };
+    text.take("}")?;
+    text.end()?;
+    Some(fault)
+}
+
+/// The members of a fault of a feature behind its code.
+fn read_in_feature(number: u64, text: &mut Reader) -> Option<Fault> {
+    let feature = text.number("feature")?;
+    if let Some(code) = TagCode::of(number) {
+        let (index, layer) = (text.number("index")?, text.number("layer")?);
+        return Some(Fault::Tag { code, layer, feature, index });
+    }
+    if let Some(code) = CommandCode::of(number) {
+        let (index, layer) = (text.number("index")?, text.number("layer")?);
+        return Some(Fault::Command { code, layer, feature, index });
+    }
+    if number == 504 {
+        return read_meeting(feature, text);
+    }
+    let layer = text.number("layer")?;
+    if let Some(code) = RingCode::of(number) {
+        let ring = text.number("ring")?;
+        return Some(Fault::Ring { code, layer, feature, ring });
+    }
+    read_nesting(number, layer, feature, text)
+}
+
+fn read_meeting(feature: u64, text: &mut Reader) -> Option<Fault> {
+    text.key(",", "first")?;
+    let first = read_edge(text)?;
+    let (layer, polygon) = (text.number("layer")?, text.number("polygon")?);
+    text.key(",", "second")?;
+    let second = read_edge(text)?;
+    let w = text.wide_number("w")?;
+    let (x, y) = (text.wide_number("x")?, text.wide_number("y")?);
+    Some(Fault::Meeting { layer, feature, polygon, first, second, x, y, w })
+}
+
+fn read_edge(text: &mut Reader) -> Option<RingEdge> {
+    let (edge, ring) = (text.first_number("edge")?, text.number("ring")?);
+    text.take("}")?;
+    Some(RingEdge { ring, edge })
+}
+
+fn read_nesting(code: u64, layer: u64, feature: u64, text: &mut Reader) -> Option<Fault> {
+    let other = text.number("other");
+    let polygon = text.number("polygon")?;
+    let ring = text.number("ring");
+    let vertex = text.number("vertex")?;
+    match (code, other, ring) {
+        (505, None, Some(ring)) => Some(Fault::Outside { layer, feature, polygon, ring, vertex }),
+        (506, Some(other), Some(ring)) => Some(Fault::HoleInHole { layer, feature, polygon, ring, vertex, other }),
+        (507, Some(other), None) => Some(Fault::InPolygon { layer, feature, polygon, vertex, other }),
+        _ => None,
+    }
+}

@@ -1,0 +1,4 @@
+pub mod ProfileNumber
+pub mod TextRoom
+pub mod Texts
+pub mod Version

@@ -1,0 +1,19 @@
+//! The gate for programs in C, and in any language that calls C: the exports of a static library. Each says what it
+//! writes and writes nothing else, and none keeps anything from one call to the next.
+#![tactic(auto)]
+
+mod advise;
+mod check;
+mod confirm;
+mod dump;
+mod fault_text;
+mod profile;
+mod status;
+mod text;
+mod version;
+
+pub use advise::mvtgate_advise;
+pub use check::mvtgate_check;
+pub use confirm::mvtgate_confirm;
+pub use dump::mvtgate_dump;
+pub use version::mvtgate_version;

@@ -1,0 +1,22 @@
+//! The profile that a number names.
+ghost use Rattle.std.specs.Prelude.{◌≡◌, ◌≢◌, IfNone, IfSome};
+ghost use Rattle.mvt_fault.specs.declared.profile.Profile.{Profile};
+ghost use Rattle.mvtgate_c.specs.ProfileNumber.{profile_number};
+
+use mvt_fault::Profile;
+
+const POLYGON: u32 = 0;
+
+const FEATURE: u32 = 1;
+
+/// The profile of a number, where it is one's.
+pub(crate) fn profile_of(number: u32) -> Option<Profile>
+    ensures some { IfSome result (λ profile. number ≡ profile_number profile) }
+    ensures none { IfNone result ((profile : Profile) → number ≢ profile_number profile) }
+{
+    match number {
+        POLYGON => Some(Profile::Polygon),
+        FEATURE => Some(Profile::Feature),
+        _ => None,
+    }
+}
