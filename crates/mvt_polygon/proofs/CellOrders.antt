@@ -1,5 +1,5 @@
 -- Numbers with their cells and least coordinates, as they are and in order.
-use Rattle.std.proofs.Common.{◌≡◌, inl, inr, ◌∙◌, sym, ap, subst, true≢false, ℕ, ◌<◌, false, List, length, get_or, slice_get, Some, ℤ, pos, ◌<ℤ◌, arith}
+use Rattle.std.proofs.Common.{◌≡◌, ◌⊎◌, inl, inr, ◌∙◌, sym, ap, true≢false, ℕ, ◌+◌, ◌<◌, Bool, false, List, [], ◌∷◌, ◌++◌, below_more, length, get_or, slice_get, Some, ℤ, pos, ◌<ℤ◌, arith}
 use Rattle.std.specs.Cmp.{int_cmp_is}
 use Rattle.std.specs.List.Sorted.{IsPermutation, IsSortedByKey}
 use Rattle.std.specs.List.{swap}
@@ -9,60 +9,93 @@ use Rattle.std.specs.declared.cmp.Ordering.{Ordering}
 use Rattle.std.proofs.lemmas.Bool.{cases_order}
 use Rattle.std.proofs.lemmas.Cmp.{nat_cmp_total, int_cmp_total, on_total, then_total}
 use Rattle.std.proofs.lemmas.Grind.{common_steps}
-use Rattle.std.proofs.lemmas.List.Sorted.{IsPermutation-keeps, length_permutation, ranks_by, sorted_far}
+use Rattle.std.proofs.lemmas.List.Sorted.{IsPermutation-keeps, ranks_by, sorted_far}
 use Rattle.std.proofs.lemmas.Option.{slice_get_within, same_Some, get_or_from_slice_get}
 use Rattle.mvt_fault.proofs.Swaps.{place_before, place_twice, swap_get}
 use Rattle.mvt_plane.proofs.Order.{le_or_lt}
 use Rattle.mvt_polygon.specs.Cells.{IsBefore, IsCellOrder, keyed_number}
+use Rattle.mvt_polygon.proofs.ChainParts.{in_longer}
+use Rattle.mvt_polygon.proofs.GatheredLists.{IsMarked, get_left, get_right}
 
--- the first numbers, so many of them
-pub record AreKeyedNumbers (spans : List (ℤ × ℤ)) (cells : List ℕ) (count : ℕ) (order : List (ℕ × ℤ × ℕ)) : Type 0 where
-  pub size : length order ≡ count
-  pub each : (at : ℕ) → at < count → slice_get order at ≡ Some (keyed_number spans cells at)
+-- the marked numbers of the first ones, so many of them, each once, in any order
+pub record AreNumbered (spans : List (ℤ × ℤ)) (cells : List ℕ) (marks : List Bool) (count : ℕ) (order : List (ℕ × ℤ × ℕ)) : Type 0 where
+  pub known : (at : ℕ) (it : ℕ × ℤ × ℕ) → slice_get order at ≡ Some it → it.2 < count
+  pub keyed : (at : ℕ) (it : ℕ × ℤ × ℕ) → slice_get order at ≡ Some it → it ≡ keyed_number spans cells it.2
+  pub all : (number : ℕ) → number < count → IsMarked marks number → (at : ℕ) × (slice_get order at ≡ Some (keyed_number spans cells number))
+  pub once : (at other : ℕ) (it its : ℕ × ℤ × ℕ) → slice_get order at ≡ Some it → slice_get order other ≡ Some its → it.2 ≡ its.2 → at ≡ other
 
--- all numbers, each once, in any order
-record AreNumbered (spans : List (ℤ × ℤ)) (cells : List ℕ) (order : List (ℕ × ℤ × ℕ)) : Type 0 where
-  known : (at : ℕ) (it : ℕ × ℤ × ℕ) → slice_get order at ≡ Some it → it.2 < length cells
-  keyed : (at : ℕ) (it : ℕ × ℤ × ℕ) → slice_get order at ≡ Some it → it ≡ keyed_number spans cells it.2
-  all : (number : ℕ) → number < length cells → (at : ℕ) × (slice_get order at ≡ Some (keyed_number spans cells number))
-  once : (at other : ℕ) (it its : ℕ × ℤ × ℕ) → slice_get order at ≡ Some it → slice_get order other ≡ Some its → it.2 ≡ its.2 → at ≡ other
-
--- what is at a place of the numbers as they are
-record IsThere (spans : List (ℤ × ℤ)) (cells : List ℕ) (at : ℕ) (it : ℕ × ℤ × ℕ) : Type 0 where
-  within : at < length cells
-  is : keyed_number spans cells at ≡ it
-
--- each place has its own number
-there_of : (spans : List (ℤ × ℤ)) (cells : List ℕ) (order : List (ℕ × ℤ × ℕ)) (at : ℕ) (it : ℕ × ℤ × ℕ) → AreKeyedNumbers spans cells (length cells) order → slice_get order at ≡ Some it
-    → IsThere spans cells at it
-there_of spans cells order at it all there =
-    let inside = slice_get_within order at it there in
-    let within : at < length cells = omega (arith, inside, all.size) in
-    record { within = within; is = same_Some (keyed_number spans cells at) it (sym (all.each at within) ∙ there) }
-
--- the number there
-number_of : (spans : List (ℤ × ℤ)) (cells : List ℕ) (at : ℕ) (it : ℕ × ℤ × ℕ) → IsThere spans cells at it → at ≡ it.2
-number_of spans cells at it there = ap (λ (it : ℕ × ℤ × ℕ). it.2) there.is
-
--- as they are, all numbers are there once
-numbered : (spans : List (ℤ × ℤ)) (cells : List ℕ) (order : List (ℕ × ℤ × ℕ)) → AreKeyedNumbers spans cells (length cells) order → AreNumbered spans cells order
-numbered spans cells order all = record {
-  known = λ at it there. let is = there_of spans cells order at it all there in subst (λ (number : ℕ). number < length cells) (number_of spans cells at it is) is.within;
-  keyed = λ at it there. let is = there_of spans cells order at it all there in sym is.is ∙ ap (keyed_number spans cells) (number_of spans cells at it is);
-  all = λ number below. (number, all.each number below);
-  once = λ at other it its there elsewhere same.
-      number_of spans cells at it (there_of spans cells order at it all there) ∙ same ∙ sym (number_of spans cells other its (there_of spans cells order other its all elsewhere));
+-- of none there is none
+pub none_numbered : (spans : List (ℤ × ℤ)) (cells : List ℕ) (marks : List Bool) → AreNumbered spans cells marks 0 []
+none_numbered spans cells marks = record {
+  known = λ at it there. absurd (omega (arith, slice_get_within [] at it there));
+  keyed = λ at it there. absurd (omega (arith, slice_get_within [] at it there));
+  all = λ number below. absurd (omega arith);
+  once = λ at other it its there. absurd (omega (arith, slice_get_within [] at it there));
 }
 
+module _ (spans : List (ℤ × ℤ)) (cells : List ℕ) (marks : List Bool) (count : ℕ) (order : List (ℕ × ℤ × ℕ)) (so_far : AreNumbered spans cells marks count order) where
+  -- a number that isn't marked is passed by
+  pub number_passed : get_or marks count false ≡ false → AreNumbered spans cells marks (count + 1) order
+  number_passed unmarked = record {
+    known = λ at it there. let below = so_far.known at it there in omega arith;
+    keyed = so_far.keyed;
+    all = below_more (λ (number : ℕ). IsMarked marks number → (at : ℕ) × (slice_get order at ≡ Some (keyed_number spans cells number))) count so_far.all (λ marked. absurd (true≢false (sym marked ∙ unmarked)));
+    once = so_far.once;
+  }
+
+  module _ (longer : List (ℕ × ℤ × ℕ)) (more : longer ≡ order ++ keyed_number spans cells count ∷ []) where
+    -- what is at a place was there, or is the last one
+    at_place : (at : ℕ) (it : ℕ × ℤ × ℕ) → slice_get longer at ≡ Some it → (slice_get order at ≡ Some it) ⊎ ((at ≡ length order) × (keyed_number spans cells count ≡ it))
+    at_place at it there = in_longer order (keyed_number spans cells count) at it (sym (ap (λ (list : List (ℕ × ℤ × ℕ)). slice_get list at) more) ∙ there)
+
+    -- what was there still is
+    still_there : (at : ℕ) (it : ℕ × ℤ × ℕ) → slice_get order at ≡ Some it → slice_get longer at ≡ Some it
+    still_there at it there =
+        ap (λ (list : List (ℕ × ℤ × ℕ)). slice_get list at) more ∙ get_left order (keyed_number spans cells count ∷ []) at (slice_get_within order at it there) ∙ there
+
+    -- and the last one is
+    last_there : slice_get longer (length order) ≡ Some (keyed_number spans cells count)
+    last_there = ap (λ (list : List (ℕ × ℤ × ℕ)). slice_get list (length order)) more ∙ get_right order (keyed_number spans cells count ∷ []) 0 (length order) (omega arith)
+
+    -- its number
+    number_of : (it : ℕ × ℤ × ℕ) → keyed_number spans cells count ≡ it → count ≡ it.2
+    number_of it is = ap (λ (it : ℕ × ℤ × ℕ). it.2) is
+
+    -- a marked number is added
+    pub number_added : AreNumbered spans cells marks (count + 1) longer
+    number_added = record {
+      known = λ at it there. elim (at_place at it there) [
+        | inl earlier ↦ let below = so_far.known at it earlier in omega arith
+        | inr last ↦ let is = number_of it last.1 in omega arith
+      ];
+      keyed = λ at it there. elim (at_place at it there) [
+        | inl earlier ↦ so_far.keyed at it earlier
+        | inr last ↦ sym last.1 ∙ ap (keyed_number spans cells) (number_of it last.1)
+      ];
+      all = below_more (λ (number : ℕ). IsMarked marks number → (at : ℕ) × (slice_get longer at ≡ Some (keyed_number spans cells number))) count
+          (λ number below marked. let found = so_far.all number below marked in (found.0, still_there found.0 (keyed_number spans cells number) found.1))
+          (λ _. (length order, last_there));
+      once = λ at other it its there elsewhere same. elim (at_place at it there) [
+        | inl earlier ↦ elim (at_place other its elsewhere) [
+          | inl before ↦ so_far.once at other it its earlier before same
+          | inr last ↦ let below = so_far.known at it earlier in let is = number_of its last.1 in absurd (omega arith)
+        ]
+        | inr own ↦ elim (at_place other its elsewhere) [
+          | inl before ↦ let below = so_far.known other its before in let is = number_of it own.1 in absurd (omega arith)
+          | inr last ↦ own.0 ∙ sym last.0
+        ]
+      ];
+    }
+
 -- two of them change places
-numbered_swapped : (spans : List (ℤ × ℤ)) (cells : List ℕ) (order : List (ℕ × ℤ × ℕ)) (one other : ℕ) → one < length order → other < length order → AreNumbered spans cells order
-    → AreNumbered spans cells (swap order one other)
-numbered_swapped spans cells order one other first second all =
+numbered_swapped : (spans : List (ℤ × ℤ)) (cells : List ℕ) (marks : List Bool) (count : ℕ) (order : List (ℕ × ℤ × ℕ)) (one other : ℕ) → one < length order → other < length order
+    → AreNumbered spans cells marks count order → AreNumbered spans cells marks count (swap order one other)
+numbered_swapped spans cells marks count order one other first second all =
     let moved = λ (at : ℕ). swap_get order (0, pos 0, 0) one other at first second in
     record {
       known = λ at it there. all.known (place_before one other at) it (sym (moved at) ∙ there);
       keyed = λ at it there. all.keyed (place_before one other at) it (sym (moved at) ∙ there);
-      all = λ number below. let found = all.all number below in
+      all = λ number below marked. let found = all.all number below marked in
           (place_before one other found.0, moved (place_before one other found.0) ∙ ap (slice_get order) (place_twice one other found.0) ∙ found.1);
       once = λ at another it its there elsewhere same.
           sym (place_twice one other at)
@@ -103,14 +136,13 @@ before_of one other not_less = elim (cases_order one.0 other.0) [
   | inr (inr less) ↦ absurd (true≢false (sym (ap is_lt (first_less other.0 one.0 other.1 one.1 less)) ∙ not_less))
 ]
 
--- a sort of all numbers by those pairs puts them in order
-pub cells_sorted : (spans : List (ℤ × ℤ)) (cells : List ℕ) (before order : List (ℕ × ℤ × ℕ)) → AreKeyedNumbers spans cells (length cells) before → IsPermutation before order → IsSortedByKey key_of pair_cmp order
-    → IsCellOrder spans cells order
-cells_sorted spans cells before order all permutation sorted =
-    let numbers = IsPermutation-keeps before (AreNumbered spans cells) (numbered spans cells before all)
-    (λ list one other first second is. numbered_swapped spans cells list one other first second is) order permutation in
+-- a sort of the marked numbers by those pairs puts them in order
+pub cells_sorted : (spans : List (ℤ × ℤ)) (cells : List ℕ) (marks : List Bool) (before order : List (ℕ × ℤ × ℕ)) → AreNumbered spans cells marks (length cells) before → IsPermutation before order
+    → IsSortedByKey key_of pair_cmp order → IsCellOrder spans cells marks order
+cells_sorted spans cells marks before order all permutation sorted =
+    let numbers = IsPermutation-keeps before (AreNumbered spans cells marks (length cells)) all
+    (λ list one other first second is. numbered_swapped spans cells marks (length cells) list one other first second is) order permutation in
     record {
-      size = length_permutation before order permutation ∙ all.size;
       known = numbers.known;
       keyed = numbers.keyed;
       all = numbers.all;

@@ -70,13 +70,13 @@ module _ (marks : List Bool) (count : ℕ → ℕ) where
 -- Lists
 
 -- what is at a place of the first of two lists
-get_left : {X : Type 0} (xs ys : List X) (place : ℕ) → place < length xs → slice_get (xs ++ ys) place ≡ slice_get xs place
+pub get_left : {X : Type 0} (xs ys : List X) (place : ℕ) → place < length xs → slice_get (xs ++ ys) place ≡ slice_get xs place
 get_left [] ys place within = absurd (omega arith)
 get_left (x ∷ xs) ys zero within = refl
 get_left (x ∷ xs) ys (suc place) within = get_left xs ys place (omega arith)
 
 -- and of the second
-get_right : {X : Type 0} (xs ys : List X) (at place : ℕ) → place ≡ length xs + at → slice_get (xs ++ ys) place ≡ slice_get ys at
+pub get_right : {X : Type 0} (xs ys : List X) (at place : ℕ) → place ≡ length xs + at → slice_get (xs ++ ys) place ≡ slice_get ys at
 get_right [] ys at place is = ap (slice_get ys) (omega arith)
 get_right (x ∷ xs) ys at zero is = absurd (omega arith)
 get_right (x ∷ xs) ys at (suc place) is = get_right xs ys at place (omega arith)

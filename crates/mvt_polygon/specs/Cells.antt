@@ -1,5 +1,5 @@
 -- Cells of polygons: two of different cells have bounds that are apart along an axis.
-use Rattle.std.specs.Prelude.{◌≡◌, ◌≢◌, ◌⊎◌, ℕ, ◌<◌, ◌≤◌, Bool, false, List, length, slice_get, slice_index, slice_index_or, Some, ℤ, pos, ◌<ℤ◌, ◌≤ℤ◌}
+use Rattle.std.specs.Prelude.{◌≡◌, ◌≢◌, ◌⊎◌, ℕ, ◌<◌, ◌≤◌, Bool, true, false, List, length, slice_get, slice_index, slice_index_or, Some, ℤ, pos, ◌<ℤ◌, ◌≤ℤ◌}
 use Rattle.mvt_plane.specs.Position.{Position}
 use Rattle.mvt_polygon.specs.Bounds.{AreBoundsOf, AreBoundsOfPolygon}
 use Rattle.mvt_polygon.specs.FeatureParts.{listed_at}
@@ -59,16 +59,19 @@ order_at order at = slice_index_or order at (0, pos 0, 0)
 abbrev pub IsBefore : ℕ × ℤ × ℕ → ℕ × ℤ × ℕ → Type 0
 IsBefore one other = (one.0 < other.0) ⊎ ((one.0 ≡ other.0) × (one.1 ≤ℤ other.1))
 
--- all numbers, each once, by their cells and least coordinates
-pub record IsCellOrder (spans : List (ℤ × ℤ)) (cells : List ℕ) (order : List (ℕ × ℤ × ℕ)) : Type 0 where
-  pub size : length order ≡ length cells
+-- the marked numbers, each once, by their cells and least coordinates
+pub record IsCellOrder (spans : List (ℤ × ℤ)) (cells : List ℕ) (marks : List Bool) (order : List (ℕ × ℤ × ℕ)) : Type 0 where
   pub known : (at : ℕ) (it : ℕ × ℤ × ℕ) → slice_get order at ≡ Some it → it.2 < length cells
   pub keyed : (at : ℕ) (it : ℕ × ℤ × ℕ) → slice_get order at ≡ Some it → it ≡ keyed_number spans cells it.2
-  pub all : (number : ℕ) → number < length cells → (at : ℕ) × (slice_get order at ≡ Some (keyed_number spans cells number))
+  pub all : (number : ℕ) → number < length cells → slice_index_or marks number false ≡ true → (at : ℕ) × (slice_get order at ≡ Some (keyed_number spans cells number))
   pub once : (at other : ℕ) (it its : ℕ × ℤ × ℕ) → slice_get order at ≡ Some it → slice_get order other ≡ Some its → it.2 ≡ its.2 → at ≡ other
   pub sorted : (at other : ℕ) (it its : ℕ × ℤ × ℕ) → at ≤ other → slice_get order at ≡ Some it → slice_get order other ≡ Some its → IsBefore it its
 
 -- Shared cells
+
+-- so many numbers are marked, and all of them
+abbrev pub AreAllMarked : ℕ → List Bool → Type 0
+AreAllMarked count marks = (number : ℕ) → number < count → slice_index_or marks number false ≡ true
 
 -- a number that isn't marked has a cell that no other one has
 pub record AreSharing (cells : List ℕ) (marks : List Bool) : Type 0 where

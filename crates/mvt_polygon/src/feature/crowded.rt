@@ -2,7 +2,7 @@
 ghost use Rattle.std.specs.Prelude.{◌≡◌, ◌≢◌, ◌⊎◌, ◌-◌, ◌<◌, length, IfOk, IsTrue, ◌<ℤ◌};
 ghost use Rattle.mvt_plane.specs.Ring.{ArePolygonRings};
 ghost use Rattle.mvt_polygon.specs.Islands.{AreMarked};
-ghost use Rattle.mvt_polygon.specs.Cells.{AreCells, AreCellsOf, AreParted, AreRefined, AreRingSpans, AreSharing, AreSpansOf, IsCellOrder, order_at};
+ghost use Rattle.mvt_polygon.specs.Cells.{AreAllMarked, AreCells, AreCellsOf, AreParted, AreRefined, AreRingSpans, AreSharing, AreSpansOf, IsCellOrder, order_at};
 ghost use Rattle.mvt_polygon.specs.Polygons.{ArePolygons};
 ghost use Rattle.mvt_polygon.specs.Rings.{rings_of, AreProperRings};
 
@@ -13,8 +13,9 @@ use mvt_plane::Point;
 use std::alloc::{AllocError, Global};
 
 /// Of each polygon whether it may meet or lie in another one. Where it is not crowded, its bounds are apart from those of each
-/// other one, or the one of the two is an island in a lake of the other. Polygons come into cells along one axis and the
-/// other, so this takes the time of three sorts; where a land has lakes, of nine.
+/// other one, or the one of the two is an island in a lake of the other. Polygons come into cells along one axis, the other, and
+/// the first one again, so this takes the time of a sort of all and two of those that still share a cell; where a land has
+/// lakes, three times as much.
 pub(super) fn crowded(
     alloc: Global,
     rings: &[Vec<Point>],
@@ -105,79 +106,87 @@ pub(super) fn part_in_turn(
     ensures known { IfOk result (λ _. AreCells (length cells.old) cells.new) }
     ensures parted { IfOk result (λ _. AreRefined across.now upward.now cells.old cells.new) }
 {
-    let last = part_cells(alloc, across, cells)?;
-    let last = part_again(alloc, upward, cells, last)?;
-    part_again(alloc, across, cells, last)?;
+    let all = vec![in alloc; true; cells.len()]?;
+    part_cells(alloc, across, cells, &all)?;
+    part_shared(alloc, upward, cells)?;
+    part_shared(alloc, across, cells)?;
     Ok(())
 }
 
-/// Parts each cell along an axis, unless there are as many cells as numbers. Answers the last cell.
-fn part_again(
-    alloc: Global,
-    spans: &[(i32, i32)],
-    cells: &mut [usize],
-    last: usize,
-) -> Result<usize, AllocError>
+/// Parts each cell of several numbers along an axis.
+fn part_shared(alloc: Global, spans: &[(i32, i32)], cells: &mut [usize]) -> Result<(), AllocError>
     requires spans { length spans.now ≡ length cells.old }
     requires cells { AreCells (length cells.old) cells.old }
     ensures known { IfOk result (λ _. AreCells (length cells.old) cells.new) }
     ensures parted { IfOk result (λ _. AreParted spans.now cells.old cells.new) }
 {
-    if last.saturating_add(1) < cells.len() {
-        return part_cells(alloc, spans, cells);
-    }
-    Ok(last)
+    let shared = shared_cells(alloc, cells)?;
+    part_cells(alloc, spans, cells, &shared)
 }
 
-/// Parts each cell where no span of it, from the least to the greatest coordinate along an axis, goes across. Answers the last
-/// cell.
-fn part_cells(alloc: Global, spans: &[(i32, i32)], cells: &mut [usize]) -> Result<usize, AllocError>
-    requires { length spans.now ≡ length cells.old }
-    ensures known { IfOk result (λ _. AreCells (length cells.old) cells.new) }
+/// Parts each cell where no span of it, from the least to the greatest coordinate along an axis, goes across. A new cell is the
+/// first of its numbers. Only marked numbers are looked at: all that share a cell are.
+fn part_cells(
+    alloc: Global,
+    spans: &[(i32, i32)],
+    cells: &mut [usize],
+    marks: &[bool],
+) -> Result<(), AllocError>
+    requires spans { length spans.now ≡ length cells.old }
+    requires marks { AreSharing cells.old marks.now }
+    ensures all { IfOk result (λ _. AreAllMarked (length cells.old) marks.now → AreCells (length cells.old) cells.new) }
+    ensures known { IfOk result (λ _. AreCells (length cells.old) cells.old → AreCells (length cells.old) cells.new) }
     ensures parted { IfOk result (λ _. AreParted spans.now cells.old cells.new) }
 {
-    let order = cell_order(alloc, spans, cells)?;
+    let order = cell_order(alloc, spans, cells, marks)?;
     let mut cell = 0;
     let mut reach = i32::MIN;
     for at in 0..order.len() {
         let (_, _, number) = order[at];
         let (_, end) = spans[number];
         if begins_cell(&order, at, reach) {
-            cell += 1;
+            cell = number;
             reach = end;
         } else {
             reach = reach.max(end);
         }
         cells[number] = cell;
     }
-    Ok(cell)
+    Ok(())
 }
 
-/// The numbers by their cells and, in a cell, by the least coordinates: each with its cell and its least coordinate.
+/// The marked numbers by their cells and, in a cell, by the least coordinates: each with its cell and its least coordinate.
 fn cell_order(
     alloc: Global,
     spans: &[(i32, i32)],
     cells: &[usize],
+    marks: &[bool],
 ) -> Result<Vec<(usize, i32, usize)>, AllocError>
-    requires { length spans.now ≡ length cells.now }
-    ensures { IfOk result (λ order. IsCellOrder spans.now cells.now order.items) }
+    requires spans { length spans.now ≡ length cells.now }
+    requires marks { length marks.now ≡ length cells.now }
+    ensures { IfOk result (λ order. IsCellOrder spans.now cells.now marks.now order.items) }
 {
-    let mut order = Vec::with_capacity(alloc, cells.len())?;
+    let marked = marks.iter().filter(|it| **it).count();
+    let mut order = Vec::with_capacity(alloc, marked)?;
     for number in 0..cells.len() {
-        let (least, _) = spans[number];
-        order.push((cells[number], least, number))?;
+        if marks[number] {
+            let (least, _) = spans[number];
+            order.push((cells[number], least, number))?;
+        }
     }
     order.sort_unstable_by_key(|it| (it.0, it.1));
     Ok(order)
 }
 
-/// Whether a new cell begins at this place of an order: with another cell, or behind all spans so far of the new cell before.
+/// Whether a new cell begins at this place of an order: at the first one, with another cell, or behind all spans so far of the
+/// new cell before.
 fn begins_cell(order: &[(usize, i32, usize)], at: usize, reach: i32) -> bool
     requires { at < length order.now }
-    ensures { IsTrue result → (0 < at) × (((order_at order.now (at - 1)).0 ≢ (order_at order.now at).0) ⊎ (reach <ℤ (order_at order.now at).1)) }
+    ensures first { (at ≡ 0) → IsTrue result }
+    ensures apart { IsTrue result → (at ≡ 0) ⊎ (((order_at order.now (at - 1)).0 ≢ (order_at order.now at).0) ⊎ (reach <ℤ (order_at order.now at).1)) }
 {
     if at == 0 {
-        return false;
+        return true;
     }
     let (cell, least, _) = order[at];
     let (before, _, _) = order[at - 1];

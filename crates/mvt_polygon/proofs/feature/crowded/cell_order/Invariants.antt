@@ -1,6 +1,6 @@
-use Rattle.mvt_polygon.proofs.CellOrders.{AreKeyedNumbers}
+use Rattle.mvt_polygon.proofs.CellOrders.{AreNumbered}
 use Rattle.mvt_polygon.proofs.feature.crowded.cell_order.Given as goal
 
--- the numbers so far
+-- the marked ones of the numbers so far
 abbrev pub invariant-loop-number : goal.invariant-loop-number
-invariant-loop-number l = AreKeyedNumbers l.spans l.cells l.number l.order.items
+invariant-loop-number l = AreNumbered l.spans l.cells l.marks l.number l.order.items
