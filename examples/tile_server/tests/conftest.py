@@ -3,6 +3,7 @@ from __future__ import annotations
 
 import gzip
 import pathlib
+import tempfile
 from typing import Dict, Iterator, List, Set, Tuple
 
 import mvtgate
@@ -31,9 +32,10 @@ def database() -> Iterator[Database]:
 
 
 @pytest.fixture(scope="session")
-def kept(tmp_path_factory: pytest.TempPathFactory) -> pathlib.Path:
+def kept() -> Iterator[pathlib.Path]:
     """Where the server without repairs leaves faulty tiles."""
-    return tmp_path_factory.mktemp("kept")
+    with tempfile.TemporaryDirectory(prefix="tile_server.") as folder:
+        yield pathlib.Path(folder)
 
 
 @pytest.fixture(scope="session")
