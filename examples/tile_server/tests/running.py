@@ -98,7 +98,7 @@ class Database:
 
     def run_file(self, path: pathlib.Path) -> None:
         """Runs a file of SQL, as its user would."""
-        subprocess.run(["psql", "-q", "-v", "ON_ERROR_STOP=1", "-d", self.dsn, "-f", str(path)], check=True, stdout=subprocess.DEVNULL)
+        subprocess.run([str(POSTGRESQL / "psql"), "-q", "-v", "ON_ERROR_STOP=1", "-d", self.dsn, "-f", str(path)], check=True, stdout=subprocess.DEVNULL)
 
     @contextlib.contextmanager
     def transaction(self) -> Iterator[Any]:
