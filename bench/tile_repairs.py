@@ -12,7 +12,7 @@ import mvtgate
 import running
 from tile_server.tiles import PLAIN, REPAIRED
 
-COUNT = 60
+COUNT = 200
 FOUR_TIMES = PLAIN.extent * 4
 STRUCTURE = "'method=structure keepcollapsed=false'"
 # a way: the extent, and the SQL of the geometry from `source.geometry`, before ST_AsMVTGeom and after it

@@ -1,6 +1,6 @@
 """Times the server of examples/tile_server with the gate and without it, for bench/tile_server.
 
-tile_server.py [ROUNDS]: in each round, for each tile and number of connections, 1,000 requests to the server with the gate and as
+tile_load.py [ROUNDS]: in each round, for each tile and number of connections, 1,000 requests to the server with the gate and as
 many to the one without, of which every second round begins with the other one. Both are over one database. It prints a table of
 the medians of all rounds, and of the quotients of the two loads of a round.
 """
