@@ -56,14 +56,15 @@ class Body:
 
 def body_of(published: Published, is_gzip: bool, known_tags: Collection[str]) -> Body:
     """The body of the very bytes that were judged. Its tag is made of these bytes and of the encoding."""
+    tile = published.tile
     repaired = published.repaired.code if published.repaired else None
-    # (what has no bytes isn't made some of by gzip)
-    is_gzip = is_gzip and published.tile != b""
-    tag = hashlib.sha256(published.tile).hexdigest()[:32] + ("-gzip" if is_gzip else "")
-    if tag in known_tags or ETAG_ANY in known_tags:
+    tag = hashlib.sha256(tile).hexdigest()[:32] + ("-gzip" if is_gzip else "")
+    # (an answer without a tile has no tag that a client could know)
+    if tile and (tag in known_tags or ETAG_ANY in known_tags):
         return Body(tag, None, is_gzip, repaired)
     # (without the time, which gzip has in its header otherwise, so that the same tile is the same body)
-    return Body(tag, gzip.compress(published.tile, 6, mtime=0) if is_gzip else published.tile, is_gzip, repaired)
+    content = gzip.compress(tile, 6, mtime=0) if tile and is_gzip else tile
+    return Body(tag, content, is_gzip, repaired)
 
 
 def refusal(status: int, error: str, address: Address, **more: Any) -> web.Response:

@@ -85,8 +85,12 @@ FROM generate_series(0, 39) AS i, generate_series(0, 39) AS j,
      LATERAL (SELECT pg_temp.on_tile(20, format('POINT(%s %s)', 51 + 102 * i, 51 + 102 * j)) AS middle) AS its,
      LATERAL (SELECT (ST_XMax(tile) - ST_XMin(tile)) / 4096 AS unit FROM ST_TileEnvelope(6, 20, 20) AS tile) AS tiles;
 
--- One place in the tile of the field, and 2,000 in a tile that has points alone.
-INSERT INTO places (id, name, geometry) VALUES (1, 'a well', pg_temp.on_tile(0, 'POINT(700 700)'));
+-- A place in the tile of the field; one beyond the side of a tile, which draws it too, and one too far beyond it; and 2,000 in a tile
+-- that has points alone.
+INSERT INTO places (id, name, geometry) VALUES
+    (1, 'a well', pg_temp.on_tile(0, 'POINT(700 700)')),
+    (2, 'a milestone', pg_temp.on_tile(26, 'POINT(4150 700)')),
+    (3, 'another milestone', pg_temp.on_tile(26, 'POINT(4170 700)'));
 INSERT INTO places (id, name, geometry)
 SELECT 1000 + i, 'place ' || i, pg_temp.on_tile(24, format('POINT(%s %s)', 1 + 797 * i % 4093, 1 + 1571 * i % 4091))
 FROM generate_series(0, 1999) AS i;

@@ -14,12 +14,8 @@ from mvtgate._dump import Feature, Layer
 from running import Database, Reply, Server, map_database, tile_server
 
 # the columns of the tiles of tables.sql
-FIELD, CLOSE_PONDS, COMMON_CORNER, CLOSE_TO_EDGE, LOOP, TWO_NAMES, NECK, OVERLAP, TWO_CORNERS, GARDEN, PONDS, PLACES, NOTHING = (
-    *range(10),
-    20,
-    24,
-    30,
-)
+FIELD, CLOSE_PONDS, COMMON_CORNER, CLOSE_TO_EDGE, LOOP, TWO_NAMES, NECK, OVERLAP, TWO_CORNERS, GARDEN = range(10)
+PONDS, PLACES, MILESTONES, NOTHING = 20, 24, 26, 30
 PLAIN: Dict[str, str] = {}
 GZIP = {"Accept-Encoding": "gzip"}
 

@@ -8,7 +8,7 @@ from typing import Dict
 import psycopg2  # type: ignore[import]
 import pytest
 
-from conftest import FIELD, GARDEN, GZIP, NOTHING, PLACES, PLAIN, PONDS, judged, rectangle, rings_of, tags_of
+from conftest import FIELD, GARDEN, GZIP, MILESTONES, NOTHING, PLACES, PLAIN, PONDS, judged, rectangle, rings_of, tags_of
 from running import Database, Server, path_of
 
 
@@ -31,6 +31,14 @@ def test_all_rows_are_there(server: Server, database: Database, table: str, colu
     features = layers[table]["features"]
     assert rows > 0 and len(features) == rows
     assert len({it["id"] for it in features}) == rows
+
+
+def test_what_lies_beyond_the_side(server: Server) -> None:
+    # (1/64 of the side, which is 64 units, is drawn beyond it)
+    (milestone,) = judged(server.get(path_of(MILESTONES)))["places"]["features"]
+    assert (milestone["id"], milestone["geometry"]) == (2, [9, 2 * 4150, 1400])
+    neighbours = judged(server.get(path_of(MILESTONES + 1)))["places"]["features"]
+    assert [(it["id"], it["geometry"]) for it in neighbours] == [(2, [9, 2 * 54, 1400]), (3, [9, 2 * 74, 1400])]
 
 
 def test_ponds_have_islands(server: Server) -> None:
@@ -102,7 +110,7 @@ def test_another_tile_has_another_tag(server: Server, database: Database) -> Non
 
 
 @pytest.mark.parametrize("column", [GARDEN, NOTHING])
-@pytest.mark.parametrize("headers", [PLAIN, GZIP])
+@pytest.mark.parametrize("headers", [PLAIN, GZIP, {"If-None-Match": "*"}])
 def test_tile_without_features(server: Server, column: int, headers: Dict[str, str]) -> None:
     answer = server.get(path_of(column), headers)
     assert (answer.status, answer.body) == (204, b"")
