@@ -1,9 +1,10 @@
 """Times the server of examples/tile_server with the gate and without it, for bench/tile_server.
 
 tile_load.py [ROUNDS]: in each round, for each tile and number of connections, 1,000 requests to the server with the gate and as
-many to the one without, of which every second round begins with the other one. Both are over one database. It prints a table of
-the medians of all rounds, and of the quotients of the two loads of a round.
+many to the one without; every second round begins with the other one. Both are over one database. It prints a table of the
+medians of all rounds, and of the quotients of the two loads of a round.
 """
+import dataclasses
 import gzip
 import os
 import pathlib
@@ -20,13 +21,35 @@ REQUESTS = 1000
 # (the columns of the tiles in tables.sql)
 TILES = {"a field": 0, "points": 24, "polygons": 20}
 CONNECTIONS = (1, 8)
-MEASURED = {"requests a second": "rate", "p50": "p50", "p99": "p99"}
+# the heads of the columns, and what is measured; a cell has the figure with the gate, the one without, and their quotient
+MEASURED = {"Requests a second": "rate", "p50, ms": "p50", "p99, ms": "p99", "Processor, ms a request": "processor"}
 
 
-def measured(servers, column, connections, is_reversed):
+@dataclasses.dataclass(frozen=True)
+class Load(running.Load):
+    """With the milliseconds of processor time that a request took in the server's process."""
+
+    processor: float
+
+
+def seconds_of(process):
+    """The processor time of a process so far."""
+    fields = pathlib.Path(f"/proc/{process.pid}/stat").read_text().rpartition(")")[2].split()
+    # (the fields 14 and 15 of the whole line)
+    return (int(fields[11]) + int(fields[12])) / os.sysconf("SC_CLK_TCK")
+
+
+def load_of(server, column, connections):
+    """One load."""
+    before = seconds_of(server.process)
+    load = running.load(server.address, running.path_of(column), REQUESTS, connections)
+    assert load.other_than_200 == load.socket_errors == 0
+    return Load(**dataclasses.asdict(load), processor=1e3 * (seconds_of(server.process) - before) / load.requests)
+
+
+def loads_of_round(servers, column, connections, is_reversed):
     """The loads of a round, by the name of the server."""
-    names = sorted(servers, reverse=is_reversed)
-    return {name: running.load(servers[name].address, running.path_of(column), REQUESTS, connections) for name in names}
+    return {name: load_of(servers[name], column, connections) for name in sorted(servers, reverse=is_reversed)}
 
 
 def milliseconds_of_check(tile):
@@ -53,19 +76,18 @@ def print_row(name, connections, rounds):
     for key in MEASURED.values():
         with_gate, without = ([getattr(it[which], key) for it in rounds] for which in ("gate", "none"))
         ratio = statistics.median(one / other for one, other in zip(with_gate, without))
-        cells += [f"{statistics.median(with_gate):,.1f}", f"{statistics.median(without):,.1f}", f"{ratio:.2f}"]
+        cells.append(f"{statistics.median(with_gate):,.2f}, {statistics.median(without):,.2f} ({ratio:.2f})")
     print(f"| {name} | {connections} | {' | '.join(cells)} |", flush=True)
 
 
 def print_table(servers, count):
     """Measures and prints all rows."""
-    heads = [it for name in MEASURED for it in (f"{name}, gate", f"{name}, none", "quotient")]
-    print(f"\n| Tile | Connections | {' | '.join(heads)} |\n|---|---|{'---|' * len(heads)}", flush=True)
+    print(f"\n| Tile | Connections | {' | '.join(MEASURED)} |\n|---|---|{'---|' * len(MEASURED)}", flush=True)
     for name, column in TILES.items():
         for connections in CONNECTIONS:
-            measured(servers, column, connections, False)
-            rounds = [measured(servers, column, connections, bool(it % 2)) for it in range(count)]
-            assert all(it.other_than_200 == it.socket_errors == 0 for loads in rounds for it in loads.values())
+            # (one that isn't counted, so that all is in memory)
+            loads_of_round(servers, column, connections, False)
+            rounds = [loads_of_round(servers, column, connections, bool(it % 2)) for it in range(count)]
             print_row(name, connections, rounds)
 
 

@@ -22,21 +22,19 @@ _PROFILES = {"polygon": mvtgate.Profile.POLYGON, "feature": mvtgate.Profile.FEAT
 
 def arguments() -> argparse.ArgumentParser:
     """The words that the command takes."""
-    reader = argparse.ArgumentParser(
-        prog="tile_server", description=__doc__, formatter_class=argparse.ArgumentDefaultsHelpFormatter
-    )
+    reader = argparse.ArgumentParser(prog="python3 -m tile_server", description="Serves vector tiles that passed the gate.")
     reader.add_argument("--dsn", required=True, help="the database, such as 'host=/run/postgresql dbname=map'")
-    reader.add_argument("--host", default="127.0.0.1", help="the address to listen on")
-    reader.add_argument("--port", type=int, default=8080, help="the port; 0 takes a free one")
-    reader.add_argument("--profile", choices=_PROFILES, default="polygon", help="what polygons are held against")
+    reader.add_argument("--host", default="127.0.0.1", help="the address to listen on (%(default)s)")
+    reader.add_argument("--port", type=int, default=8080, help="the port (%(default)s); 0 takes a free one")
+    reader.add_argument("--profile", choices=_PROFILES, default="polygon", help="what polygons are held against (%(default)s)")
     reader.add_argument("--repair", action="store_true", help="make a faulty tile anew, on a finer grid")
     reader.add_argument("--no-gate", action="store_true", help="send tiles unjudged, to measure what the gate costs")
     reader.add_argument("--keep", type=pathlib.Path, metavar="FOLDER", help="leave faulty tiles here")
-    reader.add_argument("--workers", type=int, default=4, help="how many tiles are made at one time")
-    reader.add_argument("--max-bytes", type=int, default=2**20, help="the longest tile that is judged and sent")
-    reader.add_argument("--max-zoom", type=int, default=22, help="the greatest zoom")
-    reader.add_argument("--max-age", type=int, default=300, help="how many seconds a cache may keep a tile")
-    reader.add_argument("--query-seconds", type=float, default=10.0, help="how long a query may take")
+    reader.add_argument("--workers", type=int, default=4, help="how many tiles are made at one time (%(default)s)")
+    reader.add_argument("--max-bytes", type=int, default=2**20, help="the longest tile that is judged and sent (%(default)s)")
+    reader.add_argument("--max-zoom", type=int, default=22, help="the greatest zoom (%(default)s)")
+    reader.add_argument("--max-age", type=int, default=300, help="how many seconds a cache may keep a tile (%(default)s)")
+    reader.add_argument("--query-seconds", type=float, default=10.0, help="how long a query may take (%(default)s)")
     return reader
 
 
