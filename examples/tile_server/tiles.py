@@ -101,12 +101,12 @@ class Tiles:
 
     @contextlib.contextmanager
     def _connection(self) -> Iterator[Any]:
-        """A connection of the pool. One that broke isn't put back, and the pool opens a new one in its place."""
+        """A connection of the pool, which drops one that broke, and opens a new one in its place."""
         connection = self._pool.getconn()
         try:
             yield connection
         finally:
-            self._pool.putconn(connection, close=connection.closed != 0)
+            self._pool.putconn(connection)
 
     def fetch(self, address: Address, grid: Grid) -> bytes:
         """The tile, which has no bytes where it has no features."""
