@@ -1,6 +1,6 @@
 # For ./install and ./package, which source this at the top of the repository: the program and the library that they take,
 # built where they are missing or older than a source. Where both are current no toolchain is needed.
-# shellcheck shell=bash
+# shellcheck shell=bash disable=SC2034
 
 program=crates/mvtgate/out/mvtgate
 library=bindings/c/out
