@@ -43,7 +43,8 @@ make_clean_folder() {
     rm -rf --one-file-system "$root"
     mkdir -p "$root"/{tmp,etc,opt,var/lib/dpkg/{info,updates}}
     touch "$root"/var/lib/dpkg/{status,available}
-    mapfile -t files < <(ldd "$room/unpacked/usr/bin/mvtgate" "$room/unpacked"/usr/lib/*/libmvtgate.so.*.*.* | grep -oE '/[^ ]*lib[^ :]*\.so[^ ]*' | sort -u)
+    mapfile -t files < <(ldd "$room/unpacked/usr/bin/mvtgate" "$room/unpacked"/usr/lib/*/libmvtgate.so.*.*.* |
+        sed -n 's/.*=> \(\/[^ ]*\) .*/\1/p; s/^\t\(\/[^ ]*\) .*/\1/p' | sort -u)
     cp --parents --dereference "${files[@]}" "$root"
 }
 
