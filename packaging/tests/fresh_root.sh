@@ -5,24 +5,26 @@
 root=$room/root
 bootstrap_log=$room/debootstrap.log
 
-# The mirror, proxy and certificates are those of this machine's apt.
-mirror() {
-    local proxy='' certificates='' url=''
+# Sets `mirror` to where this machine's apt has Debian from, and has debootstrap's wget go there in the same way.
+set_mirror() {
+    local proxy='' certificates=''
+    # shellcheck disable=SC2016
+    mirror=$(apt-get indextargets --format '$(ORIGIN) $(LABEL) $(COMPONENT) $(REPO_URI)' 'Created-By: Packages' 2>/dev/null |
+        awk '$1 == "Debian" && $2 == "Debian" && $3 == "main" { print $4; exit }')
+    mirror=${mirror:-http://deb.debian.org/debian}
     eval "$(apt-config shell proxy Acquire::http::Proxy certificates Acquire::https::CAInfo)"
     [ -z "$proxy" ] || export http_proxy=$proxy https_proxy=$proxy
-    [ -z "$certificates" ] || export SSL_CERT_FILE=$certificates
-    # shellcheck disable=SC2016
-    url=$(apt-get indextargets --format '$(RELEASE) $(COMPONENT) $(REPO_URI)' 'Created-By: Packages' 2>/dev/null |
-        awk -v suite="$1" '$1 == suite && $2 == "main" { print $3; exit }')
-    echo "${url:-http://deb.debian.org/debian}"
+    [ -z "$certificates" ] || echo "ca_certificate = $certificates" >"$room/wgetrc"
+    [ -z "$certificates" ] || export WGETRC=$room/wgetrc
 }
 
 # Debian's minimal system with Python, made while the other tests run.
 begin_fresh_root() {
-    local suite=bookworm
+    local mirror
     [ -z "$is_clean_folder" ] && [ "$(id -u)" = 0 ] && [ -e /usr/sbin/debootstrap ] || return 0
+    set_mirror
     # (a group of its own, so that all of it can be ended)
-    setsid debootstrap --variant=minbase --include=python3 "$suite" "$root" "$(mirror $suite)" >"$bootstrap_log" 2>&1 &
+    setsid debootstrap --variant=minbase --include=python3 bookworm "$root" "$mirror" >"$bootstrap_log" 2>&1 &
     bootstrap=$!
 }
 
@@ -118,6 +120,13 @@ for it in pathlib.Path("/tmp/tiles").iterdir():
     [ "$(inside python3 -c 'import importlib.metadata; print(importlib.metadata.version("mvtgate"))')" = "$version" ]
 }
 
+# As packaging/README.md says, with the packages in any order.
+by_apt() {
+    inside sh -ec 'cd /tmp && apt-get install -y ./python3-mvtgate_*.deb ./libmvtgate-dev_*.deb ./mvtgate_*.deb'
+    [ "$(inside mvtgate --version)" = "mvtgate $version" ]
+    inside apt-get purge -y mvtgate libmvtgate-dev python3-mvtgate
+}
+
 test_packages() {
     local before
     before=$(listed)
@@ -136,6 +145,7 @@ test_packages() {
     fi
     expect "dpkg -P" dpkg_inside -P libmvtgate-dev mvtgate
     expect "nothing is left" are_lines "$before" listed
+    [ -z "$is_debian" ] || expect "apt-get install and purge" by_apt
     expect "no package is left" are_lines "" dpkg-query --admindir="$root/var/lib/dpkg" -W '*mvtgate*'
 }
 

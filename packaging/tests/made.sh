@@ -17,8 +17,8 @@ are_same() {
 has_two_versions() {
     local copy=$room/copy
     mkdir "$copy"
-    cp -a --parents install package packaging mvtgate prove library crates.txt bindings crates/*/src crates/*/specs \
-        crates/mvtgate/out/mvtgate crates/mvtgate/out/sources "$copy"
+    cp -a --parents install package packaging mvtgate prove library crates.txt crates/*/src crates/*/specs bindings/c \
+        bindings/python/pyproject.toml bindings/rust/Cargo.toml crates/mvtgate/out/mvtgate crates/mvtgate/out/sources "$copy"
     sed -i 's/^version = ".*"/version = "9.9.9"/' "$copy/bindings/python/pyproject.toml"
     (
         cd "$copy" || exit
