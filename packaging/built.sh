@@ -23,8 +23,8 @@ library_is_current() {
     [ ! "$proved" -nt "$made" ] || return 1
     # (what was edited while it was proved is newer than the proved archive alone)
     [ ! -f "$proved" ] || made=$proved
-    mapfile -t sources < <(below mvtgate_c | sort -u | sed 's,.*,&/src\n&/specs,')
-    [ -z "$(find -L crates.txt "${sources[@]}" -newer "$made" -print -quit)" ] || return 1
+    mapfile -t sources <<<"$(below mvtgate_c | sort -u | sed 's,.*,&/src\n&/specs,')"
+    [ -z "$(find crates.txt "${sources[@]}" -newer "$made" -print -quit)" ] || return 1
     [ -z "$(find library bindings/c/mvtgate.h bindings/c/mvtgate.pc.in -newer $library/libmvtgate.so -print -quit)" ]
 }
 

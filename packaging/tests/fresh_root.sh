@@ -51,7 +51,7 @@ make_clean_folder() {
 }
 
 # inside WORD..: runs the words in the fresh root, with nothing of this environment.
-inside() { env -i PATH=/usr/sbin:/usr/bin:/sbin:/bin HOME=/root LC_ALL=C.UTF-8 DEBIAN_FRONTEND=noninteractive chroot "$root" "$@"; }
+inside() { env -i PATH=/usr/local/bin:/usr/sbin:/usr/bin:/sbin:/bin HOME=/root LC_ALL=C.UTF-8 DEBIAN_FRONTEND=noninteractive chroot "$root" "$@"; }
 
 # All files but what dpkg, apt and the loader write down for themselves.
 listed() {
@@ -94,14 +94,19 @@ has_documents() {
 by_package() { inside mvtgate check "/tmp/tiles/$1.mvt"; }
 by_tar() { inside "/opt/a folder/$tar_name/bin/mvtgate" check "/tmp/tiles/$1.mvt"; }
 by_program() { inside /opt/judge <"tiles/$1.mvt" && echo '{"ok":true}'; }
-by_module() { grep -F "$1.mvt " "$room/by_module" | cut -d ' ' -f 2- | tee "$room/line" && ! grep -qF code "$room/line"; }
+by_module() {
+    local line
+    line=$(awk -v name="$1.mvt" '$1 == name { print $2 }' "$room/by_module")
+    echo "$line"
+    [ "$line" = '{"ok":true}' ]
+}
 
-# A program that was built outside runs with the library of the package, which the loader finds without being told where.
-build_for_package() {
-    local flags=(-L"$root/usr/lib/x86_64-linux-gnu" -I"$root/usr/include")
+# build_for PREFIX LIBDIR: builds a program outside that runs inside, where the loader finds the library without being told
+# where.
+build_for() {
     "$python" packaging/tests/manual.py example >"$room/judge.c"
-    gcc -o "$root/opt/judge" "$room/judge.c" "${flags[@]}" -lmvtgate
-    [ -z "$is_debian" ] || inside ldconfig -p | grep -F libmvtgate.so.0
+    gcc -o "$root/opt/judge" "$room/judge.c" -I"$root$1/include" -L"$root$2" -lmvtgate
+    [ -z "$is_debian" ] || inside ldconfig -p | grep -F "libmvtgate.so.0 (libc6,x86-64) => $(inside realpath -s "$2" | sed 's,^/usr/lib/,/lib/,')"
 }
 
 # The module answers for each tile, and its command counts them right.
@@ -134,7 +139,7 @@ test_packages() {
     expect "dpkg -i" install_debs
     expect "the samples by the package" are_samples_right by_package
     expect "the pages, the completion and the header" has_documents
-    expect "building for the package's library" build_for_package
+    expect "building for the package's library" build_for /usr /usr/lib/x86_64-linux-gnu
     expect "the samples by the package's library" are_samples_right by_program
     rm -f "$root/opt/judge"
     if [ -n "$is_debian" ]; then
@@ -160,6 +165,20 @@ test_tar() {
     expect "the samples by the tar file's library" are_samples_right by_program
 }
 
+# ./install of a checkout in which all is built, where there is no toolchain.
+test_checkout() {
+    local before
+    copy_checkout "$root/tmp/a checkout"
+    before=$(listed)
+    expect "./install in the fresh root" inside "/tmp/a checkout/install" /usr/local
+    expect "the samples by the installed program there" are_samples_right by_package
+    expect "building for the installed library" build_for /usr/local /usr/local/lib
+    expect "the samples by the installed library" are_samples_right by_program
+    rm -f "$root/opt/judge"
+    expect "./install --uninstall in the fresh root" inside "/tmp/a checkout/install" --uninstall /usr/local
+    expect "nothing is left of the installation" are_lines "$before" listed
+}
+
 test_fresh_root() {
     local is_debian='' tar_name expected
     if [ "$(id -u)" != 0 ]; then
@@ -177,5 +196,6 @@ test_fresh_root() {
         cp "tiles/$(basename "$expected" .check).mvt" "$root/tmp/tiles/"
     done
     test_packages
+    [ -z "$is_debian" ] || test_checkout
     test_tar
 }

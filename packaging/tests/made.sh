@@ -13,19 +13,21 @@ are_same() {
     done
 }
 
-# A copy of what ./package reads, whose Python package has another version.
-has_two_versions() {
-    local copy=$room/copy
-    mkdir "$copy"
+# copy_checkout FOLDER: what ./install and ./package read, all of it built.
+copy_checkout() {
+    mkdir "$1"
     cp -a --parents install package packaging mvtgate prove library crates.txt crates/*/src crates/*/specs bindings/c \
-        bindings/python/pyproject.toml bindings/rust/Cargo.toml crates/mvtgate/out/mvtgate crates/mvtgate/out/sources "$copy"
-    sed -i 's/^version = ".*"/version = "9.9.9"/' "$copy/bindings/python/pyproject.toml"
-    (
-        cd "$copy" || exit
-        ends_with 1 env SOURCE_DATE_EPOCH=1 ./package "$room/none" 2>"$room/error"
-        grep -F "pyproject.toml is '9.9.9'" "$room/error"
-        [ ! -e "$room/none" ]
-    )
+        bindings/faults.json bindings/python/pyproject.toml bindings/rust/Cargo.toml \
+        crates/mvtgate/out/mvtgate crates/mvtgate/out/sources "$1"
+}
+
+# A copy whose Python package has another version.
+has_two_versions() {
+    copy_checkout "$room/copy"
+    sed -i 's/^version = ".*"/version = "9.9.9"/' "$room/copy/bindings/python/pyproject.toml"
+    ends_with 1 env SOURCE_DATE_EPOCH=1 "$room/copy/package" "$room/none" 2>"$room/error"
+    grep -F "pyproject.toml is '9.9.9'" "$room/error"
+    [ ! -e "$room/none" ]
 }
 
 # The packages name what they need: the program and the library run by no newer C library than the one that is named.
