@@ -1,0 +1,101 @@
+# For tests/package: the manual pages and the completion.
+# (the names that aren't set here are those of tests/package)
+# shellcheck shell=bash disable=SC2154
+
+# is_silent WORD..: whether the words succeed and say nothing on either end.
+is_silent() {
+    local said
+    said=$("$@" 2>&1 >/dev/null) || return 1
+    # (these are about the machine's list of pages, in which ours aren't)
+    said=$(grep -vE 'outdated mandoc.db|referenced manual not found: Xr mvtgate ' <<<"$said" || true)
+    [ -z "$said" ] || { echo "$said"; return 1; }
+}
+
+# lint PAGE: what mandoc has to say goes to its standard output.
+lint() { mandoc -T lint "$1" >&2 || true; }
+
+test_pages() {
+    local page
+    for page in packaging/mvtgate.1 packaging/mvtgate.3; do
+        ! has /usr/bin/mandoc "the lint of $page" || expect "the lint of $page" is_silent lint $page
+        ! has /usr/bin/groff "groff's warnings on $page" || expect "groff's warnings on $page" is_silent groff -ww -mandoc -Tutf8 -z $page
+        ! has /usr/bin/man "the warnings of man on $page" ||
+            expect "the warnings of man on $page" is_silent env LC_ALL=C.UTF-8 man --warnings -E UTF-8 -l -Tutf8 -Z $page
+    done
+    expect "the faults of mvtgate.1" "$python" packaging/tests/manual.py faults
+    ! has /usr/bin/mandoc "the statuses of mvtgate.1" ||
+        expect "the statuses of mvtgate.1" "$python" packaging/tests/manual.py statuses ./mvtgate
+    expect "the functions of mvtgate.3" "$python" packaging/tests/manual.py functions
+    expect "the constants of mvtgate.3" "$python" packaging/tests/manual.py constants
+}
+
+# offered WORD..: what the function of the completion offers for the words, of which the last one is at the cursor.
+offered() {
+    # shellcheck disable=SC2016
+    bash --norc -c '
+        . packaging/mvtgate.bash-completion
+        compopt() { COMPREPLY+=("a file by readline: $*"); }
+        [ "$(complete -p mvtgate)" = "complete -F _mvtgate mvtgate" ] || echo "there is no completion"
+        COMP_WORDS=("$@") COMP_CWORD=$(($# - 1))
+        _mvtgate
+        echo "${COMPREPLY[*]}"' bash mvtgate "$@"
+}
+
+# Lines 'WORDS|OFFERS': what is offered behind these words; the last one is at the cursor, and is empty after a space.
+offers='|check confirm dump fields help --help --version
+c|check confirm
+--|--help --version
+x|
+nothing |
+check |FILE
+check a |
+check -|--profile --advice --help
+check --a|--advice
+check --profile |polygon feature
+check --profile f|feature
+check --profile =|polygon feature
+check --profile = p|polygon
+check --profile = polygon |FILE
+check --profile polygon -|--advice --help
+check --profile feature a |
+check --advice -|--profile --help
+confirm |FILE
+confirm -|--profile --help
+confirm a |FILE
+confirm a b |
+confirm --profile p|polygon
+confirm --profile feature a |FILE
+dump |FILE
+dump -|--help
+fields |FILE
+fields -|--help
+help |check confirm dump fields
+help d|dump
+help dump |'
+
+test_offers() {
+    local line words wanted
+    while IFS= read -r line; do
+        mapfile -td ' ' words < <(printf '%s ' "${line%|*}")
+        wanted=${line#*|}
+        expect "the completion of 'mvtgate ${line%|*}'" are_lines "${wanted/FILE/a file by readline: -o default}" offered "${words[@]}"
+    done <<<"$offers"
+}
+
+# offers_all COMMAND: whether the options that the program's help of a command has, or its own, are those that are offered.
+offers_all() {
+    local words=()
+    [ -z "$1" ] || words=("$1")
+    diff <(./mvtgate "${words[@]}" --help | grep -oE -- '^ .*--[a-z]+' | grep -oE -- '--[a-z]+' | sort -u) \
+        <(offered "${words[@]}" -- | tr ' ' '\n' | sort -u)
+}
+
+test_documents() {
+    local it
+    test_pages
+    test_offers
+    for it in "" check confirm dump fields; do
+        expect "the options of 'mvtgate $it'" offers_all "$it"
+    done
+    expect "typing at bash" "$python" packaging/tests/typed.py packaging/mvtgate.bash-completion
+}

@@ -1,0 +1,201 @@
+# For tests/package: the packages and the tar file in a fresh system.
+# (the names that aren't set here are those of tests/package)
+# shellcheck shell=bash disable=SC2154
+
+root=$room/root
+bootstrap_log=$room/debootstrap.log
+
+# Sets `mirror` to where this machine's apt has Debian from, and has debootstrap's wget go there in the same way.
+set_mirror() {
+    local proxy='' certificates=''
+    # shellcheck disable=SC2016
+    mirror=$(apt-get indextargets --format '$(ORIGIN) $(LABEL) $(COMPONENT) $(REPO_URI)' 'Created-By: Packages' 2>/dev/null |
+        awk '$1 == "Debian" && $2 == "Debian" && $3 == "main" { print $4; exit }')
+    mirror=${mirror:-http://deb.debian.org/debian}
+    eval "$(apt-config shell proxy Acquire::http::Proxy certificates Acquire::https::CAInfo)"
+    [ -z "$proxy" ] || export http_proxy=$proxy https_proxy=$proxy
+    [ -z "$certificates" ] || echo "ca_certificate = $certificates" >"$room/wgetrc"
+    [ -z "$certificates" ] || export WGETRC=$room/wgetrc
+}
+
+# Debian's minimal system with Python, made while the other tests run.
+begin_fresh_root() {
+    local mirror
+    [ -z "$is_clean_folder" ] && [ "$(id -u)" = 0 ] && [ -e /usr/sbin/debootstrap ] || return 0
+    set_mirror
+    # (a group of its own, so that all of it can be ended)
+    setsid debootstrap --variant=minbase --include=python3 bookworm "$root" "$mirror" >"$bootstrap_log" 2>&1 &
+    bootstrap=$!
+}
+
+# Whether there is a fresh Debian.
+has_debian() {
+    [ -n "$bootstrap" ] || return 1
+    local status=0
+    wait "$bootstrap" || status=$?
+    bootstrap=
+    [ $status != 0 ] || return 0
+    echo "debootstrap didn't end well: $(tail -n 2 "$bootstrap_log" | tr '\n' ' ')"
+    return 1
+}
+
+# A folder with nothing but the C library's files, by which a program runs.
+make_clean_folder() {
+    local files
+    rm -rf --one-file-system "$root"
+    mkdir -p "$root"/{tmp,etc,opt,var/lib/dpkg/{info,updates}}
+    touch "$root"/var/lib/dpkg/{status,available}
+    mapfile -t files < <(ldd "$room/unpacked/usr/bin/mvtgate" "$room/unpacked"/usr/lib/*/libmvtgate.so.*.*.* |
+        sed -n 's/.*=> \(\/[^ ]*\) .*/\1/p; s/^\t\(\/[^ ]*\) .*/\1/p' | sort -u)
+    cp --parents --dereference "${files[@]}" "$root"
+}
+
+# inside WORD..: runs the words in the fresh root, with nothing of this environment.
+inside() { env -i PATH=/usr/local/bin:/usr/sbin:/usr/bin:/sbin:/bin HOME=/root LC_ALL=C.UTF-8 DEBIAN_FRONTEND=noninteractive chroot "$root" "$@"; }
+
+# All files but what dpkg, apt and the loader write down for themselves.
+listed() {
+    (cd "$root" && find . -xdev \( -path ./var/lib/dpkg -o -path ./var/log -o -path ./var/cache -o -path ./tmp \) -prune -o -print | LC_ALL=C sort)
+}
+
+has_no_toolchain() {
+    local tool
+    for tool in rt gcc cc g++ clang ld as ar make cargo rustc pkg-config; do
+        if [ -n "$(find "$root/bin/" "$root/usr/bin" "$root/usr/local/bin" -name "$tool" 2>/dev/null)" ]; then
+            echo "there is $tool"
+            return 1
+        fi
+    done
+}
+
+# dpkg_inside WORD..: by the system's own dpkg, or from outside where it has none. Then its library is no package.
+dpkg_inside() {
+    if [ -n "$is_debian" ]; then inside dpkg "$@"; else dpkg --root="$root" --force-depends "$@"; fi
+}
+
+install_debs() {
+    local debs=("mvtgate_${version}_amd64.deb" "libmvtgate-dev_${version}_amd64.deb")
+    [ -z "$is_debian" ] || debs+=("python3-mvtgate_${version}_all.deb")
+    (cd "$made" && cp "${debs[@]}" "$root/tmp/")
+    if [ -n "$is_debian" ]; then inside dpkg -i "${debs[@]/#//tmp/}"; else dpkg_inside -i "${debs[@]/#/"$root/tmp/"}"; fi
+}
+
+# The pages can be unpacked, and both are those of the repository.
+has_documents() {
+    local section
+    for section in 1 3; do
+        gunzip -c "$root/usr/share/man/man$section/mvtgate.$section.gz" | cmp - "packaging/mvtgate.$section"
+    done
+    cmp "$root/usr/share/bash-completion/completions/mvtgate" packaging/mvtgate.bash-completion
+    cmp "$root/usr/include/mvtgate.h" bindings/c/mvtgate.h
+}
+
+# what are_samples_right calls
+by_package() { inside mvtgate check "/tmp/tiles/$1.mvt"; }
+by_tar() { inside "/opt/a folder/$tar_name/bin/mvtgate" check "/tmp/tiles/$1.mvt"; }
+by_program() { inside /opt/judge <"tiles/$1.mvt" && echo '{"ok":true}'; }
+by_module() {
+    local line
+    line=$(awk -v name="$1.mvt" '$1 == name { print $2 }' "$room/by_module")
+    echo "$line"
+    [ "$line" = '{"ok":true}' ]
+}
+
+# build_for PREFIX LIBDIR: builds a program outside that runs inside, where the loader finds the library without being told
+# where.
+build_for() {
+    "$python" packaging/tests/manual.py example >"$room/judge.c"
+    gcc -o "$root/opt/judge" "$room/judge.c" -I"$root$1/include" -L"$root$2" -lmvtgate
+    [ -z "$is_debian" ] || inside ldconfig -p | grep -F "libmvtgate.so.0 (libc6,x86-64) => $(inside realpath -s "$2" | sed 's,^/usr/lib/,/lib/,')"
+}
+
+# The module answers for each tile, and its command counts them right.
+run_module() {
+    local valid faulty
+    # shellcheck disable=SC2016
+    inside python3 -c 'import pathlib, mvtgate
+for it in pathlib.Path("/tmp/tiles").iterdir():
+    fault = mvtgate.check(it.read_bytes())
+    print(it.name, fault.text if fault else "{\"ok\":true}")' >"$room/by_module"
+    valid=$(cat tiles/expected/*.check | grep -cxF '{"ok":true}')
+    faulty=$(($(find tiles/expected -name '*.check' | wc -l) - valid))
+    ends_with 1 inside python3 -m mvtgate check --confirm /tmp/tiles >"$room/command" 2>"$room/summary"
+    [ "$(cat "$room/summary")" = "$((valid + faulty)) tiles: $valid valid, $faulty with a fault" ]
+    [ "$(grep -c '(confirmed)$' "$room/command")" = "$faulty" ]
+    [ "$(inside python3 -c 'import importlib.metadata; print(importlib.metadata.version("mvtgate"))')" = "$version" ]
+}
+
+# As packaging/README.md says, with the packages in any order.
+by_apt() {
+    inside sh -ec 'cd /tmp && apt-get install -y ./python3-mvtgate_*.deb ./libmvtgate-dev_*.deb ./mvtgate_*.deb'
+    [ "$(inside mvtgate --version)" = "mvtgate $version" ]
+    inside apt-get purge -y mvtgate libmvtgate-dev python3-mvtgate
+}
+
+test_packages() {
+    local before
+    before=$(listed)
+    expect "no toolchain in the fresh root" has_no_toolchain
+    expect "dpkg -i" install_debs
+    expect "the samples by the package" are_samples_right by_package
+    expect "the pages, the completion and the header" has_documents
+    expect "building for the package's library" build_for /usr /usr/lib/x86_64-linux-gnu
+    expect "the samples by the package's library" are_samples_right by_program
+    rm -f "$root/opt/judge"
+    if [ -n "$is_debian" ]; then
+        expect "Python's module and its command" run_module
+        expect "the samples by Python's module" are_samples_right by_module
+        expect "dpkg --verify" are_lines "" inside dpkg --verify
+        expect "dpkg -P of Python's package" dpkg_inside -P python3-mvtgate
+    fi
+    expect "dpkg -P" dpkg_inside -P libmvtgate-dev mvtgate
+    expect "nothing is left" are_lines "$before" listed
+    [ -z "$is_debian" ] || expect "apt-get install and purge" by_apt
+    expect "no package is left" are_lines "" dpkg-query --admindir="$root/var/lib/dpkg" -W '*mvtgate*'
+}
+
+test_tar() {
+    tar_name=mvtgate-$version-linux-x86_64
+    mkdir "$root/opt/a folder"
+    tar -xzf "$made/$tar_name.tar.gz" -C "$root/opt/a folder"
+    expect "the tar file has one folder" are_lines "$tar_name" ls "$root/opt/a folder"
+    expect "the samples by the tar file" are_samples_right by_tar
+    expect "building with the tar file" build_consumer "$root/opt/a folder/$tar_name/lib/pkgconfig" "$root/opt/judge" shared \
+        "-Wl,-rpath,'/opt/a folder/$tar_name/lib'"
+    expect "the samples by the tar file's library" are_samples_right by_program
+}
+
+# ./install of a checkout in which all is built, where there is no toolchain.
+test_checkout() {
+    local before
+    copy_checkout "$root/tmp/a checkout"
+    before=$(listed)
+    expect "./install in the fresh root" inside "/tmp/a checkout/install" /usr/local
+    expect "the samples by the installed program there" are_samples_right by_package
+    expect "building for the installed library" build_for /usr/local /usr/local/lib
+    expect "the samples by the installed library" are_samples_right by_program
+    rm -f "$root/opt/judge"
+    expect "./install --uninstall in the fresh root" inside "/tmp/a checkout/install" --uninstall /usr/local
+    expect "nothing is left of the installation" are_lines "$before" listed
+}
+
+test_fresh_root() {
+    local is_debian='' tar_name expected
+    if [ "$(id -u)" != 0 ]; then
+        echo "left out: the fresh root (this isn't root)"
+        return
+    fi
+    if has_debian; then
+        is_debian=yes
+    else
+        echo "left out: Debian's minimal system, and Python in it; the packages are tried in a folder with the C library alone"
+        make_clean_folder
+    fi
+    mkdir "$root/tmp/tiles"
+    for expected in tiles/expected/*.check; do
+        cp "tiles/$(basename "$expected" .check).mvt" "$root/tmp/tiles/"
+    done
+    test_packages
+    [ -z "$is_debian" ] || test_checkout
+    test_tar
+}

@@ -1,0 +1,78 @@
+# For tests/package: what ./package makes.
+# (the names that aren't set here are those of tests/package)
+# shellcheck shell=bash disable=SC2154
+
+made=$room/made
+
+made_names() { (cd "$1" && ls); }
+
+are_same() {
+    local it
+    for it in "$1"/*; do
+        cmp "$it" "$2/${it##*/}" || return 1
+    done
+}
+
+# copy_checkout FOLDER: what ./install and ./package read, all of it built.
+copy_checkout() {
+    mkdir "$1"
+    cp -a --parents install package packaging mvtgate prove library crates.txt crates/*/src crates/*/specs bindings/c \
+        bindings/faults.json bindings/python/pyproject.toml bindings/rust/Cargo.toml \
+        crates/mvtgate/out/mvtgate crates/mvtgate/out/sources "$1"
+}
+
+# A copy whose Python package has another version.
+has_two_versions() {
+    copy_checkout "$room/copy"
+    sed -i 's/^version = ".*"/version = "9.9.9"/' "$room/copy/bindings/python/pyproject.toml"
+    ends_with 1 env SOURCE_DATE_EPOCH=1 "$room/copy/package" "$room/none" 2>"$room/error"
+    grep -F "pyproject.toml is '9.9.9'" "$room/error"
+    [ ! -e "$room/none" ]
+}
+
+# The packages name what they need: the program and the library run by no newer C library than the one that is named.
+needs_named_libc() {
+    local named needed
+    mkdir "$room/unpacked"
+    dpkg-deb -x "$made/mvtgate_${version}_amd64.deb" "$room/unpacked"
+    named=$(dpkg-deb -f "$made/mvtgate_${version}_amd64.deb" Depends)
+    needed=$(objdump -T "$room/unpacked/usr/bin/mvtgate" "$room/unpacked"/usr/lib/*/libmvtgate.so.*.*.* |
+        grep -o 'GLIBC_[0-9.]*' | sort -Vu | tail -1)
+    echo "$named, and the newest symbol is of $needed"
+    [ "$named" = "libc6 (>= ${needed#GLIBC_})" ]
+}
+
+# Each file of a package has its sum, and the names of no other file.
+has_sums() {
+    local unpacked=$room/sums_$1
+    dpkg-deb -R "$(ls "$made/$1"_*.deb)" "$unpacked"
+    (
+        cd "$unpacked" || exit
+        md5sum --check --quiet DEBIAN/md5sums
+        diff <(find usr -type f | LC_ALL=C sort) <(sed 's/^[0-9a-f]*  //' DEBIAN/md5sums)
+    )
+}
+
+test_made() {
+    local names package bare=/usr/sbin:/usr/bin:/sbin:/bin
+    version=$(./mvtgate --version)
+    version=${version#mvtgate }
+    expect "./package" ./package "$made"
+    # (no toolchain is needed where all is built)
+    expect "./package again, with the system's programs alone" env PATH=$bare ./package "$room/again"
+    names=("libmvtgate-dev_${version}_amd64.deb" "mvtgate-$version-linux-x86_64.tar.gz" "mvtgate_${version}_amd64.deb"
+        "python3-mvtgate_${version}_all.deb")
+    ! has /usr/lib/python3/dist-packages/build "the wheel" || ! has /usr/lib/python3/dist-packages/wheel "the wheel" ||
+        names+=("mvtgate-$version-py3-none-manylinux_2_34_x86_64.whl")
+    expect "the files of ./package" are_lines "$(printf '%s\n' "${names[@]}" | LC_ALL=C sort)" env LC_ALL=C ls "$made"
+    expect "the same bytes twice" are_same "$made" "$room/again"
+    expect "wrong words of ./package" ends_with 2 ./package a b
+    expect "two versions" has_two_versions
+    expect "the C library that is named" needs_named_libc
+    for package in mvtgate libmvtgate-dev python3-mvtgate; do
+        expect "the sums of $package" has_sums $package
+    done
+    if has /usr/bin/lintian "the errors of the packages"; then
+        expect "lintian" lintian --allow-root --fail-on error "$made"/*.deb
+    fi
+}
