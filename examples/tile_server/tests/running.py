@@ -94,7 +94,10 @@ class Database:
     def remove(self) -> None:
         """Ends the server and takes away all of its files."""
         self.stop()
-        shutil.rmtree(self.folder)
+        # (where initdb was interrupted, a process of its own may still take files away too)
+        end = time.monotonic() + SECONDS
+        while self.folder.exists() and time.monotonic() < end:
+            shutil.rmtree(self.folder, ignore_errors=True)
 
     def run_file(self, path: pathlib.Path) -> None:
         """Runs a file of SQL, as its user would."""
