@@ -190,13 +190,13 @@ def test_refused_memory(large_tile: bytes) -> None:
 def test_statuses_of_no_answer(monkeypatch: pytest.MonkeyPatch) -> None:
     for name in ("check", "confirm", "dump", "advise"):
         for status, error in ((2, MemoryError), (9, RuntimeError)):
-            monkeypatch.setattr(_library.library, f"mvtgate_{name}", lambda *words, status=status: status)
+            monkeypatch.setattr(_library.calls, f"mvtgate_{name}", lambda *words, status=status: status)
             with pytest.raises(error):
                 getattr(mvtgate, name)(*([FAULTY, LINE] if name == "confirm" else [FAULTY]))
 
 
 def test_profiles_of_the_library() -> None:
-    assert _library.library.mvtgate_check(2, b"", 0, *_library._Room(384).words) == _library.NO_PROFILE
+    assert _library.calls.mvtgate_check(2, b"", 0, *_library._Room(384).words) == _library.NO_PROFILE
     assert [it.value for it in Profile] == [0, 1]
 
 

@@ -100,7 +100,7 @@ OUT_OF_MEMORY = """
 import sys
 from mvtgate import _library
 from tile_server.__main__ import main
-_library.library.mvtgate_check = lambda *words: _library.NO_MEMORY
+_library.calls.mvtgate_check = lambda *words: _library.NO_MEMORY
 sys.exit(main())
 """
 

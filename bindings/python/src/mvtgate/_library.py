@@ -71,7 +71,7 @@ def _load() -> ctypes.CDLL:
     return library
 
 
-library = _load()
+calls = _load()
 
 
 class _PyBuffer(ctypes.Structure):
@@ -198,19 +198,19 @@ def _expect(status: int, *expected: int) -> None:
 
 def check(profile: int, tile: ReadableBuffer) -> Optional[str]:
     """None for a valid tile, or the text of its first fault. MemoryError where memory was refused."""
-    status, text = _text_of_call(tile, library.mvtgate_check, profile)
+    status, text = _text_of_call(tile, calls.mvtgate_check, profile)
     return None if status == OK else text
 
 
 def dump(tile: ReadableBuffer) -> Tuple[bool, str]:
     """Whether the bytes are a tile, and the dump, or the text of the first wire fault. MemoryError where memory was refused."""
-    status, text = _text_of_call(tile, library.mvtgate_dump)
+    status, text = _text_of_call(tile, calls.mvtgate_dump)
     return status == OK, text
 
 
 def advise(tile: ReadableBuffer) -> Tuple[bool, str]:
     """Whether the bytes are a tile, and the advice, or the text of the first wire fault. MemoryError where memory was refused."""
-    status, text = _text_of_call(tile, library.mvtgate_advise)
+    status, text = _text_of_call(tile, calls.mvtgate_advise)
     return status == OK, text
 
 
@@ -218,12 +218,12 @@ def confirm(profile: int, tile: ReadableBuffer, text: bytes) -> int:
     """OK where the fault of the text is true of the tile, NO where it isn't, NOT_JSON, NOT_A_FAULT or OUT_OF_RANGE where the text
     is no fault. MemoryError where memory was refused."""
     with Borrowed(tile) as (address, length):
-        status: int = library.mvtgate_confirm(profile, address, length, text, len(text))
+        status: int = calls.mvtgate_confirm(profile, address, length, text, len(text))
     _expect(status, OK, NO, NOT_JSON, NOT_A_FAULT, OUT_OF_RANGE)
     return status
 
 
 def version() -> int:
     """10000 * major + 100 * minor + patch."""
-    number: int = library.mvtgate_version()
+    number: int = calls.mvtgate_version()
     return number
