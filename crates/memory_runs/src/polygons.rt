@@ -8,6 +8,7 @@ use mvt_draw::{DrawFault, RingBuffer};
 use mvt_plane::{Count, Point};
 use mvt_polygon::{check_polygon, check_rings, find_meeting, find_meeting_with, groups};
 use mvt_status::{TreeStatus, VecStatus};
+use mvt_tile::ListedNumbers;
 
 /// A call on rings.
 #[derive(Clone, Copy)]
@@ -39,7 +40,7 @@ impl PolygonCall {
         let mut room = [0u32; 64];
         let numbers = numbers(bytes, &mut room)?;
         let mut buffer = RingBuffer::new(rt.alloc());
-        match buffer.draw(rt.alloc(), numbers) {
+        match buffer.draw(rt.alloc(), ListedNumbers::new(numbers)) {
             Ok(()) => {}
             Err(DrawFault::Memory) => return Err(Stop::NoInput),
             Err(DrawFault::Command { .. }) => return Err(Stop::NoCall),

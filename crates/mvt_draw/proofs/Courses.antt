@@ -26,10 +26,6 @@ two_ahead at numbers x y rest stands =
     let second = one_ahead (at + 1) numbers y rest first.1 in
     let two : at + 2 ≡ at + 1 + 1 = omega arith in (first.0, second.0, ap (λ (place : ℕ). drop place numbers) two ∙ second.1)
 
--- the course with this cursor and these numbers
-pub same_course : (course : Course) (here : Position) (left : List ℕ) → course.here ≡ here → course.left ≡ left → course ≡ record { here = here; left = left }
-same_course course here left same_here same_left = λ i. record { here = same_here i; left = same_left i }
-
 -- A run: the steps of one command
 
 -- of the steps of a run, those through these positions are ahead, and the others are drawn

@@ -3,6 +3,7 @@ pub mod Parameters
 pub mod Paths
 pub mod ReadGeometries
 pub mod RingRoom
+pub mod Sources
 pub mod SpellingFaults
 pub mod SpellingFigures
 pub mod SpellingPaths

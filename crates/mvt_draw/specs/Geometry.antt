@@ -35,14 +35,10 @@ abbrev pub IsDrawFault : ℕ → List ℕ → DrawFault → Type 0
 IsDrawFault kind numbers (draw_faults.Command code index) = IsCommandFault kind numbers code index
 IsDrawFault kind numbers draw_faults.Memory = Unit {0}
 
--- the numbers have the fault at the first one that isn't allowed, or memory was refused, where it can be
-abbrev pub IsStopAhead : Type 0 → GeometryType → List ℕ → DrawFault → Type 0
-IsStopAhead CanBeRefused geometry_type numbers (draw_faults.Command code index) = IsFaulty geometry_type numbers (command_code code) index
-IsStopAhead CanBeRefused geometry_type numbers draw_faults.Memory = CanBeRefused
-
--- the same where memory can be refused
+-- the numbers have the fault at the first one that isn't allowed, or memory was refused
 abbrev pub IsFaultAhead : GeometryType → List ℕ → DrawFault → Type 0
-IsFaultAhead geometry_type numbers fault = IsStopAhead (Unit {0}) geometry_type numbers fault
+IsFaultAhead geometry_type numbers (draw_faults.Command code index) = IsFaulty geometry_type numbers (command_code code) index
+IsFaultAhead geometry_type numbers draw_faults.Memory = Unit {0}
 
 -- the numbers are the figure's spelling
 pub record IsSpelled (figure : Figure) (numbers : List ℕ) : Type 0 where

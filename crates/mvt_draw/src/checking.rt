@@ -1,6 +1,7 @@
-ghost use Rattle.std.specs.Prelude.{◌≡◌, ℕ, IfErr, IfNone, IfSome, OnOk};
+ghost use Rattle.std.specs.Prelude.{◌≡◌, ◌≢◌, ◌^◌, ◌<◌, ℕ, List, IfErr, IfNone, IfSome, OnOk};
 ghost use Rattle.mvt_plane.specs.Reading.{IsWhole, path_type};
-ghost use Rattle.mvt_draw.specs.Geometry.{IsCommandFault, IsStopAhead};
+ghost use Rattle.mvt_draw.specs.declared.drawing.DrawFault.{DrawFault};
+ghost use Rattle.mvt_draw.specs.Geometry.{IsCommandFault, IsFaultAhead};
 ghost use Rattle.mvt_plane.specs.Geometry.{HasFigure, type_number};
 ghost use Rattle.mvt_fault.specs.declared.command.CommandCode.{CommandCode};
 ghost use Rattle.mvt_plane.specs.Figure.{GeometryType};
@@ -14,15 +15,16 @@ use crate::drawing::DrawFault;
 use crate::reading::{read_path, read_points};
 use crate::sink::Nothing;
 use mvt_fault::CommandCode;
-use mvt_tile::Kind;
+use mvt_tile::{Kind, NumberSource};
 
-/// What keeps the numbers of a geometry from drawing a figure of the kind: the cause and the place in the
-/// list, counted from 0 (Mapbox Vector Tile Specification 2.1, section 4.3). None where they draw one, and
+/// What keeps the numbers of a geometry from drawing a figure of the kind: the cause and the place among
+/// them, counted from 0 (Mapbox Vector Tile Specification 2.1, section 4.3). None where they draw one, and
 /// for a geometry of unknown kind. It takes no memory.
-pub fn command_fault(kind: Kind, numbers: &[u32]) -> Option<(CommandCode, usize)>
-    ensures figure { IfNone result (HasFigure (kind_number kind) numbers.now) }
-    ensures none { IfNone result ((code : CommandCode) (index : ℕ) → ¬ IsCommandFault (kind_number kind) numbers.now code index) }
-    ensures fault { IfSome result (λ fault. IsCommandFault (kind_number kind) numbers.now fault.0 fault.1) }
+pub fn command_fault<N: NumberSource + Drop>(kind: Kind, numbers: N) -> Option<(CommandCode, usize)>
+    requires few { N.most numbers < 2 ^ 64 }
+    ensures figure { IfNone result ((given : List ℕ) → N.Leaves numbers given → HasFigure (kind_number kind) given) }
+    ensures none { IfNone result ((given : List ℕ) → N.Leaves numbers given → (code : CommandCode) (index : ℕ) → ¬ IsCommandFault (kind_number kind) given code index) }
+    ensures fault { IfSome result (λ fault. (given : List ℕ) → N.Leaves numbers given → IsCommandFault (kind_number kind) given fault.0 fault.1) }
 {
     match read(kind, numbers) {
         Ok(()) => None,
@@ -33,28 +35,38 @@ pub fn command_fault(kind: Kind, numbers: &[u32]) -> Option<(CommandCode, usize)
 }
 
 /// Reads the numbers of a geometry by its kind, which is known or not.
-fn read(kind: Kind, numbers: &[u32]) -> Result<(), DrawFault>
-    ensures figure { OnOk result (HasFigure (kind_number kind) numbers.now) }
+fn read<N: NumberSource + Drop>(kind: Kind, mut source: N) -> Result<(), DrawFault>
+    requires few { N.most source < 2 ^ 64 }
+    ensures figure { OnOk result ((given : List ℕ) → N.Leaves source given → HasFigure (kind_number kind) given) }
+    ensures no_memory { IfErr result (λ fault. fault ≢ DrawFault.Memory) }
     ensures fault { IfErr result (λ fault. (geometry_type : GeometryType) × (kind_number kind ≡ type_number geometry_type)
-        × IsStopAhead ⊥ geometry_type numbers.now fault) }
+        × ((given : List ℕ) → N.Leaves source given → IsFaultAhead geometry_type given fault)) }
 {
     match kind {
         Kind::Unknown => Ok(()),
-        Kind::Point => read_points(&mut Nothing, numbers),
-        Kind::LineString => read_paths(numbers, false),
-        Kind::Polygon => read_paths(numbers, true),
+        Kind::Point => read_points(&mut Nothing, &mut source),
+        Kind::LineString => read_paths(source, false),
+        Kind::Polygon => read_paths(source, true),
     }
 }
 
 /// Reads the numbers as lines, or as rings, which are closed (sections 4.3.4.3 and 4.3.4.4).
-fn read_paths(numbers: &[u32], closed: bool) -> Result<(), DrawFault>
-    ensures whole { OnOk result (IsWhole (path_type closed) numbers.now) }
-    ensures fault { IfErr result (IsStopAhead ⊥ (path_type closed) numbers.now) }
+fn read_paths<N: NumberSource + Drop>(mut source: N, closed: bool) -> Result<(), DrawFault>
+    requires few { N.most source < 2 ^ 64 }
+    ensures whole { OnOk result ((given : List ℕ) → N.Leaves source given → IsWhole (path_type closed) given) }
+    ensures no_memory { IfErr result (λ stop. stop ≢ DrawFault.Memory) }
+    ensures fault { IfErr result (λ stop. (given : List ℕ) → N.Leaves source given → IsFaultAhead (path_type closed) given stop) }
 {
-    let sink = &mut Nothing;
-    let (mut at, mut cursor) = read_path(sink, numbers, 0, Cursor::ORIGIN, closed)?;
-    'paths: while at < numbers.len() {
-        (at, cursor) = read_path(sink, numbers, at, cursor, closed)?;
+    let Some(mut first) = source.next_number() else {
+        return Err((CommandCode::Unfinished, 0).into());
+    };
+    let mut at = 0;
+    let mut cursor = Cursor::ORIGIN;
+    'paths: loop {
+        (at, cursor) = read_path(&mut Nothing, first, &mut source, at, cursor, closed)?;
+        match source.next_number() {
+            Some(number) => first = number,
+            None => return Ok(()),
+        }
     }
-    Ok(())
 }

@@ -14,7 +14,7 @@ use crate::figure::Figure;
 use crate::reading::{read_path, read_points};
 use mvt_fault::CommandCode;
 use mvt_plane::Point;
-use mvt_tile::Kind;
+use mvt_tile::{Kind, ListedNumbers, NumberSource};
 use std::alloc::{AllocError, AllocFailed, Global};
 
 /// Why a geometry wasn't drawn.
@@ -71,7 +71,7 @@ pub fn draw(alloc: Global, kind: Kind, numbers: &[u32]) -> Result<Figure, DrawFa
     ensures figure { IfOk result (IsDrawn (kind_number kind) numbers.now) }
     ensures fault { IfErr result (IsDrawFault (kind_number kind) numbers.now) }
 {
-    if let Some((code, index)) = command_fault(kind, numbers) {
+    if let Some((code, index)) = command_fault(kind, ListedNumbers::new(numbers)) {
         return Err(DrawFault::Command { code, index });
     }
     match draw_figure(alloc, kind, numbers) {
@@ -100,7 +100,7 @@ fn draw_points(alloc: Global, numbers: &[u32]) -> Result<Vec<Point>, DrawFault>
         → IsRunAhead (record { here = origin; left = numbers.now }) positions [] → points.items ≡ positions) }
 {
     let mut points = Vec::new(alloc);
-    read_points(&mut points, numbers)?;
+    read_points(&mut points, &mut ListedNumbers::new(numbers))?;
     Ok(points)
 }
 
@@ -109,12 +109,13 @@ fn draw_paths(alloc: Global, numbers: &[u32], closed: bool) -> Result<Vec<Vec<Po
     ensures { IfOk result (λ drawn. (parts : List (List Position))
         → ArePathsAhead (record { here = origin; left = numbers.now }) closed parts → map (λ part. part.items) drawn.items ≡ parts) }
 {
+    let mut source = ListedNumbers::new(numbers);
     let mut parts = Vec::new(alloc);
     let mut at = 0;
     let mut cursor = Cursor::ORIGIN;
-    'paths: while at < numbers.len() {
+    'paths: while let Some(first) = source.next_number() {
         let mut points = Vec::new(alloc);
-        (at, cursor) = read_path(&mut points, numbers, at, cursor, closed)?;
+        (at, cursor) = read_path(&mut points, first, &mut source, at, cursor, closed)?;
         parts.push(points)?;
     }
     Ok(parts)

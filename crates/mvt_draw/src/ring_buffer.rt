@@ -1,12 +1,13 @@
-ghost use Rattle.std.specs.Prelude.{◌≡◌, ◌+◌, ◌*◌, ◌<◌, ◌≤◌, ◌∷◌, ◌++◌, ℕ, Bool, true, false, IfErr, IfOk, List, [], OnOk, length, map, take};
+ghost use Rattle.std.specs.Prelude.{◌≡◌, ◌+◌, ◌^◌, ◌<◌, ◌≤◌, ◌∷◌, ◌++◌, ℕ, Bool, true, IfErr, IfOk, List, [], OnOk, drop, length, map, take};
 ghost use Rattle.mvt_draw.specs.Cursor.{position_of};
 ghost use Rattle.mvt_draw.specs.Geometry.{IsDrawFault, IsFaultAhead};
-ghost use Rattle.mvt_plane.specs.Course.{AreStepsAhead, IsPathAhead, course_at, ending_of};
+ghost use Rattle.mvt_draw.specs.Given.{IsGivenAt};
+ghost use Rattle.mvt_plane.specs.Course.{IsPathAhead, course_at, ending_of};
 ghost use Rattle.mvt_plane.specs.Drawing.{path_command};
 ghost use Rattle.mvt_plane.specs.Figure.{cursor, polygon};
 ghost use Rattle.mvt_plane.specs.Geometry.{HasRings};
 ghost use Rattle.mvt_plane.specs.Position.{Position, IsPosition};
-ghost use Rattle.mvt_plane.specs.Reading.{StandsAt, with_left};
+ghost use Rattle.mvt_plane.specs.Reading.{StandsAt};
 
 #[cfg(test)]
 mod tests;
@@ -14,7 +15,9 @@ mod tests;
 use crate::commands::Cursor;
 use crate::drawing::DrawFault;
 use crate::reading::read_path;
+use mvt_fault::CommandCode;
 use mvt_plane::Point;
+use mvt_tile::NumberSource;
 use std::alloc::Global;
 use std::marker::Model;
 
@@ -60,35 +63,52 @@ impl RingBuffer {
     ///
     /// Errors: `Command` with what keeps the numbers from drawing rings; `Memory` where the rings found no
     /// memory. After an error nothing is said of the rings that are here; the buffer may be drawn into again.
-    pub fn draw(&mut self, alloc: Global, numbers: &[u32]) -> Result<(), DrawFault>
-        ensures rings { OnOk result (HasRings 3 numbers.now self.new) }
-        ensures fault { IfErr result (IsDrawFault 3 numbers.now) }
-    {
-        self.count = 0;
-        let (mut at, mut cursor) = self.draw_ring(alloc, numbers, 0, Cursor::ORIGIN)?;
-        'rings: while at < numbers.len() {
-            (at, cursor) = self.draw_ring(alloc, numbers, at, cursor)?;
-        }
-        Ok(())
-    }
-
-    /// Draws one more ring, whose numbers begin at this place. It answers the place behind them and the cursor
-    /// there.
-    fn draw_ring(
+    pub fn draw<N: NumberSource + Drop>(
         &mut self,
         alloc: Global,
-        numbers: &[u32],
+        mut numbers: N,
+    ) -> Result<(), DrawFault>
+        requires few { N.most numbers < 2 ^ 64 }
+        ensures rings { OnOk result ((given : List ℕ) → N.Leaves numbers given → HasRings 3 given self.new) }
+        ensures fault { IfErr result (λ fault. (given : List ℕ) → N.Leaves numbers given → IsDrawFault 3 given fault) }
+    {
+        self.count = 0;
+        let Some(mut first) = numbers.next_number() else {
+            return Err((CommandCode::Unfinished, 0).into());
+        };
+        let mut at = 0;
+        let mut cursor = Cursor::ORIGIN;
+        'rings: loop {
+            (at, cursor) = self.draw_ring(alloc, first, &mut numbers, at, cursor)?;
+            match numbers.next_number() {
+                Some(number) => first = number,
+                None => return Ok(()),
+            }
+        }
+    }
+
+    /// Draws one more ring. Its first number, at a place, was read before. It answers the place behind its numbers
+    /// and the cursor there.
+    fn draw_ring<N: NumberSource + Drop>(
+        &mut self,
+        alloc: Global,
+        first: u32,
+        source: &mut N,
         start: usize,
         from: Cursor,
     ) -> Result<(usize, Cursor), DrawFault>
-        ensures forward { IfOk result (λ behind. (start < behind.0) × (behind.0 ≤ length numbers.now)) }
-        ensures goes { IfOk result (λ behind. (drawn : Bool) → StandsAt polygon numbers.now start (path_command drawn (position_of from))
-            → StandsAt polygon numbers.now behind.0 (path_command true (position_of behind.1))) }
-        ensures drawn { IfOk result (λ behind. (ring : List Position) (rest : List ℕ)
-            → IsPathAhead (course_at numbers.now start (position_of from)) ring (ending_of true ++ rest)
-            → (self.new ≡ self.old ++ ring ∷ []) × (course_at numbers.now behind.0 (position_of behind.1) ≡ record { here = cursor (position_of from) ring; left = rest })) }
-        ensures fault { IfErr result (λ stop. (drawn : Bool) → (start ≡ length numbers.now → drawn ≡ false)
-            → StandsAt polygon numbers.now start (path_command drawn (position_of from)) → IsFaultAhead polygon numbers.now stop) }
+        requires few { start + 1 + N.most source.old < 2 ^ 64 }
+        ensures forward { IfOk result (λ behind. start < behind.0) }
+        ensures fewer { IfOk result (λ behind. behind.0 + N.most source.new ≤ start + 1 + N.most source.old) }
+        ensures left { IfOk result (λ behind. (numbers : List ℕ) → IsGivenAt (N.Leaves source.old) numbers start first → N.Leaves source.new (drop behind.0 numbers)) }
+        ensures goes { IfOk result (λ behind. (numbers : List ℕ) → IsGivenAt (N.Leaves source.old) numbers start first
+            → (drawn : Bool) → StandsAt polygon numbers start (path_command drawn (position_of from))
+            → StandsAt polygon numbers behind.0 (path_command true (position_of behind.1))) }
+        ensures drawn { IfOk result (λ behind. (numbers : List ℕ) → IsGivenAt (N.Leaves source.old) numbers start first → (ring : List Position) (rest : List ℕ)
+            → IsPathAhead (course_at numbers start (position_of from)) ring (ending_of true ++ rest)
+            → (self.new ≡ self.old ++ ring ∷ []) × (course_at numbers behind.0 (position_of behind.1) ≡ record { here = cursor (position_of from) ring; left = rest })) }
+        ensures fault { IfErr result (λ stop. (numbers : List ℕ) → IsGivenAt (N.Leaves source.old) numbers start first
+            → (drawn : Bool) → StandsAt polygon numbers start (path_command drawn (position_of from)) → IsFaultAhead polygon numbers stop) }
     {
         if self.count == self.parts.len() {
             // a ring has three vertices or more, so one of three takes no more memory than that
@@ -97,7 +117,7 @@ impl RingBuffer {
         }
         let ring = &mut self.parts[self.count];
         ring.clear();
-        let behind = read_path(ring, numbers, start, from, true)?;
+        let behind = read_path(ring, first, source, start, from, true)?;
         self.count += 1;
         Ok(behind)
     }

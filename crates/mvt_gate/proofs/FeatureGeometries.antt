@@ -1,7 +1,7 @@
 -- The geometry of a feature's record, by the numbers that its readers were given.
-use Rattle.std.proofs.Common.{◌≡◌, ℕ, List, Option, Result, IfOk, IfNone, sym, ap, subst}
+use Rattle.std.proofs.Common.{◌≡◌, ◌≢◌, ℕ, List, Option, Result, IfOk, IfNone, IfSome, refl, sym, ◌∙◌, subst, arith}
+use Rattle.std.proofs.lemmas.Option.{IfSome_then}
 use Rattle.std.proofs.lemmas.Result.{IfOk-weaker}
-use Rattle.mvt_confirm.proofs.ValidParts.{geometry_kept}
 use Rattle.mvt_confirm.specs.Geometry.{IsFaultOfGeometryBy}
 use Rattle.mvt_confirm.specs.Valid.{AreValidRingsBy, IsValidGeometryBy}
 use Rattle.mvt_draw.specs.Geometry.{IsCommandFault}
@@ -10,14 +10,16 @@ use Rattle.mvt_fault.specs.declared.command.CommandCode.{CommandCode}
 use Rattle.mvt_fault.specs.declared.fault.Fault.{Fault}
 use Rattle.mvt_fault.specs.declared.fault.Fault.TheVariants.{Command}
 use Rattle.mvt_fault.specs.declared.profile.Profile.{Profile}
-use Rattle.mvt_plane.specs.Geometry.{HasRings}
+use Rattle.mvt_plane.specs.Geometry.{HasFigure, HasRings}
 use Rattle.mvt_plane.specs.Position.{Position}
-use Rattle.mvt_tile.specs.View.{feature_of, kind_number}
-use Rattle.mvt_tile.specs.declared.record.Feature.{Feature}
-use Rattle.mvt_tile.specs.declared.record.Kind.TheVariants.{Polygon}
+use Rattle.mvt_tile.specs.View.{kind_number}
+use Rattle.mvt_tile.specs.declared.record.Kind.{Kind}
+use Rattle.mvt_tile.specs.declared.record.Kind.TheVariants.{Unknown, Point, LineString, Polygon}
 use Rattle.mvt_wire.proofs.NothingFound.{IfNone_then}
+use Rattle.mvt_wire.specs.Tile.{FeatureRecord}
 use Rattle.mvt_gate.proofs.FirstFaults.{command_is_least}
 use Rattle.mvt_gate.proofs.ValidGeometries.{valid_of_rings}
+use Rattle.mvt_gate.specs.Polygons.{IsFirstOfRings}
 
 -- what is known where nothing is found
 abbrev WhereNone : {E : Type 0} → Result (Option Fault) E → Type 0 → Type 0
@@ -27,29 +29,37 @@ WhereNone found Holds = IfOk found (λ fault. IfNone fault Holds)
 where_none : {E : Type 0} (First Second : Type 0) (found : Result (Option Fault) E) → (First → Second) → WhereNone found First → WhereNone found Second
 where_none First Second found so = IfOk-weaker found (λ fault. IfNone fault First) (λ fault. IfNone fault Second) (λ fault none. IfNone_then fault none so)
 
--- the rings of a feature of the type of polygons
-rings_of_feature : (feature : Feature) (numbers : List ℕ) (parts drawn : List (List Position)) → feature.kind ≡ Polygon → numbers ≡ feature.geometry.items → parts ≡ drawn → HasRings 3 numbers drawn
-    → HasRings (feature_of feature).kind (feature_of feature).geometry parts
-rings_of_feature feature numbers parts drawn kind same all has =
-    subst (λ (n : ℕ). HasRings n feature.geometry.items parts) (sym (ap kind_number kind))
-    (subst (λ (ns : List ℕ). HasRings 3 ns parts) same (subst (λ (its : List (List Position)). HasRings 3 numbers its) (sym all) has))
+module _ {E : Type 0} (profile : Profile) (found : Result (Option Fault) E) (IsIt : FeatureRecord → Type 0) where
+  -- where the rings of a feature are those of valid polygons, its geometry is valid
+  pub valid_by_rings : (parts drawn : List (List Position)) → parts ≡ drawn → ((it : FeatureRecord) → IsIt it → it.kind ≡ 3) → ((it : FeatureRecord) → IsIt it → HasRings 3 it.geometry drawn)
+      → WhereNone found (AreValidRingsBy profile parts) → WhereNone found ((it : FeatureRecord) → IsIt it → IsValidGeometryBy profile it)
+  valid_by_rings parts drawn all kind has =
+      where_none (AreValidRingsBy profile parts) ((it : FeatureRecord) → IsIt it → IsValidGeometryBy profile it) found
+      (λ valid it is. valid_of_rings profile it parts (subst (λ (its : List (List Position)). HasRings it.kind it.geometry its) (sym all) (subst (λ (n : ℕ). HasRings n it.geometry drawn) (sym (kind it is)) (has it is))) valid)
 
--- where its rings are those of valid polygons, its geometry is valid
-pub valid_by_rings : {E : Type 0} (profile : Profile) (found : Result (Option Fault) E) (feature : Feature) (numbers : List ℕ) (parts drawn : List (List Position)) → feature.kind ≡ Polygon → numbers ≡ feature.geometry.items → parts ≡ drawn
-    → HasRings 3 numbers drawn → WhereNone found (AreValidRingsBy profile parts) → WhereNone found (IsValidGeometryBy profile (feature_of feature))
-valid_by_rings profile found feature numbers parts drawn kind same all has =
-    where_none (AreValidRingsBy profile parts) (IsValidGeometryBy profile (feature_of feature)) found (valid_of_rings profile (feature_of feature) parts (rings_of_feature feature numbers parts drawn kind same all has))
+  -- the first fault of its rings is the first of its geometry
+  pub least_by_rings : (parts drawn : List (List Position)) (layer ordinal : ℕ) → parts ≡ drawn → ((it : FeatureRecord) → IsIt it → it.kind ≡ 3) → ((it : FeatureRecord) → IsIt it → HasRings 3 it.geometry drawn)
+      → IfOk found (λ fault. IfSome fault (IsFirstOfRings profile parts layer ordinal)) → IfOk found (λ fault. IfSome fault (λ first. (it : FeatureRecord) → IsIt it → IsLeast (IsFaultOfGeometryBy profile it layer ordinal) first))
+  least_by_rings parts drawn layer ordinal all kind has =
+      IfOk-weaker found _ _
+      (λ fault some. IfSome_then fault some
+      (λ first least it is. least it (subst (λ (its : List (List Position)). HasRings it.kind it.geometry its) (sym all) (subst (λ (n : ℕ). HasRings n it.geometry drawn) (sym (kind it is)) (has it is)))))
 
--- a valid geometry has no fault
-pub faultless_by_valid : {E : Type 0} (profile : Profile) (found : Result (Option Fault) E) (feature : Feature) (layer ordinal : ℕ) → WhereNone found (IsValidGeometryBy profile (feature_of feature))
-    → WhereNone found ((fault : Fault) → ¬ IsFaultOfGeometryBy profile (feature_of feature) layer ordinal fault)
-faultless_by_valid profile found feature layer ordinal =
-    where_none (IsValidGeometryBy profile (feature_of feature)) ((fault : Fault) → ¬ IsFaultOfGeometryBy profile (feature_of feature) layer ordinal fault) found
-    (λ valid fault. geometry_kept profile (feature_of feature) layer ordinal fault valid)
+-- the number of polygons is that of no other kind
+other_number : (kind : Kind) → kind ≢ Polygon → kind_number kind ≢ 3
+other_number Unknown other = λ same. absurd (omega arith)
+other_number Point other = λ same. absurd (omega arith)
+other_number LineString other = λ same. absurd (omega arith)
+other_number Polygon other = absurd (other refl)
+
+pub other_kind : (kind : Kind) (it : FeatureRecord) → kind ≢ Polygon → kind_number kind ≡ it.kind → it.kind ≢ 3
+other_kind kind it other same three = other_number kind other (same ∙ three)
+
+-- a figure that is no polygon is valid where it is drawn
+pub valid_by_figure : (profile : Profile) (it : FeatureRecord) → it.kind ≢ 3 → HasFigure it.kind it.geometry → IsValidGeometryBy profile it
+valid_by_figure profile it other has = record { figure = has; polygons = λ rings drawn. absurd (other drawn.typed) }
 
 -- a fault of the commands is the first of the feature's geometry
-pub least_by_commands : (profile : Profile) (feature : Feature) (kind : ℕ) (numbers : List ℕ) (code : CommandCode) (index layer ordinal : ℕ) → kind ≡ kind_number feature.kind → numbers ≡ feature.geometry.items → IsCommandFault kind numbers code index
-    → IsLeast (IsFaultOfGeometryBy profile (feature_of feature) layer ordinal) (Command code layer ordinal index)
-least_by_commands profile feature kind numbers code index layer ordinal type_is same bad =
-    command_is_least profile (feature_of feature) layer ordinal code index
-    (subst (λ (n : ℕ). IsCommandFault n feature.geometry.items code index) type_is (subst (λ (ns : List ℕ). IsCommandFault kind ns code index) same bad))
+pub least_by_commands : (profile : Profile) (it : FeatureRecord) (kind : ℕ) (code : CommandCode) (index layer ordinal : ℕ) → it.kind ≡ kind → IsCommandFault kind it.geometry code index
+    → IsLeast (IsFaultOfGeometryBy profile it layer ordinal) (Command code layer ordinal index)
+least_by_commands profile it kind code index layer ordinal type_is bad = command_is_least profile it layer ordinal code index (subst (λ (n : ℕ). IsCommandFault n it.geometry code index) (sym type_is) bad)

@@ -1,5 +1,5 @@
 //! The rule on the geometry of features.
-ghost use Rattle.std.specs.Prelude.{◌≡◌, ℕ, IfOk, IfNone, IfSome};
+ghost use Rattle.std.specs.Prelude.{◌≡◌, None, IfOk, IfNone, IfSome};
 ghost use Rattle.mvt_confirm.specs.Geometry.{IsFaultOfGeometryBy};
 ghost use Rattle.mvt_confirm.specs.Valid.{IsValidGeometryBy};
 ghost use Rattle.mvt_fault.specs.Place.{IsLeast};
@@ -7,18 +7,16 @@ ghost use Rattle.mvt_fault.specs.declared.fault.Fault.{Fault};
 ghost use Rattle.mvt_fault.specs.declared.profile.Profile.{Profile};
 ghost use Rattle.mvt_fault.specs.declared.profile.Profile.TheVariants as profiles;
 ghost use Rattle.mvt_plane.specs.Geometry.{HasFigure};
-ghost use Rattle.mvt_tile.specs.View.{feature_of, kind_number};
+ghost use Rattle.mvt_tile.specs.FeatureBytes.{Shows};
+ghost use Rattle.mvt_tile.specs.View.{kind_number};
+ghost use Rattle.mvt_wire.specs.Tile.{FeatureRecord};
 
 use crate::polygons::rings_fault;
 use mvt_draw::{DrawFault, RingBuffer, command_fault};
 use mvt_fault::{Fault, Profile};
 use mvt_plane::Count;
-use mvt_tile::{Feature, FeatureRule, Kind};
+use mvt_tile::{FeatureBytes, FeatureRule, Kind};
 use std::alloc::{AllocError, Global};
-
-/// Above so many numbers their memory is given back once the rings are drawn, since the search for meetings needs
-/// room. The memory of fewer is kept, since it serves the next feature.
-const MANY_NUMBERS: usize = 1 << 20;
 
 /// That the geometry of a feature of a known type draws a figure of it (Mapbox Vector Tile Specification
 /// 2.1, section 4.3), and rings those of polygons that are valid by a profile (section 4.3.4.4). It serves one feature
@@ -40,53 +38,66 @@ impl GeometryRule {
         }
     }
 
-    /// The first fault of a feature's geometry by the profile, or None where it is valid. The only error is that memory was
-    /// refused.
-    fn fault_by(
+    /// Stores the first fault of a feature's geometry by the profile in `found`, which is None before, and stays so where the
+    /// geometry is valid. The only error is that memory was refused.
+    fn find_fault_by(
         &mut self,
         alloc: Global,
         profile: Profile,
-        feature: &mut Feature,
+        feature: &FeatureBytes<'_>,
         layer: usize,
         ordinal: usize,
-    ) -> Result<Option<Fault>, AllocError>
-        ensures none { IfOk result (λ found. IfNone found ((fault : Fault) → ¬ IsFaultOfGeometryBy profile (feature_of feature.old) layer ordinal fault)) }
-        ensures kept { IfOk result (λ found. IfNone found (IsValidGeometryBy profile (feature_of feature.old))) }
-        ensures least { IfOk result (λ found. IfSome found (IsLeast (IsFaultOfGeometryBy profile (feature_of feature.old) layer ordinal))) }
+        found: &mut Option<Fault>,
+    ) -> Result<(), AllocError>
+        requires { found.old ≡ None }
+        ensures none { IfOk result (λ _. IfNone found.new ((it : FeatureRecord) → Shows feature.now it → (fault : Fault) → ¬ IsFaultOfGeometryBy profile it layer ordinal fault)) }
+        ensures kept { IfOk result (λ _. IfNone found.new ((it : FeatureRecord) → Shows feature.now it → IsValidGeometryBy profile it)) }
+        ensures least { IfOk result (λ _. IfSome found.new (λ fault. (it : FeatureRecord) → Shows feature.now it → IsLeast (IsFaultOfGeometryBy profile it layer ordinal) fault)) }
     {
-        match feature.kind {
-            Kind::Polygon => self.fault_of_polygons(alloc, profile, feature, layer, ordinal),
-            _ => Ok(fault_of_commands(feature, layer, ordinal)),
+        match feature.kind() {
+            Kind::Polygon => {
+                if let Some(fault) = self.fault_of_polygons(
+                    alloc, profile, feature, layer, ordinal,
+                )? {
+                    *found = Some(fault);
+                }
+            }
+            kind => {
+                if let Some((code, index)) = command_fault(kind, feature.geometry()) {
+                    *found = Some(Fault::Command {
+                        code,
+                        layer,
+                        feature: ordinal,
+                        index,
+                    });
+                }
+            }
         }
+        Ok(())
     }
 
-    /// The same of a feature of the type of polygons. The memory of many numbers is given back.
+    /// The same of a feature of the type of polygons.
     fn fault_of_polygons(
         &mut self,
         alloc: Global,
         profile: Profile,
-        feature: &mut Feature,
+        feature: &FeatureBytes<'_>,
         layer: usize,
         ordinal: usize,
     ) -> Result<Option<Fault>, AllocError>
-        requires { feature.old.kind ≡ Kind.Polygon }
-        ensures kept { IfOk result (λ found. IfNone found (IsValidGeometryBy profile (feature_of feature.old))) }
-        ensures least { IfOk result (λ found. IfSome found (IsLeast (IsFaultOfGeometryBy profile (feature_of feature.old) layer ordinal))) }
+        requires { (it : FeatureRecord) → Shows feature.now it → it.kind ≡ 3 }
+        ensures kept { IfOk result (λ found. IfNone found ((it : FeatureRecord) → Shows feature.now it → IsValidGeometryBy profile it)) }
+        ensures least { IfOk result (λ found. IfSome found (λ fault. (it : FeatureRecord) → Shows feature.now it → IsLeast (IsFaultOfGeometryBy profile it layer ordinal) fault)) }
     {
-        match self.rings.draw(alloc, &feature.geometry) {
-            Ok(()) => {
-                if feature.geometry.len() > MANY_NUMBERS {
-                    feature.geometry = Vec::new(alloc);
-                }
-                rings_fault(
-                    alloc,
-                    profile,
-                    self.rings.rings(),
-                    &mut self.count,
-                    layer,
-                    ordinal,
-                )
-            }
+        match self.rings.draw(alloc, feature.geometry()) {
+            Ok(()) => rings_fault(
+                alloc,
+                profile,
+                self.rings.rings(),
+                &mut self.count,
+                layer,
+                ordinal,
+            ),
             Err(DrawFault::Command { code, index }) => Ok(Some(Fault::Command {
                 code,
                 layer,
@@ -118,15 +129,16 @@ impl FeatureRule for PolygonGeometry {
 
     ghost IsKept = { IsValidGeometryBy profiles.Polygon };
 
-    fn fault(
+    fn find_fault(
         &mut self,
         alloc: Global,
-        feature: &mut Feature,
+        feature: &FeatureBytes<'_>,
         layer: usize,
         ordinal: usize,
-    ) -> Result<Option<Fault>, AllocError> {
+        found: &mut Option<Fault>,
+    ) -> Result<(), AllocError> {
         self.rule
-            .fault_by(alloc, Profile::Polygon, feature, layer, ordinal)
+            .find_fault_by(alloc, Profile::Polygon, feature, layer, ordinal, found)
     }
 }
 
@@ -150,29 +162,15 @@ impl FeatureRule for FeatureGeometry {
 
     ghost IsKept = { IsValidGeometryBy profiles.Feature };
 
-    fn fault(
+    fn find_fault(
         &mut self,
         alloc: Global,
-        feature: &mut Feature,
+        feature: &FeatureBytes<'_>,
         layer: usize,
         ordinal: usize,
-    ) -> Result<Option<Fault>, AllocError> {
+        found: &mut Option<Fault>,
+    ) -> Result<(), AllocError> {
         self.rule
-            .fault_by(alloc, Profile::Feature, feature, layer, ordinal)
+            .find_fault_by(alloc, Profile::Feature, feature, layer, ordinal, found)
     }
-}
-
-/// The fault of a feature's commands, or None where they draw a figure of its type, or its type is unknown. It is the
-/// first of the feature by each profile. It takes no memory.
-fn fault_of_commands(feature: &Feature, layer: usize, ordinal: usize) -> Option<Fault>
-    ensures figure { IfNone result (HasFigure (kind_number feature.now.kind) feature.now.geometry.items) }
-    ensures least { IfSome result (λ fault. (profile : Profile) → IsLeast (IsFaultOfGeometryBy profile (feature_of feature.now) layer ordinal) fault) }
-{
-    let (code, index) = command_fault(feature.kind, &feature.geometry)?;
-    Some(Fault::Command {
-        code,
-        layer,
-        feature: ordinal,
-        index,
-    })
 }

@@ -27,26 +27,26 @@ one_known count known several some more one =
     omega arith
 
 -- a fault at the end, as the scan finds it
-abbrev pub UnseenOrNotOne : FieldScan → ℕ → WireCause → Type 0
-UnseenOrNotOne scan end cause =
-    ((field_number : ℕ) × IsMissing scan field_number × (cause ≡ cause_at Missing end field_number))
-    ⊎ ((scan.message ≡ Value) × ((scan.known && not scan.several) ≡ false) × (cause ≡ cause_at OneField end 0))
+abbrev pub UnseenOrNotOne : Message → FieldScan → ℕ → WireCause → Type 0
+UnseenOrNotOne message scan end cause =
+    ((field_number : ℕ) × IsMissing message scan field_number × (cause ≡ cause_at Missing end field_number))
+    ⊎ ((message ≡ Value) × ((scan.known && not scan.several) ≡ false) × (cause ≡ cause_at OneField end 0))
 
 not_true : (b : Bool) → ¬ (b ≡ true) → b ≡ false
 not_true b never = elim (cases_Bool b) [ inl is ↦ absurd (never is) | inr is ↦ is ]
 
-unseen_or_not_one : (scan : FieldScan) (entries : List Entry) (end : ℕ) (cause : WireCause) → Passes scan entries → EndFault scan.message entries end cause → UnseenOrNotOne scan end cause
-unseen_or_not_one scan entries end cause passes (missing field_number rule known required absent is) =
+unseen_or_not_one : (message : Message) (scan : FieldScan) (entries : List Entry) (end : ℕ) (cause : WireCause) → Passes message scan entries → EndFault message entries end cause → UnseenOrNotOne message scan end cause
+unseen_or_not_one message scan entries end cause passes (missing field_number rule known required absent is) =
     inl (field_number, record { rule = rule; known = known; required = required; absent = passes.occurred field_number rule known ∙ absent }, is)
-unseen_or_not_one scan entries end cause passes (not_one value count is) =
-    inr (value, not_true (scan.known && not scan.several) (λ one. count (one_known (count_known scan.message entries) scan.known scan.several passes.known passes.several one)), is)
+unseen_or_not_one message scan entries end cause passes (not_one value count is) =
+    inr (value, not_true (scan.known && not scan.several) (λ one. count (one_known (count_known message entries) scan.known scan.several (passes.known value) (passes.several value) one)), is)
 
 -- the least missing number is the first fault at the end
-pub Missing-first : (scan : FieldScan) (entries : List Entry) (end field_number : ℕ) → IsMissing scan field_number → ((other : ℕ) → IsMissing scan other → field_number ≤ other) → Passes scan entries
-    → IsLeastCause (EndFault scan.message entries end) (cause_at Missing end field_number)
-Missing-first scan entries end field_number here least passes = record {
+pub Missing-first : (message : Message) (scan : FieldScan) (entries : List Entry) (end field_number : ℕ) → IsMissing message scan field_number → ((other : ℕ) → IsMissing message scan other → field_number ≤ other) → Passes message scan entries
+    → IsLeastCause (EndFault message entries end) (cause_at Missing end field_number)
+Missing-first message scan entries end field_number here least passes = record {
   holds = missing field_number here.rule here.known here.required (sym (passes.occurred field_number here.rule here.known) ∙ here.absent) refl;
-  least = λ other fault. elim (unseen_or_not_one scan entries end other passes fault) [
+  least = λ other fault. elim (unseen_or_not_one message scan entries end other passes fault) [
     | inl unseen ↦ subst (λ (c : WireCause). ComesFirst (cause_place (cause_at Missing end field_number)) (cause_place c)) (sym unseen.2) (elim (cases_lt field_number unseen.0) [
       | inl less ↦ by_field (cause_at Missing end field_number) (cause_at Missing end unseen.0) refl refl less
       | inr not_less ↦
@@ -60,9 +60,9 @@ Missing-first scan entries end field_number here least passes = record {
 }
 
 -- where no number is missing, and a value has just one of its fields, there is none
-pub EndFault-none : (scan : FieldScan) (entries : List Entry) (end : ℕ) → ((field_number : ℕ) → ¬ IsMissing scan field_number) → (scan.message ≡ Value → (scan.known && not scan.several) ≡ true) → Passes scan entries
-    → (cause : WireCause) → ¬ EndFault scan.message entries end cause
-EndFault-none scan entries end none one passes cause fault = elim (unseen_or_not_one scan entries end cause passes fault) [
+pub EndFault-none : (message : Message) (scan : FieldScan) (entries : List Entry) (end : ℕ) → ((field_number : ℕ) → ¬ IsMissing message scan field_number) → (message ≡ Value → (scan.known && not scan.several) ≡ true) → Passes message scan entries
+    → (cause : WireCause) → ¬ EndFault message entries end cause
+EndFault-none message scan entries end none one passes cause fault = elim (unseen_or_not_one message scan entries end cause passes fault) [
   | inl unseen ↦ none unseen.0 unseen.1
   | inr several ↦ both_ways _ several.1 (one several.0)
 ]

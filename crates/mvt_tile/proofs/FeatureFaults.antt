@@ -1,6 +1,6 @@
 -- Which fault of the features of a tile comes first: it is one of the first feature that has a fault, and there the tags
 -- come before the further rule.
-use Rattle.std.proofs.Common.{◌≡◌, ℕ, ◌<◌, inl, inr, List, ◌∷◌, length, Some, slice_get, refl, sym, ◌∙◌, ap, subst, arith}
+use Rattle.std.proofs.Common.{◌≡◌, ℕ, ◌<◌, ◌≤◌, inl, inr, List, ◌∷◌, length, Option, Some, None, Result, Ok, Err, IfOk, IfNone, slice_get, refl, sym, ◌∙◌, ap, subst, arith}
 use Rattle.std.proofs.lemmas.Bool.{cases_lt}
 use Rattle.mvt_wire.specs.Scope.{Span, spans_of}
 use Rattle.mvt_wire.specs.Tile.{FeatureRecord, IsFeature, LayerRecord, IsLayer, TileRecord, IsTile}
@@ -69,17 +69,17 @@ HasSameTagFaults-counts keys values layer tags same_keys same_values = record {
       subst (λ (n : ℕ). TagsBreak code n values tags place) (sym same_keys) (subst (λ (n : ℕ). TagsBreak code (length layer.keys) n tags place) (sym same_values) broken);
 }
 
--- and in each that has what they need
-pub HasSameTagFaults-enough : (needs : TagNeeds) (layer : LayerRecord) (tags : List ℕ) → AreMetBy needs tags → HasEnough needs layer → HasSameTagFaults needs.keys needs.values layer tags
-HasSameTagFaults-enough needs layer tags met enough = record { there = there; back = back }
+-- and in each that has what they need, as in one of no fewer keys and values than that
+pub HasSameTagFaults-enough : (needs : TagNeeds) (keys values : ℕ) (layer : LayerRecord) (tags : List ℕ) → AreMetBy needs tags → needs.keys ≤ keys → needs.values ≤ values → HasEnough needs layer → HasSameTagFaults keys values layer tags
+HasSameTagFaults-enough needs keys values layer tags met enough_keys enough_values enough = record { there = there; back = back }
   where
-    there : (code : TagCode) (place : ℕ) → TagsBreak code needs.keys needs.values tags place → TagsBreak code (length layer.keys) (length layer.values) tags place
+    there : (code : TagCode) (place : ℕ) → TagsBreak code keys values tags place → TagsBreak code (length layer.keys) (length layer.values) tags place
     there OddLength place broken = broken
-    there NoKey place broken = absurd (met.keys needs.keys place (omega arith) broken)
-    there NoValue place broken = absurd (met.values needs.values place (omega arith) broken)
+    there NoKey place broken = absurd (met.keys keys place enough_keys broken)
+    there NoValue place broken = absurd (met.values values place enough_values broken)
     there Repeated place broken = broken
 
-    back : (code : TagCode) (place : ℕ) → TagsBreak code (length layer.keys) (length layer.values) tags place → TagsBreak code needs.keys needs.values tags place
+    back : (code : TagCode) (place : ℕ) → TagsBreak code (length layer.keys) (length layer.values) tags place → TagsBreak code keys values tags place
     back OddLength place broken = broken
     back NoKey place broken = absurd (met.keys (length layer.keys) place enough.keys broken)
     back NoValue place broken = absurd (met.values (length layer.values) place enough.values broken)
@@ -128,16 +128,6 @@ module _ (IsBroken : Breaks) where
           behind : (other : Fault) → IsFaultOfFeature IsBroken layer_record it layer feature other → ComesFirst (place_of fault) (place_of other)
           behind other (inl broken) = absurd (no_fault_of_tags other broken)
           behind other (inr broken) = first.least other broken
-
-  -- what is found of the feature that was read, as said of the one that is there
-  module _ (bytes : List ℕ) (IsKnown : LayerRecord → Type 0) (layer ordinal : ℕ) (span : Span) (read : FeatureRecord) (reads : (it : FeatureRecord) → IsFeature bytes span it → read ≡ it) where
-    pub good_feature : (IsKept : Keeps) → ((layer_record : LayerRecord) → IsKnown layer_record → IsSound IsBroken IsKept layer_record read layer ordinal) → IsGoodFeature IsBroken IsKept bytes IsKnown layer ordinal span
-    good_feature IsKept good = λ it stands layer_record known. subst (λ (feature : FeatureRecord). IsSound IsBroken IsKept layer_record feature layer ordinal) (reads it stands) (good layer_record known)
-
-    pub first_of_feature : (fault : Fault) → ((layer_record : LayerRecord) → IsKnown layer_record → IsLeast (IsFaultOfFeature IsBroken layer_record read layer ordinal) fault)
-        → IsFirstOfFeature IsBroken bytes IsKnown layer fault ordinal span
-    first_of_feature fault first = λ it stands layer_record known.
-        subst (λ (feature : FeatureRecord). IsLeast (IsFaultOfFeature IsBroken layer_record feature layer ordinal) fault) (reads it stands) (first layer_record known)
 
   module _ (behind_tags : AreBehindTags IsBroken) where
     -- each fault of a feature is at one of its places
@@ -231,3 +221,9 @@ module _ (IsBroken : Breaks) where
                         (subst (λ (l : ℕ). IsFaultInLayer IsBroken holds.layer_record l other) same (in_its_layer tile other holds))
                   ]
                 ]
+
+-- two facts where a call found nothing are one fact more
+pub none_of_both : {X R E A B C : Type 0} (r : Result R E) (found : Option X) → IfOk r (λ _. IfNone found A) → IfOk r (λ _. IfNone found B) → (A → B → C) → IfOk r (λ _. IfNone found C)
+none_of_both (Ok r) None a b both = both a b
+none_of_both (Ok r) (Some x) a b both = tt
+none_of_both (Err e) found a b both = tt

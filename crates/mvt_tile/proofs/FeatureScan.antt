@@ -16,7 +16,7 @@ use Rattle.mvt_wire.proofs.NothingFound.{IfNone_then, IfNone-found}
 use Rattle.mvt_tile.specs.Reading.{TellsSummary}
 use Rattle.mvt_tile.specs.declared.rules.layer_scan.LayerScan.{LayerScan}
 use Rattle.mvt_tile.proofs.SummaryReading.{few_keys}
-use Rattle.mvt_tile.proofs.FeatureFaults.{AreBehindTags, IsGoodFeature, good_feature, first_of_feature, good_layer, first_in_layer}
+use Rattle.mvt_tile.proofs.FeatureFaults.{AreBehindTags, IsGoodFeature, good_layer, first_in_layer}
 use Rattle.mvt_wire.proofs.Walking.{IsWalking}
 
 -- the layer has what the tags need, and no more keys than these
@@ -51,17 +51,16 @@ module _ {IsBroken : Breaks} {IsKept : Keeps} {bytes : List ℕ} {from to layer 
   -- a feature that was looked at, by what the tags need that were seen by then
   module _ {old new : Walk} {count : ℕ} {before : TagNeeds} (so_far : CleanWalk (Good IsBroken IsKept bytes (to - from) layer before) 2 (take to bytes) from old count) {entry : Entry} (given : GivesField old new entry)
       (own : entry.number ≡ 2) (span : Span) (there : span_of entry.content ≡ Some span) (needs : TagNeeds) (more_keys : before.keys ≤ needs.keys) (more_values : before.values ≤ needs.values) where
-    pub IsScanned-more : AreBehindTags IsBroken → (read : FeatureRecord) → ((it : FeatureRecord) → IsFeature bytes span it → read ≡ it)
-        → (found : Option Fault) → IfNone found ((layer_record : LayerRecord) → HasEnough needs layer_record → length layer_record.keys ≤ to - from → IsSound IsBroken IsKept layer_record read layer count)
-        → IfSome found (λ fault. (layer_record : LayerRecord) → HasEnough needs layer_record → IsLeast (IsFaultOfFeature IsBroken layer_record read layer count) fault)
+    pub IsScanned-more : AreBehindTags IsBroken → (Reads : FeatureRecord → Type 0) → ((it : FeatureRecord) → IsFeature bytes span it → Reads it)
+        → (found : Option Fault) → IfNone found ((layer_record : LayerRecord) (it : FeatureRecord) → Reads it → HasEnough needs layer_record → length layer_record.keys ≤ to - from → IsSound IsBroken IsKept layer_record it layer count)
+        → IfSome found (λ fault. (layer_record : LayerRecord) (it : FeatureRecord) → Reads it → HasEnough needs layer_record → IsLeast (IsFaultOfFeature IsBroken layer_record it layer count) fault)
         → IsScanned IsBroken IsKept bytes from to layer needs found new (count + 1)
-    IsScanned-more behind_tags read reads found none some = record {
-      none = IfNone_then found none (λ sound small.
-          CleanWalk-more grown given own span there (good_feature IsBroken bytes (IsRoomy needs (to - from)) layer count span read reads IsKept (λ layer_record roomy. sound layer_record roomy.enough roomy.few)));
+    IsScanned-more behind_tags Reads reads found none some = record {
+      none = IfNone_then found none (λ sound small. CleanWalk-more grown given own span there (λ it is layer_record roomy. sound layer_record it (reads it is) roomy.enough roomy.few));
       some = IfSome_then found some (λ fault least layer_record is roomy.
           first_in_layer IsBroken behind_tags IsKept bytes _ layer_record is layer (IsRoomy needs (to - from)) roomy count span fault
           (CleanWalk-next grown given own span there is.entries is.whole)
-          (first_of_feature IsBroken bytes (IsRoomy needs (to - from)) layer count span read reads fault (λ other known. least other known.enough)));
+          (λ it stands other known. least other it (reads it stands) known.enough));
     }
       where
         still_good : (ordinal : ℕ) (other : Span) → Good IsBroken IsKept bytes (to - from) layer before ordinal other → Good IsBroken IsKept bytes (to - from) layer needs ordinal other

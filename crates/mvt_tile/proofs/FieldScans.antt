@@ -7,6 +7,7 @@ use Rattle.mvt_wire.specs.WireFault.{stands_in, count_known, EntryFault, FieldFa
 use Rattle.mvt_wire.specs.declared.cause.WireCause.{WireCause}
 use Rattle.mvt_wire.specs.declared.schema.FieldRule.{FieldRule}
 use Rattle.mvt_wire.specs.declared.schema.Message.{Message}
+use Rattle.mvt_wire.specs.declared.schema.Message.TheVariants.{Value}
 use Rattle.mvt_tile.specs.Least.{IsLeastCause}
 use Rattle.mvt_tile.specs.FieldPlace.{IsPlaced}
 use Rattle.mvt_tile.specs.FieldScan.{was_seen, Passes, IsFirstFault}
@@ -23,16 +24,16 @@ pub FieldFault-nothing : (message : Message) (cause : WireCause) → FieldFault 
 FieldFault-nothing message cause fault = none_split fault.before fault.entry fault.after fault.split
 
 -- a field of an unknown number is passed
-pub Passes-unknown : (scan : FieldScan) (entries : List Entry) (entry : Entry) → rule_of scan.message entry.number ≡ None → Passes scan entries → Passes scan (entries ++ entry ∷ [])
-Passes-unknown scan entries entry unknown so_far =
-    let same : count_known scan.message entries ≡ count_known scan.message (entries ++ entry ∷ []) = sym (count_known-same scan.message entries entry unknown) in
+pub Passes-unknown : (message : Message) (scan : FieldScan) (entries : List Entry) (entry : Entry) → rule_of message entry.number ≡ None → Passes message scan entries → Passes message scan (entries ++ entry ∷ [])
+Passes-unknown message scan entries entry unknown so_far =
+    let same : count_known message entries ≡ count_known message (entries ++ entry ∷ []) = sym (count_known-same message entries entry unknown) in
     record {
       occurred = λ field_number rule known.
-          let other : ¬ (entry.number ≡ field_number) = λ same. let both : None ≡ Some rule = sym unknown ∙ ap (rule_of scan.message) same ∙ known in absurd (cc) in
+          let other : ¬ (entry.number ≡ field_number) = λ same. let both : None ≡ Some rule = sym unknown ∙ ap (rule_of message) same ∙ known in absurd (cc) in
           so_far.occurred field_number rule known ∙ sym (stands_in-other field_number entries entry other);
-      known = so_far.known ∙ ap (nat_lt 0) same;
-      several = so_far.several ∙ ap (nat_lt 1) same;
-      faultless = faultless-unknown scan.message entries entry unknown so_far.faultless;
+      known = λ value. so_far.known value ∙ ap (nat_lt 0) same;
+      several = λ value. so_far.several value ∙ ap (nat_lt 1) same;
+      faultless = faultless-unknown message entries entry unknown so_far.faultless;
     }
 
 -- that a number has occurred is kept
@@ -55,22 +56,22 @@ lt_more count = elim (cases_lt 0 count) [
 ]
 
 -- a field of a known number is passed, which has no fault
-pub Passes-known : (scan : FieldScan) (entries : List Entry) (entry : Entry) (rule : FieldRule) → rule_of scan.message entry.number ≡ Some rule → entry.number < length scan.occurred
-    → ((cause : WireCause) → ¬ EntryFault rule (was_seen scan entry.number) entry cause) → Passes scan entries
-    → Passes (record { message = scan.message; occurred = slice_set scan.occurred entry.number true; known = true; several = scan.known }) (entries ++ entry ∷ [])
-Passes-known scan entries entry rule is within clean so_far =
-    let more = count_known-more scan.message entries entry rule is in
+pub Passes-known : (message : Message) (scan : FieldScan) (entries : List Entry) (entry : Entry) (rule : FieldRule) → rule_of message entry.number ≡ Some rule → entry.number < length scan.occurred
+    → ((cause : WireCause) → ¬ EntryFault rule (was_seen scan entry.number) entry cause) → Passes message scan entries
+    → (after : FieldScan) → after.occurred ≡ slice_set scan.occurred entry.number true → (message ≡ Value → (after.known ≡ true) × (after.several ≡ scan.known)) → Passes message after (entries ++ entry ∷ [])
+Passes-known message scan entries entry rule is within clean so_far after kept counted =
+    let more = count_known-more message entries entry rule is in
     record {
-      occurred = λ field_number other asked. occurred_more scan.occurred entries entry field_number within (so_far.occurred field_number other asked);
-      known = sym (lt-ltb 0 (count_known scan.message (entries ++ entry ∷ [])) (omega arith));
-      several = so_far.known ∙ sym (lt_more (count_known scan.message entries)) ∙ ap (nat_lt 1) (sym more);
-      faultless = faultless-known scan.message entries entry rule is so_far.faultless
+      occurred = λ field_number other asked. ap (λ (occurred : List Bool). get_or occurred field_number false) kept ∙ occurred_more scan.occurred entries entry field_number within (so_far.occurred field_number other asked);
+      known = λ value. (counted value).0 ∙ sym (lt-ltb 0 (count_known message (entries ++ entry ∷ [])) (omega arith));
+      several = λ value. (counted value).1 ∙ so_far.known value ∙ sym (lt_more (count_known message entries)) ∙ ap (nat_lt 1) (sym more);
+      faultless = faultless-known message entries entry rule is so_far.faultless
           (λ cause. subst (λ (occurred : Bool). ¬ EntryFault rule occurred entry cause) (so_far.occurred entry.number rule is) (clean cause));
     }
 
 -- its first fault is the first of all
-pub Passes-fault : (scan : FieldScan) (entries : List Entry) (entry : Entry) (next : ℕ) (rule : FieldRule) (cause : WireCause) → IsPlaced entry next → rule_of scan.message entry.number ≡ Some rule
-    → IsLeastCause (EntryFault rule (was_seen scan entry.number) entry) cause → Passes scan entries → IsFirstFault scan.message (entries ++ entry ∷ []) next cause
-Passes-fault scan entries entry next rule cause placed is least so_far =
-    IsFirstFault-new scan.message entries entry next rule cause placed is so_far.faultless
+pub Passes-fault : (message : Message) (scan : FieldScan) (entries : List Entry) (entry : Entry) (next : ℕ) (rule : FieldRule) (cause : WireCause) → IsPlaced entry next → rule_of message entry.number ≡ Some rule
+    → IsLeastCause (EntryFault rule (was_seen scan entry.number) entry) cause → Passes message scan entries → IsFirstFault message (entries ++ entry ∷ []) next cause
+Passes-fault message scan entries entry next rule cause placed is least so_far =
+    IsFirstFault-new message entries entry next rule cause placed is so_far.faultless
     (subst (λ (occurred : Bool). IsLeastCause (EntryFault rule occurred entry) cause) (so_far.occurred entry.number rule is) least)

@@ -1,11 +1,10 @@
 -- What the fields of a number give, with one more field.
-use Rattle.std.proofs.Common.{◌≡◌, ◌≢◌, ℕ, suc, ◌≤◌, ◌==◌, length, Bool, true, false, cond, List, [], ◌∷◌, ◌++◌, map, filter_map, Option, Some, None, refl, sym, ◌∙◌, ap, append_assoc, arith}
+use Rattle.std.proofs.Common.{◌≡◌, ◌≢◌, ℕ, suc, ◌≤◌, ◌==◌, length, Bool, true, false, cond, List, [], ◌∷◌, ◌++◌, map, filter_map, Option, Some, None, refl, ◌∙◌, ap, arith}
 use Rattle.std.proofs.lemmas.Bool.{eq-eqb, ne_eqb}
 use Rattle.std.proofs.lemmas.List.{append-nil, length-map, map-append}
 use Rattle.std.proofs.lemmas.List.Elements.{filter-append, filter_map-append}
 use Rattle.std.specs.List.{cons_option}
 use Rattle.mvt_wire.specs.Field.{Content, Entry}
-use Rattle.mvt_wire.specs.Number.{States, StateTogether}
 use Rattle.mvt_wire.specs.Scope.{contents_of, fields_of}
 use Rattle.mvt_wire.specs.WireFault.{count_of}
 use Rattle.mvt_tile.specs.Reading.{last_of}
@@ -70,16 +69,3 @@ few_picked pick field_number entries few =
 pub last_of-push : {A : Type 0} (otherwise x : A) (xs : List A) → last_of otherwise (xs ++ x ∷ []) ≡ x
 last_of-push otherwise x [] = refl
 last_of-push otherwise x (y ∷ ys) = last_of-push y x ys
-
--- one more payload states more numbers
-pub StateTogether-push : (contents : List Content) (content : Content) (numbers given : List ℕ)
-    → StateTogether contents numbers → States content given → StateTogether (contents ++ content ∷ []) (numbers ++ given)
-StateTogether-push [] content numbers given none states =
-    (given, [], states, refl, ap (λ (ns : List ℕ). ns ++ given) none ∙ sym (append-nil given))
-StateTogether-push (first ∷ contents) content numbers given state states = (
-  state.0,
-  state.1 ++ given,
-  state.2,
-  StateTogether-push contents content state.1 given state.3 states,
-  ap (λ (ns : List ℕ). ns ++ given) state.4 ∙ append_assoc state.0 state.1 given,
-)

@@ -1,15 +1,11 @@
 -- What the payload of a field is that fits the rule for its number.
-use Rattle.std.proofs.Common.{◌≡◌, ℕ, ◌<◌, ◌^◌, ◌==◌, nat_le, true, false, List, [], ◌∷◌, Some, refl, sym, ◌∙◌, ap, subst}
-use Rattle.std.proofs.lemmas.Bool.{eqb-true, leb-false, false≢true}
-use Rattle.std.proofs.lemmas.List.Elements.{All-cons, All-nil}
+use Rattle.std.proofs.Common.{◌≡◌, ℕ, ◌<◌, ◌==◌, nat_le, Some, sym, ◌∙◌, ap}
+use Rattle.std.proofs.lemmas.Bool.{eqb-true, leb-false}
 use Rattle.mvt_wire.specs.Field.{Content, varint, eight_bytes, delimited, four_bytes, Entry, wire_type_of}
-use Rattle.mvt_wire.specs.Number.{States, AreSmall}
 use Rattle.mvt_wire.specs.Schema.{rule_of, is_own, is_out_of_range}
 use Rattle.mvt_wire.specs.Tile.{Fits, number_in, FitsRule}
 use Rattle.mvt_wire.specs.declared.schema.FieldRule.{FieldRule}
 use Rattle.mvt_wire.specs.declared.schema.Message.{Message}
-use Rattle.mvt_wire.specs.declared.schema.Shape.{Shape}
-use Rattle.mvt_wire.specs.declared.schema.Shape.TheVariants.{Numbers}
 
 -- the rule for a number that is known
 pub fits_at : (message : Message) (entry : Entry) (field_number : ℕ) (rule : FieldRule)
@@ -35,15 +31,3 @@ pub below_limit : (rule : FieldRule) (content : Content) (limit n : ℕ)
 below_limit rule content limit n fits out told =
     let place = varint_from content n told in
     leb-false limit n (sym (out n) ∙ fits.in_range n place.0 place.1)
-
--- a field of numbers states some
-pub states_some : (rule : FieldRule) (content : Content)
-    → Fits rule content → rule.shape ≡ Numbers → (given : List ℕ) × States content given × AreSmall given
-states_some rule (varint value at) fits shape =
-    let range : is_out_of_range Numbers value ≡ false = subst (λ (s : Shape). is_out_of_range s value ≡ false) shape (fits.in_range value at refl) in
-    (value ∷ [], refl, All-cons (λ n. n < 2 ^ 32) value [] (leb-false (2 ^ 32) value range) (All-nil (λ n. n < 2 ^ 32)))
-states_some rule (eight_bytes part) fits shape =
-    absurd (false≢true (subst (λ (s : Shape). is_own s 1 ≡ true) shape fits.own))
-states_some rule (delimited from part) fits shape = fits.packed from part shape refl
-states_some rule (four_bytes part) fits shape =
-    absurd (false≢true (subst (λ (s : Shape). is_own s 5 ≡ true) shape fits.own))

@@ -11,15 +11,12 @@ use Rattle.mvt_fault.specs.declared.tag.TagCode.{TagCode}
 use Rattle.mvt_fault.specs.declared.tag.TagCode.TheVariants.{OddLength, NoKey, NoValue, Repeated}
 use Rattle.mvt_wire.specs.Rules.{OddTags, IsKeyAt, NoSuchKey, NoSuchValue}
 use Rattle.mvt_wire.specs.Tile.{FeatureRecord, LayerRecord}
+use Rattle.mvt_tile.specs.PassedTags.{AreCleanBefore, IsMetBefore, IsPassed}
 use Rattle.mvt_tile.specs.RuleFaults.{IsFirstTagFault}
 use Rattle.mvt_tile.specs.TagNeeds.{AreMetBy}
 use Rattle.mvt_tile.specs.View.{feature_of}
 use Rattle.mvt_tile.specs.declared.record.Feature.{Feature}
 use Rattle.mvt_tile.specs.declared.rules.tags.TagNeeds.{TagNeeds}
-
--- the tags before a place have no fault, in a layer of so many keys and values
-pub record AreCleanBefore (keys values : ℕ) (tags : List ℕ) (to : ℕ) : Type 0 where
-  pub clean : (code : TagCode) (place : ℕ) → place < to → ¬ TagsBreak code keys values tags place
 
 -- a list of odd length is no list of pairs
 odd_even : (tags : List ℕ) (pairs others : ℕ) → length tags ≡ 2 * pairs + 1 → length tags ≡ 2 * others → ⊥
@@ -74,13 +71,6 @@ clean_more keys values tags to before here = record {
     ]
   ];
 }
-
--- The keys of the pairs before a place are the keys that were kept. A place behind some pairs of the list is even.
-pub record IsPassed (tags : List ℕ) (has : ℕ → Bool) (to : ℕ) : Type 0 where
-  pub pair : ℕ
-  pub even : to ≡ 2 * pair
-  pub stood : (key : ℕ) → has key ≡ true → (earlier : ℕ) × (earlier < to) × IsKeyAt tags earlier key
-  pub kept : (key earlier : ℕ) → earlier < to → IsKeyAt tags earlier key → has key ≡ true
 
 -- nothing is passed at first
 pub IsPassed-nothing : (tags : List ℕ) (has : ℕ → Bool) → ((key : ℕ) → has key ≡ false) → IsPassed tags has 0
@@ -221,6 +211,12 @@ module _ (keys values : ℕ) (tags : List ℕ) (pairs : ℕ) (even : length tags
   no_tag_fault to all clean Repeated place broken =
       let within : place < length tags = slice_get_within tags place broken.key broken.here.here in clean.clean Repeated place (omega arith) broken
 
+-- where there are no tags, they have no fault
+pub no_tags : (keys values : ℕ) (tags : List ℕ) → tags ≡ [] → (code : TagCode) (place : ℕ) → ¬ TagsBreak code keys values tags place
+no_tags keys values tags none =
+    let empty : length tags ≡ 0 = ap length none in
+    no_tag_fault keys values tags 0 (omega (arith, empty)) 0 (omega (arith, empty)) (AreCleanBefore-nothing keys values tags)
+
 -- lists with one rest, of which the second begins with no lesser number
 head_first : (first second : ℕ) (rest : List ℕ) → first ≤ second → ComesFirst rest rest → ComesFirst (first ∷ rest) (second ∷ rest)
 head_first first second rest at_most same = elim (cases_order first second) [
@@ -254,13 +250,6 @@ feature_tags features feature shown it within here there =
     ap (option_map feature_of) (sym (slice_get_read features (length features) feature shown refl within here)) ∙ sym (slice_get-map feature_of features feature) ∙ there in
     let same : feature_of shown ≡ it = cc in
     ap (λ (record_of : FeatureRecord). record_of.tags) same
-
--- the indices of the pairs before a place are lesser than these numbers of keys and values
-pub record IsMetBefore (keys values : ℕ) (tags : List ℕ) (to : ℕ) : Type 0 where
-  pub pair : ℕ
-  pub even : to ≡ 2 * pair
-  pub key : (earlier key : ℕ) → 2 * earlier < to → slice_get tags (2 * earlier) ≡ Some key → key < keys
-  pub value : (earlier value : ℕ) → 2 * earlier < to → slice_get tags (2 * earlier + 1) ≡ Some value → value < values
 
 -- of two pairs, the one that is before the next but not before this one is this one
 this_pair : (to pair earlier : ℕ) → to ≡ 2 * pair → 2 * earlier < to + 2 → to ≤ 2 * earlier → 2 * earlier ≡ to

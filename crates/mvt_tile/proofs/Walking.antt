@@ -2,23 +2,24 @@
 use Rattle.std.proofs.Common.{◌≡◌, ℕ, ◌-◌, ◌<◌, ◌≤◌, ◌⊎◌, inl, inr, List, [], ◌∷◌, ◌++◌, length, take, Option, Some, None, sym, ◌∙◌, ap, subst, arith, append-nil, append_assoc}
 use Rattle.std.proofs.lemmas.List.{length-take-le}
 use Rattle.std.proofs.lemmas.List.Edits.{length-between}
-use Rattle.mvt_wire.specs.Field.{Content, varint, eight_bytes, delimited, four_bytes, Entry, IsPayload, IsField}
+use Rattle.mvt_wire.specs.Field.{Content, varint, eight_bytes, delimited, four_bytes, Entry, entry_of, IsPayload, IsField}
 use Rattle.mvt_wire.specs.Message.{FieldList, IsMessage, HasDefect}
-use Rattle.mvt_wire.specs.Walk.{Walk, IsOver, GivesField}
+use Rattle.mvt_wire.specs.Walk.{Walk, GivesField}
 use Rattle.mvt_wire.specs.WireFault.{FieldFault, EndFault, MessageFault}
 use Rattle.mvt_wire.specs.declared.cause.WireCause.{WireCause}
+use Rattle.mvt_wire.specs.declared.field.Field.{Field}
 use Rattle.mvt_wire.specs.declared.schema.Message.{Message}
 use Rattle.mvt_wire.proofs.Entries.{field_extent}
-use Rattle.mvt_wire.proofs.Messages.{one_list, whole_or_defect, one_defect}
+use Rattle.mvt_wire.proofs.Messages.{FieldList-push, one_list, whole_or_defect, one_defect}
 use Rattle.mvt_tile.specs.Least.{IsLeastCause, FindsLeastCause}
 use Rattle.mvt_tile.specs.FieldPlace.{LiesWithin, IsPlaced}
 use Rattle.mvt_tile.specs.FieldsLeft.{IsDefectOr}
-use Rattle.mvt_tile.specs.FieldScan.{Passes, IsFirstFault}
+use Rattle.mvt_tile.specs.FieldScan.{Passes, PassesNext, IsFirstFault}
 use Rattle.mvt_tile.specs.declared.wire.scan.FieldScan.{FieldScan}
 use Rattle.mvt_tile.proofs.Causes.{by_offset, same_cause}
 use Rattle.mvt_tile.proofs.EndFaults.{end_place}
 use Rattle.mvt_tile.proofs.OneMoreField.{IsFirstFault-kept}
-use Rattle.mvt_wire.proofs.Walking.{IsWalking, IsWalking-more, IsWalking-whole}
+use Rattle.mvt_wire.proofs.Walking.{IsWalking}
 
 -- where a payload lies
 payload_place : (bytes : List ℕ) (at key_end to : ℕ) (content : Content) → at < key_end → IsPayload bytes key_end to content → LiesWithin at to content
@@ -31,19 +32,18 @@ payload_place bytes at key_end to (delimited start part) forward p =
 payload_place bytes at key_end to (four_bytes part) forward p = tt
 
 -- a field lies before the next
-IsPlaced-field : (bytes : List ℕ) (next : ℕ) (entry : Entry) → IsField bytes next entry → IsPlaced entry next
+pub IsPlaced-field : (bytes : List ℕ) (next : ℕ) (entry : Entry) → IsField bytes next entry → IsPlaced entry next
 IsPlaced-field bytes next entry field = record {
   forward = (field_extent bytes next entry field).0;
   payload = payload_place bytes entry.at field.key_end next entry.content field.key.spelled.forward field.payload;
 }
 
 -- a field of a front of the bytes lies within it
-pub IsPlaced-within : (bytes : List ℕ) (from to : ℕ) (old new : Walk) (entries : List Entry) (entry : Entry) → to ≤ length bytes → IsWalking (take to bytes) from old entries → GivesField old new entry
-    → (next : ℕ) × IsPlaced entry next × (next ≤ to)
-IsPlaced-within bytes from to old new entries entry within so_far given =
+pub IsPlaced-within : (bytes : List ℕ) (to : ℕ) {at next : ℕ} {entry : Entry} → to ≤ length bytes → GivesField (record { bytes = take to bytes; at = at }) (record { bytes = take to bytes; at = next }) entry
+    → (end : ℕ) × IsPlaced entry end × (end ≤ to)
+IsPlaced-within bytes to {next = next} {entry = entry} within given =
     let size = length-take-le to bytes within in
-    let inside : new.at ≤ length (take to bytes) = subst (λ (list : List ℕ). new.at ≤ length list) so_far.same_bytes given.within in
-    (new.at, IsPlaced-field old.bytes new.at entry given.spelled, omega arith)
+    (next, IsPlaced-field (take to bytes) next entry given.spelled, omega (arith, given.within))
 
 -- a defect is the only fault of its message
 pub defect_alone : (message : Message) (bytes : List ℕ) (from : ℕ) (cause : WireCause) → HasDefect bytes from cause → IsLeastCause (MessageFault message bytes from) cause
@@ -62,7 +62,7 @@ whole_fault message bytes from entries cause whole (inl defect) = absurd (whole_
 whole_fault message bytes from entries cause whole (inr other) =
     subst (λ (list : List Entry). FieldFault message list cause ⊎ EndFault message list (length bytes) cause) (one_list bytes from other.0 entries other.1 whole) other.2
 
-pub whole_finds : (message : Message) (bytes : List ℕ) (from : ℕ) (entries : List Entry) (found : Option WireCause) → IsMessage bytes from entries
+whole_finds : (message : Message) (bytes : List ℕ) (from : ℕ) (entries : List Entry) (found : Option WireCause) → IsMessage bytes from entries
     → FindsLeastCause (λ cause. FieldFault message entries cause ⊎ EndFault message entries (length bytes) cause) found → FindsLeastCause (MessageFault message bytes from) found
 whole_finds message bytes from entries None whole finds = λ cause fault. finds cause (whole_fault message bytes from entries cause whole fault)
 whole_finds message bytes from entries (Some first) whole finds = record {
@@ -117,50 +117,46 @@ first_or_defect message bytes from walk entries first cause walked fault (inr wh
       ];
     }))
 
--- What is known while the fields of a message are walked: those that were passed, and what the scan keeps of them.
-pub record IsScanning (message : Message) (bytes : List ℕ) (from : ℕ) (walk : Walk) (scan : FieldScan) (entries : List Entry) : Type 0 where
-  pub walked : IsWalking bytes from walk entries
-  pub passes : Passes scan entries
-  pub same : scan.message ≡ message
+-- What is known while the fields of a message are walked, up to a place: those that were passed, and what the scan keeps of them.
+pub record IsScanning (message : Message) (bytes : List ℕ) (from at : ℕ) (scan : FieldScan) (entries : List Entry) : Type 0 where
+  pub passed : FieldList bytes from entries at
+  pub passes : Passes message scan entries
 
-pub IsScanning-nothing : (message : Message) (bytes : List ℕ) (from : ℕ) (walk : Walk) (scan : FieldScan) → walk ≡ record { bytes = bytes; at = from } → scan.message ≡ message → Passes scan []
-    → IsScanning message bytes from walk scan []
-IsScanning-nothing message bytes from walk scan begins same nothing = record {
-  walked = record { same_bytes = ap (λ (w : Walk). w.bytes) begins; passed = sym (ap (λ (w : Walk). w.at) begins) };
-  passes = nothing;
-  same = same;
+-- one more field was passed
+pub IsScanning-more : {message : Message} {bytes : List ℕ} {from at : ℕ} {before after : FieldScan} {entries : List Entry} {read : Field × ℕ} → IsScanning message bytes from at before entries
+    → PassesNext message bytes at before after read → IsScanning message bytes from read.1 after (entries ++ entry_of read.0 ∷ [])
+IsScanning-more so_far next = record {
+  passed = FieldList-push _ _ _ _ _ _ so_far.passed next.given.here next.given.spelled;
+  passes = next.passed _ so_far.passes;
 }
 
 -- the faults at the end of a whole message that was scanned are all that it has
-pub IsScanning-whole : (message : Message) (bytes : List ℕ) (from to : ℕ) (old new : Walk) (scan : FieldScan) (entries : List Entry) (found : Option WireCause) → to ≤ length bytes
-    → IsScanning message (take to bytes) from old scan entries → IsOver old new
-    → ((passed : List Entry) → Passes scan passed → FindsLeastCause (EndFault scan.message passed to) found)
+pub IsScanning-whole : {message : Message} (bytes : List ℕ) {from at : ℕ} (to : ℕ) {scan : FieldScan} {entries : List Entry} (found : Option WireCause) → to ≤ length bytes → at ≡ to
+    → IsScanning message (take to bytes) from at scan entries
+    → ((passed : List Entry) → Passes message scan passed → FindsLeastCause (EndFault message passed to) found)
     → FindsLeastCause (MessageFault message (take to bytes) from) found
-IsScanning-whole message bytes from to old new scan entries found within so_far over finds =
+IsScanning-whole {message} bytes {from} to {entries = entries} found within end so_far finds =
     let size : length (take to bytes) ≡ to = length-take-le to bytes within in
-    let here : FindsLeastCause (EndFault scan.message entries (length (take to bytes))) found =
-    subst (λ (place : ℕ). FindsLeastCause (EndFault scan.message entries place) found) (sym size) (finds entries so_far.passes) in
-    subst (λ (m : Message). FindsLeastCause (MessageFault m (take to bytes) from) found) so_far.same
-    (whole_finds scan.message (take to bytes) from entries found (IsWalking-whole (take to bytes) from old new entries so_far.walked over)
-    (end_finds scan.message entries (length (take to bytes)) found so_far.passes.faultless here))
+    whole_finds message (take to bytes) from entries found (subst (λ (place : ℕ). FieldList (take to bytes) from entries place) (end ∙ sym size) so_far.passed)
+    (end_finds message entries (length (take to bytes)) found so_far.passes.faultless (rw size (finds entries so_far.passes)))
 
--- one more field was passed
-pub IsScanning-more : (message : Message) (bytes : List ℕ) (from : ℕ) (old new : Walk) (before after : FieldScan) (entries : List Entry) (entry : Entry) → IsScanning message bytes from old before entries
-    → GivesField old new entry → after.message ≡ before.message → ((passed : List Entry) → Passes before passed → Passes after (passed ++ entry ∷ []))
-    → IsScanning message bytes from new after (entries ++ entry ∷ [])
-IsScanning-more message bytes from old new before after entries entry so_far given same passed = record {
-  walked = IsWalking-more bytes from old new entries entry so_far.walked given;
-  passes = passed entries so_far.passes;
-  same = same ∙ so_far.same;
-}
+-- What is known while one message is walked.
+pub record MessageWalk (message : Message) (bytes : List ℕ) (from at : ℕ) (scan : FieldScan) : Type 0 where
+  pub within : at ≤ length bytes
+  pub entries : List Entry
+  pub scanning : IsScanning message bytes from at scan entries
 
--- a field was given that has a fault
-pub IsScanning-fault : (message : Message) (bytes : List ℕ) (from : ℕ) (old new : Walk) (scan : FieldScan) (entries : List Entry) (entry : Entry) (first cause : WireCause) → IsScanning message bytes from old scan entries
-    → GivesField old new entry
-    → ((passed : List Entry) (next : ℕ) → IsPlaced entry next → Passes scan passed → IsFirstFault scan.message (passed ++ entry ∷ []) next first)
-    → IsDefectOr new first cause → IsLeastCause (MessageFault message bytes from) cause
-IsScanning-fault message bytes from old new scan entries entry first cause so_far given fault rest =
-    let here : IsFirstFault message (entries ++ entry ∷ []) new.at first =
-    subst (λ (m : Message). IsFirstFault m (entries ++ entry ∷ []) new.at first) so_far.same
-    (fault entries new.at (IsPlaced-field old.bytes new.at entry given.spelled) so_far.passes) in
-    first_or_defect message bytes from new (entries ++ entry ∷ []) first cause (IsWalking-more bytes from old new entries entry so_far.walked given) here rest
+pub MessageWalk-more : {message : Message} {bytes : List ℕ} {from at : ℕ} {before after : FieldScan} {read : Field × ℕ} → MessageWalk message bytes from at before
+    → PassesNext message bytes at before after read → MessageWalk message bytes from read.1 after
+MessageWalk-more so_far next = record { within = next.given.within; entries = _; scanning = IsScanning-more so_far.scanning next }
+
+-- where a field wasn't passed the quick way, nothing has changed
+pub MessageWalk-unchanged : {message : Message} {bytes : List ℕ} {from at : ℕ} {before after : FieldScan} → MessageWalk message bytes from at before → after ≡ before → MessageWalk message bytes from at after
+MessageWalk-unchanged {message} {bytes} {from} {at} so_far same = subst (λ (scan : FieldScan). MessageWalk message bytes from at scan) (sym same) so_far
+
+-- the field that was passed, one way or the other
+pub PassesNext-as : {message : Message} {bytes : List ℕ} {at : ℕ} {old before after own : FieldScan} {read next : Field × ℕ} → PassesNext message bytes at before after read → before ≡ old → own ≡ after → next ≡ read
+    → PassesNext message bytes at old own next
+PassesNext-as {message} {bytes} {at} {old} {before} {after} {own} {read} {next} passed begin end is =
+    subst (λ (scan : FieldScan). PassesNext message bytes at scan own next) begin
+    (subst (λ (scan : FieldScan). PassesNext message bytes at before scan next) (sym end) (subst (λ (r : Field × ℕ). PassesNext message bytes at before after r) (sym is) passed))

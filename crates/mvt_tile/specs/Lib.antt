@@ -1,4 +1,5 @@
 pub mod Least
+pub mod NumberStretch
 pub mod Packed
 pub mod FieldPlace
 pub mod FieldScan
@@ -14,6 +15,10 @@ pub mod RuleFaults
 pub mod KeyMarks
 pub mod Names
 pub mod TagNeeds
+pub mod PassedTags
+pub mod Varints
+pub mod Numbers
+pub mod FeatureBytes
 pub mod PassedLayers
 pub mod FeatureRules
 pub mod Advice

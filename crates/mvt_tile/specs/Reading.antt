@@ -1,22 +1,14 @@
 -- What is known of the fields of a message while they are read one by one.
-use Rattle.std.specs.Prelude.{◌≡◌, ℕ, ◌≤◌, List, [], ◌∷◌, length, map, Some, None}
+use Rattle.std.specs.Prelude.{◌≡◌, ℕ, ◌≤◌, List, [], ◌∷◌, length, Some}
 use Rattle.mvt_wire.specs.Field.{Entry}
-use Rattle.mvt_wire.specs.Number.{StateTogether}
-use Rattle.mvt_wire.specs.Scope.{contents_of, Span, span_of, spans_of}
-use Rattle.mvt_wire.specs.Tile.{numbers_of, texts_of, FeatureRecord, IsFeature, IsValue, LayerRecord, IsLayer, TileRecord, Each}
+use Rattle.mvt_wire.specs.Scope.{Span, span_of, spans_of}
+use Rattle.mvt_wire.specs.Tile.{numbers_of, texts_of, IsFeature, IsValue, LayerRecord, IsLayer, TileRecord, Each}
 use Rattle.mvt_tile.specs.declared.rules.summary.LayerSummary.{LayerSummary}
 
 -- the last of a list, or another value where there is none
 abbrev pub last_of : {A : Type 0} → A → List A → A
 last_of otherwise [] = otherwise
 last_of otherwise (x ∷ xs) = last_of x xs
-
--- the feature has the content of these fields of it, and type 0 where none of them is its type
-pub record TellsFeature (entries : List Entry) (feature : FeatureRecord) : Type 0 where
-  pub id : feature.id ≡ last_of None (map Some (numbers_of 1 entries))
-  pub tags : StateTogether (contents_of 2 entries) feature.tags
-  pub kind : feature.kind ≡ last_of 0 (numbers_of 3 entries)
-  pub geometry : StateTogether (contents_of 4 entries) feature.geometry
 
 -- a payload of wire type 2 lies within the bytes
 abbrev pub LiesIn : List ℕ → Entry → Type 0

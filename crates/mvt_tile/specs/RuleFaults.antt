@@ -1,5 +1,5 @@
 -- The first fault of the rules between a tile's parts, and what is kept of a layer to look for it.
-use Rattle.std.specs.Prelude.{◌≡◌, ℕ, ◌<◌, ◌≤◌, ◌⊎◌, List, ◌∷◌, length}
+use Rattle.std.specs.Prelude.{◌≡◌, ℕ, ◌<◌, ◌≤◌, ◌⊎◌, List, ◌∷◌, length, Option, MatchOption}
 use Rattle.mvt_fault.specs.Code.{tag_code}
 use Rattle.mvt_fault.specs.TrueFaults.{BreaksRule, OneFeatureHas, TagsBreak}
 use Rattle.mvt_fault.specs.declared.fault.Fault.{Fault}
@@ -32,6 +32,10 @@ pub record IsFirstTagFault (keys values : ℕ) (tags : List ℕ) (code : TagCode
   pub broken : TagsBreak code keys values tags place
   pub first : (other : TagCode) (other_place : ℕ) → TagsBreak other keys values tags other_place
       → (place < other_place) ⊎ ((place ≡ other_place) × (tag_code code ≤ tag_code other))
+
+-- that one is found, or none where there is none
+abbrev pub FindsFirstTagFault : ℕ → ℕ → List ℕ → Option (TagCode × ℕ) → Type 0
+FindsFirstTagFault keys values tags found = MatchOption found ((code : TagCode) (place : ℕ) → ¬ TagsBreak code keys values tags place) (λ fault. IsFirstTagFault keys values tags fault.0 fault.1)
 
 -- a place of the feature with these ordinals, behind the places of its tags
 abbrev pub IsBehindTags : ℕ → ℕ → List ℕ → Type 0

@@ -3,14 +3,19 @@
 #![tactic(auto)]
 
 mod advice;
+mod feature_bytes;
 pub mod laws;
 mod lists;
+mod number_stretch;
+mod numbers;
 mod read;
 mod record;
 mod rules;
 mod wire;
 
 pub use advice::{Advice, advise};
+pub use feature_bytes::FeatureBytes;
+pub use numbers::{FeatureNumbers, ListedNumbers, NumberSource};
 pub use read::{ReadFault, read_tile};
 pub use record::{Feature, Kind, Layer, Tile, Value};
 pub use rules::{FeatureRule, check_layers, check_tags, rule_fault};

@@ -21,11 +21,11 @@ use crate::record::{Layer, Tile};
 use crate::wire::wire_fault;
 use layer::read_layer;
 use mvt_fault::Fault;
+use mvt_wire::Field;
 use mvt_wire::field_number::LAYERS;
-use mvt_wire::{Field, Fields};
 use payload::stretch_of;
 use std::alloc::{AllocError, Global};
-use walk::next_whole;
+use walk::WholeFields;
 
 /// Why a tile wasn't read.
 #[derive(Clone, Copy, Debug, PartialEq, Eq)]
@@ -61,8 +61,8 @@ fn read_layers(alloc: Global, bytes: &[u8]) -> Result<Vec<Layer<'_>>, AllocError
     ensures { IfOk result (λ layers. IsTile bytes.now (record { layers = map layer_of layers.items })) }
 {
     let mut layers = Vec::new(alloc);
-    let mut fields = Fields::new(bytes, 0, bytes.len());
-    'walk: while let Some(field) = next_whole(&mut fields) {
+    let mut fields = WholeFields::new(bytes, 0, bytes.len());
+    'walk: while let Some(field) = fields.next_field() {
         add_field(alloc, bytes, &mut layers, field)?;
     }
     Ok(layers)

@@ -1,8 +1,3 @@
-ghost use Rattle.std.specs.Prelude.{◌≡◌, [], None};
-ghost use Rattle.mvt_tile.specs.View.{feature_of};
-
-use std::alloc::Global;
-
 /// A tile: its layers, in the order of the bytes (Mapbox Vector Tile Specification 2.1, section 4).
 #[derive(Debug, PartialEq, Eq, Drop)]
 pub struct Tile<'a> {
@@ -38,20 +33,6 @@ pub struct Feature {
     pub kind: Kind,
     /// Command and parameter integers (section 4.3), of all the feature's geometry fields, joined.
     pub geometry: Vec<u32>,
-}
-
-impl Feature {
-    /// A feature of which no field was read. Its lists take memory as they grow.
-    pub(crate) fn empty(alloc: Global) -> Feature
-        ensures { feature_of result ≡ record { id = None; tags = []; kind = 0; geometry = [] } }
-    {
-        Feature {
-            id: None,
-            tags: Vec::new(alloc),
-            kind: Kind::Unknown,
-            geometry: Vec::new(alloc),
-        }
-    }
 }
 
 /// What a feature's geometry is (section 4.3.4), with the numbers 0 to 3.

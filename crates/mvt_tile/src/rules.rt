@@ -21,13 +21,12 @@ mod tags;
 mod tests;
 
 use crate::read::payload::stretch_of;
-use crate::read::walk::next_whole;
+use crate::read::walk::WholeFields;
 pub use features::FeatureRule;
 use features::{FeatureRoom, look_at_layer};
 use layer_rules::LayerRules;
 pub use layers::check_layers;
 use mvt_fault::Fault;
-use mvt_wire::Fields;
 use mvt_wire::field_number::LAYERS;
 use std::alloc::{AllocError, Global};
 use summary::{LayerSummary, summarize};
@@ -83,8 +82,8 @@ fn walk_layers<'a, R: FeatureRule>(
     let mut room = FeatureRoom::new(alloc);
     let mut found = None;
     let mut layer_index = 0;
-    let mut fields = Fields::new(bytes, 0, bytes.len());
-    'walk: while let Some(field) = next_whole(&mut fields) {
+    let mut fields = WholeFields::new(bytes, 0, bytes.len());
+    'walk: while let Some(field) = fields.next_field() {
         if field.number == LAYERS {
             let (from, to) = stretch_of(field.body);
             let (summary, first) = pass_layer(

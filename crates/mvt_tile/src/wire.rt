@@ -16,14 +16,14 @@ mod packed;
 mod scan;
 #[cfg(test)]
 mod tests;
+pub(crate) mod usual;
 
 use crate::wire::embedded::{EmbeddedScan, Look};
 use crate::wire::layer::layer_fault;
-use crate::wire::message::defect_or;
 use crate::wire::scan::FieldScan;
 use mvt_fault::{Fault, wire_fault_in};
 use mvt_wire::field_number::LAYERS;
-use mvt_wire::{Body, Field, Fields, Message, Scope, WireCause};
+use mvt_wire::{Message, Scope};
 
 /// The first wire fault of the bytes of a tile, or None where there is none: a fault of the wire
 /// encoding (Protocol Buffers encoding, "Message Structure"), or a field that the tile's schema
@@ -37,21 +37,22 @@ pub fn wire_fault(bytes: &[u8]) -> Option<Fault>
     ensures none { IfNone result ((scope : Scope) (cause : WireCause) → ¬ WireFault bytes.now scope cause) }
     ensures least { IfSome result (IsLeast (IsWireFault bytes.now)) }
 {
-    let mut fields = Fields::new(bytes, 0, bytes.len());
-    let mut own = FieldScan::new(Message::Tile);
+    let mut own = FieldScan::new();
     let mut layers = EmbeddedScan::new(Layers, LAYERS);
-    'walk: while let Some(item) = fields.next_field() {
-        match item {
-            Ok(field) => {
-                if let Some(cause) = own.pass(&field) {
-                    return Some(wire_fault_in(Scope::Tile, defect_or(fields, cause)));
-                }
-                layers.note(bytes, &field);
-            }
-            Err(cause) => return Some(wire_fault_in(Scope::Tile, cause)),
-        }
+    let mut at = 0;
+    'walk: loop {
+        let (field, next) = match own.pass_usual::<0>(Message::Tile, bytes, at) {
+            Some(read) => read,
+            None if at == bytes.len() => break,
+            None => match own.pass_any(Message::Tile, bytes, at) {
+                Ok(read) => read,
+                Err(cause) => return Some(wire_fault_in(Scope::Tile, cause)),
+            },
+        };
+        layers.note(bytes, &field);
+        at = next;
     }
-    if let Some(cause) = own.end_fault(bytes.len()) {
+    if let Some(cause) = own.end_fault(Message::Tile, bytes.len()) {
         return Some(wire_fault_in(Scope::Tile, cause));
     }
     layers.first

@@ -1,15 +1,15 @@
 use crate::command_fault;
 use mvt_fault::CommandCode;
-use mvt_tile::Kind;
+use mvt_tile::{Kind, ListedNumbers};
 
 /// Whether the numbers have no command fault.
 fn draw(kind: Kind, numbers: &[u32]) -> bool {
-    command_fault(kind, numbers).is_none()
+    command_fault(kind, ListedNumbers::new(numbers)).is_none()
 }
 
 /// Whether the numbers have this command fault, at this index.
 fn fail(kind: Kind, numbers: &[u32], code: CommandCode, index: usize) -> bool {
-    command_fault(kind, numbers) == Some((code, index))
+    command_fault(kind, ListedNumbers::new(numbers)) == Some((code, index))
 }
 
 // A line has a LineTo, a ring one of two positions, and a ClosePath.

@@ -9,11 +9,11 @@ ghost use Rattle.mvt_tile.specs.View.{layer_of};
 use super::feature::read_feature;
 use super::payload::{number_in, stretch_of, text_in};
 use super::value::read_value;
-use super::walk::next_whole;
+use super::walk::WholeFields;
 use crate::lists::push_item;
 use crate::record::Layer;
+use mvt_wire::Field;
 use mvt_wire::field_number::{EXTENT, FEATURES, KEYS, LAYER_NAME, VALUES, VERSION};
-use mvt_wire::{Field, Fields};
 use std::alloc::{AllocError, Global};
 
 /// The extent of a layer that has no field for it (Mapbox Vector Tile Specification 2.1, `vector_tile.proto`).
@@ -39,8 +39,8 @@ pub(crate) fn read_layer(
         values: Vec::new(alloc),
         extent: DEFAULT_EXTENT,
     };
-    let mut fields = Fields::new(bytes, from, to);
-    'walk: while let Some(field) = next_whole(&mut fields) {
+    let mut fields = WholeFields::new(bytes, from, to);
+    'walk: while let Some(field) = fields.next_field() {
         add_field(alloc, bytes, &mut layer, field)?;
     }
     Ok(layer)

@@ -8,12 +8,12 @@ ghost use Rattle.mvt_tile.specs.View.{value_of};
 use super::payload::{
     eight_bytes_in, four_bytes_in, int_in, number_in, sint_in, text_in, truth_in,
 };
-use super::walk::next_whole;
+use super::walk::WholeFields;
 use crate::record::Value;
+use mvt_wire::Field;
 use mvt_wire::field_number::{
     BOOL_VALUE, DOUBLE_VALUE, FLOAT_VALUE, INT_VALUE, SINT_VALUE, STRING_VALUE, UINT_VALUE,
 };
-use mvt_wire::{Field, Fields};
 
 /// The value that the bytes hold from one offset up to another: what its one known field says
 /// (Mapbox Vector Tile Specification 2.1, section 4.4).
@@ -23,8 +23,8 @@ pub(crate) fn read_value(bytes: &[u8], from: usize, to: usize) -> Value<'_>
     requires stands { (value : ValueRecord) × IsValue bytes.now (record { from = from; to = to }) value }
     ensures { IsValue bytes.now (record { from = from; to = to }) (value_of result) }
 {
-    let mut fields = Fields::new(bytes, from, to);
-    'walk: while let Some(field) = next_whole(&mut fields) {
+    let mut fields = WholeFields::new(bytes, from, to);
+    'walk: while let Some(field) = fields.next_field() {
         if let Some(value) = value_in(field) {
             return value;
         }

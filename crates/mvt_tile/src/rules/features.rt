@@ -1,23 +1,21 @@
 //! The rules on the features of a tile, which are read from its bytes one after another.
-ghost use Rattle.std.specs.Prelude.{◌≡◌, ◌≤◌, ℕ, length, IfOk, IfNone, IfSome};
+ghost use Rattle.std.specs.Prelude.{◌≡◌, ◌≤◌, ℕ, length, None, IfOk, IfNone, IfSome};
 ghost use Rattle.mvt_fault.specs.Place.{IsLeast, place_of};
 ghost use Rattle.mvt_fault.specs.TrueFaults.{OneFeatureHas};
 ghost use Rattle.mvt_fault.specs.declared.fault.Fault.{Fault};
 ghost use Rattle.mvt_wire.specs.Tile.{FeatureRecord, LayerRecord, IsLayer, TileRecord, IsTile};
 ghost use Rattle.mvt_tile.specs.FeatureRules.{IsFaultOfFeature, IsFaultInLayer, IsSound, AllSoundInLayer, AllSound};
-ghost use Rattle.mvt_tile.specs.RuleFaults.{HasSameTagFaults, IsBehindTags, IsSummary};
-ghost use Rattle.mvt_tile.specs.View.{feature_of};
+ghost use Rattle.mvt_tile.specs.FeatureBytes.{Shows};
+ghost use Rattle.mvt_tile.specs.RuleFaults.{FindsFirstTagFault, HasSameTagFaults, IsBehindTags, IsSummary};
 
 use super::key_marks::KeyMarks;
 use super::layer_scan::scan_layer;
 use super::summary::LayerSummary;
-use super::tags::fault_of_tags;
-use crate::read::feature::read_feature_into;
+use super::tags::scan_tags;
+use crate::feature_bytes::FeatureBytes;
 use crate::read::payload::stretch_of;
-use crate::read::walk::next_whole;
-use crate::record::Feature;
-use mvt_fault::Fault;
-use mvt_wire::Fields;
+use crate::read::walk::WholeFields;
+use mvt_fault::{Fault, TagCode};
 use mvt_wire::field_number::FEATURES;
 use std::alloc::{AllocError, Global};
 
@@ -30,37 +28,36 @@ pub trait FeatureRule {
     // the feature keeps the rule
     ghost IsKept: { FeatureRecord → Type 0 };
 
-    /// The first fault of a feature, or None where it has none, and then it keeps the rule. `layer_index` is
-    /// the ordinal of its layer in the tile, and `feature_index` its own in the layer, both counted from 0,
-    /// for the fault to name. A rule may take from the feature what it doesn't need any more; nothing is said
-    /// of the feature afterwards. The only error is that memory was refused.
-    fn fault(
+    /// Stores the first fault of a feature in `found`, which is None before. It stays None where the feature has none,
+    /// and then the feature keeps the rule. `layer_index` is the ordinal of its layer in the tile, and `feature_index`
+    /// its own in the layer, both counted from 0, for the fault to name. The only error is that memory was refused.
+    fn find_fault(
         &mut self,
         alloc: Global,
-        feature: &mut Feature,
+        feature: &FeatureBytes<'_>,
         layer_index: usize,
         feature_index: usize,
-    ) -> Result<Option<Fault>, AllocError>
-        ensures none { IfOk result (λ found. IfNone found ((fault : Fault) → ¬ IsBroken (feature_of feature.old) layer_index feature_index fault)) }
-        ensures kept { IfOk result (λ found. IfNone found (IsKept (feature_of feature.old))) }
-        ensures least { IfOk result (λ found. IfSome found (IsLeast (IsBroken (feature_of feature.old) layer_index feature_index))) };
+        found: &mut Option<Fault>,
+    ) -> Result<(), AllocError>
+        requires { found.old ≡ None }
+        ensures none { IfOk result (λ _. IfNone found.new ((feature_record : FeatureRecord) → Shows feature.now feature_record → (fault : Fault) → ¬ IsBroken feature_record layer_index feature_index fault)) }
+        ensures kept { IfOk result (λ _. IfNone found.new ((feature_record : FeatureRecord) → Shows feature.now feature_record → IsKept feature_record)) }
+        ensures least { IfOk result (λ _. IfSome found.new (λ fault. (feature_record : FeatureRecord) → Shows feature.now feature_record → IsLeast (IsBroken feature_record layer_index feature_index) fault)) };
 }
 
-/// A record that one feature after another is read into, and marks of the keys of its tags.
+/// What serves one feature after another: memory, and marks of the keys of its tags.
 #[derive(Drop)]
 pub(crate) struct FeatureRoom {
     /// What memory is taken from.
-    alloc: Global,
-    pub(crate) feature: Feature,
-    marks: KeyMarks,
+    pub(crate) alloc: Global,
+    pub(crate) marks: KeyMarks,
 }
 
 impl FeatureRoom {
-    /// A record that no feature was read into. It takes no memory.
+    /// Room that has served no feature. It takes no memory.
     pub(crate) fn new(alloc: Global) -> FeatureRoom {
         FeatureRoom {
             alloc,
-            feature: Feature::empty(alloc),
             marks: KeyMarks::new(alloc),
         }
     }
@@ -120,21 +117,29 @@ fn fault_in_layer<R: FeatureRule>(
         → IsLeast (IsFaultInLayer R.IsBroken layer_record layer_index) fault)) }
 {
     let mut feature_index = 0;
-    let mut fields = Fields::new(bytes, from, to);
-    'walk: while let Some(field) = next_whole(&mut fields) {
+    let mut fields = WholeFields::new(bytes, from, to);
+    'walk: while let Some(field) = fields.next_field() {
         if field.number == FEATURES {
             let (start, end) = stretch_of(field.body);
-            read_feature_into(bytes, start, end, &mut room.feature)?;
-            let found = fault_of_feature(
-                rule,
+            let feature = FeatureBytes::new(bytes, start, end);
+            let scan = scan_tags(
+                &mut room.marks,
+                feature.tags(),
                 summary.keys,
                 summary.values,
-                room,
+            )?;
+            let mut found = None;
+            find_in_feature(
+                rule,
+                scan.found,
+                room.alloc,
+                &feature,
                 layer_index,
                 feature_index,
+                &mut found,
             )?;
-            if let Some(fault) = found {
-                return Ok(Some(fault));
+            if found.is_some() {
+                return Ok(found);
             }
             feature_index += 1;
         }
@@ -142,30 +147,36 @@ fn fault_in_layer<R: FeatureRule>(
     Ok(None) // no feature of the layer has a fault
 }
 
-/// The first fault of the feature that was read into the shared record, or None: its tags, in a layer of so many
-/// keys and values, come before the further rule. The only error is that memory was refused.
-pub(crate) fn fault_of_feature<R: FeatureRule>(
+/// Stores the first fault of a feature in `found`, which is None before and stays so where the feature has none: that of
+/// its tags, which was found or not, comes before the further rule. The only error is that memory was refused.
+pub(crate) fn find_in_feature<R: FeatureRule>(
     rule: &mut R,
-    keys: usize,
-    values: usize,
-    room: &mut FeatureRoom,
+    of_tags: Option<(TagCode, usize)>,
+    alloc: Global,
+    feature: &FeatureBytes<'_>,
     layer_index: usize,
     feature_index: usize,
-) -> Result<Option<Fault>, AllocError>
-    requires behind_tags { (fault : Fault) → R.IsBroken (feature_of room.old.feature) layer_index feature_index fault
-        → IsBehindTags layer_index feature_index (place_of fault) }
-    ensures none { IfOk result (λ found. IfNone found ((layer_record : LayerRecord) → HasSameTagFaults keys values layer_record (feature_of room.old.feature).tags
-        → IsSound R.IsBroken R.IsKept layer_record (feature_of room.old.feature) layer_index feature_index)) }
-    ensures least { IfOk result (λ found. IfSome found (λ fault. (layer_record : LayerRecord) → HasSameTagFaults keys values layer_record (feature_of room.old.feature).tags
-        → IsLeast (IsFaultOfFeature R.IsBroken layer_record (feature_of room.old.feature) layer_index feature_index) fault)) }
+    found: &mut Option<Fault>,
+) -> Result<(), AllocError>
+    requires nothing { found.old ≡ None }
+    requires behind_tags { (feature_record : FeatureRecord) (fault : Fault) → R.IsBroken feature_record layer_index feature_index fault → IsBehindTags layer_index feature_index (place_of fault) }
+    ensures none { IfOk result (λ _. IfNone found.new ((keys values : ℕ) (layer_record : LayerRecord) (feature_record : FeatureRecord) → Shows feature.now feature_record
+        → FindsFirstTagFault keys values feature_record.tags of_tags → HasSameTagFaults keys values layer_record feature_record.tags
+        → IsSound R.IsBroken R.IsKept layer_record feature_record layer_index feature_index)) }
+    ensures least { IfOk result (λ _. IfSome found.new (λ fault. (keys values : ℕ) (layer_record : LayerRecord) (feature_record : FeatureRecord) → Shows feature.now feature_record
+        → FindsFirstTagFault keys values feature_record.tags of_tags → HasSameTagFaults keys values layer_record feature_record.tags
+        → IsLeast (IsFaultOfFeature R.IsBroken layer_record feature_record layer_index feature_index) fault)) }
 {
-    match fault_of_tags(&mut room.marks, &room.feature.tags, keys, values)? {
-        Some((code, index)) => Ok(Some(Fault::Tag {
-            code,
-            layer: layer_index,
-            feature: feature_index,
-            index,
-        })),
-        None => rule.fault(room.alloc, &mut room.feature, layer_index, feature_index),
+    match of_tags {
+        Some((code, index)) => {
+            *found = Some(Fault::Tag {
+                code,
+                layer: layer_index,
+                feature: feature_index,
+                index,
+            });
+            Ok(())
+        }
+        None => rule.find_fault(alloc, feature, layer_index, feature_index, found),
     }
 }

@@ -1,21 +1,20 @@
 //! One walk over a layer: its summary, and the first fault of its features as far as that is known before all its
 //! keys and values are counted.
-ghost use Rattle.std.specs.Prelude.{◌≤◌, ℕ, length, IfOk, IfNone, IfSome};
+ghost use Rattle.std.specs.Prelude.{◌≡◌, ◌≤◌, ℕ, length, None, IfOk, IfNone, IfSome};
 ghost use Rattle.mvt_fault.specs.Place.{IsLeast, place_of};
 ghost use Rattle.mvt_fault.specs.declared.fault.Fault.{Fault};
 ghost use Rattle.mvt_wire.specs.Tile.{FeatureRecord, LayerRecord, IsLayer};
 ghost use Rattle.mvt_tile.specs.FeatureRules.{IsFaultOfFeature, IsFaultInLayer, IsSound, AllSoundInLayer};
+ghost use Rattle.mvt_tile.specs.FeatureBytes.{Shows};
 ghost use Rattle.mvt_tile.specs.RuleFaults.{HasEnough, IsBehindTags, IsSummary};
-ghost use Rattle.mvt_tile.specs.View.{feature_of};
 
-use super::features::{FeatureRoom, FeatureRule, fault_of_feature};
+use super::features::{FeatureRoom, FeatureRule, find_in_feature};
 use super::summary::{LayerSummary, add_field, empty_summary};
-use super::tags::TagNeeds;
-use crate::read::feature::read_feature_into;
+use super::tags::{TagNeeds, scan_tags};
+use crate::feature_bytes::FeatureBytes;
 use crate::read::payload::stretch_of;
-use crate::read::walk::next_whole;
+use crate::read::walk::WholeFields;
 use mvt_fault::Fault;
-use mvt_wire::Fields;
 use mvt_wire::field_number::FEATURES;
 use std::alloc::AllocError;
 
@@ -53,61 +52,72 @@ pub(crate) fn scan_layer<'a, R: FeatureRule>(
     ensures least { IfOk result (λ scan. IfSome scan.found (λ fault. (layer_record : LayerRecord) → IsLayer bytes.now (record { from = from; to = to }) layer_record → HasEnough scan.needs layer_record
         → IsLeast (IsFaultInLayer R.IsBroken layer_record layer_index) fault)) }
 {
-    let mut scan = LayerScan {
-        summary: empty_summary(),
-        needs: TagNeeds::none(),
-        found: None,
-    };
+    let mut summary = empty_summary();
+    let mut needs = TagNeeds::none();
+    let mut found = None;
     let mut feature_index = 0;
-    let mut fields = Fields::new(bytes, from, to);
-    'walk: while let Some(field) = next_whole(&mut fields) {
-        add_field(&mut scan.summary, field);
-        if field.number == FEATURES && scan.found.is_none() && scan.needs.keys <= to - from {
+    let mut fields = WholeFields::new(bytes, from, to);
+    'walk: while let Some(field) = fields.next_field() {
+        add_field(&mut summary, field);
+        if field.number == FEATURES && found.is_none() && needs.keys <= to - from {
             let (start, end) = stretch_of(field.body);
-            read_feature_into(bytes, start, end, &mut room.feature)?;
-            scan.found = fault_so_far(
+            let feature = FeatureBytes::new(bytes, start, end);
+            find_so_far(
                 rule,
-                &mut scan.needs,
+                &mut needs,
                 to - from,
                 room,
+                &feature,
                 layer_index,
                 feature_index,
+                &mut found,
             )?;
             feature_index += 1;
         }
     }
-    Ok(scan)
+    Ok(LayerScan {
+        summary,
+        needs,
+        found,
+    })
 }
 
-/// The first fault of the feature that was read into the shared record, or None, in a layer that has every key and
-/// value that tags named so far. Where these are more than `most` keys, the feature is not looked at.
-fn fault_so_far<R: FeatureRule>(
+/// Stores the first fault of a feature in `found`, which is None before, in a layer that has every key and value that
+/// tags named so far. Where these are more than `most` keys, nothing is said of the feature.
+fn find_so_far<R: FeatureRule>(
     rule: &mut R,
     needs: &mut TagNeeds,
     most: usize,
     room: &mut FeatureRoom,
+    feature: &FeatureBytes<'_>,
     layer_index: usize,
     feature_index: usize,
-) -> Result<Option<Fault>, AllocError>
-    requires behind_tags { (fault : Fault) → R.IsBroken (feature_of room.old.feature) layer_index feature_index fault
-        → IsBehindTags layer_index feature_index (place_of fault) }
+    found: &mut Option<Fault>,
+) -> Result<(), AllocError>
+    requires nothing { found.old ≡ None }
+    requires behind_tags { (feature_record : FeatureRecord) (fault : Fault) → R.IsBroken feature_record layer_index feature_index fault → IsBehindTags layer_index feature_index (place_of fault) }
     ensures no_fewer_keys { needs.old.keys ≤ needs.new.keys }
     ensures no_fewer_values { needs.old.values ≤ needs.new.values }
-    ensures none { IfOk result (λ found. IfNone found ((layer_record : LayerRecord) → HasEnough needs.new layer_record → length layer_record.keys ≤ most
-        → IsSound R.IsBroken R.IsKept layer_record (feature_of room.old.feature) layer_index feature_index)) }
-    ensures least { IfOk result (λ found. IfSome found (λ fault. (layer_record : LayerRecord) → HasEnough needs.new layer_record
-        → IsLeast (IsFaultOfFeature R.IsBroken layer_record (feature_of room.old.feature) layer_index feature_index) fault)) }
+    ensures none { IfOk result (λ _. IfNone found.new ((layer_record : LayerRecord) (feature_record : FeatureRecord) → Shows feature.now feature_record → HasEnough needs.new layer_record → length layer_record.keys ≤ most
+        → IsSound R.IsBroken R.IsKept layer_record feature_record layer_index feature_index)) }
+    ensures least { IfOk result (λ _. IfSome found.new (λ fault. (layer_record : LayerRecord) (feature_record : FeatureRecord) → Shows feature.now feature_record → HasEnough needs.new layer_record
+        → IsLeast (IsFaultOfFeature R.IsBroken layer_record feature_record layer_index feature_index) fault)) }
 {
-    needs.add(&room.feature.tags);
-    if needs.keys > most {
-        return Ok(None);
+    if feature.has_no_tag() {
+        return rule.find_fault(room.alloc, feature, layer_index, feature_index, found);
     }
-    fault_of_feature(
+    let scan = scan_tags(&mut room.marks, feature.tags(), most, usize::MAX)?;
+    needs.add(scan.needs);
+    if needs.keys > most {
+        return Ok(());
+    }
+    find_in_feature(
         rule,
-        needs.keys,
-        needs.values,
-        room,
+        scan.found,
+        room.alloc,
+        feature,
         layer_index,
         feature_index,
+        found,
     )
 }

@@ -7,9 +7,9 @@ ghost use Rattle.mvt_tile.specs.Reading.{TellsSummary};
 ghost use Rattle.mvt_tile.specs.RuleFaults.{IsSummary};
 
 use crate::read::payload::{bytes_in, number_in};
-use crate::read::walk::next_whole;
+use crate::read::walk::WholeFields;
+use mvt_wire::Field;
 use mvt_wire::field_number::{KEYS, LAYER_NAME, VALUES, VERSION};
-use mvt_wire::{Field, Fields};
 
 /// What the rules need to know of a layer: its version, its name, and how many keys and values it has.
 #[derive(Clone, Copy)]
@@ -29,8 +29,8 @@ pub(crate) fn summarize(bytes: &[u8], from: usize, to: usize) -> LayerSummary<'_
     ensures { (layer : LayerRecord) → IsLayer bytes.now (record { from = from; to = to }) layer → IsSummary result layer }
 {
     let mut summary = empty_summary();
-    let mut fields = Fields::new(bytes, from, to);
-    'walk: while let Some(field) = next_whole(&mut fields) {
+    let mut fields = WholeFields::new(bytes, from, to);
+    'walk: while let Some(field) = fields.next_field() {
         add_field(&mut summary, field);
     }
     summary

@@ -1,18 +1,21 @@
 //! The tags of a feature (Mapbox Vector Tile Specification 2.1, section 4.4).
-ghost use Rattle.std.specs.Prelude.{◌≡◌, ◌<◌, ◌≤◌, ℕ, length, IfOk, IfNone, IfSome, Some, slice_get};
+ghost use Rattle.std.specs.Prelude.{◌≡◌, ◌+◌, ◌<◌, ◌≤◌, ◌^◌, ℕ, List, length, drop, IfOk, IfNone, IfSome, Some, slice_get};
 ghost use Rattle.mvt_fault.specs.Place.{IsLeast};
-ghost use Rattle.mvt_fault.specs.TrueFaults.{IsFaultOfTags, TagsBreak};
+ghost use Rattle.mvt_fault.specs.TrueFaults.{IsFaultOfTags};
 ghost use Rattle.mvt_fault.specs.declared.fault.Fault.{Fault};
-ghost use Rattle.mvt_fault.specs.declared.tag.TagCode.{TagCode};
 ghost use Rattle.mvt_wire.specs.Tile.{FeatureRecord};
-ghost use Rattle.mvt_tile.specs.RuleFaults.{IsFirstTagFault};
+ghost use Rattle.mvt_tile.specs.RuleFaults.{FindsFirstTagFault, IsFirstTagFault};
+ghost use Rattle.mvt_tile.specs.PassedTags.{ArePassed, IsPairAt, IsScanned};
 ghost use Rattle.mvt_tile.specs.TagNeeds.{AreMetBy};
 ghost use Rattle.mvt_tile.specs.View.{layer_of};
+ghost use Rattle.mvt_tile.specs.declared.rules.key_marks.KeyMarks.{KeyMarks};
+ghost use Rattle.mvt_fault.specs.declared.tag.TagCode.{TagCode};
 
 #[cfg(test)]
 mod tests;
 
 use super::key_marks::KeyMarks;
+use crate::numbers::{ListedNumbers, NumberSource};
 use crate::record::Layer;
 use mvt_fault::{Fault, TagCode};
 use std::alloc::{AllocError, Global};
@@ -32,10 +35,10 @@ pub fn check_tags(
     ensures least { IfOk result (λ found. IfSome found (λ fault. (feature_record : FeatureRecord) → slice_get (layer_of layer.now).features feature_index ≡ Some feature_record
         → IsLeast (IsFaultOfTags (layer_of layer.now) feature_record layer_index feature_index) fault)) }
 {
-    let tags = &layer.features[feature_index].tags;
+    let tags = ListedNumbers::new(&layer.features[feature_index].tags);
     let mut marks = KeyMarks::new(alloc);
-    let found = fault_of_tags(&mut marks, tags, layer.keys.len(), layer.values.len())?;
-    let Some((code, index)) = found else {
+    let scan = scan_tags(&mut marks, tags, layer.keys.len(), layer.values.len())?;
+    let Some((code, index)) = scan.found else {
         return Ok(None);
     };
     Ok(Some(Fault::Tag {
@@ -61,53 +64,129 @@ impl TagNeeds {
         TagNeeds { keys: 0, values: 0 }
     }
 
-    /// Adds what the pairs of these tags need. A number left over at the end adds nothing: a list of odd length has
-    /// no fault but its length, in whatever layer.
-    pub(crate) fn add(&mut self, tags: &[u32])
-        ensures no_fewer_keys { self.old.keys ≤ self.new.keys }
-        ensures no_fewer_values { self.old.values ≤ self.new.values }
-        ensures met { AreMetBy self.new tags.now }
+    /// What a pair of tags needs.
+    #[inline(always)]
+    fn of(key: u32, value: u32) -> TagNeeds
+        ensures { result ≡ record { keys = key + 1; values = value + 1 } }
     {
-        let mut keys = self.keys;
-        let mut values = self.values;
-        let mut at = 0;
-        'pairs: while at + 1 < tags.len() {
-            keys = keys.max(tags[at] as usize + 1);
-            values = values.max(tags[at + 1] as usize + 1);
-            at += 2;
+        TagNeeds {
+            keys: key as usize + 1,
+            values: value as usize + 1,
         }
-        *self = TagNeeds { keys, values };
+    }
+
+    /// Adds other needs.
+    #[inline(always)]
+    pub(crate) fn add(&mut self, other: TagNeeds)
+        ensures keys { (self.old.keys ≤ self.new.keys) × (other.keys ≤ self.new.keys) }
+        ensures values { (self.old.values ≤ self.new.values) × (other.values ≤ self.new.values) }
+        ensures fits { self.new.values < 2 ^ 64 }
+    {
+        *self = TagNeeds {
+            keys: self.keys.max(other.keys),
+            values: self.values.max(other.values),
+        };
     }
 }
 
-/// The first fault of tags, in a layer of so many keys and values, and its place in their list. `marks` keeps
-/// marks of keys, and is used again for each feature. The only error is that memory was refused.
-pub(crate) fn fault_of_tags(
+/// What one pass over the tags of a feature finds.
+#[derive(Clone, Copy)]
+pub(crate) struct TagScan {
+    /// The first fault and its place in the list, in a layer of so many keys and values.
+    pub(crate) found: Option<(TagCode, usize)>,
+    /// What the pairs need. A number left over at the end needs nothing: a list of odd length has no fault but its
+    /// length, in whatever layer.
+    pub(crate) needs: TagNeeds,
+}
+
+/// One pass over tags, in a layer of so many keys and values. `marks` keeps marks of keys, and is used again for each
+/// feature. The only error is that memory was refused.
+pub(crate) fn scan_tags<N: NumberSource + Drop>(
     marks: &mut KeyMarks,
-    tags: &[u32],
+    mut tags: N,
+    keys: usize,
+    values: usize,
+) -> Result<TagScan, AllocError>
+    requires few { N.most tags < 2 ^ 63 }
+    ensures first { IfOk result (λ scan. (given : List ℕ) → N.Leaves tags given → FindsFirstTagFault keys values given scan.found) }
+    ensures met { IfOk result (λ scan. (given : List ℕ) → N.Leaves tags given → AreMetBy scan.needs given) }
+    ensures fits { IfOk result (λ scan. scan.needs.values < 2 ^ 64) }
+{
+    marks.clear();
+    let mut needs = TagNeeds::none();
+    let mut at = 0;
+    'pairs: while let Some(key) = tags.next_number() {
+        let Some(value) = tags.next_number() else {
+            return Ok(odd(at + 1, needs));
+        };
+        needs.add(TagNeeds::of(key, value));
+        if let Some(fault) = fault_of_pair(marks, key, value, at, keys, values)? {
+            return Ok(scan_rest(tags, at + 2, needs, fault));
+        }
+        at += 2;
+    }
+    Ok(TagScan { found: None, needs })
+}
+
+/// The rest of that pass, from a place behind the first pair that has a fault: the list may still be of odd length.
+#[inline(always)]
+fn scan_rest<N: NumberSource + Drop>(
+    mut tags: N,
+    from: usize,
+    needs: TagNeeds,
+    fault: (TagCode, usize),
+) -> TagScan
+    requires few { from + N.most tags < 2 ^ 63 }
+    ensures first { (given : List ℕ) → N.Leaves tags (drop from given) → (set : KeyMarks) (keys values : ℕ) → IsScanned set keys values given from needs (Some fault) → FindsFirstTagFault keys values given result.found }
+    ensures met { (given : List ℕ) → N.Leaves tags (drop from given) → (set : KeyMarks) (keys values : ℕ) → IsScanned set keys values given from needs (Some fault) → AreMetBy result.needs given }
+    ensures fits { result.needs.values < 2 ^ 64 }
+{
+    let mut needs = needs;
+    let mut at = from;
+    'pairs: while let Some(key) = tags.next_number() {
+        let Some(value) = tags.next_number() else {
+            return odd(at + 1, needs);
+        };
+        needs.add(TagNeeds::of(key, value));
+        at += 2;
+    }
+    TagScan {
+        found: Some(fault),
+        needs,
+    }
+}
+
+/// What is found of a list of odd length.
+fn odd(length: usize, needs: TagNeeds) -> TagScan
+    ensures { result ≡ record { found = Some (TagCode.OddLength, length); needs = needs } }
+{
+    let found = Some((TagCode::OddLength, length));
+    TagScan { found, needs }
+}
+
+/// The first fault of the pair of tags at a place, where those before it have none, and its place. The only error is
+/// that memory was refused.
+#[inline(always)]
+fn fault_of_pair(
+    marks: &mut KeyMarks,
+    key: u32,
+    value: u32,
+    at: usize,
     keys: usize,
     values: usize,
 ) -> Result<Option<(TagCode, usize)>, AllocError>
-    ensures none { IfOk result (λ found. IfNone found ((code : TagCode) (place : ℕ) → ¬ TagsBreak code keys values tags.now place)) }
-    ensures first { IfOk result (λ found. IfSome found (λ fault. IsFirstTagFault keys values tags.now fault.0 fault.1)) }
+    requires { at + 1 < 2 ^ 64 }
+    ensures none { IfOk result (λ found. IfNone found ((tags : List ℕ) → IsPairAt tags at key value → ArePassed marks.old keys values tags at → ArePassed marks.new keys values tags (at + 2))) }
+    ensures first { IfOk result (λ found. IfSome found (λ fault. (tags : List ℕ) → IsPairAt tags at key value → ArePassed marks.old keys values tags at → IsFirstTagFault keys values tags fault.0 fault.1)) }
 {
-    if tags.len() % 2 != 0 {
-        return Ok(Some((TagCode::OddLength, tags.len())));
+    if key as usize >= keys {
+        return Ok(Some((TagCode::NoKey, at)));
     }
-    marks.clear();
-    let mut at = 0;
-    'pairs: while at < tags.len() {
-        let key = tags[at];
-        if key as usize >= keys {
-            return Ok(Some((TagCode::NoKey, at)));
-        }
-        if !marks.insert(key)? {
-            return Ok(Some((TagCode::Repeated, at)));
-        }
-        if tags[at + 1] as usize >= values {
-            return Ok(Some((TagCode::NoValue, at + 1)));
-        }
-        at += 2;
+    if !marks.insert(key)? {
+        return Ok(Some((TagCode::Repeated, at)));
+    }
+    if value as usize >= values {
+        return Ok(Some((TagCode::NoValue, at + 1)));
     }
     Ok(None)
 }

@@ -3,7 +3,8 @@ ghost use Rattle.mvt_fault.specs.declared.command.CommandCode.{CommandCode};
 ghost use Rattle.mvt_fault.specs.declared.fault.Fault.{Fault};
 
 use super::FeatureRule;
-use crate::record::{Feature, Kind};
+use crate::feature_bytes::FeatureBytes;
+use crate::record::Kind;
 use crate::{rule_fault, wire_fault};
 use mvt_fault::{CommandCode, Fault, TagCode};
 use std::alloc::{AllocError, Global};
@@ -20,18 +21,19 @@ impl FeatureRule for TypesAreKnown {
 
     ghost IsKept = { λ it. it.kind ≢ 0 };
 
-    fn fault(
+    fn find_fault(
         &mut self,
         _alloc: Global,
-        feature: &mut Feature,
+        feature: &FeatureBytes<'_>,
         layer_index: usize,
         feature_index: usize,
-    ) -> Result<Option<Fault>, AllocError> {
+        found: &mut Option<Fault>,
+    ) -> Result<(), AllocError> {
         self.asked = self.asked.saturating_add(1);
-        match feature.kind {
-            Kind::Unknown => Ok(command(layer_index, feature_index)),
-            Kind::Point | Kind::LineString | Kind::Polygon => Ok(None),
+        if let Kind::Unknown = feature.kind() {
+            *found = command(layer_index, feature_index);
         }
+        Ok(())
     }
 }
 

@@ -64,15 +64,15 @@ impl<L: Look> EmbeddedScan<L> {
             → FindsFirst (L.IsClean self.old.look bytes.now) (L.IsFound self.old.look bytes.now) (spans_of self.old.number entries) self.old.count self.old.first
             → FindsFirst (L.IsClean self.new.look bytes.now) (L.IsFound self.new.look bytes.now) (spans_of self.new.number (entries ++ entry_of field.now ∷ [])) self.new.count self.new.first }
     {
-        if self.first.is_some() {
-            return;
-        }
         if field.number != self.number {
             return;
         }
         let Body::Bytes { from, slice } = field.body else {
             return;
         };
+        if self.first.is_some() {
+            return;
+        }
         match self.look.look(bytes, self.count, from, from + slice.len()) {
             Some(found) => self.first = Some(found),
             None => self.count += 1,
@@ -95,7 +95,12 @@ impl Look for Message {
         from: usize,
         to: usize,
     ) -> Option<(usize, WireCause)> {
-        let cause = message_fault(*self, bytes, from, to)?;
+        // (the copies differ only in what the compiler knows of the message)
+        let cause = match *self {
+            Message::Value => message_fault::<2>(*self, bytes, from, to)?,
+            Message::Feature => message_fault::<3>(*self, bytes, from, to)?,
+            _ => message_fault::<4>(*self, bytes, from, to)?,
+        };
         Some((ordinal, cause))
     }
 }

@@ -5,11 +5,10 @@ ghost use Rattle.mvt_tile.specs.LayerFault.{IsLayerFault};
 ghost use Rattle.mvt_tile.specs.Least.{FindsLeastFault};
 
 use crate::wire::embedded::EmbeddedScan;
-use crate::wire::message::defect_or;
 use crate::wire::scan::FieldScan;
 use mvt_fault::{Fault, wire_fault_in};
 use mvt_wire::field_number::{FEATURES, VALUES};
-use mvt_wire::{Fields, Message, Scope};
+use mvt_wire::{Message, Scope};
 
 /// The first fault of the layer with an ordinal, which the bytes hold from one offset up to
 /// another: that of its own fields, or else of its values, or else of its features (Mapbox Vector
@@ -19,23 +18,25 @@ pub(crate) fn layer_fault(bytes: &[u8], layer: usize, from: usize, to: usize) ->
     requires within { to ≤ length bytes.now }
     ensures { FindsLeastFault (IsLayerFault bytes.now (stretch from to) layer) result }
 {
-    let mut fields = Fields::new(bytes, from, to);
-    let mut own = FieldScan::new(Message::Layer);
+    let front = &bytes[..to];
+    let mut own = FieldScan::new();
     let mut values = EmbeddedScan::new(Message::Value, VALUES);
     let mut features = EmbeddedScan::new(Message::Feature, FEATURES);
-    'walk: while let Some(item) = fields.next_field() {
-        match item {
-            Ok(field) => {
-                if let Some(cause) = own.pass(&field) {
-                    return Some(wire_fault_in(Scope::Layer(layer), defect_or(fields, cause)));
-                }
-                values.note(bytes, &field);
-                features.note(bytes, &field);
-            }
-            Err(cause) => return Some(wire_fault_in(Scope::Layer(layer), cause)),
-        }
+    let mut at = from;
+    'walk: loop {
+        let (field, next) = match own.pass_usual::<1>(Message::Layer, front, at) {
+            Some(read) => read,
+            None if at == to => break,
+            None => match own.pass_any(Message::Layer, front, at) {
+                Ok(read) => read,
+                Err(cause) => return Some(wire_fault_in(Scope::Layer(layer), cause)),
+            },
+        };
+        values.note(bytes, &field);
+        features.note(bytes, &field);
+        at = next;
     }
-    if let Some(cause) = own.end_fault(to) {
+    if let Some(cause) = own.end_fault(Message::Layer, to) {
         return Some(wire_fault_in(Scope::Layer(layer), cause));
     }
     if let Some((value, cause)) = values.first {

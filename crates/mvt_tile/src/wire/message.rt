@@ -8,10 +8,10 @@ use crate::wire::scan::FieldScan;
 use mvt_wire::{Fields, Message, WireCause};
 
 /// The first fault of the message that the bytes hold from one offset up to another, without
-/// those of the messages in it. The message is walked once.
-// Inlined, so that the rules of each message are constants of its own walk.
+/// those of the messages in it. The message is walked once. Each message has a COPY of its own, so
+/// that its rules are constants there.
 #[inline(always)]
-pub(crate) fn message_fault(
+pub(crate) fn message_fault<const COPY: usize>(
     message: Message,
     bytes: &[u8],
     from: usize,
@@ -21,19 +21,20 @@ pub(crate) fn message_fault(
     requires within { to ≤ length bytes.now }
     ensures { FindsLeastCause (MessageFault message (take to bytes.now) from) result }
 {
-    let mut fields = Fields::new(bytes, from, to);
-    let mut scan = FieldScan::new(message);
-    'walk: while let Some(item) = fields.next_field() {
-        match item {
-            Ok(field) => {
-                if let Some(cause) = scan.pass(&field) {
-                    return Some(defect_or(fields, cause));
-                }
-            }
-            Err(cause) => return Some(cause),
-        }
+    let front = &bytes[..to];
+    let mut scan = FieldScan::new();
+    let mut at = from;
+    'walk: loop {
+        let (_, next) = match scan.pass_usual::<COPY>(message, front, at) {
+            Some(read) => read,
+            None if at == to => return scan.end_fault(message, to),
+            None => match scan.pass_any(message, front, at) {
+                Ok(read) => read,
+                Err(cause) => return Some(cause),
+            },
+        };
+        at = next;
     }
-    scan.end_fault(to)
 }
 
 /// The defect of a field that is left, or else the cause: a message that isn't whole has no other

@@ -9,6 +9,7 @@ use std::simd::prelude::*;
 
 /// The first fault of a packed list of numbers below 2^32, the payload of a field with a number.
 /// The payload begins at the offset `from`.
+#[inline(always)]
 pub(crate) fn packed_fault(part: &[u8], from: usize, number: u32) -> Option<WireCause>
     requires { from + length part.now < 2 ^ 64 }
     ensures { FindsLeastCause (PackedFault from part.now number) result }
@@ -29,6 +30,7 @@ pub(crate) fn packed_fault(part: &[u8], from: usize, number: u32) -> Option<Wire
 ///
 /// Numbers of up to four bytes are small, so their bytes are only counted; a longer one is read in
 /// full, once.
+#[cold]
 #[inline(never)]
 fn first_bad(part: &[u8]) -> Option<(usize, WireCode)>
     ensures none { IfNone result (AreSmallBefore part.now (length part.now)) }
@@ -78,7 +80,7 @@ fn number_fault(part: &[u8], at: usize) -> Option<WireCode>
 }
 
 /// Whether a list is known to be whole, with numbers of up to four bytes only, and so below 2^28.
-#[inline(never)]
+#[inline(always)]
 fn are_short(part: &[u8]) -> bool
     ensures { IsTrue result → AreSmallBefore part.now (length part.now) }
 {
@@ -89,14 +91,22 @@ fn are_short(part: &[u8]) -> bool
 }
 
 /// Whether four bytes in a row may be 128 or more, as in a number that goes on behind its fourth
-/// byte. A look takes as many places at once as fit.
+/// byte.
 #[inline(always)]
 fn has_run(part: &[u8]) -> bool
     ensures { IsFalse result → HasNoRun part.now 0 (length part.now) }
 {
+    part.len() >= 4 && has_run_among(part)
+}
+
+/// The same among four bytes or more. A look takes as many places at once as fit.
+#[inline(never)]
+fn has_run_among(part: &[u8]) -> bool
+    requires { 4 ≤ length part.now }
+    ensures { IsFalse result → HasNoRun part.now 0 (length part.now) }
+{
     match part.len() {
-        0..4 => false,
-        4..7 => has_run_by::<1>(part),
+        0..7 => has_run_by::<1>(part),
         7..11 => has_run_by::<4>(part),
         11..19 => has_run_by::<8>(part),
         _ => has_run_by::<16>(part),

@@ -13,24 +13,21 @@ use mvt_wire::{Field, FieldRule, Message, WireCause, WireCode};
 /// the message's rules need.
 #[derive(Drop)]
 pub(crate) struct FieldScan {
-    message: Message,
     /// Which of the numbers that the message knows have occurred. They are all below 16.
     occurred: [bool; 16],
-    /// Whether one of these numbers has occurred.
+    /// Of a value, whether one of these numbers has occurred.
     known: bool,
-    /// Whether more than one field of these numbers has occurred.
+    /// Of a value, whether more than one field of these numbers has occurred.
     several: bool,
 }
 
 impl FieldScan {
     ghost use Rattle.mvt_tile.specs.FieldScan.{Passes, IsFirstFault, IsMissing, was_seen};
 
-    pub(crate) fn new(message: Message) -> Self
-        ensures message { result.message ≡ message }
-        ensures nothing { Passes result [] }
+    pub(crate) fn new() -> Self
+        ensures { (message : Message) → Passes message result [] }
     {
         FieldScan {
-            message,
             occurred: [false; 16],
             known: false,
             several: false,
@@ -39,15 +36,15 @@ impl FieldScan {
 
     /// Passes the next field, or returns its first fault.
     #[inline(always)]
-    pub(crate) fn pass(&mut self, field: &Field<'_>) -> Option<WireCause>
+    pub(crate) fn pass(&mut self, message: Message, field: &Field<'_>) -> Option<WireCause>
         requires { (next : ℕ) × IsPlaced (entry_of field.now) next × (next < 2 ^ 64) }
-        ensures message { self.new.message ≡ self.old.message }
         ensures passed { IfNone result ((entries : List Entry)
-            → Passes self.old entries → Passes self.new (entries ++ entry_of field.now ∷ [])) }
+            → Passes message self.old entries → Passes message self.new (entries ++ entry_of field.now ∷ [])) }
         ensures fault { IfSome result (λ cause. (entries : List Entry) (next : ℕ) → IsPlaced (entry_of field.now) next
-            → Passes self.old entries → IsFirstFault self.old.message (entries ++ entry_of field.now ∷ []) next cause) }
+            → Passes message self.old entries → IsFirstFault message (entries ++ entry_of field.now ∷ []) next cause) }
+        ensures unchanged { IfSome result (λ cause. self.new ≡ self.old) }
     {
-        let Some(rule) = self.message.rule(field.number) else {
+        let Some(rule) = message.rule(field.number) else {
             return None;
         };
         let number = field.number as usize;
@@ -55,25 +52,27 @@ impl FieldScan {
             return Some(cause);
         }
         self.occurred[number] = true;
-        self.several = self.known;
-        self.known = true;
+        if message == Message::Value {
+            self.several = self.known;
+            self.known = true;
+        }
         None
     }
 
     /// What is wrong with the message at its end, all fields of which were passed.
     #[inline(always)]
-    pub(crate) fn end_fault(&self, end: usize) -> Option<WireCause>
-        ensures { (entries : List Entry) → Passes self.now entries
-            → FindsLeastCause (EndFault self.now.message entries end) result }
+    pub(crate) fn end_fault(&self, message: Message, end: usize) -> Option<WireCause>
+        ensures { (entries : List Entry) → Passes message self.now entries
+            → FindsLeastCause (EndFault message entries end) result }
     {
-        if let Some(number) = self.first_missing() {
+        if let Some(number) = self.first_missing(message) {
             return Some(WireCause {
                 code: WireCode::Missing,
                 at: end,
                 field: number,
             });
         }
-        if self.message == Message::Value && !self.has_one() {
+        if message == Message::Value && !self.has_one() {
             return Some(WireCause {
                 code: WireCode::OneField,
                 at: end,
@@ -85,12 +84,12 @@ impl FieldScan {
 
     /// The least required field number that is missing.
     #[inline(always)]
-    fn first_missing(&self) -> Option<u32>
-        ensures none { IfNone result ((number : ℕ) → ¬ IsMissing self.now number) }
-        ensures missing { IfSome result (IsMissing self.now) }
-        ensures least { IfSome result (λ least. (number : ℕ) → IsMissing self.now number → least ≤ number) }
+    fn first_missing(&self, message: Message) -> Option<u32>
+        ensures none { IfNone result ((number : ℕ) → ¬ IsMissing message self.now number) }
+        ensures missing { IfSome result (IsMissing message self.now) }
+        ensures least { IfSome result (λ least. (number : ℕ) → IsMissing message self.now number → least ≤ number) }
     {
-        for &rule in self.message.rules() {
+        for &rule in message.rules() {
             if self.lacks(rule) {
                 return Some(rule.number);
             }
@@ -107,7 +106,7 @@ impl FieldScan {
         rule.occurrence.is_required() && !self.occurred[rule.number as usize]
     }
 
-    /// Whether just one field of the numbers that the message knows has occurred.
+    /// Whether just one field of the numbers that a value knows has occurred.
     fn has_one(&self) -> bool
         ensures { result ≡ (self.now.known && not self.now.several) }
     {

@@ -1,6 +1,7 @@
-use Rattle.std.proofs.Common.{◌≤◌, ◌-◌, List, length, map}
+use Rattle.std.proofs.Common.{◌≤◌, ◌+◌, List, length, map, drop}
 use Rattle.mvt_plane.specs.Position.{Position, origin}
 use Rattle.mvt_plane.specs.Course.{ArePathsAhead, course_at}
+use Rattle.mvt_tile.specs.Numbers.{AreListed, most_listed}
 use Rattle.mvt_draw.specs.Cursor.{position_of}
 use Rattle.mvt_draw.proofs.Paths.{IsAmidPaths}
 use Rattle.mvt_draw.proofs.drawing.draw_paths.Given as goal
@@ -8,10 +9,11 @@ use Rattle.mvt_draw.proofs.drawing.draw_paths.Given as goal
 -- whichever lines or rings they are, the first of them are drawn
 abbrev pub invariant-paths : goal.invariant-paths
 invariant-paths l = record {
-  within : l.at ≤ length l.numbers;
+  fewer : l.at + most_listed l.source ≤ length l.numbers;
+  left : AreListed l.source (drop l.at l.numbers);
   drawn : (parts : List (List Position)) → ArePathsAhead (record { here = origin; left = l.numbers }) l.closed parts
       → IsAmidPaths l.closed parts (map (λ part. part.items) l.parts.items) (course_at l.numbers l.at (position_of l.cursor));
 }
 
 abbrev pub decreases-paths : goal.decreases-paths
-decreases-paths l = length l.numbers - l.at
+decreases-paths l = most_listed l.source

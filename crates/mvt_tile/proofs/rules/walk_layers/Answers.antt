@@ -21,8 +21,8 @@ walk-init over c = record {
   features = record { none = CleanWalk-nothing c.new-fields.ensures; some = tt };
 }
 
-pub next_whole-requires : goal.next_whole-requires
-next_whole-requires over c = let there = c.requires.tile.1 in IsWalking-defectless there.entries c.walk.invariant.layers.walking there.whole
+pub next_field-requires : goal.next_field-requires
+next_field-requires over c = let there = c.requires.tile.1 in IsWalking-defectless there.entries c.walk.invariant.layers.walking there.whole
 
 pub stretch_of-from-requires-clause-own : goal.stretch_of-from-requires-clause-own
 stretch_of-from-requires-clause-own over c =

@@ -3,7 +3,7 @@ use Rattle.mvt_tile.proofs.TileWalk.{TileWalk}
 use Rattle.mvt_tile.proofs.wire.wire_fault.Given as goal
 
 abbrev pub invariant-walk : goal.invariant-walk
-invariant-walk l = TileWalk l.bytes l.fields l.own l.layers
+invariant-walk l = TileWalk l.bytes l.at l.own l.layers
 
 abbrev pub decreases-walk : goal.decreases-walk
-decreases-walk l = length l.fields.bytes - l.fields.at
+decreases-walk l = length l.bytes - l.at

@@ -1,6 +1,7 @@
+use crate::numbers::ListedNumbers;
 use crate::record::Layer;
 use crate::rules::key_marks::KeyMarks;
-use crate::rules::tags::{TagNeeds, fault_of_tags};
+use crate::rules::tags::scan_tags;
 use crate::{check_tags, read_tile};
 use mvt_fault::{Fault, TagCode};
 use std::alloc::Global;
@@ -51,16 +52,16 @@ fn lists_of_tags(rt: HostRuntime) {
         // a key that comes again far away
         (&[999, 0, 0, 0, 5, 0, 999, 0], 1000, 1, TagCode::Repeated, 6),
     ] {
-        assert!(rt; fault_of_tags(marks, tags, keys, values) == Ok(Some((code, place))));
+        let scan = scan_tags(marks, ListedNumbers::new(tags), keys, values);
+        assert!(rt; scan.is_ok_and(|scan| scan.found == Some((code, place))));
     }
 }
 
 // The contract has them large enough, and not that they are no larger.
 #[test]
 fn needs_of_tags(rt: HostRuntime) {
-    let mut needs = TagNeeds::none();
-    needs.add(&[0, 3, 4, 1]);
-    let values = needs.values;
-    needs.add(&[2, u32::MAX]);
-    assert!(rt; (values, needs.keys, needs.values) == (4, 5, 0x1_0000_0000));
+    let marks = &mut KeyMarks::new(rt.alloc());
+    let tags = [0, 3, 4, 1, 2, u32::MAX];
+    let scan = scan_tags(marks, ListedNumbers::new(&tags), 9, usize::MAX);
+    assert!(rt; scan.is_ok_and(|scan| (scan.needs.keys, scan.needs.values) == (5, 0x1_0000_0000)));
 }

@@ -7,5 +7,5 @@ use Rattle.memory_runs.proofs.polygons.PolygonCall.run.Goals as goal
 pub tell-requires-clause-drawn : goal.tell-requires-clause-drawn
 tell-requires-clause-drawn g c =
     let numbers = c.in_ok-numbers.numbers.now in
-    let drawn = subst (HasRings 3 numbers) (sym c.rings-rings.ensures) c.in-Ok.ensures.rings in
+    let drawn = subst (HasRings 3 numbers) (sym c.rings-rings.ensures) (c.in-Ok.ensures.rings numbers c.new.ensures.all) in
     rings_are_drawn 3 numbers (rings_of c.rings-rings.result.now) drawn c.in-None.ensures.none

@@ -7,10 +7,10 @@ use Rattle.mvt_draw.proofs.ring_buffer.RingBuffer.draw_ring.Goals.{then-self-len
 use Rattle.mvt_draw.specs.declared.ring_buffer.RingBuffer.TheInside.{Inside}
 
 pub returns-clause-drawn : goal.returns-clause-drawn
-returns-clause-drawn c = λ ring rest ahead.
+returns-clause-drawn g c = λ numbers given ring rest ahead.
     let inside = c.if-self-len.self-inside in
     let HasRoom : Inside → Type 0 = λ it. (map (λ ring. ring.items) (take it.count it.parts.items) ≡ c.args.self.now) × (it.count < length it.parts.items) in
-    let told = c.in_ok-behind.ensures.drawn tt ring rest ahead in
+    let told = c.in_ok-behind.ensures.drawn tt numbers given ring rest ahead in
     let room : HasRoom inside =
     elim c.if-self-len.branch [
       | then-self-len+in_ok-room+in_ok-push w ↦

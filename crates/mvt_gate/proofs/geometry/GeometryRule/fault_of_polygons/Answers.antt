@@ -1,16 +1,29 @@
-use Rattle.std.proofs.Common.{sym, ap}
+use Rattle.std.proofs.Common.{List, subst, sym}
+use Rattle.mvt_plane.specs.Geometry.{HasRings}
+use Rattle.mvt_plane.specs.Position.{Position}
 use Rattle.mvt_polygon.specs.Rings.{rings_of}
-use Rattle.mvt_tile.specs.View.{kind_number}
-use Rattle.mvt_gate.proofs.FeatureGeometries.{valid_by_rings, least_by_commands}
+use Rattle.mvt_tile.specs.FeatureBytes.{Shows}
+use Rattle.mvt_gate.proofs.FeatureGeometries.{valid_by_rings, least_by_commands, least_by_rings}
 use Rattle.mvt_gate.proofs.geometry.GeometryRule.fault_of_polygons.Goals as goal
 
-pub returns-after-len-gt-MANY_NUMBERS-clause-kept : goal.returns-after-len-gt-MANY_NUMBERS-clause-kept
-returns-after-len-gt-MANY_NUMBERS-clause-kept c =
-    valid_by_rings c.args.profile c.rings_fault.result c.args.feature.now c.deref.result.now (rings_of c.rings.result.now) c.draw.new.self c.requires c.deref.ensures.value c.rings.ensures c.in-Ok.ensures.rings
-    c.rings_fault.ensures.valid
+pub rings_fault-requires : goal.rings_fault-requires
+rings_fault-requires c =
+    let it = c.geometry.ensures.shows.0 in
+    (it.geometry, subst (λ (rings : List (List Position)). HasRings 3 it.geometry rings) (sym c.rings.ensures) (c.in-Ok.ensures.rings it.geometry (c.geometry.ensures.all it c.geometry.ensures.shows.1)))
+
+pub returns-in-Ok-clause-least : goal.returns-in-Ok-clause-least
+returns-in-Ok-clause-least c =
+    least_by_rings c.args.profile c.rings_fault.result (Shows c.args.feature.now) (rings_of c.rings.result.now) c.draw.new.self c.args.layer c.args.ordinal c.rings.ensures c.requires
+    (λ it shows. c.in-Ok.ensures.rings it.geometry (c.geometry.ensures.all it shows)) c.rings_fault.ensures.least
+
+pub returns-in-Ok-clause-kept : goal.returns-in-Ok-clause-kept
+returns-in-Ok-clause-kept c =
+    valid_by_rings c.args.profile c.rings_fault.result (Shows c.args.feature.now) (rings_of c.rings.result.now) c.draw.new.self c.rings.ensures c.requires
+    (λ it shows. c.in-Ok.ensures.rings it.geometry (c.geometry.ensures.all it shows)) c.rings_fault.ensures.valid
 
 pub returns-in-Err-Command-clause-least : goal.returns-in-Err-Command-clause-least
 returns-in-Err-Command-clause-least c =
     rw (c.in-Err-Command.code-is, c.in-Err-Command.index-is)
-    (least_by_commands c.args.profile c.args.feature.now 3 c.deref.result.now c.in-Err-Command.code c.in-Err-Command.index c.args.layer c.args.ordinal (sym (ap kind_number c.requires)) c.deref.ensures.value
-    (rw c.in-Err-Command.field-0-is at c.in-Err-Command.ensures.fault))
+    (λ it shows.
+    least_by_commands c.args.profile it 3 c.in-Err-Command.code c.in-Err-Command.index c.args.layer c.args.ordinal (c.requires it shows)
+    ((rw c.in-Err-Command.field-0-is at c.in-Err-Command.ensures.fault) it.geometry (c.geometry.ensures.all it shows)))

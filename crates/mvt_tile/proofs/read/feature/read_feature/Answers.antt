@@ -1,8 +1,18 @@
-use Rattle.std.proofs.Common.{sym, subst}
+use Rattle.std.proofs.Common.{◌≡◌, subst, sym}
 use Rattle.mvt_wire.specs.Tile.{FeatureRecord, IsFeature}
+use Rattle.mvt_tile.specs.View.{feature_of}
+use Rattle.mvt_tile.specs.declared.record.Feature.{Feature}
 use Rattle.mvt_tile.proofs.read.feature.read_feature.Goals as goal
+
+-- a record with the parts of a feature shows it
+same : (feature : Feature) (it : FeatureRecord) → (feature_of feature).id ≡ it.id → (feature_of feature).tags ≡ it.tags → (feature_of feature).kind ≡ it.kind → (feature_of feature).geometry ≡ it.geometry → feature_of feature ≡ it
+same feature it id tags kind geometry = λ i. record { id = id i; tags = tags i; kind = kind i; geometry = geometry i }
 
 pub returns : goal.returns
 returns c =
-    let there = c.requires.stands in
-    subst (λ (feature : FeatureRecord). IsFeature c.args.bytes.now (record { from = c.args.from; to = c.args.to }) feature) (sym (c.in_ok-read_feature_into.ensures there.0 there.1)) there.1
+    let it = c.requires.stands.0 in
+    let shows = c.new-feature.ensures it c.requires.stands.1 in
+    subst (λ (feature : FeatureRecord). IsFeature c.args.bytes.now (record { from = c.args.from; to = c.args.to }) feature)
+    (sym (same (record { id = c.id.result; tags = c.in_ok-list_of.field-0; kind = c.kind.result; geometry = c.in_ok-list_of-2.field-0 }) it
+    (c.id.ensures it shows) (c.in_ok-list_of.ensures it.tags (c.tags.ensures.all it shows)) (c.kind.ensures it shows) (c.in_ok-list_of-2.ensures it.geometry (c.geometry.ensures.all it shows))))
+    c.requires.stands.1

@@ -6,8 +6,8 @@ use Rattle.mvt_tile.proofs.ReadingWalk.{IsWalking-front, IsWalking-defectless, I
 use Rattle.mvt_tile.proofs.read.value.read_value.Goals as goal
 use Rattle.mvt_wire.proofs.Walking.{IsWalking-more}
 
-pub next_whole-requires : goal.next_whole-requires
-next_whole-requires c = let there = c.requires.stands.1 in IsWalking-defectless there.entries c.walk.invariant.1 there.whole
+pub next_field-requires : goal.next_field-requires
+next_field-requires c = let there = c.requires.stands.1 in IsWalking-defectless there.entries c.walk.invariant.1 there.whole
 
 pub value_in-requires : goal.value_in-requires
 value_in-requires c =

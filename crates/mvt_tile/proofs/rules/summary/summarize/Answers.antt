@@ -8,8 +8,8 @@ use Rattle.mvt_tile.proofs.SummaryReading.{few_counted, IsSummary-from_told}
 use Rattle.mvt_tile.proofs.rules.summary.summarize.Goals as goal
 use Rattle.mvt_wire.proofs.Walking.{IsWalking-more}
 
-pub next_whole-requires : goal.next_whole-requires
-next_whole-requires c = let there = c.requires.stands.1 in IsWalking-defectless there.entries c.walk.invariant.1 there.whole
+pub next_field-requires : goal.next_field-requires
+next_field-requires c = let there = c.requires.stands.1 in IsWalking-defectless there.entries c.walk.invariant.1 there.whole
 
 pub add_field-requires-clause-fits : goal.add_field-requires-clause-fits
 add_field-requires-clause-fits c =

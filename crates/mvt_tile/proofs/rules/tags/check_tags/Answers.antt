@@ -1,22 +1,42 @@
-use Rattle.std.proofs.Common.{◌≡◌, ◌∙◌, ℕ, List, length, Option, IfSome, subst, arith}
+use Rattle.std.proofs.Common.{◌≡◌, ◌∙◌, ◌<◌, ℕ, List, length, get_or, Option, Some, slice_get, subst, arith}
 use Rattle.std.proofs.lemmas.List.{length-map}
+use Rattle.mvt_fault.specs.TrueFaults.{IsFaultOfTags, TagsBreak, tag}
+use Rattle.mvt_fault.specs.declared.fault.Fault.{Fault}
 use Rattle.mvt_fault.specs.declared.tag.TagCode.{TagCode}
-use Rattle.mvt_tile.specs.RuleFaults.{IsFirstTagFault}
+use Rattle.mvt_wire.specs.Tile.{FeatureRecord, LayerRecord}
+use Rattle.mvt_tile.specs.RuleFaults.{FindsFirstTagFault}
 use Rattle.mvt_tile.specs.View.{layer_of, value_of}
+use Rattle.mvt_tile.specs.declared.record.Feature.{Feature}
+use Rattle.mvt_tile.specs.declared.record.Layer.{Layer}
 use Rattle.mvt_tile.proofs.TagFaults.{IsLeast-first, feature_tags}
 use Rattle.mvt_tile.proofs.rules.tags.check_tags.Goals as goal
 
+-- tags that break no rule have no fault
+no_fault : (layer_record : LayerRecord) (it : FeatureRecord) (layer feature : ℕ) → ((code : TagCode) (place : ℕ) → ¬ TagsBreak code (length layer_record.keys) (length layer_record.values) it.tags place)
+    → (fault : Fault) → ¬ IsFaultOfTags layer_record it layer feature fault
+no_fault layer_record it layer feature none fault (tag code index broken) = none code index broken
+
+-- what was found of the list, as said of the feature's tags in its layer
+found_in : (found : Option (TagCode × ℕ)) (keys values : ℕ) (listed : List ℕ) (layer : Layer) (feature : ℕ) (shown : Feature) (it : FeatureRecord) → keys ≡ length layer.keys.items → values ≡ length layer.values.items → listed ≡ shown.tags.items
+    → feature < length layer.features.items → shown ≡ get_or layer.features.items feature shown → slice_get (layer_of layer).features feature ≡ Some it → FindsFirstTagFault keys values listed found
+    → FindsFirstTagFault (length (layer_of layer).keys) (length (layer_of layer).values) it.tags found
+found_in found keys values listed layer feature shown it same_keys same_values same_tags within here there finds =
+    let counted : keys ≡ length (layer_of layer).keys = omega (arith, length-map layer.keys.items (λ key. key.now)) in
+    let counted_values : values ≡ length (layer_of layer).values = omega (arith, length-map layer.values.items value_of) in
+    subst (λ (n : ℕ). FindsFirstTagFault n (length (layer_of layer).values) it.tags found) counted
+    (subst (λ (n : ℕ). FindsFirstTagFault keys n it.tags found) counted_values
+    (subst (λ (all : List ℕ). FindsFirstTagFault keys values all found) (same_tags ∙ feature_tags layer.features.items feature shown it within here there) finds))
+
+pub returns-in_default-clause-none : goal.returns-in_default-clause-none
+returns-in_default-clause-none c = λ feature_record there.
+    let finds =
+    found_in c.in_ok-scan.scan.found c.len.result c.len-2.result c.deref.result.now c.args.layer.now c.args.feature_index c.index.result.now feature_record (omega arith) (omega arith) c.deref.ensures.value c.requires c.index.ensures there
+    (c.in_ok-scan.ensures.first c.deref.result.now c.new-tags.ensures.all) in
+    no_fault (layer_of c.args.layer.now) feature_record c.args.layer_index c.args.feature_index (rw c.in_default.is at finds)
+
 pub returns-clause-least : goal.returns-clause-least
 returns-clause-least c = λ feature_record there.
-    let layer_record = layer_of c.args.layer.now in
-    let code = c.in-Some.code in
-    let index = c.in-Some.index in
-    let keys : c.len.result ≡ length layer_record.keys = omega (arith, length-map c.args.layer.now.keys.items (λ key. key.now)) in
-    let values : c.len-2.result ≡ length layer_record.values = omega (arith, length-map c.args.layer.now.values.items value_of) in
-    let tags : c.deref.result.now ≡ feature_record.tags = c.deref.ensures.value ∙ feature_tags c.args.layer.now.features.items c.args.feature_index c.index.result.now feature_record c.requires c.index.ensures there in
-    let found : IsFirstTagFault c.len.result c.len-2.result c.deref.result.now code index =
-    subst (λ (told : Option (TagCode × ℕ)). IfSome told (λ one. IsFirstTagFault c.len.result c.len-2.result c.deref.result.now one.0 one.1)) c.in-Some.is c.in_ok-found.ensures.first in
-    IsLeast-first layer_record feature_record c.args.layer_index c.args.feature_index code index
-    (subst (λ (n : ℕ). IsFirstTagFault n (length layer_record.values) feature_record.tags code index) keys
-    (subst (λ (n : ℕ). IsFirstTagFault c.len.result n feature_record.tags code index) values
-    (subst (λ (all : List ℕ). IsFirstTagFault c.len.result c.len-2.result all code index) tags found)))
+    let finds =
+    found_in c.in_ok-scan.scan.found c.len.result c.len-2.result c.deref.result.now c.args.layer.now c.args.feature_index c.index.result.now feature_record (omega arith) (omega arith) c.deref.ensures.value c.requires c.index.ensures there
+    (c.in_ok-scan.ensures.first c.deref.result.now c.new-tags.ensures.all) in
+    IsLeast-first (layer_of c.args.layer.now) feature_record c.args.layer_index c.args.feature_index c.in-Some.code c.in-Some.index (rw c.in-Some.is at finds)

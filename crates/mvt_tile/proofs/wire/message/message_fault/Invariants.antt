@@ -1,10 +1,9 @@
-use Rattle.std.proofs.Common.{List, ◌-◌, length, take}
-use Rattle.mvt_wire.specs.Field.{Entry}
-use Rattle.mvt_tile.proofs.Walking.{IsScanning}
+use Rattle.std.proofs.Common.{◌-◌, length}
+use Rattle.mvt_tile.proofs.Walking.{MessageWalk}
 use Rattle.mvt_tile.proofs.wire.message.message_fault.Given as goal
 
 abbrev pub invariant-walk : goal.invariant-walk
-invariant-walk l = (entries : List Entry) × IsScanning l.fn.message (take l.to l.bytes) l.from l.fields l.scan entries
+invariant-walk g l = MessageWalk l.message l.front l.from l.at l.scan
 
 abbrev pub decreases-walk : goal.decreases-walk
-decreases-walk l = length l.fields.bytes - l.fields.at
+decreases-walk g l = length l.front - l.at

@@ -5,4 +5,4 @@ use Rattle.mvt_tile.proofs.SchemaRules.{first_unseen}
 use Rattle.mvt_tile.proofs.wire.scan.FieldScan.first_missing.Given as goal
 
 abbrev pub invariant-loop-rule : goal.invariant-loop-rule
-invariant-loop-rule l = first_unseen (rules_of l.self.message) (was_seen l.self) ≡ first_unseen (drop l.rule-index (rules_of l.self.message)) (was_seen l.self)
+invariant-loop-rule l = first_unseen (rules_of l.fn.message) (was_seen l.self) ≡ first_unseen (drop l.rule-index (rules_of l.fn.message)) (was_seen l.self)

@@ -1,0 +1,204 @@
+//! The numbers of tags and of geometry, given one after another.
+ghost use Rattle.std.specs.Prelude.{◌≡◌, ◌≤◌, ◌<◌, ◌^◌, ℕ, true, List, [], ◌∷◌, length, take, None, IfNone, IfOk, IfSome};
+ghost use Rattle.mvt_wire.specs.Field.{content_of, wire_type_of};
+ghost use Rattle.mvt_wire.specs.Numbers.{LeavesVarints, NumbersEnd, NumbersLeft, walk_at};
+ghost use Rattle.mvt_wire.specs.Schema.{is_own};
+ghost use Rattle.mvt_wire.specs.Varint.{SpellsVarint};
+ghost use Rattle.mvt_wire.specs.declared.schema.Shape.TheVariants as Shapes;
+ghost use Rattle.mvt_tile.specs.NumberStretch.{LiesIn};
+ghost use Rattle.mvt_tile.specs.Varints.{BeginVarints, HasNoNumber, HasNoNumberFault, IsFaultless};
+
+use crate::number_stretch::NumberStretch;
+use crate::read::walk::{WholeFields, whole_varint};
+use mvt_wire::Body;
+use std::alloc::{AllocError, Global};
+
+/// Numbers of 32 bits, given one after another.
+pub trait NumberSource {
+    // these numbers are left, in this order
+    ghost Leaves: { Self → List ℕ → Type 0 };
+    // a bound on how many are left
+    ghost most: { Self → ℕ };
+
+    /// The next number, or None where none is left.
+    fn next_number(&mut self) -> Option<u32>
+        ensures end { IfNone result ((numbers : List ℕ) → Leaves self.old numbers → numbers ≡ []) }
+        ensures number { IfSome result (λ number. (numbers : List ℕ) → Leaves self.old numbers → (rest : List ℕ) × (numbers ≡ number ∷ rest) × Leaves self.new rest) }
+        ensures fewer { IfSome result (λ _. most self.new < most self.old) };
+}
+
+/// The numbers of a list.
+#[derive(Drop)]
+pub struct ListedNumbers<'a> {
+    rest: &'a [u32],
+}
+
+impl<'a> ListedNumbers<'a> {
+    ghost use Rattle.mvt_tile.specs.Numbers.{AreListed};
+
+    /// All numbers of a list.
+    pub fn new(numbers: &'a [u32]) -> ListedNumbers<'a>
+        ensures all { AreListed result numbers.now }
+    {
+        ListedNumbers { rest: numbers }
+    }
+}
+
+impl NumberSource for ListedNumbers<'_> {
+    ghost use Rattle.mvt_tile.specs.Numbers.{AreListed, most_listed};
+
+    ghost Leaves = { AreListed };
+
+    ghost most = { most_listed };
+
+    #[inline(always)]
+    fn next_number(&mut self) -> Option<u32> {
+        let (&first, rest) = self.rest.split_first()?;
+        self.rest = rest;
+        Some(first)
+    }
+}
+
+/// The numbers that the fields of one number state in a feature of a tile without wire fault (Protocol Buffers encoding,
+/// "Packed Repeated Fields"). They are decoded where they stand.
+#[derive(Drop)]
+pub struct FeatureNumbers<'a> {
+    /// The bytes up to the feature's end.
+    bytes: &'a [u8],
+    field_number: u32,
+    /// The offset of the next number in the field that is being read.
+    at: usize,
+    /// The offset behind that field.
+    end: usize,
+    /// An offset from which on no field states numbers.
+    last: usize,
+    ghost forward: { at ≤ end },
+    ghost within: { end ≤ length bytes.now },
+    ghost faultless: { IsFaultless (walk_at bytes.now field_number at end) },
+    ghost no_more: { HasNoNumber bytes.now last field_number },
+}
+
+impl<'a> FeatureNumbers<'a> {
+    ghost use Rattle.mvt_tile.specs.Numbers.{AreLeft};
+
+    /// The numbers that the fields of a number state in a feature that ends at an offset.
+    #[inline(always)]
+    pub(crate) fn new(
+        bytes: &'a [u8],
+        stretch: NumberStretch,
+        to: usize,
+        number: u32,
+    ) -> FeatureNumbers<'a>
+        requires within { to ≤ length bytes.now }
+        requires stands { LiesIn (take to bytes.now) number stretch }
+        ensures { (given : List ℕ) → NumbersLeft (walk_at (take to bytes.entry.now) number stretch.at stretch.end) given None → AreLeft result given }
+    {
+        FeatureNumbers {
+            bytes: &bytes[..to],
+            field_number: number,
+            at: stretch.at,
+            end: stretch.end,
+            last: stretch.last,
+        }
+    }
+}
+
+impl NumberSource for FeatureNumbers<'_> {
+    ghost use Rattle.mvt_tile.specs.Numbers.{AreLeft, most_bytes};
+
+    ghost Leaves = { AreLeft };
+
+    ghost most = { most_bytes };
+
+    #[inline(always)]
+    fn next_number(&mut self) -> Option<u32> {
+        let (at, end) = varints_left(self.bytes, self.field_number, self.at, self.end, self.last);
+        if at >= end {
+            return None;
+        }
+        let (number, next) = next_varint(self.bytes, at, end);
+        self.at = next;
+        self.end = end;
+        Some(number)
+    }
+}
+
+/// Where the varints begin that come next, and where they end: those left in a field, or else those of the next field of
+/// the number that states any, or none. From `last` on no field states numbers.
+#[inline(always)]
+fn varints_left(bytes: &[u8], number: u32, at: usize, end: usize, last: usize) -> (usize, usize)
+    requires forward { at ≤ end }
+    requires within { end ≤ length bytes.now }
+    requires faultless { IsFaultless (walk_at bytes.now number at end) }
+    requires no_more { HasNoNumber bytes.now last number }
+    ensures found { result.0 < result.1 → LeavesVarints (walk_at bytes.now number at end) result.0 result.1 }
+    ensures none { result.1 ≤ result.0 → NumbersLeft (walk_at bytes.now number at end) [] None }
+{
+    if at < end {
+        return (at, end);
+    }
+    if end == last {
+        return (end, end);
+    }
+    next_varints(bytes, number, end)
+}
+
+/// The same for the fields from an offset on.
+#[inline(never)]
+fn next_varints(bytes: &[u8], number: u32, from: usize) -> (usize, usize)
+    requires within { from ≤ length bytes.now }
+    requires faultless { HasNoNumberFault bytes.now from number }
+    ensures found { result.0 < result.1 → LeavesVarints (walk_at bytes.now number from from) result.0 result.1 }
+    ensures none { result.1 ≤ result.0 → NumbersLeft (walk_at bytes.now number from from) [] None }
+{
+    let mut fields = WholeFields::new(bytes, from, bytes.len());
+    'walk: while let Some(field) = fields.next_field() {
+        if field.number == number {
+            let at = varints_in(field.body);
+            let end = fields.at();
+            if at < end {
+                return (at, end);
+            }
+        }
+    }
+    (bytes.len(), bytes.len())
+}
+
+/// The offset of the first varint of a field of numbers, or where it would be.
+#[inline(always)]
+pub(crate) fn varints_in(body: Body) -> usize
+    requires { is_own Shapes.Numbers (wire_type_of (content_of body)) ≡ true }
+    ensures { BeginVarints (content_of body.entry) result }
+{
+    match body {
+        Body::Varint { at, .. } => at,
+        Body::Bytes { from, .. } => from,
+        Body::Fixed64(_) | Body::Fixed32(_) => unreachable!(),
+    }
+}
+
+/// The number at an offset of a field's varints, and the offset behind it.
+#[inline(always)]
+fn next_varint(bytes: &[u8], at: usize, end: usize) -> (u32, usize)
+    requires within { end ≤ length bytes.now }
+    requires stands { (n next : ℕ) × SpellsVarint (take end bytes.now) at next n × (n < 2 ^ 32) }
+    ensures number { SpellsVarint (take end bytes.now) at result.1 result.0 }
+    ensures small { result.0 < 2 ^ 32 }
+{
+    let (value, next) = whole_varint(&bytes[..end], at);
+    (value as u32, next)
+}
+
+/// All numbers that are left, as a list. The only error is that memory was refused.
+pub(crate) fn list_of<N: NumberSource + Drop>(
+    alloc: Global,
+    mut numbers: N,
+) -> Result<Vec<u32>, AllocError>
+    ensures { IfOk result (λ list. (given : List ℕ) → N.Leaves numbers given → list.items ≡ given) }
+{
+    let mut list = Vec::new(alloc);
+    'numbers: while let Some(number) = numbers.next_number() {
+        list.push(number)?;
+    }
+    Ok(list)
+}
