@@ -11,15 +11,15 @@ use Rattle.mvt_polygon.specs.declared.sweep.notes.Around.{Around}
 -- A note that is written
 
 -- what is set is read
-pub set_here : (notes : List (Option Around)) (ring : ℕ) (written : Option Around) → ring < length notes → slice_get (set notes ring written) ring ≡ Some written
+pub set_here : {A : Type 0} (notes : List A) (ring : ℕ) (written : A) → ring < length notes → slice_get (set notes ring written) ring ≡ Some written
 set_here notes ring written within =
-    slice_get-get_or (set notes ring written) ring None (omega (arith, length-set notes ring written)) ∙ ap Some (get_or-set_same notes ring written None within)
+    slice_get-get_or (set notes ring written) ring written (omega (arith, length-set notes ring written)) ∙ ap Some (get_or-set_same notes ring written written within)
 
 -- and the others are as before
-pub set_others : (notes : List (Option Around)) (ring other : ℕ) (written : Option Around) → other ≢ ring → slice_get (set notes ring written) other ≡ slice_get notes other
+pub set_others : {A : Type 0} (notes : List A) (ring other : ℕ) (written : A) → other ≢ ring → slice_get (set notes ring written) other ≡ slice_get notes other
 set_others notes ring other written differ = elim (cases_lt other (length notes)) [
-  | inl within ↦ slice_get-get_or (set notes ring written) other None (omega (arith, length-set notes ring written)) ∙ ap Some (get_or-set_other notes ring other written None differ)
-      ∙ sym (slice_get-get_or notes other None within)
+  | inl within ↦ slice_get-get_or (set notes ring written) other written (omega (arith, length-set notes ring written)) ∙ ap Some (get_or-set_other notes ring other written written differ)
+      ∙ sym (slice_get-get_or notes other written within)
   | inr past ↦ slice_get_past (set notes ring written) other (omega (arith, length-set notes ring written)) ∙ sym (slice_get_past notes other past)
 ]
 

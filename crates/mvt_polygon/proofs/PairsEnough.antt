@@ -13,7 +13,7 @@ use Rattle.mvt_plane.proofs.CrossingLines.{one_crossing}
 use Rattle.mvt_plane.proofs.Order.{mono_lt_right, zs}
 use Rattle.mvt_plane.proofs.Polynomials.{◌⊖◌, ◌⊗◌, identity}
 use Rattle.mvt_plane.proofs.RationalPoints.{begin_lies_on, end_lies_on, times_one}
-use Rattle.mvt_polygon.specs.Corners.{NoneWrong, corner_count, edge_at, next_at, plan_of, position_at, shared_at}
+use Rattle.mvt_polygon.specs.Corners.{NoneWrong, corner_count, edge_at, next_at, plan_of, position_at, previous_at, shared_at, turn_at}
 use Rattle.mvt_polygon.specs.Pairs.{AreBoxesApart, left, right, below, above, AreEnough, AreEnoughForAll, AreLess, IsPair}
 use Rattle.mvt_polygon.specs.Sweep.{Tested}
 use Rattle.mvt_polygon.specs.declared.sweep.corners.Corners.{Corners}
@@ -62,6 +62,27 @@ previous_apart corners first second turn not next is test =
     (meet_at_turn (at second) (at (next_at corners second)) (at (next_at corners first)) point (turns_by_test turn _ is test) common.on_second
     (subst (λ (n : ℕ). LiesOn point (between (at n) (at (next_at corners first)))) (sym next) common.on_first)))))
 
+-- where a ring turns, its two edges meet in the corner alone
+meet_at_corner : (here before behind : Position) (point : RationalPoint) → ¬ (orientation here before behind ≡ pos 0) → LiesOn point (between before here) → LiesOn point (between here behind)
+    → IsAt point here
+meet_at_corner a b c point turns on_first on_second =
+    let turn : cross_product (between a c) (between b a) ≡ orientation a b c =
+    identity (a.x ∷ a.y ∷ b.x ∷ b.y ∷ c.x ∷ c.y ∷ []) (λ A a' B b' C c'. ((C ⊖ A) ⊗ (a' ⊖ b') ⊖ (c' ⊖ a') ⊗ (A ⊖ B), (B ⊖ A) ⊗ (c' ⊖ a') ⊖ (b' ⊖ a') ⊗ (C ⊖ A))) tt in
+    let same = one_crossing (between a c) (between b a) point (whole a) (λ flat. turns (sym turn ∙ flat)) on_second.on_line on_first.on_line (begin_lies_on (between a c)).on_line (end_lies_on (between b a)).on_line in
+    record { x = sym (times_one point.x) ∙ same.x; y = sym (times_one point.y) ∙ same.y }
+
+-- so they need no test
+pub turning_apart : (corners : Corners) (number : ℕ) → number < corner_count corners → ¬ (turn_at corners number ≡ pos 0)
+    → Tested (plan_of corners) (previous_at corners number) number × Tested (plan_of corners) number (previous_at corners number)
+turning_apart corners number within turns =
+    let at = position_at corners in
+    let previous = previous_at corners number in
+    let next : next_at corners previous ≡ number = corners.linked.back_and_there number within in
+    let tested : Tested (plan_of corners) previous number = tested_by_name corners previous number (none refl (λ point common. common.apart (at number) (when_ahead corners previous number next)
+    (meet_at_corner (at number) (at previous) (at (next_at corners number)) point turns
+    (subst (λ (n : ℕ). LiesOn point (between (at previous) (at n))) next common.on_first) common.on_second))) in
+    (tested, tested_either_way corners previous number (corners.linked.previous_known number within) within tested)
+
 -- Boxes
 
 -- all numbers that are between two are less than those that are between two greater ones
@@ -91,6 +112,18 @@ no_test_apart corners first second apart = tested_by_name corners first second (
         less_multiples one.a.y one.b.y other.a.y other.b.y point.y point.w common.on_first.positive less common.on_first.y_between common.on_second.y_between
     nothing_common one other (above less) point common =
         less_multiples other.a.y other.b.y one.a.y one.b.y point.y point.w common.on_first.positive less common.on_second.y_between common.on_first.y_between
+
+-- of two edges it doesn't matter which is the first
+apart_either_way : (one other : Edge) → AreBoxesApart one other → AreBoxesApart other one
+apart_either_way one other (left less) = right less
+apart_either_way one other (right less) = left less
+apart_either_way one other (below less) = above less
+apart_either_way one other (above less) = below less
+
+pub no_test_either_way : (corners : Corners) (first second : ℕ) → AreBoxesApart (edge_at corners first) (edge_at corners second)
+    → Tested (plan_of corners) first second × Tested (plan_of corners) second first
+no_test_either_way corners first second apart =
+    (no_test_apart corners first second apart, no_test_apart corners second first (apart_either_way (edge_at corners first) (edge_at corners second) apart))
 
 -- The pairs that are left
 

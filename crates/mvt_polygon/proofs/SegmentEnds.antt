@@ -1,6 +1,6 @@
 -- The ends of an edge between two positions, from the lesser key on.
 use Rattle.std.proofs.Common.{◌≡◌, ◌≢◌, ◌↔◌, ◌⊎◌, inl, inr, [], ◌∷◌, Bool, true, false, IsTrue, Ordering, ℤ, pos, ◌+ℤ◌, ◌<ℤ◌, ◌≤ℤ◌, int_cmp, SFits, to_z, of_z, w64, refl, sym, ◌∙◌, ap, subst, arith}
-use Rattle.std.specs.Ordering.{MatchOrdering, is_gt, is_lt}
+use Rattle.std.specs.Ordering.{MatchOrdering, is_gt, is_lt, is_ne}
 use Rattle.std.specs.declared.cmp.Ordering.TheVariants.{Less, Equal, Greater}
 use Rattle.std.proofs.lemmas.Cmp.{int_ranked}
 use lib.Signed.{lt_z}
@@ -153,3 +153,12 @@ negative_by_side turn side is = by_case side (int_ranked turn (pos 0) side is)
     by_case Less below = ((λ yes. below), (λ below'. refl))
     by_case Equal same = ((λ yes. absurd (cc yes)), (λ below. absurd (omega (arith, ints))))
     by_case Greater above = ((λ yes. absurd (cc yes)), (λ below. absurd (omega (arith, ints))))
+
+-- and not 0 where it doesn't compare as equal
+pub turning_by_side : (turn : ℤ) (side : Ordering) → side ≡ int_cmp turn (pos 0) → IsTrue (is_ne side) → ¬ (turn ≡ pos 0)
+turning_by_side turn side is = by_case side (int_ranked turn (pos 0) side is)
+  where
+    by_case : (side : Ordering) → MatchOrdering side (turn <ℤ pos 0) (turn ≡ pos 0) (pos 0 <ℤ turn) → IsTrue (is_ne side) → ¬ (turn ≡ pos 0)
+    by_case Less below = λ turns flat. absurd (omega (arith, ints))
+    by_case Equal same = λ turns flat. absurd (cc turns)
+    by_case Greater above = λ turns flat. absurd (omega (arith, ints))

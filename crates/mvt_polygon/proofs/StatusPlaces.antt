@@ -1,26 +1,21 @@
 -- The places of a status before and behind an edit, and what is next to them.
-use Rattle.std.proofs.Common.{◌≡◌, ◌≢◌, ℕ, zero, suc, ◌+◌, ◌<◌, ◌≤◌, ◌⊎◌, inl, inr, IfSome, List, [], ◌∷◌, ◌++◌, Option, Some, None, drop, insert, slice_get, length, remove, slice_index, take, ℤ, ◌<ℤ◌, ◌≤ℤ◌, refl, sym, ap, subst, ◌∙◌, arith}
+use Rattle.std.proofs.Common.{◌≡◌, ◌≢◌, ℕ, zero, suc, ◌<◌, ◌≤◌, ◌⊎◌, inl, inr, IfSome, List, [], ◌∷◌, ◌++◌, Option, Some, None, drop, insert, slice_get, length, remove, take, ℤ, ◌<ℤ◌, ◌≤ℤ◌, sym, ap, subst, ◌∙◌, arith}
 use Rattle.std.proofs.lemmas.Int.{ints}
 use Rattle.std.proofs.Math.Seq.{drop-append_seam, drop-cons, take-append_seam}
-use Rattle.std.proofs.lemmas.List.{drop_all, length-append, length-take-le, length-drop}
+use Rattle.std.proofs.lemmas.List.{length-append, length-take-le, length-drop}
 use Rattle.std.proofs.lemmas.Option.{slice_get-get_or}
 use Rattle.mvt_plane.specs.Measure.{key_of}
 use Rattle.mvt_plane.specs.Position.{Position}
-use Rattle.mvt_polygon.specs.Chain.{Has, Each, Head, Joined, Ordered}
+use Rattle.mvt_polygon.specs.Chain.{Has, Each, Head, Joined}
 use Rattle.mvt_status.specs.Split.{before}
-use Rattle.mvt_polygon.specs.Sweep.{Plan, IsPlan, Tested, IsSwept, IsEvent, BothBegin, PassesOn, BothEnd, IsCut}
-use Rattle.mvt_polygon.proofs.ChainParts.{each_has, each_by_has, has_left, has_right, has_either, ordered_parts, take_there, take_drop, insert_between, drop_first, joined_last}
-use Rattle.mvt_polygon.proofs.SweepSteps.{begin_step, pass_step, end_found, end_step}
-use Rattle.mvt_polygon.proofs.SweepSlabs.{event_back, swept_differ}
+use Rattle.mvt_polygon.specs.Sweep.{Plan, IsPlan, Tested, IsSwept, IsEvent, BothBegin, BothEnd, IsCut}
+use Rattle.mvt_polygon.proofs.ChainParts.{each_by_has, take_drop, joined_last}
+use Rattle.mvt_polygon.proofs.SweepSteps.{begin_step, end_found, end_step}
+use Rattle.mvt_polygon.proofs.SweepSlabs.{event_back}
 
 -- Beside a place
 
--- the first from a place on
-pub head_at : (R : ℕ → ℕ → Type 0) (edges : List ℕ) (at it above : ℕ) → at < length edges → above ≡ slice_index edges at → R it above → Head R it (drop at edges)
-head_at R edges at it above within is holds =
-    subst (λ (list : List ℕ). Head R it list) (sym (drop_first edges at within)) (subst (R it) is holds)
-
--- the same of the first from a place on, if there is one
+-- the first from a place on, if there is one
 head_behind : (R : ℕ → ℕ → Type 0) (edges : List ℕ) (at it : ℕ) (behind : Option ℕ) → behind ≡ slice_get edges at → IfSome behind (R it) → Head R it (drop at edges)
 head_behind R edges at it behind is holds = there edges at (subst (λ (found : Option ℕ). IfSome found (R it)) is holds)
   where
@@ -54,7 +49,8 @@ pub each_before : (P : ℕ → Type 0) (edges : List ℕ) (at : ℕ) (front : Op
 each_before P edges zero front all is = subst (λ (found : Option ℕ). IfSome found P) (sym is) tt
 each_before P edges (suc at) front all is = each_behind P edges at front all is
 
-some_map : {P Q : ℕ → Type 0} (found : Option ℕ) → ((it : ℕ) → P it → Q it) → IfSome found P → IfSome found Q
+-- what follows from what is known of something
+pub some_map : {P Q : ℕ → Type 0} (found : Option ℕ) → ((it : ℕ) → P it → Q it) → IfSome found P → IfSome found Q
 some_map None follows holds = tt
 some_map (Some it) follows holds = follows it holds
 
@@ -68,32 +64,6 @@ tested_before plan edges at edge front within is both =
 pub tested_behind : (plan : Plan) (edges : List ℕ) (at edge : ℕ) (behind : Option ℕ) → behind ≡ slice_get edges at
     → IfSome behind (λ other. Tested plan edge other × Tested plan other edge) → Head (Tested plan) edge (drop at edges)
 tested_behind plan edges at edge behind is both = head_behind (Tested plan) edges at edge behind is (some_map behind (λ it tested. tested.0) both)
-
--- nothing is joined to none
-joined_none : (R : ℕ → ℕ → Type 0) (edges : List ℕ) → Joined R edges []
-joined_none R [] = tt
-joined_none R (last ∷ []) = tt
-joined_none R (first ∷ next ∷ rest) = joined_none R (next ∷ rest)
-
--- so it is behind all
-pub joined_end : (R : ℕ → ℕ → Type 0) (edges : List ℕ) (at : ℕ) → length edges ≤ at → Joined R (take at edges) (drop at edges)
-joined_end R edges at short = subst (Joined R (take at edges)) (sym (drop_all at edges short)) (joined_none R (take at edges))
-
--- lists that are alike up to a place have one edge before it
-before_taken : (edges : List ℕ) (at : ℕ) → before (take at edges) at ≡ before edges at
-before_taken edges zero = refl
-before_taken edges (suc at) = take_there edges (suc at) at (omega arith)
-
-before_kept : (edges fewer : List ℕ) (at : ℕ) → take at edges ≡ take at fewer → before edges at ≡ before fewer at
-before_kept edges fewer at alike = sym (before_taken edges at) ∙ ap (λ (list : List ℕ). before list at) alike ∙ before_taken fewer at
-
--- the edge before a place differs from the one there where all do
-pub apart_at : (edges : List ℕ) (at below : ℕ) → Some below ≡ before edges at → at < length edges → Ordered (λ (one other : ℕ). one ≢ other) edges → below ≢ slice_index edges at
-apart_at edges at below is within differ =
-    let all = ordered_parts (λ (one other : ℕ). one ≢ other) (take at edges) (drop at edges) (subst (Ordered (λ (one other : ℕ). one ≢ other)) (take_drop edges at) differ) in
-    let there : Has (drop at edges) (slice_index edges at) = subst (λ (list : List ℕ). Has list (slice_index edges at)) (sym (drop_first edges at within)) (inl refl) in
-    each_before (λ (it : ℕ). it ≢ slice_index edges at) (take at edges) at (Some below)
-    (each_by_has (λ (it : ℕ). it ≢ slice_index edges at) (take at edges) (λ it has. all.2 it (slice_index edges at) has there)) (is ∙ sym (before_taken edges at))
 
 -- Edges of the status
 
@@ -114,25 +84,9 @@ others_known plan key vertex edges fewer beginning swept later begins among =
 -- Edits
 
 -- where the parts come together, the place is between them
-parts_at : (front back : List ℕ) (place : ℕ) → length front ≡ place → (take place (front ++ back) ≡ front) × (drop place (front ++ back) ≡ back)
+pub parts_at : (front back : List ℕ) (place : ℕ) → length front ≡ place → (take place (front ++ back) ≡ front) × (drop place (front ++ back) ≡ back)
 parts_at front back place same =
     (ap (λ (n : ℕ). take n (front ++ back)) (sym same) ∙ take-append_seam front back, ap (λ (n : ℕ). drop n (front ++ back)) (sym same) ∙ drop-append_seam front back)
-
--- with one more between them nothing is lost
-among : (front back : List ℕ) (it other : ℕ) → Has (front ++ back) other → Has (front ++ it ∷ back) other
-among front back it other has =
-    elim (has_either front back other has) [
-      | inl before ↦ has_left front (it ∷ back) other before
-      | inr behind ↦ has_right front (it ∷ back) other (inr behind)
-    ]
-
--- without it those that differed still do
-differ_without : (front back : List ℕ) (it : ℕ) → Ordered (λ (one other : ℕ). one ≢ other) (front ++ it ∷ back) → Ordered (λ (one other : ℕ). one ≢ other) (front ++ back)
-differ_without [] back it differ = differ.1
-differ_without (first ∷ front) back it differ = (
-  each_by_has (λ (other : ℕ). first ≢ other) (front ++ back) (λ other has. each_has (λ (other : ℕ). first ≢ other) (front ++ it ∷ back) other differ.0 (among front back it other has)),
-  differ_without front back it differ.1,
-)
 
 -- what is behind the first of the rest
 rest_behind : (edges : List ℕ) (place it : ℕ) (back : List ℕ) → place < length edges → drop place edges ≡ it ∷ back → drop (suc place) edges ≡ back
@@ -144,8 +98,6 @@ pub record TakesOut (edges fewer : List ℕ) (place it : ℕ) (back : List ℕ) 
   pub front : take place fewer ≡ take place edges
   pub rest : drop place fewer ≡ back
   pub fits : place ≤ length fewer
-  pub among : (other : ℕ) → Has fewer other → Has edges other
-  pub differ : Ordered (λ (one other : ℕ). one ≢ other) edges → Ordered (λ (one other : ℕ). one ≢ other) fewer
 
 -- what is taken out is the first of the rest
 pub takes_out : (edges fewer : List ℕ) (place it : ℕ) (back : List ℕ) → place ≤ length edges → drop place edges ≡ it ∷ back → fewer ≡ remove edges place → TakesOut edges fewer place it back
@@ -161,27 +113,9 @@ takes_out edges fewer place it back within first removed =
       front = ap (take place) is ∙ parts.0;
       rest = ap (drop place) is ∙ parts.1;
       fits = omega (arith, ap length is, length-append front back);
-      among = λ other has. subst (λ (list : List ℕ). Has list other) (sym parted) (among front back it other (subst (λ (list : List ℕ). Has list other) is has));
-      differ = λ all. subst (Ordered (λ (one other : ℕ). one ≢ other)) (sym is) (differ_without front back it (subst (Ordered (λ (one other : ℕ). one ≢ other)) parted all));
     }
 
 -- Steps
-
--- an edge takes the place of the one that ends
-pub pass_over : (plan : Plan) (key : ℤ) (vertex : Position) (ending beginning place : ℕ) (edges more back : List ℕ) → IsPlan plan → IsSwept plan key edges
-    → IsEvent plan key vertex ending beginning → PassesOn plan vertex ending beginning → place ≤ length edges → IsCut plan vertex edges (take place edges) (drop place edges)
-    → drop place edges ≡ ending ∷ back → Joined (Tested plan) (take place edges) (beginning ∷ []) → Head (Tested plan) beginning (drop (place + 1) edges)
-    → more ≡ insert (remove edges place) place beginning → IsSwept plan (key_of vertex) more
-pass_over plan key vertex ending beginning place edges more back is_plan swept event passes within cut first below above replaced =
-    let fewer = remove edges place in
-    let behind : place + 1 ≡ suc place = omega arith in
-    let out : TakesOut edges fewer place ending back = takes_out edges fewer place ending back within first refl in
-    let is : more ≡ take place edges ++ beginning ∷ back =
-    replaced ∙ insert_between fewer place beginning out.fits ∙ ap (λ (front : List ℕ). front ++ beginning ∷ drop place fewer) out.front
-    ∙ ap (λ (rest : List ℕ). take place edges ++ beginning ∷ rest) out.rest in
-    subst (IsSwept plan (key_of vertex)) (sym is)
-    (pass_step plan key vertex ending beginning edges (take place edges) back is_plan swept event passes (subst (IsCut plan vertex edges (take place edges)) first cut)
-    below (subst (Head (Tested plan) beginning) (ap (λ (at : ℕ). drop at edges) behind ∙ rest_behind edges place ending back out.within first) above))
 
 -- two edges begin at the place
 begin_over : (plan : Plan) (key : ℤ) (vertex : Position) (lower upper place : ℕ) (edges more most : List ℕ) → IsPlan plan → IsSwept plan key edges → IsEvent plan key vertex lower upper
@@ -242,9 +176,6 @@ ends_in_order plan key vertex first second edges front rest is_plan swept event 
 pub record AreOut (plan : Plan) (vertex : Position) (place : ℕ) (edges fewer fewest : List ℕ) : Type 0 where
   pub one_there : place < length edges
   pub other_there : place < length fewer
-  pub below : before edges place ≡ before fewest place
-  pub known : Each (λ (edge : ℕ). edge < plan.count) fewest
-  pub differ : Ordered (λ (one other : ℕ). one ≢ other) fewest
   pub over : Joined (Tested plan) (take place fewest) (drop place fewest) → IsSwept plan (key_of vertex) fewest
 
 -- so the line goes over the vertex, where those that are neighbours then were tested
@@ -260,9 +191,6 @@ both_out plan key vertex first second place edges fewer fewest is_plan swept eve
     record {
       one_there = out.within;
       other_there = next.within;
-      below = before_kept edges fewest place (sym front);
-      known = each_by_has (λ (edge : ℕ). edge < plan.count) fewest (λ it has. (swept.active it (out.among it (next.among it has))).known);
-      differ = next.differ (out.differ (swept_differ plan key edges is_plan swept));
       over = λ joined. subst (IsSwept plan (key_of vertex)) (sym is)
           (end_step plan key vertex pair.one pair.other edges (take place edges) pair.back is_plan swept pair.event pair.ends (subst (IsCut plan vertex edges (take place edges)) pair.first cut)
           (subst (Joined (Tested plan) (take place edges)) next.rest (subst (λ (list : List ℕ). Joined (Tested plan) list (drop place fewest)) front joined)));

@@ -15,9 +15,9 @@ few_between plan key place lower upper edges is_plan within swept =
     let longer = length-insert edges place upper within in
     omega (arith, length-insert (insert edges place upper) place lower (omega arith))
 
--- the work of all: a test, two comparisons' worth of a turn and a place, two tests beside it, and two edges put in
-pub work_of_begin : (edges corners : ℕ) (start tested ordered placed under over done : Counted) → suc edges ≤ corners → AddsWork 1 0 0 start tested → AddsWork 0 1 0 tested ordered
-    → AddsWork 0 (2 * bits corners) (6 * bits corners) ordered placed → AddsWork 1 0 0 placed under → AddsWork 1 0 0 under over
+-- the work of all: a turn, a test at most, a comparison's worth of a place, two tests beside it, and two edges put in
+pub work_of_begin : (edges corners : ℕ) (start turned tested placed under over done : Counted) → suc edges ≤ corners → AddsWork 0 1 0 start turned → AddsWork 1 0 0 turned tested
+    → AddsWork 0 (2 * bits corners) (6 * bits corners) tested placed → AddsWork 1 0 0 placed under → AddsWork 1 0 0 under over
     → AddsAtMost 0 (6 * bits (suc edges)) over done → AddsWork 3 (2 * bits corners + 2) (12 * bits corners) start done
-work_of_begin edges corners start tested ordered placed under over done few one two three four five six =
+work_of_begin edges corners start turned tested placed under over done few one two three four five six =
     work_within (omega arith) (omega arith) (omega arith) (work_then one (work_then two (work_then three (work_then four (work_then five (work_of_edits 6 (suc edges) corners few six))))))

@@ -73,3 +73,8 @@ pub stepped_ends : (corners : Corners) (number : ℕ) (before after : List ℕ) 
 stepped_ends corners number before after step begun count more same ends is least =
     let told = subst (IsStep corners number before after) same is in
     (told.0, subst (HasBegun corners number before) (sym ends) told.1, subst (λ (it : Step). IsCounted 1 count more (met_by it)) same least)
+
+-- what holds where no meeting is returned
+pub none_after_an_end : (P : Type 0) (found : Option Pair) (step : Step) → step ≡ after_an_end found → IfNone found P → IfNone (met_by step) P
+none_after_an_end P None step is holds = subst (λ (step : Step). IfNone (met_by step) P) (sym is) holds
+none_after_an_end P (Some pair) step is holds = subst (λ (step : Step). IfNone (met_by step) P) (sym is) tt

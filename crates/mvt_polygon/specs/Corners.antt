@@ -1,8 +1,9 @@
 -- The vertices of rings in one list. Each has the number of the edge that begins in it.
-use Rattle.std.specs.Prelude.{◌≡◌, ◌≢◌, ◌-◌, ◌+◌, ◌==◌, ◌<◌, cond, ℕ, List, length, map, take, slice_get, Option, Some, None}
+use Rattle.std.specs.Prelude.{◌≡◌, ◌≢◌, ◌-◌, ◌+◌, ◌==◌, ◌<◌, cond, ℕ, List, length, map, take, slice_get, Option, Some, None, ℤ}
 use Rattle.std.specs.List.{sum}
 use Rattle.mvt_plane.specs.CommonPoint.{IsNamed}
 use Rattle.mvt_plane.specs.EdgeOrder.{segment_between}
+use Rattle.mvt_plane.specs.Measure.{orientation}
 use Rattle.mvt_plane.specs.Meeting.{EdgeNumber}
 use Rattle.mvt_plane.specs.Position.{Position}
 use Rattle.mvt_plane.specs.RationalPoint.{RationalPoint, IsBounded}
@@ -71,6 +72,10 @@ next_at corners number = next_in corners.list.items number
 -- and of the corner before it, whose edge ends in it
 abbrev pub previous_at : Corners → ℕ → ℕ
 previous_at corners number = previous_in corners.list.items number
+
+-- how its ring turns there: on which side of the line to the corner before it the one behind it is
+abbrev pub turn_at : Corners → ℕ → ℤ
+turn_at corners number = orientation (position_at corners number) (position_at corners (previous_at corners number)) (position_at corners (next_at corners number))
 
 -- the edge that begins in it, as its ring goes
 abbrev pub edge_at : Corners → ℕ → Edge

@@ -3,6 +3,7 @@ pub mod Apart
 pub mod Bounds
 pub mod Cells
 pub mod Chain
+pub mod Chains
 pub mod CornerOrder
 pub mod Corners
 pub mod Feature
@@ -10,6 +11,7 @@ pub mod FeatureParts
 pub mod FrontEdges
 pub mod Gathered
 pub mod Islands
+pub mod KeyParts
 pub mod Lands
 pub mod Links
 pub mod Meeting

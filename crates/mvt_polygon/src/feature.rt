@@ -22,7 +22,7 @@ mod lies_in;
 mod passing;
 mod placed;
 #[cfg(test)]
-mod tests;
+pub(crate) mod tests;
 mod together;
 
 use crate::apart::ApartFault;

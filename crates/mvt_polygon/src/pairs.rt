@@ -8,7 +8,7 @@ ghost use Rattle.mvt_polygon.specs.Pairs.{AreBoxesApart, AreEnough, AreEnoughFor
 ghost use Rattle.mvt_polygon.specs.Sweep.{Tested};
 ghost use Rattle.mvt_status.specs.Counts.{raised};
 
-use crate::sweep::{Corners, Pair};
+use crate::sweep::{Corners, Pair, heights_apart};
 use arrayvec::ArrayVec;
 use mvt_plane::{Count, Edge, orient};
 
@@ -97,7 +97,7 @@ fn may_meet(corners: &Corners, first: usize, second: usize, other: &Edge, count:
 fn boxes_apart(one: &Edge, other: &Edge) -> bool
     ensures { IsTrue result → AreBoxesApart one.now other.now }
 {
-    is_left(one, other) || is_left(other, one) || is_under(one, other) || is_under(other, one)
+    is_left(one, other) || is_left(other, one) || heights_apart(one, other)
 }
 
 /// Whether all x of one edge are less than all of another.
@@ -106,14 +106,6 @@ fn is_left(one: &Edge, other: &Edge) -> bool
     ensures { IsTrue result → AreLess one.now.a.x one.now.b.x other.now.a.x other.now.b.x }
 {
     one.a.x().max(one.b.x()) < other.a.x().min(other.b.x())
-}
-
-/// Whether all y of one edge are less than all of another.
-#[inline]
-fn is_under(one: &Edge, other: &Edge) -> bool
-    ensures { IsTrue result → AreLess one.now.a.y one.now.b.y other.now.a.y other.now.b.y }
-{
-    one.a.y().max(one.b.y()) < other.a.y().min(other.b.y())
 }
 
 /// The first wrong meeting of edges of which these pairs are to be tested. Makes one test for each pair, up to the one
@@ -132,7 +124,7 @@ pub(crate) fn meeting_among(
 {
     for at in 0..pairs.len() {
         let (first, second) = pairs[at];
-        if let Some(pair) = corners.meeting(first, second, count) {
+        if let Some(pair) = corners.meeting_in_order(first, second, count) {
             return Some(pair);
         }
     }

@@ -8,32 +8,38 @@ ghost use Rattle.mvt_polygon.specs.Steps.{AtFirst, AtLast};
 ghost use Rattle.mvt_status.specs.Counts.{bits};
 
 mod begin;
+mod chains;
 mod corner;
 mod corners;
 mod event;
+mod heights;
+mod key_parts;
 mod listing;
 mod neighbors;
 mod notes;
 mod order;
+mod parts;
 mod place;
 mod step;
 mod swept;
 
+use crate::sweep::chains::Chains;
 use crate::sweep::notes::Notes;
 use crate::sweep::step::{Step, go_over};
 pub(crate) use corners::{Corners, Pair};
+pub(crate) use heights::heights_apart;
 use mvt_plane::Count;
 use mvt_status::Status;
 pub(crate) use notes::{NoNotes, RingNotes};
-pub(crate) use order::{numbers_of, one_position, order_of};
-use std::alloc::AllocError;
+use std::alloc::{AllocError, Global};
 pub(crate) use swept::{Swept, sweep_over, sweep_rings};
 
 /// Goes over all corners in their order, with notes of each. No two of them are at one position, and the status is empty
 /// at the call. The only error is that memory was refused.
 fn sweep<S: Status, N: Notes>(
+    alloc: Global,
     corners: &Corners,
-    order: &[usize],
+    order: &[u32],
     notes: &mut N,
     status: &mut S,
     count: &mut Count,
@@ -48,13 +54,15 @@ fn sweep<S: Status, N: Notes>(
     ensures counted { AddsWork (3 * length order.now) (length order.now * (2 * bits (corner_count corners.now) + 2)) (length order.now * (12 * bits (corner_count corners.now))) count.old count.new }
     ensures least { IfOk result (IsCounted (length order.now) count.old count.new) }
 {
+    let mut chains = Chains::new(alloc, corners)?;
     for at in 0..order.len() {
-        let begun = match go_over(corners, order[at], status, count)? {
+        let number = order[at] as usize;
+        let begun = match go_over(corners, number, &mut chains, status, count)? {
             Step::Meets(pair) => return Ok(Some(pair)),
             Step::Begins(place) => Some(place),
             Step::Ends => None,
         };
-        notes.pass(order[at], begun)?;
+        notes.pass(number, begun)?;
     }
     Ok(None)
 }

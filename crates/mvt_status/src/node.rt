@@ -18,7 +18,7 @@ use std::alloc::{AllocError, Global};
 use std::marker::Model;
 
 /// The most edges in a node.
-const ROOM: usize = 8;
+const ROOM: usize = 16;
 
 /// The edges in a node.
 type Own = ArrayVec<usize, ROOM>;
@@ -113,7 +113,7 @@ fn alone(alloc: Global, edge: usize) -> Result<Box<Node>, AllocError>
 fn refilled(mut node: Box<Node>, edges: &[usize]) -> Box<Node>
     requires low { node.value.1 ≡ 1 }
     requires some { 0 < length edges.now }
-    requires room { length edges.now ≤ 8 }
+    requires room { length edges.now ≤ 16 }
     ensures { result.value ≡ (edges.now, 1) }
 {
     let top: &mut Node = &mut node;
@@ -127,7 +127,7 @@ fn refilled(mut node: Box<Node>, edges: &[usize]) -> Box<Node>
 
 /// Puts edges behind those of a node.
 fn append(own: &mut Own, edges: &[usize])
-    requires { length own.old.items + length edges.now ≤ 8 }
+    requires { length own.old.items + length edges.now ≤ 16 }
     ensures { own.new.items ≡ own.old.items ++ edges.now }
 {
     let Ok(()) = own.try_extend_from_slice(edges) else {

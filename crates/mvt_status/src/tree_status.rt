@@ -12,7 +12,7 @@ use std::marker::Model;
 #[cfg(test)]
 mod tests;
 
-/// A status in a height-balanced tree, whose nodes hold up to eight edges each. Each call takes a number of steps that
+/// A status in a height-balanced tree, whose nodes hold up to 16 edges each. Each call takes a number of steps that
 /// grows with the binary digits of the number of edges.
 #[derive(Drop)]
 pub struct TreeStatus {

@@ -70,13 +70,13 @@ fn found_in(rt: &impl Abort, alloc: Global, rings: &[Vec<Point>]) -> Option<Feat
 
 /// A source of numbers that are the same in each run.
 #[derive(Drop)]
-struct Dice {
-    state: i32,
+pub(crate) struct Dice {
+    pub(crate) state: i32,
 }
 
 impl Dice {
     /// A number from 0 to 7.
-    fn throw(&mut self) -> i32 {
+    pub(crate) fn throw(&mut self) -> i32 {
         self.state = self.state.wrapping_mul(1_103_515_245).wrapping_add(12_345);
         (self.state >> 16) & 7
     }

@@ -13,6 +13,7 @@ use mvt_status::{TreeStatus, VecStatus};
 use std::alloc::Global;
 use std::process::Abort;
 
+mod generated;
 mod large;
 
 /// The number behind this one, going round: behind the last one comes 0.

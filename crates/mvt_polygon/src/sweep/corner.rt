@@ -9,6 +9,6 @@ pub(crate) struct Corner {
     pub(crate) position: Point,
     /// In the first corner of a ring the number of the ring's last corner, and in the last corner that of the first;
     /// in every other corner its own number.
-    pub(crate) far_end: usize,
+    pub(crate) far_end: u32,
     ghost in_range: { IsPosition position },
 }

@@ -1,7 +1,9 @@
 //! The vertices of rings in one list, each with the edge that begins in it.
+ghost use Rattle.std.specs.Prelude.{◌<◌, ◌^◌, length};
 ghost use Rattle.mvt_polygon.specs.Links.{AreLinked};
 
 use crate::sweep::corner::Corner;
+use crate::sweep::heights::heights_apart;
 use crate::sweep::listing::list_of;
 use mvt_plane::{Count, Edge, Hpoint, Point, common};
 use std::alloc::{AllocError, Global};
@@ -20,6 +22,7 @@ pub(crate) struct Pair {
 pub(crate) struct Corners {
     list: Vec<Corner>,
     ghost linked: { AreLinked list.items },
+    ghost few: { length list.items < 2 ^ 32 },
 }
 
 impl Corners {
@@ -30,7 +33,7 @@ impl Corners {
     ghost use Rattle.mvt_polygon.specs.Rings.{rings_of, AreProperRings};
     ghost use Rattle.mvt_polygon.specs.Sweep.{Tested};
 
-    /// The corners of these rings. The only error is that memory was refused, or that a `usize` is too small for their
+    /// The corners of these rings. The only error is that memory was refused, or that a `u32` is too small for their
     /// number.
     pub(crate) fn of_rings(alloc: Global, rings: &[Vec<Point>]) -> Result<Corners, AllocError>
         requires { AreProperRings (rings_of rings.now) }
@@ -65,7 +68,7 @@ impl Corners {
         ensures value { result ≡ next_at self.now number }
         ensures within { result < corner_count self.now }
     {
-        let far_end = self.list[number].far_end;
+        let far_end = self.list[number].far_end as usize;
         if far_end < number {
             far_end
         } else {
@@ -80,7 +83,7 @@ impl Corners {
         ensures value { result ≡ previous_at self.now number }
         ensures within { result < corner_count self.now }
     {
-        let far_end = self.list[number].far_end;
+        let far_end = self.list[number].far_end as usize;
         if number < far_end {
             far_end
         } else {
@@ -101,7 +104,8 @@ impl Corners {
     }
 
     /// The wrong meeting of two different edges, if they have one: one test, of the edges in the order of their
-    /// numbers.
+    /// numbers. Most neighbours along a line are apart by their heights alone.
+    #[inline]
     pub(crate) fn meeting(&self, one: usize, other: usize, count: &mut Count) -> Option<Pair>
         requires one { one < corner_count self.now }
         requires other { other < corner_count self.now }
@@ -111,6 +115,10 @@ impl Corners {
         ensures counted { AddsWork 1 0 0 count.old count.new }
         ensures tested { count.new.tests ≡ ticked count.old.tests }
     {
+        if heights_apart(&self.edge(one), &self.edge(other)) {
+            count.tick_test();
+            return None;
+        }
         if one < other {
             self.meeting_in_order(one, other, count)
         } else {
@@ -118,8 +126,13 @@ impl Corners {
         }
     }
 
-    /// The same, where the first comes before the second.
-    fn meeting_in_order(&self, first: usize, second: usize, count: &mut Count) -> Option<Pair>
+    /// The same, where the first comes before the second, by their points alone.
+    pub(crate) fn meeting_in_order(
+        &self,
+        first: usize,
+        second: usize,
+        count: &mut Count,
+    ) -> Option<Pair>
         requires in_order { first < second }
         requires known { second < corner_count self.now }
         ensures none { IfNone result (Tested (plan_of self.now) first second) }

@@ -7,10 +7,11 @@ use crate::sweep::corner::Corner;
 use mvt_plane::{GREATEST_COORDINATE, Point};
 use std::alloc::{AllocError, Global};
 
-/// All corners of rings, ring by ring. The only error is that memory was refused, or that a `usize` is too small for
+/// All corners of rings, ring by ring. The only error is that memory was refused, or that a `u32` is too small for
 /// their number.
 pub(crate) fn list_of(alloc: Global, rings: &[Vec<Point>]) -> Result<Vec<Corner>, AllocError>
-    ensures { IfOk result (λ list. IsListOf (rings_of rings.now) list.items) }
+    ensures list { IfOk result (λ list. IsListOf (rings_of rings.now) list.items) }
+    ensures few { IfOk result (λ list. length list.items < 2 ^ 32) }
 {
     let count = count_of(rings).ok_or(AllocError)?;
     let mut list = Vec::with_capacity(alloc, count)?;
@@ -20,13 +21,17 @@ pub(crate) fn list_of(alloc: Global, rings: &[Vec<Point>]) -> Result<Vec<Corner>
     Ok(list)
 }
 
-/// How many vertices rings have, or None where a `usize` is too small for their number.
+/// How many vertices rings have, or None where a `u32` is too small for their number.
 fn count_of(rings: &[Vec<Point>]) -> Option<usize>
-    ensures { IfSome result (λ count. count ≡ vertex_count (rings_of rings.now)) }
+    ensures value { IfSome result (λ count. count ≡ vertex_count (rings_of rings.now)) }
+    ensures few { IfSome result (λ count. count < 2 ^ 32) }
 {
     let mut count: usize = 0;
     for ring in 0..rings.len() {
         count = count.checked_add(rings[ring].len())?;
+    }
+    if count > u32::MAX as usize {
+        return None;
     }
     Some(count)
 }
@@ -35,7 +40,7 @@ fn count_of(rings: &[Vec<Point>]) -> Option<usize>
 fn add_corners(list: &mut Vec<Corner>, rings: &[Vec<Point>], ring: usize) -> Result<(), AllocError>
     requires ring { ring < length rings.now }
     requires before { IsListOf (take ring (rings_of rings.now)) list.old.items }
-    requires count { vertex_count (rings_of rings.now) < 2 ^ 64 }
+    requires count { vertex_count (rings_of rings.now) < 2 ^ 32 }
     ensures { OnOk result (IsListOf (take (suc ring) (rings_of rings.now)) list.new.items) }
 {
     let vertices = &rings[ring];
@@ -46,7 +51,7 @@ fn add_corners(list: &mut Vec<Corner>, rings: &[Vec<Point>], ring: usize) -> Res
         prove!(position.x() <= GREATEST_COORDINATE);
         list.push(Corner {
             position,
-            far_end: before + far_end_of(vertices.len(), edge),
+            far_end: (before + far_end_of(vertices.len(), edge)) as u32,
         })?;
     }
     Ok(())

@@ -59,7 +59,7 @@ pub(crate) struct Around {
 #[derive(Drop)]
 pub(crate) struct RingNotes {
     /// By the number of each corner, its ring.
-    ring_of: Vec<usize>,
+    ring_of: Vec<u32>,
     /// By the number of each ring, what is around it, if the line came to it.
     around: Vec<Option<Around>>,
     /// The rings that the line came to, in this order: each behind those around it.
@@ -67,14 +67,17 @@ pub(crate) struct RingNotes {
 }
 
 impl RingNotes {
-    /// With nothing noted. The only error is that memory was refused.
+    /// With nothing noted. The only error is that memory was refused, or that a `u32` is too small for the number of rings.
     pub(crate) fn new(alloc: Global, rings: &[Vec<Point>]) -> Result<RingNotes, AllocError>
         ensures { IfOk result (IsNew (rings_of rings.now)) }
     {
+        if rings.len() > u32::MAX as usize {
+            return Err(AllocError);
+        }
         let mut ring_of = Vec::new(alloc);
         let mut around = Vec::with_capacity(alloc, rings.len())?;
         for ring in 0..rings.len() {
-            add_corners(&mut ring_of, ring, rings[ring].len())?;
+            add_corners(&mut ring_of, ring as u32, rings[ring].len())?;
             around.push(None)?;
         }
         Ok(RingNotes {
@@ -137,12 +140,12 @@ impl Notes for RingNotes {
         let Some(place) = begun else {
             return Ok(());
         };
-        let ring = self.ring_of[number];
+        let ring = self.ring_of[number] as usize;
         if self.around[ring].is_some() {
             return Ok(());
         }
         let around = match place.front {
-            Some(edge) => self.around_above(self.ring_of[edge], place.point % 2 == 1),
+            Some(edge) => self.around_above(self.ring_of[edge] as usize, place.point % 2 == 1),
             None => Around {
                 nearest: None,
                 odd: false,
@@ -155,7 +158,7 @@ impl Notes for RingNotes {
 }
 
 /// Adds the ring of so many corners.
-fn add_corners(ring_of: &mut Vec<usize>, ring: usize, corners: usize) -> Result<(), AllocError>
+fn add_corners(ring_of: &mut Vec<u32>, ring: u32, corners: usize) -> Result<(), AllocError>
     ensures { OnOk result (ring_of.new.items ≡ ring_of.old.items ++ replicate corners ring) }
 {
     for _corner in 0..corners {

@@ -1,10 +1,12 @@
 //! One step of a sweep: its line goes over the next corner.
-ghost use Rattle.std.specs.Prelude.{◌≡◌, ◌<◌, IfOk};
+ghost use Rattle.std.specs.Prelude.{◌≡◌, ◌<◌, IfNone, IfOk};
+ghost use Rattle.mvt_polygon.specs.Chains.{AreChains, edges_of};
 ghost use Rattle.mvt_polygon.specs.CornerOrder.{AddsStep, IsCounted, IsNextCorner};
 ghost use Rattle.mvt_polygon.specs.Corners.{corner_count, previous_at};
 ghost use Rattle.mvt_polygon.specs.Steps.{after_an_end, IsStep, met_by};
 
 use crate::sweep::begin::begin;
+use crate::sweep::chains::Chains;
 use crate::sweep::corners::{Corners, Pair};
 use crate::sweep::event::{end, pass};
 use mvt_plane::{Count, sweep_key};
@@ -26,12 +28,15 @@ pub(crate) enum Step {
 pub(crate) fn go_over<S: Status>(
     corners: &Corners,
     number: usize,
+    chains: &mut Chains,
     status: &mut S,
     count: &mut Count,
 ) -> Result<Step, AllocError>
     requires number { number < corner_count corners.now }
-    requires next { IsNextCorner corners.now number (previous_at corners.now number) number (S.edges status.old) }
-    ensures step { IfOk result (IsStep corners.now number (S.edges status.old) (S.edges status.new)) }
+    requires chains { AreChains corners.now chains.old (S.edges status.old) }
+    requires next { IsNextCorner corners.now number (previous_at corners.now number) number (edges_of chains.old (S.edges status.old)) }
+    ensures step { IfOk result (IsStep corners.now number (edges_of chains.old (S.edges status.old)) (edges_of chains.new (S.edges status.new))) }
+    ensures chains { IfOk result (λ step. IfNone (met_by step) (AreChains corners.now chains.new (S.edges status.new))) }
     ensures counted { AddsStep 3 (corner_count corners.now) count.old count.new }
     ensures least { IfOk result (λ step. IsCounted 1 count.old count.new (met_by step)) }
 {
@@ -43,14 +48,14 @@ pub(crate) fn go_over<S: Status>(
     let goes_on = key < sweep_key(behind);
     if comes_from_before {
         if goes_on {
-            Ok(after_an_end(pass(corners, number, previous, number, status, count)?))
+            Ok(after_an_end(pass(corners, number, previous, number, chains, status, count)))
         } else {
-            Ok(after_an_end(end(corners, number, status, count)))
+            Ok(after_an_end(end(corners, number, chains, status, count)))
         }
     } else if goes_on {
-        begin(corners, number, status, count)
+        begin(corners, number, chains, status, count)
     } else {
-        Ok(after_an_end(pass(corners, number, number, previous, status, count)?))
+        Ok(after_an_end(pass(corners, number, number, previous, chains, status, count)))
     }
 }
 

@@ -48,9 +48,9 @@ pub(crate) fn sweep_over<S: Status, N: Notes>(
     if let Some(meeting) = named_meeting(rings, found) {
         return Ok(Swept::Meets(meeting));
     }
-    let order = numbers_of(alloc, order)?;
+    let order = numbers_of(alloc, corners, order)?;
     let mut notes = N::new(alloc, rings)?;
-    let found = sweep(corners, &order, &mut notes, status, count)?;
+    let found = sweep(alloc, corners, &order, &mut notes, status, count)?;
     Ok(match named_meeting(rings, found) {
         Some(meeting) => Swept::Meets(meeting),
         None => Swept::Clear(notes),

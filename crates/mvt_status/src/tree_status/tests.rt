@@ -12,24 +12,24 @@ fn few_edges(rt: HostRuntime) -> Result<(), Fail> {
     Ok(())
 }
 
-// Many edges, each put in at the end, which leaves full nodes behind: 125 of them. A balanced tree has these on seven
-// to nine levels, and none of its nodes without a left or a right side is above the fourth. So a call visits four to
-// nine nodes, and a split makes at most three probes more, among the edges of one of them.
+// Many edges, each put in at the end, which leaves full nodes behind: 63 of them. A balanced tree has these on six to
+// eight levels, and none of its nodes without a left or a right side is above the third. So a call visits three to eight
+// nodes, and a split makes at most four probes more, among the edges of one of them.
 #[test]
 fn many_edges(rt: HostRuntime) -> Result<(), Fail> {
     let many = split_of_many(&mut TreeStatus::new(rt.alloc()), 700)?;
     assert_eq!(&rt; many.split, 700);
-    assert!(&rt; 4 <= many.visits && many.visits <= 9);
-    assert!(&rt; many.visits <= many.probes && many.probes <= many.visits + 3);
-    assert!(&rt; 7 <= many.visits_to_insert && many.visits_to_insert <= 9);
+    assert!(&rt; 3 <= many.visits && many.visits <= 8);
+    assert!(&rt; many.visits <= many.probes && many.probes <= many.visits + 4);
+    assert!(&rt; 6 <= many.visits_to_insert && many.visits_to_insert <= 8);
     Ok(())
 }
 
 // So many edges, and the fewest and the most visits of a call that goes to one end of the tree. Counted up, they fill
-// nodes of eight: 13, 125 and 12,500 of them. So many nodes have at least 4, 7 and 14 levels, and a balanced tree of
-// them at most 5, 9 and 19. The first node has nothing on its left and the last one nothing on its right, so each is
+// nodes of 16: 7, 63 and 6,250 of them. So many nodes have at least 3, 6 and 13 levels, and a balanced tree of them at
+// most 4, 8 and 17. The first node has nothing on its left and the last one nothing on its right, so each is
 // two levels high at most. On the way there each step goes down by at most two levels' height.
-const ENDS: [(usize, u64, u64); 3] = [(100, 2, 5), (1_000, 4, 9), (100_000, 7, 19)];
+const ENDS: [(usize, u64, u64); 3] = [(100, 2, 4), (1_000, 3, 8), (100_000, 7, 17)];
 
 #[test]
 fn both_ends(rt: HostRuntime) -> Result<(), Fail> {

@@ -1,102 +1,140 @@
-use Rattle.std.proofs.Common.{◌≡◌, ◌≤◌, ◌∙◌, List, ℕ, ap, drop, length, remove, take, refl, arith}
+use Rattle.std.proofs.Common.{◌≡◌, ◌≤◌, ℕ, List, length, remove, refl, sym, ap, subst, arith}
 use Rattle.std.proofs.lemmas.List.Edits.{length-remove}
-use Rattle.mvt_polygon.specs.CornerOrder.{IsNextCorner}
+use Rattle.mvt_plane.specs.Measure.{key_of}
+use Rattle.mvt_polygon.specs.Chains.{above_of, below_of, edges_of, outside_of}
 use Rattle.mvt_polygon.specs.Corners.{corner_count, plan_of, position_at, previous_at}
-use Rattle.mvt_polygon.specs.Sweep.{BothEnd, IsCut}
-use Rattle.mvt_polygon.specs.declared.sweep.corners.Corners.{Corners}
+use Rattle.mvt_polygon.specs.Sweep.{IsSwept}
 use Rattle.mvt_polygon.proofs.LeastWork.{counted_by}
+use Rattle.mvt_polygon.proofs.ChainEnds.{AreLeaving, AreThere, across_known, across_within, chains_end, edges_kept, joined_across, leaving, leaving_there}
+use Rattle.mvt_polygon.proofs.ChainSteps.{chains_few, chains_known}
 use Rattle.mvt_polygon.proofs.CornerPlans.{plan_of_corners}
 use Rattle.mvt_polygon.proofs.NoMeetings.{none_map}
-use Rattle.mvt_polygon.proofs.StatusCounts.{few_swept, work_then, work_within, work_of_edits}
-use Rattle.mvt_polygon.proofs.StatusPlaces.{AreOut, all_known, both_out}
+use Rattle.mvt_polygon.proofs.StatusCounts.{work_then, work_within, work_of_edits}
 use Rattle.mvt_polygon.proofs.SweepSlabs.{split}
+use Rattle.mvt_polygon.proofs.sweep.event.end.Given as given
 use Rattle.mvt_polygon.proofs.sweep.event.end.Goals as goal
+use Rattle.mvt_polygon.proofs.sweep.event.end.Goals.{After-place_of-place, After-remove-lower, After-remove-upper}
 
--- both edges of the corner are taken out
-out : {corners : Corners} {number place : ℕ} {edges fewer fewest : List ℕ} → IsNextCorner corners number (previous_at corners number) number edges
-    → BothEnd (plan_of corners) (position_at corners number) (previous_at corners number) number
-    → IsCut (plan_of corners) (position_at corners number) edges (take place edges) (drop place edges) → place ≤ length edges
-    → fewer ≡ remove edges place → fewest ≡ remove fewer place → AreOut (plan_of corners) (position_at corners number) place edges fewer fewest
-out {corners = corners} {number = number} next ends cut within one other =
-    both_out (plan_of corners) next.key (position_at corners number) (previous_at corners number) number _ _ _ _ (plan_of_corners corners) next.swept next.event ends cut within
-    one other
+-- the list of the status
+abbrev list_of : (g : given.Over) → After-place_of-place g → List ℕ
+list_of g c = g.S.Status.edges c.args.status.now
 
 pub place_of-place-requires-clause-known : goal.place_of-place-requires-clause-known
-place_of-place-requires-clause-known g c = all_known (plan_of c.args.corners.now) c.requires.next.key (g.S.Status.edges c.args.status.now) c.requires.next.swept
+place_of-place-requires-clause-known g c = chains_known c.args.corners.now c.args.chains.now (g.S.Status.edges c.args.status.now) c.requires.next.key c.requires.chains c.requires.next.swept
 
 pub place_of-place-requires-clause-few : goal.place_of-place-requires-clause-few
-place_of-place-requires-clause-few g c =
-    let is_plan = plan_of_corners c.args.corners.now in
-    few_swept (plan_of c.args.corners.now) c.requires.next.key (g.S.Status.edges c.args.status.now) is_plan c.requires.next.swept
+place_of-place-requires-clause-few g c = chains_few c.args.corners.now c.args.chains.now (g.S.Status.edges c.args.status.now) c.requires.next.key c.requires.next.swept
 
 pub place_of-place-requires-clause-cut : goal.place_of-place-requires-clause-cut
 place_of-place-requires-clause-cut g c =
     split (plan_of c.args.corners.now) c.requires.next.key (position_at c.args.corners.now c.args.number) (previous_at c.args.corners.now c.args.number) c.args.number
-    (g.S.Status.edges c.args.status.now) (plan_of_corners c.args.corners.now) c.requires.next.swept c.requires.next.event
+    (edges_of c.args.chains.now (g.S.Status.edges c.args.status.now)) (plan_of_corners c.args.corners.now) c.requires.next.swept c.requires.next.event
 
-pub remove-requires : goal.remove-requires
-remove-requires g c =
-    (out c.requires.next c.requires.ends c.place_of-place.ensures.cut c.place_of-place.ensures.within refl refl).one_there
+-- the places of the chains that end
+there : (g : given.Over) (c : After-place_of-place g) (fewer : List ℕ) → fewer ≡ remove (list_of g c) c.place_of-place.result.point → AreThere (list_of g c) fewer c.place_of-place.result.point
+there g c fewer removed =
+    leaving_there c.args.corners.now c.args.chains.now (list_of g c) fewer c.requires.next.key (position_at c.args.corners.now c.args.number) (previous_at c.args.corners.now c.args.number)
+    c.args.number c.place_of-place.result.point c.requires.next.swept c.requires.next.event c.requires.ends c.place_of-place.ensures.cut c.place_of-place.ensures.within removed
 
-pub remove-requires-2 : goal.remove-requires-2
-remove-requires-2 g c =
-    (out c.requires.next c.requires.ends c.place_of-place.ensures.cut c.place_of-place.ensures.within c.remove.ensures.list refl).other_there
+pub remove-lower-requires : goal.remove-lower-requires
+remove-lower-requires g c = (there g (goal.at.remove-lower-requires g c).After-place_of-place _ refl).one_there
 
-pub meeting_across-requires-clause-below : goal.meeting_across-requires-clause-below
-meeting_across-requires-clause-below g c =
-    c.place_of-place.ensures.beside.front
-    ∙ (out c.requires.next c.requires.ends c.place_of-place.ensures.cut c.place_of-place.ensures.within c.remove.ensures.list c.remove-2.ensures.list).below
+pub remove-upper-requires : goal.remove-upper-requires
+remove-upper-requires g c = (there g (goal.at.remove-upper-requires g c).After-place_of-place _ c.remove-lower.ensures.list).other_there
 
-pub meeting_across-requires-clause-few : goal.meeting_across-requires-clause-few
-meeting_across-requires-clause-few g c =
-    let edges = g.S.Status.edges c.args.status.now in
-    let few = few_swept (plan_of c.args.corners.now) c.requires.next.key edges (plan_of_corners c.args.corners.now) c.requires.next.swept in
-    let gone = out c.requires.next c.requires.ends c.place_of-place.ensures.cut c.place_of-place.ensures.within c.remove.ensures.list c.remove-2.ensures.list in
-    omega (
-      arith,
-      few,
-      ap length c.remove.ensures.list,
-      length-remove edges c.place_of-place.result.point gone.one_there,
-      ap length c.remove-2.ensures.list,
-      length-remove (g.S.Status.edges c.remove.new.self) c.place_of-place.result.point gone.other_there,
-    )
+-- the chains that end, among the others
+gone : (g : given.Over) (c : After-remove-upper g)
+    → AreLeaving c.args.corners.now c.args.chains.now (g.S.Status.edges c.args.status.now) (g.S.Status.edges c.remove-upper.new.self) (position_at c.args.corners.now c.args.number)
+    c.remove-lower.result c.remove-upper.result
+gone g c =
+    leaving c.args.corners.now c.args.chains.now (g.S.Status.edges c.args.status.now) (g.S.Status.edges c.remove-lower.new.self) (g.S.Status.edges c.remove-upper.new.self) c.requires.next.key
+    (position_at c.args.corners.now c.args.number) (previous_at c.args.corners.now c.args.number) c.args.number c.place_of-place.result.point c.remove-lower.result c.remove-upper.result
+    c.requires.chains c.requires.next.swept c.requires.next.event c.requires.ends c.place_of-place.ensures.cut c.place_of-place.ensures.within c.remove-lower.ensures.list
+    c.remove-upper.ensures.list c.remove-lower.ensures.value c.remove-upper.ensures.value
 
-pub meeting_across-requires-clause-known : goal.meeting_across-requires-clause-known
-meeting_across-requires-clause-known g c =
-    (out c.requires.next c.requires.ends c.place_of-place.ensures.cut c.place_of-place.ensures.within c.remove.ensures.list c.remove-2.ensures.list).known
+-- what is beside them is in the list of links
+within : (g : given.Over) (c : After-remove-upper g)
+    → (below_of c.args.chains.now c.remove-lower.result ≤ outside_of c.args.chains.now) × (above_of c.args.chains.now c.remove-upper.result ≤ outside_of c.args.chains.now)
+within g c =
+    across_within c.args.corners.now c.args.chains.now (g.S.Status.edges c.args.status.now) (g.S.Status.edges c.remove-upper.new.self) (position_at c.args.corners.now c.args.number)
+    c.remove-lower.result c.remove-upper.result c.requires.chains (gone g c)
 
-pub meeting_across-requires-clause-differ : goal.meeting_across-requires-clause-differ
-meeting_across-requires-clause-differ g c =
-    (out c.requires.next c.requires.ends c.place_of-place.ensures.cut c.place_of-place.ensures.within c.remove.ensures.list c.remove-2.ensures.list).differ
+pub edge_below-below-requires-clause-within : goal.edge_below-below-requires-clause-within
+edge_below-below-requires-clause-within g c =
+    omega (arith, (gone g (goal.at.edge_below-below-requires-clause-within g c).After-remove-upper).lower_known, c.requires.chains.links)
+
+pub edge_below-below-requires-clause-known : goal.edge_below-below-requires-clause-known
+edge_below-below-requires-clause-known g c = (within g (goal.at.edge_below-below-requires-clause-known g c).After-remove-upper).0
+
+pub edge_above-above-requires-clause-within : goal.edge_above-above-requires-clause-within
+edge_above-above-requires-clause-within g c =
+    omega (arith, (gone g (goal.at.edge_above-above-requires-clause-within g c).After-remove-upper).upper_known, c.requires.chains.links)
+
+pub edge_above-above-requires-clause-known : goal.edge_above-above-requires-clause-known
+edge_above-above-requires-clause-known g c = (within g (goal.at.edge_above-above-requires-clause-known g c).After-remove-upper).1
+
+pub end_two-requires-clause-lower : goal.end_two-requires-clause-lower
+end_two-requires-clause-lower g c = omega (arith, (gone g (goal.at.end_two-requires-clause-lower g c).After-remove-upper).lower_known, c.requires.chains.links)
+
+pub end_two-requires-clause-upper : goal.end_two-requires-clause-upper
+end_two-requires-clause-upper g c = omega (arith, (gone g (goal.at.end_two-requires-clause-upper g c).After-remove-upper).upper_known, c.requires.chains.links)
+
+pub end_two-requires-clause-below : goal.end_two-requires-clause-below
+end_two-requires-clause-below g c =
+    omega (arith, (within g (goal.at.end_two-requires-clause-below g c).After-remove-upper).0, c.requires.chains.links, c.requires.chains.numbers)
+
+pub end_two-requires-clause-above : goal.end_two-requires-clause-above
+end_two-requires-clause-above g c =
+    omega (arith, (within g (goal.at.end_two-requires-clause-above g c).After-remove-upper).1, c.requires.chains.links, c.requires.chains.numbers)
+
+pub meeting_across-requires : goal.meeting_across-requires
+meeting_across-requires g c =
+    let at = (goal.at.meeting_across-requires g c).After-remove-upper in
+    rw (c.edge_below-below.ensures, c.edge_above-above.ensures)
+    (across_known c.args.corners.now c.args.chains.now (g.S.Status.edges c.args.status.now) (g.S.Status.edges c.remove-upper.new.self) c.requires.next.key
+    (position_at c.args.corners.now c.args.number) c.remove-lower.result c.remove-upper.result c.requires.next.swept (gone g at))
 
 pub returns-clause-none : goal.returns-clause-none
 returns-clause-none g c =
-    none_map c.meeting_across.result
-    (out c.requires.next c.requires.ends c.place_of-place.ensures.cut c.place_of-place.ensures.within c.remove.ensures.list c.remove-2.ensures.list).over
-    c.meeting_across.ensures.none
+    let at = (goal.at.returns-clause-none g c).After-remove-upper in
+    let corners = c.args.corners.now in
+    let before = c.args.chains.now in
+    let after = c.end_two.new.self in
+    let vertex = position_at corners c.args.number in
+    let list = g.S.Status.edges c.args.status.now in
+    let fewest = g.S.Status.edges c.remove-upper.new.self in
+    let it = gone g at in
+    let chains = chains_end corners before after list fewest vertex c.remove-lower.result c.remove-upper.result c.requires.chains it c.end_two.ensures.twins c.end_two.ensures.size
+    c.end_two.ensures.above c.end_two.ensures.below in
+    let tested = rw (c.edge_below-below.ensures, c.edge_above-above.ensures) at c.meeting_across.ensures.none in
+    none_map c.meeting_across.result (λ across. (
+      subst (IsSwept (plan_of corners) (key_of vertex)) (sym (edges_kept before after fewest c.end_two.ensures.twins))
+          (it.over (joined_across corners before list fewest vertex c.remove-lower.result c.remove-upper.result it across)),
+      chains,
+    )) tested
 
 pub returns-clause-counted : goal.returns-clause-counted
 returns-clause-counted g c =
-    let edges = g.S.Status.edges c.args.status.now in
+    let at = (goal.at.returns-clause-counted g c).After-place_of-place in
+    let list = g.S.Status.edges c.args.status.now in
     let corners = corner_count c.args.corners.now in
-    let few = few_swept (plan_of c.args.corners.now) c.requires.next.key edges (plan_of_corners c.args.corners.now) c.requires.next.swept in
-    let gone = out c.requires.next c.requires.ends c.place_of-place.ensures.cut c.place_of-place.ensures.within c.remove.ensures.list c.remove-2.ensures.list in
-    let fewer : length (g.S.Status.edges c.remove.new.self) ≤ corners =
-    omega (arith, few, ap length c.remove.ensures.list, length-remove edges c.place_of-place.result.point gone.one_there) in
-    let first = work_of_edits 2 (length edges) corners few c.remove.ensures.counted in
-    let second = work_of_edits 2 (length (g.S.Status.edges c.remove.new.self)) corners fewer c.remove-2.ensures.counted in
+    let few = chains_few c.args.corners.now c.args.chains.now list c.requires.next.key c.requires.next.swept in
+    let fewer : length (g.S.Status.edges c.remove-lower.new.self) ≤ corners =
+    omega (arith, few, ap length c.remove-lower.ensures.list, length-remove list c.place_of-place.result.point (there g at _ refl).one_there) in
+    let first = work_of_edits 2 (length list) corners few c.remove-lower.ensures.counted in
+    let second = work_of_edits 2 (length (g.S.Status.edges c.remove-lower.new.self)) corners fewer c.remove-upper.ensures.counted in
     work_within (omega arith) (omega arith) (omega arith) (work_then c.place_of-place.ensures.counted (work_then first (work_then second c.meeting_across.ensures.counted)))
 
 pub returns-clause-least : goal.returns-clause-least
 returns-clause-least g c =
-    let gone = out c.requires.next c.requires.ends c.place_of-place.ensures.cut c.place_of-place.ensures.within c.remove.ensures.list c.remove-2.ensures.list in
-    counted_by 1 c.args.count.now c.remove-2.new.count c.meeting_across.new.count c.meeting_across.result
-    (omega (arith, c.place_of-place.ensures.counted.no_fewer_tests, c.remove.ensures.counted.tests, c.remove-2.ensures.counted.tests))
+    let at = (goal.at.returns-clause-least g c).After-place_of-place in
+    counted_by 1 c.args.count.now c.remove-upper.new.count c.meeting_across.new.count c.meeting_across.result
+    (omega (arith, c.place_of-place.ensures.counted.no_fewer_tests, c.remove-lower.ensures.counted.tests, c.remove-upper.ensures.counted.tests))
     (omega (
       arith,
-      c.place_of-place.ensures.probed (omega (arith, gone.one_there)),
-      c.remove.ensures.counted.no_fewer_probes,
-      c.remove-2.ensures.counted.no_fewer_probes,
+      c.place_of-place.ensures.probed (omega (arith, (there g at _ refl).one_there)),
+      c.remove-lower.ensures.counted.no_fewer_probes,
+      c.remove-upper.ensures.counted.no_fewer_probes,
       c.meeting_across.ensures.counted.no_fewer_probes,
     ))
     c.meeting_across.ensures.tested

@@ -1,110 +1,84 @@
-use Rattle.std.proofs.Common.{◌≡◌, ◌≢◌, ◌<◌, ◌≤◌, ℕ, List, ◌∷◌, ap, take, drop, length, arith}
-use Rattle.std.proofs.lemmas.List.{length-drop}
-use Rattle.mvt_polygon.specs.CornerOrder.{AddsStep, IsNextCorner}
+use Rattle.std.proofs.Common.{◌≡◌, ◌≢◌, ◌<◌, ◌≤◌, ◌∙◌, ℕ, Option, IfSome, set, sym, subst, arith}
+use Rattle.mvt_polygon.specs.Chains.{above_of, below_of, edge_beside, outside_of}
 use Rattle.mvt_polygon.specs.Corners.{corner_count, plan_of, position_at}
-use Rattle.mvt_polygon.specs.Sweep.{IsCut, PassesOn}
-use Rattle.mvt_polygon.specs.declared.sweep.corners.Corners.{Corners}
-use Rattle.mvt_polygon.proofs.CornerPlans.{plan_of_corners}
-use Rattle.mvt_polygon.proofs.StatusCounts.{few_swept, work_then, work_within, work_of_edits}
-use Rattle.mvt_polygon.proofs.StatusPlaces.{all_known, others_known, each_before, tested_before, pass_over}
-use Rattle.mvt_polygon.proofs.SweepSlabs.{split}
-use Rattle.mvt_polygon.proofs.SweepSteps.{pass_found}
+use Rattle.mvt_polygon.specs.Sweep.{Tested}
+use Rattle.mvt_polygon.proofs.ChainSteps.{IsAmong, IsBeside, among, beside, chains_pass, edges_pass, fresh, goes_on}
 use Rattle.mvt_polygon.proofs.sweep.event.pass.Given as given
 use Rattle.mvt_polygon.proofs.sweep.event.pass.Goals as goal
-use Rattle.mvt_polygon.proofs.sweep.event.pass.Goals.{After-replace}
+use Rattle.mvt_polygon.proofs.sweep.event.pass.Goals.{After-twin-chain}
 
--- the edge that ends is at the place
-found : {corners : Corners} {number ending beginning place : ℕ} {edges : List ℕ} → IsNextCorner corners number ending beginning edges
-    → PassesOn (plan_of corners) (position_at corners number) ending beginning → IsCut (plan_of corners) (position_at corners number) edges (take place edges) (drop place edges)
-    → place ≤ length edges → (back : List ℕ) × (drop place edges ≡ ending ∷ back)
-found {corners = corners} {number = number} next passes cut within =
-    pass_found (plan_of corners) next.key (position_at corners number) _ _ _ _ _ (plan_of_corners corners) next.swept next.event passes cut
+-- the chain of the edge that ends, among the others
+there : (g : given.Over) (c : After-twin-chain g) → IsAmong c.args.corners.now c.args.chains.now (g.S.Status.edges c.args.status.now) (position_at c.args.corners.now c.args.number) c.args.ending
+there g c =
+    among c.args.corners.now c.args.chains.now (g.S.Status.edges c.args.status.now) c.requires.next.key (position_at c.args.corners.now c.args.number) c.args.ending c.args.beginning
+    c.requires.chains c.requires.next.swept c.requires.next.event c.requires.passes
 
--- so there is one
-there : {corners : Corners} {number ending beginning place : ℕ} {edges : List ℕ} → IsNextCorner corners number ending beginning edges
-    → PassesOn (plan_of corners) (position_at corners number) ending beginning → IsCut (plan_of corners) (position_at corners number) edges (take place edges) (drop place edges)
-    → place ≤ length edges → place < length edges
-there {place = place} {edges = edges} next passes cut within =
-    omega (arith, length-drop place edges, ap length (found next passes cut within).1)
+-- what is beside it
+sides : (g : given.Over) (c : After-twin-chain g)
+    → IsBeside c.args.corners.now c.args.chains.now (g.S.Status.edges c.args.status.now) (position_at c.args.corners.now c.args.number) c.args.ending c.args.beginning (there g c)
+sides g c =
+    beside c.args.corners.now c.args.chains.now (g.S.Status.edges c.args.status.now) c.requires.next.key (position_at c.args.corners.now c.args.number) c.args.ending c.args.beginning
+    c.requires.chains c.requires.next.swept c.requires.next.event.later c.requires.passes.begins (there g c)
 
--- the work of all
-work : (g : given.Over) (c : After-replace g) → AddsStep 2 (corner_count c.args.corners.now) c.args.count.now c.replace.new.count
-work g c =
-    let edges = g.S.Status.edges c.args.status.now in
-    let corners = corner_count c.args.corners.now in
-    let few = few_swept (plan_of c.args.corners.now) c.requires.next.key edges (plan_of_corners c.args.corners.now) c.requires.next.swept in
-    let tested = work_then c.meeting_with.ensures.counted c.meeting_above.ensures.counted in
-    work_within (omega arith) (omega arith) (omega arith)
-    (work_then c.place_of-place.ensures.counted (work_then tested (work_of_edits 4 (length edges) corners few c.replace.ensures.counted)))
+-- it is the one that the code reads
+same : (g : given.Over) (c : After-twin-chain g) → c.twin-chain.result ≡ (there g c).chain
+same g c = c.twin-chain.ensures ∙ (there g c).its_chain
 
-pub place_of-place-requires-clause-known : goal.place_of-place-requires-clause-known
-place_of-place-requires-clause-known g c = all_known (plan_of c.args.corners.now) c.requires.next.key (g.S.Status.edges c.args.status.now) c.requires.next.swept
+pub edge_below-requires-clause-within : goal.edge_below-requires-clause-within
+edge_below-requires-clause-within g c =
+    let at = (goal.at.edge_below-requires-clause-within g c).After-twin-chain in
+    omega (arith, same g at, (sides g at).within, c.requires.chains.links)
 
-pub place_of-place-requires-clause-few : goal.place_of-place-requires-clause-few
-place_of-place-requires-clause-few g c =
-    let is_plan = plan_of_corners c.args.corners.now in
-    few_swept (plan_of c.args.corners.now) c.requires.next.key (g.S.Status.edges c.args.status.now) is_plan c.requires.next.swept
-
-pub place_of-place-requires-clause-cut : goal.place_of-place-requires-clause-cut
-place_of-place-requires-clause-cut g c =
-    split (plan_of c.args.corners.now) c.requires.next.key (position_at c.args.corners.now c.args.number) c.args.ending c.args.beginning (g.S.Status.edges c.args.status.now)
-    (plan_of_corners c.args.corners.now) c.requires.next.swept c.requires.next.event
-
-pub replace-requires : goal.replace-requires
-replace-requires g c = there c.requires.next c.requires.passes c.place_of-place.ensures.cut c.place_of-place.ensures.within
+pub edge_below-requires-clause-known : goal.edge_below-requires-clause-known
+edge_below-requires-clause-known g c =
+    let at = (goal.at.edge_below-requires-clause-known g c).After-twin-chain in
+    subst (λ (chain : ℕ). below_of c.args.chains.now chain ≤ outside_of c.args.chains.now) (sym (same g at)) (sides g at).below_within
 
 pub meeting_with-requires-clause-known : goal.meeting_with-requires-clause-known
 meeting_with-requires-clause-known g c =
-    let edges = g.S.Status.edges c.args.status.now in
-    each_before (λ (other : ℕ). (other < corner_count c.args.corners.now) × (other ≢ c.args.beginning)) edges c.place_of-place.result.point c.place_of-place.result.front
-    (others_known (plan_of c.args.corners.now) c.requires.next.key (position_at c.args.corners.now c.args.number) edges edges c.args.beginning
-    c.requires.next.swept c.requires.next.event.later c.requires.passes.begins (λ it has. has))
-    c.place_of-place.ensures.beside.front
+    let at = (goal.at.meeting_with-requires-clause-known g c).After-twin-chain in
+    let chains = c.args.chains.now in
+    rw c.edge_below.ensures (subst (λ (chain : ℕ). IfSome (edge_beside chains (below_of chains chain)) (λ other. (other < corner_count c.args.corners.now) × (other ≢ c.args.beginning))) (sym (same g at)) (sides g at).below_known)
 
-pub meeting_above-requires-clause-place : goal.meeting_above-requires-clause-place
-meeting_above-requires-clause-place g c = omega (arith, there c.requires.next c.requires.passes c.place_of-place.ensures.cut c.place_of-place.ensures.within)
+pub edge_above-requires-clause-within : goal.edge_above-requires-clause-within
+edge_above-requires-clause-within g c =
+    let at = (goal.at.edge_above-requires-clause-within g c).After-twin-chain in
+    omega (arith, same g at, (sides g at).within, c.requires.chains.links)
 
-pub meeting_above-requires-clause-few : goal.meeting_above-requires-clause-few
-meeting_above-requires-clause-few g c =
-    let is_plan = plan_of_corners c.args.corners.now in
-    few_swept (plan_of c.args.corners.now) c.requires.next.key (g.S.Status.edges c.args.status.now) is_plan c.requires.next.swept
+pub edge_above-requires-clause-known : goal.edge_above-requires-clause-known
+edge_above-requires-clause-known g c =
+    let at = (goal.at.edge_above-requires-clause-known g c).After-twin-chain in
+    subst (λ (chain : ℕ). above_of c.args.chains.now chain ≤ outside_of c.args.chains.now) (sym (same g at)) (sides g at).above_within
 
-pub meeting_above-requires-clause-known : goal.meeting_above-requires-clause-known
-meeting_above-requires-clause-known g c =
-    let edges = g.S.Status.edges c.args.status.now in
-    others_known (plan_of c.args.corners.now) c.requires.next.key (position_at c.args.corners.now c.args.number) edges edges c.args.beginning
-    c.requires.next.swept c.requires.next.event.later c.requires.passes.begins (λ it has. has)
+pub meeting_with-requires-2-clause-known : goal.meeting_with-requires-2-clause-known
+meeting_with-requires-2-clause-known g c =
+    let at = (goal.at.meeting_with-requires-2-clause-known g c).After-twin-chain in
+    let chains = c.args.chains.now in
+    rw c.edge_above.ensures (subst (λ (chain : ℕ). IfSome (edge_beside chains (above_of chains chain)) (λ other. (other < corner_count c.args.corners.now) × (other ≢ c.args.beginning))) (sym (same g at)) (sides g at).above_known)
+
+pub go_on-requires-clause-chain : goal.go_on-requires-clause-chain
+go_on-requires-clause-chain g c =
+    let at = (goal.at.go_on-requires-clause-chain g c).After-twin-chain in
+    omega (arith, same g at, (sides g at).within, c.requires.chains.numbers)
 
 pub returns-clause-none : goal.returns-clause-none
 returns-clause-none g c =
-    let edges = g.S.Status.edges c.args.status.now in
-    let place = c.place_of-place.result.point in
-    let ends = found c.requires.next c.requires.passes c.place_of-place.ensures.cut c.place_of-place.ensures.within in
-    pass_over (plan_of c.args.corners.now) c.requires.next.key (position_at c.args.corners.now c.args.number) c.args.ending c.args.beginning place edges
-    (g.S.Status.edges c.replace.new.self) ends.0 (plan_of_corners c.args.corners.now) c.requires.next.swept c.requires.next.event c.requires.passes
-    c.place_of-place.ensures.within c.place_of-place.ensures.cut ends.1
-    (tested_before (plan_of c.args.corners.now) edges place c.args.beginning c.place_of-place.result.front c.place_of-place.ensures.within c.place_of-place.ensures.beside.front c.in_default.ensures.none)
-    c.in_default-meeting_above.ensures.none c.in_ok-replace.ensures.list
-
-pub returns-in_err-replace-clause-counted : goal.returns-in_err-replace-clause-counted
-returns-in_err-replace-clause-counted g c = work g (goal.at.returns-in_err-replace-clause-counted g c).After-replace
-
-pub returns-clause-counted : goal.returns-clause-counted
-returns-clause-counted g c = work g (goal.at.returns-clause-counted g c).After-replace
-
-pub prove-unreachable-requires : goal.prove-unreachable-requires
-prove-unreachable-requires g c =
-    let few = few_swept (plan_of c.args.corners.now) c.requires.next.key (g.S.Status.edges c.args.status.now) (plan_of_corners c.args.corners.now)
-    c.requires.next.swept in
-    omega (arith, c.if-prove.true, few, there c.requires.next c.requires.passes c.place_of-place.ensures.cut c.place_of-place.ensures.within)
-
-pub returns-clause-least : goal.returns-clause-least
-returns-clause-least g c =
-    let some = there c.requires.next c.requires.passes c.place_of-place.ensures.cut c.place_of-place.ensures.within in
-    omega (
-      arith,
-      c.place_of-place.ensures.probed (omega (arith, some)),
-      c.meeting_with.ensures.counted.no_fewer_probes,
-      c.meeting_above.ensures.counted.no_fewer_probes,
-      c.replace.ensures.counted.no_fewer_probes,
+    let at = (goal.at.returns-clause-none g c).After-twin-chain in
+    let corners = c.args.corners.now in
+    let before = c.args.chains.now in
+    let after = c.go_on.new.self in
+    let list = g.S.Status.edges c.args.status.now in
+    let key = c.requires.next.key in
+    let vertex = position_at corners c.args.number in
+    let it = there g at in
+    let differ = (fresh corners before list key vertex c.args.beginning c.requires.chains c.requires.next.swept c.requires.next.event.later c.requires.passes.begins).no_chain it.chain it.has in
+    let twins = subst (λ (chain : ℕ). after.twins.items ≡ set (set before.twins.items chain c.args.beginning) c.args.beginning chain) (same g at) c.go_on.ensures.twins in
+    let on = goes_on before after it.chain c.args.beginning twins (omega (arith, (sides g at).within, c.requires.chains.numbers))
+    (omega (arith, c.requires.next.event.second_known, c.requires.chains.numbers)) differ in
+    let tested = λ (beside : Option ℕ). IfSome beside (λ other. Tested (plan_of corners) c.args.beginning other × Tested (plan_of corners) other c.args.beginning) in
+    let below = subst (λ (chain : ℕ). tested (edge_beside before (below_of before chain))) (same g at) (subst tested c.edge_below.ensures c.in_default.ensures.none) in
+    let above = subst (λ (chain : ℕ). tested (edge_beside before (above_of before chain))) (same g at) (subst tested c.edge_above.ensures c.in_default-meeting_with.ensures.none) in (
+      edges_pass corners before after list key vertex c.args.ending c.args.beginning c.requires.chains c.requires.next.swept c.requires.next.event c.requires.passes it on below above,
+      chains_pass corners before after list key vertex c.args.ending c.args.beginning c.requires.chains c.requires.next.swept c.requires.next.event.later c.requires.passes it
+          c.go_on.ensures.links on,
     )

@@ -2,7 +2,7 @@ use Rattle.std.proofs.Common.{◌≡◌, ◌<◌, ◌+◌, ℕ, suc, take, lengt
 use Rattle.std.proofs.lemmas.Option.{slice_get_read}
 use Rattle.mvt_polygon.specs.Corners.{far_end_of, vertex_count}
 use Rattle.mvt_polygon.specs.Rings.{rings_of}
-use Rattle.mvt_polygon.proofs.CornerNumbers.{AreFirst, first_more, first_of_whole, whole_of_first, count_step, corner_of_ring}
+use Rattle.mvt_polygon.proofs.CornerNumbers.{AreFirst, first_more, first_of_whole, whole_of_first, count_step, count_within, corner_of_ring}
 use Rattle.mvt_polygon.proofs.RingReads.{ring_there}
 use Rattle.mvt_polygon.proofs.sweep.listing.add_corners.Goals as goal
 
@@ -35,3 +35,20 @@ returns c =
     let many : c.len-before.result + c.loop-edge.edge ≡ vertex_count (take (suc c.args.ring) rings) =
     omega (arith, before, c.len-before.ensures, c.args.list.now.ok.0, c.len-edge-end.ensures, ring.ok.0, c.loop-edge-test.false, c.loop-edge.auto.edge-end, count_step rings c.args.ring ring.items there) in
     whole_of_first rings (suc c.args.ring) c.loop-edge.list.items (subst (λ (n : ℕ). AreFirst rings n c.loop-edge.list.items) many c.loop-edge.invariant)
+
+pub overflow_cast-before : goal.overflow_cast-before
+overflow_cast-before c =
+    let rings = rings_of c.args.rings.now in
+    let ring = c.index-rings-ring.result in
+    let there = ring_there c.args.rings.now c.args.ring ring c.requires.ring c.index-rings-ring.is in
+    omega (
+      arith,
+      c.requires.count,
+      c.requires.before.count,
+      c.len-before.ensures,
+      c.args.list.now.ok.0,
+      c.far_end_of.ensures.within,
+      c.len.ensures,
+      ring.ok.0,
+      count_within rings c.args.ring ring.items there,
+    )

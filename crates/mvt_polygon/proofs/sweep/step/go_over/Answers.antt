@@ -1,6 +1,7 @@
 use Rattle.std.proofs.Common.{◌≡◌, ℕ, Bool, true, false, ℤ, SFits, to_z, of_z, w64, sym, ap, subst, ◌∙◌}
 use Rattle.std.specs.Int.Signed.{lt_z}
 use Rattle.mvt_plane.specs.Measure.{key_of}
+use Rattle.mvt_polygon.specs.Chains.{edges_of}
 use Rattle.mvt_polygon.specs.CornerOrder.{IsNextCorner}
 use Rattle.mvt_polygon.specs.Steps.{IsStep}
 use Rattle.mvt_polygon.specs.declared.sweep.step.Step.{Step}
@@ -9,7 +10,8 @@ use Rattle.mvt_polygon.specs.Sweep.{PassesOn}
 use Rattle.mvt_polygon.proofs.SegmentEnds.{test_of_keys}
 use Rattle.mvt_polygon.proofs.CornerSteps.{passes_on, passes_back, both_end, both_begin, next_back}
 use Rattle.mvt_polygon.proofs.LeastWork.{counted_after_an_end}
-use Rattle.mvt_polygon.proofs.StepsAfterAnEnd.{an_end_from_before, an_end_from_behind, step_after_an_end}
+use Rattle.mvt_polygon.proofs.NoMeetings.{none_map}
+use Rattle.mvt_polygon.proofs.StepsAfterAnEnd.{an_end_from_before, an_end_from_behind, none_after_an_end, step_after_an_end}
 use Rattle.mvt_polygon.proofs.sweep.step.go_over.Given as given
 use Rattle.mvt_polygon.proofs.sweep.step.go_over.Goals as goal
 use Rattle.mvt_polygon.proofs.sweep.step.go_over.Goals.{After-sweep_key}
@@ -56,8 +58,8 @@ pub pass-requires-else-goes_on-2-clause-next : goal.pass-requires-else-goes_on-2
 pass-requires-else-goes_on-2-clause-next g c =
     let corners = c.args.corners.now in
     let number = c.args.number in
-    subst (λ (it : ℕ). IsNextCorner corners number number it (g.S.Status.edges c.args.status.now)) (sym c.previous-previous.ensures.value)
-    (next_back corners number (previous_at corners number) number (g.S.Status.edges c.args.status.now) c.requires.next)
+    subst (λ (it : ℕ). IsNextCorner corners number number it (edges_of c.args.chains.now (g.S.Status.edges c.args.status.now))) (sym c.previous-previous.ensures.value)
+    (next_back corners number (previous_at corners number) number (edges_of c.args.chains.now (g.S.Status.edges c.args.status.now)) c.requires.next)
 
 pub pass-requires-else-goes_on-2-clause-passes : goal.pass-requires-else-goes_on-2-clause-passes
 pass-requires-else-goes_on-2-clause-passes g c =
@@ -68,37 +70,49 @@ pass-requires-else-goes_on-2-clause-passes g c =
     (comes g (goal.at.pass-requires-else-goes_on-2-clause-passes g c).After-sweep_key false c.if-comes_from_before.false)
     (goes g (goal.at.pass-requires-else-goes_on-2-clause-passes g c).After-sweep_key c.sweep_key-2.result false (record { sfits = c.sweep_key-2.type_inv }) c.sweep_key-2.ensures.value c.if-goes_on-2.false))
 
-pub returns-in_ok-pass-clause-step : goal.returns-in_ok-pass-clause-step
-returns-in_ok-pass-clause-step g c =
-    let edges = g.S.Status.edges c.args.status.now in
-    let after = g.S.Status.edges c.pass.new.status in
+pub returns-then-goes_on-clause-step : goal.returns-then-goes_on-clause-step
+returns-then-goes_on-clause-step g c =
+    let edges = edges_of c.args.chains.now (g.S.Status.edges c.args.status.now) in
+    let after = edges_of c.pass.new.chains (g.S.Status.edges c.args.status.now) in
     subst (λ (step : Step). IsStep c.args.corners.now c.args.number edges after step) (sym c.after_an_end.ensures)
-    (step_after_an_end c.args.corners.now c.args.number edges after c.in_ok-pass.field-0 c.in_ok-pass.ensures.none c.in_ok-pass.ensures.some
-    (an_end_from_before c.args.corners.now c.args.number (comes g (goal.at.returns-in_ok-pass-clause-step g c).After-sweep_key true c.if-comes_from_before.true)))
+    (step_after_an_end c.args.corners.now c.args.number edges after c.pass.result (none_map c.pass.result (λ both. both.0) c.pass.ensures.none) c.pass.ensures.some
+    (an_end_from_before c.args.corners.now c.args.number (comes g (goal.at.returns-then-goes_on-clause-step g c).After-sweep_key true c.if-comes_from_before.true)))
 
 pub returns-else-goes_on-clause-step : goal.returns-else-goes_on-clause-step
 returns-else-goes_on-clause-step g c =
-    let edges = g.S.Status.edges c.args.status.now in
-    let after = g.S.Status.edges c.end.new.status in
+    let edges = edges_of c.args.chains.now (g.S.Status.edges c.args.status.now) in
+    let after = edges_of c.end.new.chains (g.S.Status.edges c.end.new.status) in
     subst (λ (step : Step). IsStep c.args.corners.now c.args.number edges after step) (sym c.after_an_end-else-goes_on.ensures)
-    (step_after_an_end c.args.corners.now c.args.number edges after c.end.result c.end.ensures.none c.end.ensures.some
+    (step_after_an_end c.args.corners.now c.args.number edges after c.end.result (none_map c.end.result (λ both. both.0) c.end.ensures.none) c.end.ensures.some
     (an_end_from_before c.args.corners.now c.args.number (comes g (goal.at.returns-else-goes_on-clause-step g c).After-sweep_key true c.if-comes_from_before.true)))
 
-pub returns-in_ok-pass-2-clause-step : goal.returns-in_ok-pass-2-clause-step
-returns-in_ok-pass-2-clause-step g c =
-    let edges = g.S.Status.edges c.args.status.now in
-    let after = g.S.Status.edges c.pass-else-goes_on-2.new.status in
+pub returns-else-goes_on-2-clause-step : goal.returns-else-goes_on-2-clause-step
+returns-else-goes_on-2-clause-step g c =
+    let edges = edges_of c.args.chains.now (g.S.Status.edges c.args.status.now) in
+    let after = edges_of c.pass-else-goes_on-2.new.chains (g.S.Status.edges c.args.status.now) in
+    let found = c.pass-else-goes_on-2 in
     subst (λ (step : Step). IsStep c.args.corners.now c.args.number edges after step) (sym c.after_an_end-else-goes_on-2.ensures)
-    (step_after_an_end c.args.corners.now c.args.number edges after c.in_ok-pass-2.field-0 c.in_ok-pass-2.ensures.none c.in_ok-pass-2.ensures.some
+    (step_after_an_end c.args.corners.now c.args.number edges after found.result (none_map found.result (λ both. both.0) found.ensures.none) found.ensures.some
     (an_end_from_behind c.args.corners.now c.args.number c.requires.number
-    (goes g (goal.at.returns-in_ok-pass-2-clause-step g c).After-sweep_key c.sweep_key-2.result false (record { sfits = c.sweep_key-2.type_inv }) c.sweep_key-2.ensures.value c.if-goes_on-2.false)))
+    (goes g (goal.at.returns-else-goes_on-2-clause-step g c).After-sweep_key c.sweep_key-2.result false (record { sfits = c.sweep_key-2.type_inv }) c.sweep_key-2.ensures.value c.if-goes_on-2.false)))
 
-pub returns-in_ok-pass-clause-least : goal.returns-in_ok-pass-clause-least
-returns-in_ok-pass-clause-least g c = counted_after_an_end c.args.count.now c.pass.new.count c.in_ok-pass.field-0 _ c.after_an_end.ensures c.in_ok-pass.ensures.least
+pub returns-then-goes_on-clause-chains : goal.returns-then-goes_on-clause-chains
+returns-then-goes_on-clause-chains g c = none_after_an_end _ c.pass.result _ c.after_an_end.ensures (none_map c.pass.result (λ both. both.1) c.pass.ensures.none)
+
+pub returns-else-goes_on-clause-chains : goal.returns-else-goes_on-clause-chains
+returns-else-goes_on-clause-chains g c = none_after_an_end _ c.end.result _ c.after_an_end-else-goes_on.ensures (none_map c.end.result (λ both. both.1) c.end.ensures.none)
+
+pub returns-else-goes_on-2-clause-chains : goal.returns-else-goes_on-2-clause-chains
+returns-else-goes_on-2-clause-chains g c =
+    let found = c.pass-else-goes_on-2 in
+    none_after_an_end _ found.result _ c.after_an_end-else-goes_on-2.ensures (none_map found.result (λ both. both.1) found.ensures.none)
+
+pub returns-then-goes_on-clause-least : goal.returns-then-goes_on-clause-least
+returns-then-goes_on-clause-least g c = counted_after_an_end c.args.count.now c.pass.new.count c.pass.result _ c.after_an_end.ensures c.pass.ensures.least
 
 pub returns-else-goes_on-clause-least : goal.returns-else-goes_on-clause-least
 returns-else-goes_on-clause-least g c = counted_after_an_end c.args.count.now c.end.new.count c.end.result _ c.after_an_end-else-goes_on.ensures c.end.ensures.least
 
-pub returns-in_ok-pass-2-clause-least : goal.returns-in_ok-pass-2-clause-least
-returns-in_ok-pass-2-clause-least g c =
-    counted_after_an_end c.args.count.now c.pass-else-goes_on-2.new.count c.in_ok-pass-2.field-0 _ c.after_an_end-else-goes_on-2.ensures c.in_ok-pass-2.ensures.least
+pub returns-else-goes_on-2-clause-least : goal.returns-else-goes_on-2-clause-least
+returns-else-goes_on-2-clause-least g c =
+    counted_after_an_end c.args.count.now c.pass-else-goes_on-2.new.count c.pass-else-goes_on-2.result _ c.after_an_end-else-goes_on-2.ensures c.pass-else-goes_on-2.ensures.least

@@ -16,7 +16,7 @@ invariant-levels g l = record {
   searched : IsSearched (goal.F-post g l.below) (edges_of l.side) (edges_in l.last) (edges_of l.part) l.passed l.behind;
   some : IfSome l.last (λ own. 0 < length own.now);
   high : IfSome l.last (λ _. 0 < height_of l.side);
-  room : length (edges_in l.last) ≤ 8;
+  room : length (edges_in l.last) ≤ 16;
   levels : ℕ;
   counted : AddsAtMost levels levels l.fn.count l.count;
   visited : (l.part ≡ l.side) ⊎ (ticked l.fn.count.visits ≤ l.count.visits);

@@ -1,5 +1,10 @@
 use Rattle.mvt_polygon.proofs.CornerPlans.{tested_both_ways, tested_back_and_forth}
+use Rattle.mvt_polygon.proofs.PairsEnough.{no_test_either_way}
 use Rattle.mvt_polygon.proofs.sweep.corners.Corners.meeting.Goals as goal
+
+pub returns-then-heights_apart-clause-none : goal.returns-then-heights_apart-clause-none
+returns-then-heights_apart-clause-none c =
+    no_test_either_way c.args.self.now c.args.one c.args.other (rw (c.edge.ensures, c.edge-2.ensures) at (c.heights_apart.ensures c.if-heights_apart.true))
 
 pub returns-then-one-other-clause-none : goal.returns-then-one-other-clause-none
 returns-then-one-other-clause-none c =
