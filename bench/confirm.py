@@ -3,7 +3,7 @@
 
 usage: confirm.py PROGRAM TILE..
 
-`check` tells a tile's fault, and `confirm` has to say that it is true of the tile; the fault with its code's first
+`check` reports a tile's fault, and `confirm` has to say that it is true of the tile; the fault with its code's first
 ordinal one up has to be refused. What `check` wrote is kept beside the tile as TILE.fault.
 """
 import json

@@ -200,6 +200,16 @@ def plain_polygons(size):
     return one_payload(NAMED, features, size)
 
 
+def plain_ring(size):
+    """A polygon of one such ring, which fills the size."""
+    there = chain(Dice(3), CHAIN)
+    right, left = (packed(parameters(it)) for it in (there, [(-across, up) for across, up in there]))
+    repeats = (size - 128) // (len(right) + len(left))
+    begin = packed([command(MOVE_TO, 1), 0, 0, command(LINE_TO, 2 * repeats * CHAIN + 1)])
+    line = begin + right * repeats + packed(parameters([(0, 4 * BAND)])) + left * repeats
+    return layer("land", [feature(POLYGON, line + packed([command(CLOSE_PATH, 1)]))])
+
+
 # The same small field again and again
 
 
@@ -301,7 +311,7 @@ def prefixed_count(size):
 
 
 def prefixed_layers(size):
-    """As many layers as fit, whose names differ in the digits behind a prefix, in an order that is far from sorted."""
+    """As many layers as fit, whose names differ in the digits after a prefix, in an order that is far from sorted."""
     return [named_layer(PREFIX + b"%0*d" % (DIGITS, at)) for at in scattered(prefixed_count(size))]
 
 
@@ -369,14 +379,14 @@ def ring(first, *steps):
 
 
 def rings_with(last, size):
-    """One feature of as many squares as fit, each a polygon, with these numbers behind them."""
+    """One feature of as many squares as fit, each a polygon, with these numbers after them."""
     drawn = repeated(packed(SQUARE), size - 128)
     one = feature(POLYGON, drawn + packed(last))
     return field(3, DELIMITED, NAMED + field(2, DELIMITED, one))
 
 
 def features_with(last, size, rest=b""):
-    """One layer of as many small features as fit, with this feature behind them, and then these bytes."""
+    """One layer of as many small features as fit, with this feature after them, and then these bytes."""
     small = field(2, DELIMITED, feature(POLYGON, TRIANGLE))
     own = SMALLEST_KEY + SMALLEST_VALUE
     return field(3, DELIMITED, NAMED + own + repeated(small, size - 128) + field(2, DELIMITED, last)) + rest

@@ -216,7 +216,7 @@ def triangle_holes(size):
 
 def nested_triangles(size):
     """One exterior with triangles as holes, each inside all before it, as many as fit. Triangle i, counted from the innermost,
-    has the corners (-i, -i), (-i, 2i) and (2i, -i), and begins at the corner near which the one around it ends."""
+    has the vertices (-i, -i), (-i, 2i) and (2i, -i), and begins at the vertex near which the one around it ends."""
     begins = [packed([command(MOVE_TO, 1), *parameters([it]), command(LINE_TO, 2)]) for it in ((1, 1), (1, -2), (-2, 1))]
     close = packed([command(CLOSE_PATH, 1)])
     holes, left, i = [], size - REST, 0
@@ -231,14 +231,14 @@ def nested_triangles(size):
             break
         holes.append(hole)
     corners = [(-i, -i), (2 * i, -i), (-i, 2 * i)]
-    # (the first hole begins near the last corner of the exterior)
+    # (the first hole begins near the last vertex of the exterior)
     begin = (1, 0, 2)[len(holes) % 3]
     return filled(packed(drawn([corners[begin:] + corners[:begin]])) + b"".join(reversed(holes)))
 
 
 def nested(size, is_turned):
     """Triangles, each inside all before it, as many as fit: exteriors or, where they are turned, an exterior and a hole in turn.
-    Triangle i, counted from the innermost, has the corners A, B, C at (-i, -i), (2i, -i), (-i, 2i); it begins at the corner near
+    Triangle i, counted from the innermost, has the vertices A, B, C at (-i, -i), (2i, -i), (-i, 2i); it begins at the vertex near
     which the one around it ends."""
     line = [command(MOVE_TO, 1), *parameters([(1, 1)]), command(LINE_TO, 2)]
     begin_a, begin_b, begin_c = (packed([*line[:1], *parameters([it]), line[3]]) for it in ((1, 1), (-2, 1), (1, -2)))

@@ -17,21 +17,13 @@ library_is_current() {
     [ -z "$(find library bindings/c/mvtgate.h bindings/c/mvtgate.pc.in -newer $made -print -quit)" ]
 }
 
-# Builds what has to be built, and sets `version`, which is the same for all parts.
+# Builds what has to be built, and stops where the program has another version.
 build() {
-    local told part
+    local told
     told=$(./mvtgate --version)
-    library_is_current || ./library
-    version=$(number MAJOR).$(number MINOR).$(number PATCH)
-    local -A said=(
-        ["mvtgate --version"]=${told#mvtgate }
-        [$library]=$(sed -n 's/^Version: //p' $library/mvtgate.pc)
-        [bindings/python/pyproject.toml]=$(sed -n 's/^version = "\(.*\)"$/\1/p' bindings/python/pyproject.toml)
-        [bindings/rust/Cargo.toml]=$(sed -n 's/^version = "\(.*\)"$/\1/p' bindings/rust/Cargo.toml)
-    )
-    for part in "${!said[@]}"; do
-        [ "${said[$part]}" = "$version" ] && continue
-        echo "${0##*/}: the library's version is $version, and that of $part is '${said[$part]}'" >&2
+    if [ "$told" != "mvtgate $version" ]; then
+        echo "${0##*/}: VERSION is $version, and the program says '$told': run packaging/write_version" >&2
         return 1
-    done
+    fi
+    library_is_current || ./library
 }

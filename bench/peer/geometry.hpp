@@ -97,7 +97,7 @@ inline void check_commands(Numbers numbers, std::uint64_t type) {
     }
 }
 
-// The geometry of a feature, whose type may stand behind it. It mostly is one packed field, which is then decoded where
+// The geometry of a feature, whose type may come after it. It mostly is one packed field, which is then decoded where
 // it stands; what stands in several fields is joined first. One object serves all features of a tile.
 class Geometry {
 public:

@@ -1,8 +1,8 @@
 // Says whether the polygons of one uncompressed vector tile are valid, by GEOS: polygons [--features] [FILE]. With
-// --features those of a feature are looked at together, as a MultiPolygon.
+// --features those of a feature are checked together, as a MultiPolygon.
 //
 // Without FILE the tile comes from standard input. It writes {"ok":true} with status 0, or what is wrong with status 1;
-// status 2 says that it could not run. Nothing else of the tile is looked at.
+// status 2 says that it could not run. Nothing else of the tile is checked.
 #include "polygons.hpp"
 
 #include <string_view>

@@ -100,7 +100,7 @@ inline data_view get_varint(pbf_reader& message) {
     return {begin, static_cast<std::size_t>(message.data().data() - begin)};
 }
 
-// The numbers of tags or of a geometry, varints one behind another. protozero's iterator would decode each varint twice
+// The numbers of tags or of a geometry, varints one after another. protozero's iterator would decode each varint twice
 // and hide its length.
 class Numbers {
 public:

@@ -1,8 +1,8 @@
 // Says whether each ring of the polygons of one uncompressed vector tile is simple, by CGAL: simple [FILE].
 //
 // Without FILE the tile comes from standard input. It writes {"ok":true} with status 0, or what is wrong with status 1;
-// status 2 says that it could not run. CGAL looks at each ring by itself, by a sweep over exact predicates; nothing is
-// said of two rings of one polygon, and nothing else of the tile is looked at.
+// status 2 says that it could not run. CGAL checks each ring by itself, by a sweep over exact predicates; nothing is
+// said of two rings of one polygon, and nothing else of the tile is checked.
 #include "rings.hpp"
 
 #include <CGAL/Exact_predicates_inexact_constructions_kernel.h>

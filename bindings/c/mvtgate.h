@@ -1,7 +1,7 @@
 /* mvtgate: judges Mapbox vector tiles in the process (Mapbox Vector Tile Specification 2.1). For C and C++.
  *
  * A tile is its uncompressed bytes, of any content and any length: gunzip it first. A text is bytes of UTF-8 without a zero
- * byte behind it. What the functions do is proved, as far as the caller keeps to these rules, which nothing checks:
+ * byte after it. What the functions do is proved, as far as the caller keeps to these rules, which nothing checks:
  *
  *  - No pointer is null, also where its length is 0: give the address of any byte.
  *  - Each pointer to bytes has as many as its length says, and each length is below 2^63.
@@ -24,7 +24,7 @@
 extern "C" {
 #endif
 
-/* What the polygons of a feature are held against. POLYGON looks at each by itself: its rings neither cross nor touch, and
+/* What the polygons of a feature are held against. POLYGON checks each by itself: its rings neither cross nor touch, and
  * its holes are inside it and not inside each other. FEATURE asks also that the polygons of one feature neither cross nor
  * touch, and lie in each other only in a hole. */
 #define MVTGATE_POLYGON 0
@@ -57,7 +57,7 @@ enum {
  *                     This doesn't come where text_room is MVTGATE_TEXT_ROOM or more.
  * MVTGATE_NO_MEMORY, MVTGATE_NO_PROFILE   *text_length is 0.
  *
- * Nothing else is written: in `text` not the bytes behind the fault's text, and where that isn't written, none. */
+ * Nothing else is written: in `text` not the bytes after the fault's text, and where that isn't written, none. */
 int mvtgate_check(uint32_t profile, const uint8_t *tile, size_t tile_length, uint8_t *text, size_t text_room,
                   size_t *text_length);
 

@@ -1,10 +1,13 @@
-"""Puts libmvtgate.so and faults.json into the wheel, and names the wheel for the systems that the library runs on.
+"""Puts libmvtgate.so, faults.json and the page into the wheel, and names the wheel for the systems that the library runs on.
 
-The library is the one that MVTGATE_LIBRARY names, or the one that ./library of the repository made. There is no compiled module
+The library is the one that MVTGATE_LIBRARY names, or the one that ./library of the repository made. The page, and the script and
+style of reports, are in the folder that MVTGATE_WEB names, or where ./page of the repository made them. There is no compiled module
 of Python's in the wheel, so any Python 3 will do (py3-none), and what ties it to a system is the library: code for x86-64 that
 needs nothing but the C library. The tag manylinux_2_34_x86_64 says so: glibc 2.34 or later. The library itself needs an older
 one, 2.14, but also a processor of level x86-64-v2; distributions of that glibc are the first to be built for it (RHEL 9), and
 installers know no tag for processors. A build stops where the library would need more than the tag says.
+
+The version is that of the repository's file VERSION.
 """
 import os
 import pathlib
@@ -33,6 +36,13 @@ def library():
     return path
 
 
+def web(name):
+    path = pathlib.Path(os.environ.get("MVTGATE_WEB") or HERE.parent.parent / "web/out", name)
+    if not path.exists():
+        raise SystemExit(f"setup.py: there is no {path}: run ./page")
+    return path
+
+
 class BuildWithLibrary(build_py):
     def run(self):
         super().run()
@@ -40,6 +50,9 @@ class BuildWithLibrary(build_py):
         # (copy follows the links from libmvtgate.so to the file)
         shutil.copy(library(), package / "libmvtgate.so")
         shutil.copy(HERE.parent / "faults.json", package)
+        shutil.copy(web("index.html"), package / "planet/page.html")
+        for name in ("report.js", "report.css"):
+            shutil.copy(web(name), package / "planet/report")
 
 
 class WheelOfPlatform(bdist_wheel):
@@ -54,6 +67,7 @@ class DistributionWithLibrary(Distribution):
 
 
 setup(
+    version=(HERE.parent.parent / "VERSION").read_text().strip(),
     distclass=DistributionWithLibrary,
     cmdclass={"build_py": BuildWithLibrary, "bdist_wheel": WheelOfPlatform},
 )

@@ -40,7 +40,7 @@ SELECT id, name, properties::jsonb, ST_Multi(pg_temp.on_tile(tile_column, shape)
      'POLYGON((100 100, 1000 100, 1000 1000, 100 1000, 100 100), (200 200, 200 400, 400 400, 400 200, 200 200),
               (400.3 400.3, 400.3 600, 600 600, 600 400.3, 400.3 400.3))'),
 
-    -- Two ponds that have a corner in common. No grid parts them.
+    -- Two ponds that have a vertex in common. No grid parts them.
     (120, 2, 'two ponds with one corner', '{}',
      'POLYGON((100 100, 1000 100, 1000 1000, 100 1000, 100 100), (200 200, 200 400, 400 400, 400 200, 200 200),
               (400 400, 400 600, 600 600, 600 400, 400 400))'),
@@ -68,7 +68,7 @@ SELECT id, name, properties::jsonb, ST_Multi(pg_temp.on_tile(tile_column, shape)
     (170, 7, 'two that overlap', '{}',
      'MULTIPOLYGON(((100 100, 500 100, 500 500, 100 500, 100 100)), ((300 300, 800 300, 800 800, 300 800, 300 300)))'),
 
-    -- Two polygons of one feature that have a corner in common: valid, but not by feature, and no repair helps.
+    -- Two polygons of one feature that have a vertex in common: valid, but not by feature, and no repair helps.
     (180, 8, 'two with one corner', '{}',
      'MULTIPOLYGON(((100 100, 500 100, 500 500, 100 500, 100 100)), ((500 500, 900 500, 900 900, 500 900, 500 500)))'),
 

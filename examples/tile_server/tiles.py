@@ -43,7 +43,7 @@ REPAIRED = Grid(16384, "ST_MakeValid(source.geometry, 'method=structure keepcoll
 # the layers of a tile: the table of each, which has its name, and the columns that become tags
 LAYERS = {"areas": "name, properties", "places": "name"}
 
-# (The order of the rows is told, so that the same rows make the same bytes. Rows whose geometry is NULL, since ST_AsMVTGeom found
+# (The order of the rows is given, so that the same rows make the same bytes. Rows whose geometry is NULL, since ST_AsMVTGeom found
 # nothing of them in the tile, are left out by ST_AsMVT.)
 _LAYER = """(
     SELECT ST_AsMVT(its, '{layer}', %(extent)s, 'geometry', 'id') FROM (

@@ -14,9 +14,15 @@ is_silent() {
 # lint PAGE: what mandoc has to say goes to its standard output.
 lint() { mandoc -T lint "$1" >&2 || true; }
 
+# The options of the manual page are those of the program's help.
+options_of_planet() {
+    diff <(PYTHONPATH=bindings/python/src "$python" -m mvtgate.planet --help | grep -oE -- '--[a-z]+' | sort -u) \
+        <(sed -n 's/^\.It Fl Fl //p' packaging/mvtgate-planet.1 | sed 's/ , Fl Fl /\n/; s/ Ar.*//' | sed 's/^/--/' | sort -u)
+}
+
 test_pages() {
     local page
-    for page in packaging/mvtgate.1 packaging/mvtgate.3; do
+    for page in packaging/mvtgate.1 packaging/mvtgate.3 packaging/mvtgate-planet.1; do
         ! has /usr/bin/mandoc "the lint of $page" || expect "the lint of $page" is_silent lint $page
         ! has /usr/bin/groff "groff's warnings on $page" || expect "groff's warnings on $page" is_silent groff -ww -mandoc -Tutf8 -z $page
         ! has /usr/bin/man "the warnings of man on $page" ||
@@ -25,6 +31,7 @@ test_pages() {
     expect "the faults of mvtgate.1" "$python" packaging/tests/manual.py faults
     ! has /usr/bin/mandoc "the statuses of mvtgate.1" ||
         expect "the statuses of mvtgate.1" "$python" packaging/tests/manual.py statuses ./mvtgate
+    expect "the options of mvtgate-planet.1" options_of_planet
     expect "the functions of mvtgate.3" "$python" packaging/tests/manual.py functions
     expect "the constants of mvtgate.3" "$python" packaging/tests/manual.py constants
 }
@@ -41,7 +48,7 @@ offered() {
         echo "${COMPREPLY[*]}"' bash mvtgate "$@"
 }
 
-# Lines 'WORDS|OFFERS': what is offered behind these words; the last one is at the cursor, and is empty after a space.
+# Lines 'WORDS|OFFERS': what is offered after these words; the last one is at the cursor, and is empty after a space.
 offers='|check confirm dump fields help --help --version
 c|check confirm
 --|--help --version

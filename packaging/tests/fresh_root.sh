@@ -10,7 +10,7 @@ set_mirror() {
     local proxy='' certificates=''
     # shellcheck disable=SC2016
     mirror=$(apt-get indextargets --format '$(ORIGIN) $(LABEL) $(COMPONENT) $(REPO_URI)' 'Created-By: Packages' 2>/dev/null |
-        awk '$1 == "Debian" && $2 == "Debian" && $3 == "main" { print $4; exit }')
+        awk '$1 == "Debian" && $2 == "Debian" && $3 == "main" && !found { print $4; found = 1 }')
     mirror=${mirror:-http://deb.debian.org/debian}
     eval "$(apt-config shell proxy Acquire::http::Proxy certificates Acquire::https::CAInfo)"
     [ -z "$proxy" ] || export http_proxy=$proxy https_proxy=$proxy
@@ -106,7 +106,7 @@ by_module() {
 build_for() {
     "$python" packaging/tests/manual.py example >"$room/judge.c"
     gcc -o "$root/opt/judge" "$room/judge.c" -I"$root$1/include" -L"$root$2" -lmvtgate
-    [ -z "$is_debian" ] || inside ldconfig -p | grep -F "libmvtgate.so.0 (libc6,x86-64) => $(inside realpath -s "$2" | sed 's,^/usr/lib/,/lib/,')"
+    [ -z "$is_debian" ] || inside ldconfig -p | grep -F "libmvtgate.so.${version%%.*} (libc6,x86-64) => $(inside realpath -s "$2" | sed 's,^/usr/lib/,/lib/,')"
 }
 
 # The module answers for each tile, and its command counts them right.
@@ -129,8 +129,27 @@ for it in pathlib.Path("/tmp/tiles").iterdir():
 by_apt() {
     inside sh -ec 'cd /tmp && apt-get install -y ./python3-mvtgate_*.deb ./libmvtgate-dev_*.deb ./mvtgate_*.deb'
     [ "$(inside mvtgate --version)" = "mvtgate $version" ]
-    inside apt-get purge -y mvtgate libmvtgate-dev python3-mvtgate
+    ends_with 2 inside mvtgate-planet /tmp/tiles 2>"$room/planet"
+    [[ $(cat "$room/planet") == *"not installed: distributed, jinja2, tqdm "* ]]
 }
+
+# mvtgate-planet judges the sample tiles, as a folder z/x/y.mvt, with what Debian has for it. (Dask looks at /proc.)
+run_planet() {
+    local at=0 tile
+    inside apt-get install -y --no-install-recommends python3-distributed python3-jinja2 python3-tqdm
+    mkdir -p "$root/tmp/planet/8/0"
+    for tile in "$root"/tmp/tiles/*.mvt; do
+        cp "$tile" "$root/tmp/planet/8/0/$at.mvt"
+        at=$((at + 1))
+    done
+    mount -t proc proc "$root/proc"
+    ends_with 1 inside timeout 100 mvtgate-planet --output /tmp/judged /tmp/planet
+    umount "$root/proc"
+    [ "$(grep -c '"confirmed": true}$' "$root/tmp/judged/faults.jsonl")" = "$(grep -LxF '{"ok":true}' tiles/expected/*.check | wc -l)" ]
+    [ -s "$root/tmp/judged/report.html" ] && cmp "$root/tmp/judged/page.html" web/out/index.html
+}
+
+purge() { inside apt-get purge -y mvtgate libmvtgate-dev python3-mvtgate; }
 
 test_packages() {
     local before
@@ -150,7 +169,11 @@ test_packages() {
     fi
     expect "dpkg -P" dpkg_inside -P libmvtgate-dev mvtgate
     expect "nothing is left" are_lines "$before" listed
-    [ -z "$is_debian" ] || expect "apt-get install and purge" by_apt
+    if [ -n "$is_debian" ]; then
+        expect "apt-get install" by_apt
+        expect "mvtgate-planet" run_planet
+        expect "apt-get purge" purge
+    fi
     expect "no package is left" are_lines "" dpkg-query --admindir="$root/var/lib/dpkg" -W '*mvtgate*'
 }
 
@@ -165,12 +188,24 @@ test_tar() {
     expect "the samples by the tar file's library" are_samples_right by_program
 }
 
+# An ldconfig before the system's, that names as many libraries as a large system has: /tmp/large/ldconfig.
+put_large_ldconfig() {
+    mkdir "$root/tmp/large"
+    cat >"$root/tmp/large/ldconfig" <<'END'
+#!/bin/sh -e
+/sbin/ldconfig "$@"
+[ "$1" != -vNX ] || seq -f '	lib%.0f.so.0 -> lib%.0f.so.0.0.0' 100000
+END
+    chmod 755 "$root/tmp/large/ldconfig"
+}
+
 # ./install of a checkout in which all is built, where there is no toolchain.
 test_checkout() {
     local before
     copy_checkout "$root/tmp/a checkout"
+    put_large_ldconfig
     before=$(listed)
-    expect "./install in the fresh root" inside "/tmp/a checkout/install" /usr/local
+    expect "./install in the fresh root" inside env PATH=/tmp/large:/usr/sbin:/usr/bin:/sbin:/bin "/tmp/a checkout/install" /usr/local
     expect "the samples by the installed program there" are_samples_right by_package
     expect "building for the installed library" build_for /usr/local /usr/local/lib
     expect "the samples by the installed library" are_samples_right by_program

@@ -27,7 +27,7 @@ END
 
 # build_consumer PKG_CONFIG_PATH PROGRAM static|shared [FLAG..]: builds the example of mvtgate.3, as that page says.
 build_consumer() {
-    local flags
+    local flags needed
     "$python" packaging/tests/manual.py example >"$room/judge.c"
     export PKG_CONFIG_PATH=$1
     [ "$(pkg-config --modversion mvtgate)" = "$version" ]
@@ -38,7 +38,8 @@ build_consumer() {
     # (pkg-config writes a space within a path as a shell reads it)
     eval "gcc -std=c99 -Wall -Wextra -Werror -pedantic-errors -o '$2' '$room/judge.c' $flags ${*:4}"
     # the static one needs no file beside it, and the other does
-    [ "$3" = "$(readelf --dynamic "$2" | grep -qF '[libmvtgate.so.' && echo shared || echo static)" ]
+    needed=$(readelf --dynamic "$2")
+    [ "$3" = "$([[ $needed == *'[libmvtgate.so.'* ]] && echo shared || echo static)" ]
 }
 
 # what are_samples_right calls

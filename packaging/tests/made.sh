@@ -16,17 +16,19 @@ are_same() {
 # copy_checkout FOLDER: what ./install and ./package read, all of it built.
 copy_checkout() {
     mkdir "$1"
-    cp -a --parents install package packaging mvtgate prove library crates.txt crates/*/src crates/*/specs bindings/c \
-        bindings/faults.json bindings/python/pyproject.toml bindings/rust/Cargo.toml \
-        crates/mvtgate/out/mvtgate crates/mvtgate/out/sources "$1"
+    cp -a --parents VERSION install package packaging mvtgate prove library crates.txt crates/*/src crates/*/specs bindings/c \
+        bindings/faults.json bindings/python/pyproject.toml crates/mvtgate/out/mvtgate crates/mvtgate/out/sources "$1"
 }
 
-# A copy whose Python package has another version.
+# A copy with another version than the library's code, and then than the program.
 has_two_versions() {
     copy_checkout "$room/copy"
-    sed -i 's/^version = ".*"/version = "9.9.9"/' "$room/copy/bindings/python/pyproject.toml"
+    echo 9.9.9 >"$room/copy/VERSION"
     ends_with 1 env SOURCE_DATE_EPOCH=1 "$room/copy/package" "$room/none" 2>"$room/error"
-    grep -F "pyproject.toml is '9.9.9'" "$room/error"
+    grep -F "version.rt has $version:" "$room/error"
+    sed -i 's/^\(const [A-Z]*: u32 =\) [0-9]*;/\1 9;/' "$room/copy/crates/mvtgate_c/src/version.rt"
+    ends_with 1 env SOURCE_DATE_EPOCH=1 "$room/copy/package" "$room/none" 2>"$room/error"
+    grep -F "the program says 'mvtgate $version':" "$room/error"
     [ ! -e "$room/none" ]
 }
 
@@ -55,8 +57,7 @@ has_sums() {
 
 test_made() {
     local names package bare=/usr/sbin:/usr/bin:/sbin:/bin
-    version=$(./mvtgate --version)
-    version=${version#mvtgate }
+    version=$(<VERSION)
     expect "./package" ./package "$made"
     # (no toolchain is needed where all is built)
     expect "./package again, with the system's programs alone" env PATH=$bare ./package "$room/again"

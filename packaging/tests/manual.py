@@ -40,7 +40,7 @@ def differ(wanted: object, found: object) -> None:
 def faults() -> None:
     titles: Dict[str, str] = {code: it["title"] for code, it in json.loads((TOP / "bindings/faults.json").read_text())["faults"].items()}
     found = re.findall(r"^\.It (\d{3})\n(.*)$", source(1), re.MULTILINE)
-    # (some titles have a remark behind them)
+    # (some titles have a remark after them)
     differ(titles, {code: titles[code] if text.startswith(titles.get(code, " ")) else text for code, text in found})
 
 

@@ -1,6 +1,6 @@
-/* answers FILE..: gives each file to every function, and prints what they answer: a line 'CALL STATUS TEXT' for each, behind a
+/* answers FILE..: gives each file to every function, and prints what they answer: a line 'CALL STATUS TEXT' for each, after a
  * fault of `check` a line 'confirm STATUS', and an empty line. The bytes lie right before a page without access, and then
- * right behind one; where the answers differ, it says so. */
+ * right after one; where the answers differ, it says so. */
 #include "test.h"
 
 typedef struct {

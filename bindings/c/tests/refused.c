@@ -39,7 +39,7 @@ void __wrap_free(void *block)
 
 static uint8_t right[1 << 20], text[1 << 20];
 
-/* What is wrong with a call that is refused its next request after so many, and with the call behind it, or NULL. */
+/* What is wrong with a call that is refused its next request after so many, and with the call after it, or NULL. */
 static const char *wrong_without(long before, int number, Tile tile, int status, size_t length)
 {
     size_t told = 12345;
@@ -73,7 +73,7 @@ static void try_call(const char *path, int number, Tile tile)
     expect(!wrong, wrong, path);
 }
 
-/* The same of the fault that check tells. */
+/* The same of the fault that check reports. */
 static void try_confirm(const char *path, uint32_t profile, Tile tile)
 {
     size_t length;

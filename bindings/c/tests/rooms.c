@@ -1,5 +1,5 @@
-/* rooms FILE..: gives each function rooms of every size, and looks at what it writes: all of the text and its length, where
- * there is room, else the length alone. The room ends where its memory ends; bytes before and behind the text stay. */
+/* rooms FILE..: gives each function rooms of every size, and checks what it writes: all of the text and its length, where
+ * there is room, else the length alone. The room ends where its memory ends; bytes before and after the text stay. */
 #include "test.h"
 
 enum { BEFORE = 16, MOST = MVTGATE_TEXT_ROOM + 16 };

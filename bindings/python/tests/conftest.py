@@ -13,6 +13,7 @@ import mvtgate
 from mvtgate import Profile
 
 TOP = pathlib.Path(__file__).resolve().parents[3]
+VERSION = (TOP / "VERSION").read_text().strip()
 YES = '{"ok":true}'
 
 
@@ -28,7 +29,7 @@ def load(path: pathlib.Path) -> Any:
 
 @dataclass(frozen=True)
 class Sample:
-    """A tile, and the lines of `check` that are accepted by each profile. Where they are told, those of dump and advice."""
+    """A tile, and the lines of `check` that are accepted by each profile. Where they are given, those of dump and advice."""
 
     path: pathlib.Path
     lines: Dict[Profile, List[str]] = field(compare=False)
@@ -65,7 +66,7 @@ def samples_of_folder(folder: pathlib.Path) -> List[Sample]:
         plain = said.get("check") or path.with_suffix(".check").read_text().splitlines()
         of_feature = path.with_suffix(".check_feature")
         feature = said.get("check_feature") or (of_feature.read_text().splitlines() if of_feature.exists() else None)
-        # (the first fault by `feature` may come before that by `polygon`, so it has to be told)
+        # (the first fault by `feature` may come before that by `polygon`, so it has to be given)
         lines = {Profile.POLYGON: plain, **({Profile.FEATURE: feature} if feature else {})}
         samples.append(Sample(path, lines, said.get("dump"), said.get("advice")))
     return samples

@@ -14,7 +14,7 @@ from typing import Any, Dict, List
 
 import pytest
 
-from conftest import SAMPLES, TOP, YES
+from conftest import SAMPLES, TOP, VERSION, YES
 from mvtgate import Profile, _files
 
 POINT = TOP / "tiles/point.mvt"
@@ -142,7 +142,7 @@ def test_words_that_are_no_call(words: List[str]) -> None:
 
 
 def test_help_and_version() -> None:
-    assert run("--version").stdout == "mvtgate 0.1.0\n"
+    assert run("--version").stdout == f"mvtgate {VERSION}\n"
     said = run("check", "--help")
     assert said.returncode == 0 and "Exit status" in said.stdout
 

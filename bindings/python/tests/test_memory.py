@@ -14,7 +14,7 @@ from typing import Any, Callable, Iterator, List
 import pytest
 
 import mvtgate
-from conftest import SAMPLES, TOP, YES, check_line, saw
+from conftest import SAMPLES, TOP, VERSION, YES, check_line, saw
 from mvtgate import Profile, _library
 
 FAULTY = (TOP / "tiles/crossing_edges.mvt").read_bytes()
@@ -203,7 +203,7 @@ def test_profiles_of_the_library() -> None:
 def test_where_the_library_is(monkeypatch: pytest.MonkeyPatch) -> None:
     monkeypatch.delenv("MVTGATE_LIBRARY", raising=False)
     made = TOP / "bindings/c/out/libmvtgate.so"
-    assert _library._candidates() == ([str(made)] if made.exists() else []) + ["libmvtgate.so.0"]
+    assert _library._candidates() == ([str(made)] if made.exists() else []) + [f"libmvtgate.so.{VERSION.split('.')[0]}"]
     monkeypatch.setenv("MVTGATE_LIBRARY", "other.so")
     assert _library._candidates() == ["other.so"]
 

@@ -11,7 +11,7 @@ from conftest import SAMPLES, TOP, YES, Sample, check_line, load
 from mvtgate import Advice, Profile
 
 reader = load(TOP / "tiles/check_folder")
-# (of a folder the lines by one profile may not be told)
+# (of a folder the lines by one profile may not be given)
 EACH_PROFILE = [(it, profile) for it in SAMPLES for profile in it.lines]
 each_sample = pytest.mark.parametrize("sample", SAMPLES, ids=lambda it: str(it.path.stem))
 

@@ -13,8 +13,10 @@ from typing import Any
 
 import pytest
 
-from conftest import TOP
+from conftest import TOP, VERSION
 from mvtgate import _library
+
+WEB = pathlib.Path(os.environ.get("MVTGATE_WEB", TOP / "web/out"))
 
 pytestmark = pytest.mark.skipif(
     not all(map(importlib.util.find_spec, ("build", "wheel", "setuptools", "ensurepip"))),
@@ -22,12 +24,18 @@ pytestmark = pytest.mark.skipif(
 )
 
 
+def copy_sources(room: pathlib.Path) -> None:
+    """What a wheel is built from, so that the checkout stays as it is."""
+    shutil.copy(TOP / "VERSION", room)
+    shutil.copytree(TOP / "bindings", room / "bindings", symlinks=True, ignore=shutil.ignore_patterns("build", "dist", "*.egg-info", "__pycache__"))
+
+
 @pytest.fixture(scope="module")
 def wheel(tmp_path_factory: pytest.TempPathFactory) -> pathlib.Path:
-    """Built in a copy, so that the checkout stays as it is, with the library that these tests run with."""
+    """Built in a copy, with the library that these tests run with."""
     room = tmp_path_factory.mktemp("wheel")
-    shutil.copytree(TOP / "bindings", room / "bindings", symlinks=True, ignore=shutil.ignore_patterns("build", "dist", "*.egg-info", "__pycache__"))
-    env = {**os.environ, "MVTGATE_LIBRARY": str(pathlib.Path(_library._candidates()[0]).resolve())}
+    copy_sources(room)
+    env = {**os.environ, "MVTGATE_LIBRARY": str(pathlib.Path(_library._candidates()[0]).resolve()), "MVTGATE_WEB": str(WEB)}
     command = [sys.executable, "-m", "build", "--wheel", "--no-isolation", "--outdir", str(room), str(room / "bindings/python")]
     run = subprocess.run(command, env=env, capture_output=True, text=True)
     assert run.returncode == 0, run.stdout + run.stderr
@@ -41,12 +49,15 @@ def run_alone(python: pathlib.Path, *words: Any, where: pathlib.Path) -> "subpro
 
 
 def test_content(wheel: pathlib.Path) -> None:
-    assert re.fullmatch(r"mvtgate-[0-9.]+-py3-none-manylinux_2_34_x86_64\.whl", wheel.name)
+    assert wheel.name == f"mvtgate-{VERSION}-py3-none-manylinux_2_34_x86_64.whl"
     with zipfile.ZipFile(wheel) as packed:
         names = {it for it in packed.namelist() if ".dist-info/" not in it}
-        modules = {f"mvtgate/{it.name}" for it in (TOP / "bindings/python/src/mvtgate").glob("*.py")}
-        assert names == modules | {"mvtgate/faults.json", "mvtgate/py.typed", "mvtgate/libmvtgate.so"}
+        source = TOP / "bindings/python/src"
+        modules = {str(it.relative_to(source)) for ending in ("*.py", "*.jinja") for it in (source / "mvtgate").rglob(ending)}
+        report = {f"mvtgate/planet/report/report.{it}" for it in ("css", "js")}
+        assert names == modules | report | {"mvtgate/faults.json", "mvtgate/py.typed", "mvtgate/libmvtgate.so", "mvtgate/planet/page.html"}
         assert packed.read("mvtgate/faults.json") == (TOP / "bindings/faults.json").read_bytes()
+        assert packed.read("mvtgate/planet/page.html") == (WEB / "index.html").read_bytes()
 
 
 def test_in_a_fresh_environment(wheel: pathlib.Path, tmp_path: pathlib.Path) -> None:
@@ -68,7 +79,7 @@ def test_in_a_fresh_environment(wheel: pathlib.Path, tmp_path: pathlib.Path) -> 
 
 
 def test_build_without_the_library(tmp_path: pathlib.Path) -> None:
-    shutil.copytree(TOP / "bindings", tmp_path / "bindings", symlinks=True)
+    copy_sources(tmp_path)
     command = [sys.executable, "-m", "build", "--wheel", "--no-isolation", str(tmp_path / "bindings/python")]
     run = subprocess.run(command, env={**os.environ, "MVTGATE_LIBRARY": "/nowhere.so"}, capture_output=True, text=True)
     assert run.returncode != 0 and "there is no /nowhere.so" in run.stdout + run.stderr

@@ -11,7 +11,7 @@ from typing import Any, Dict, Iterator, List
 import pytest
 
 import mvtgate
-from conftest import SAMPLES, TOP
+from conftest import SAMPLES, TOP, VERSION
 from mvtgate import Advice, Fault, Profile, _words
 
 WORDS = json.loads((TOP / "bindings/faults.json").read_text())
@@ -153,5 +153,4 @@ def test_document_is_made_from_the_words() -> None:
 
 
 def test_version() -> None:
-    [version] = re.findall(r'^version = "(.+)"$', (TOP / "bindings/python/pyproject.toml").read_text(), re.MULTILINE)
-    assert mvtgate.version() == version
+    assert mvtgate.version() == VERSION

@@ -11,7 +11,7 @@ use std::error::Error;
 use std::time::{Duration, Instant};
 use std::{env, fs, thread};
 
-/// Time of the processor, which the standard library doesn't tell.
+/// Time of the processor, which the standard library doesn't give.
 mod clock {
     use std::os::raw::{c_int, c_long};
     use std::time::Duration;

@@ -72,7 +72,7 @@ codes! {
 codes! {
     /// Why the geometry of a feature draws no figure of its type.
     CommandCode {
-        /// Another command than the one that is due, or a number behind all points.
+        /// Another command than the one that is due, or a number after all points.
         OtherCommand = 401,
         /// The command that is due, with a count that isn't allowed.
         OtherCount = 402,

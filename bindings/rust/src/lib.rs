@@ -42,7 +42,7 @@ pub use text::NotAFaultText;
 use std::fmt;
 
 /// None where the bytes are a valid tile by the profile, else the first fault. Where several pairs of edges of one
-/// polygon meet, any one of these is told.
+/// polygon meet, any one of these is reported.
 ///
 /// ```
 /// # use mvtgate::{check, Profile};
@@ -54,7 +54,7 @@ use std::fmt;
 ///
 /// # Panics
 ///
-/// Where the library that is linked tells a fault that this crate doesn't know: it is of another version.
+/// Where the library that is linked reports a fault that this crate doesn't know: it is of another version.
 pub fn check(tile: &[u8], profile: Profile) -> Result<Option<Fault>, OutOfMemory> {
     let mut room = [0; ffi::TEXT_ROOM];
     let (status, length) = ffi::check(profile, tile, &mut room);

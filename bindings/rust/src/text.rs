@@ -139,7 +139,7 @@ fn read_rule(mut text: Reader) -> Option<Fault> {
     Some(fault)
 }
 
-/// The members of a fault of a feature behind its code.
+/// The members of a fault of a feature after its code.
 fn read_in_feature(number: u64, text: &mut Reader) -> Option<Fault> {
     let feature = text.number("feature")?;
     if let Some(code) = TagCode::of(number) {

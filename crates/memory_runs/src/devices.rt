@@ -4,20 +4,20 @@ use std::io::{ErrorKind, Read, Write};
 
 /// A reader of bytes, which may fail at its first read.
 #[derive(Drop)]
-pub struct Source<'a> {
+pub(crate) struct Source<'a> {
     left: &'a [u8],
     fails: bool,
 }
 
 impl<'a> Source<'a> {
-    pub fn new(bytes: &'a [u8]) -> Self {
+    pub(crate) fn new(bytes: &'a [u8]) -> Self {
         Source {
             left: bytes,
             fails: false,
         }
     }
 
-    pub fn failing() -> Self {
+    pub(crate) fn failing() -> Self {
         Source {
             left: &[],
             fails: true,
@@ -40,25 +40,25 @@ impl Read for Source<'_> {
 
 /// The bytes that a writer has taken.
 #[derive(Drop)]
-pub struct Written {
+pub(crate) struct Written {
     bytes: [u8; 1024],
     count: usize,
 }
 
 impl Written {
-    pub fn new() -> Self {
+    pub(crate) fn new() -> Self {
         Written {
             bytes: [0; 1024],
             count: 0,
         }
     }
 
-    pub fn count(&self) -> usize {
+    pub(crate) fn count(&self) -> usize {
         self.count
     }
 
     /// The text of these bytes without the LF at its end, or None where they are none.
-    pub fn text(&self) -> Option<&str> {
+    pub(crate) fn text(&self) -> Option<&str> {
         let text = str::from_utf8(self.bytes.get(..self.count)?).ok()?;
         text.strip_suffix('\n')
     }
@@ -66,13 +66,13 @@ impl Written {
 
 /// A writer that takes so many bytes, and then fails.
 #[derive(Drop)]
-pub struct Sink<'a> {
+pub(crate) struct Sink<'a> {
     written: &'a mut Written,
     limit: usize,
 }
 
 impl<'a> Sink<'a> {
-    pub fn new(written: &'a mut Written, limit: usize) -> Self {
+    pub(crate) fn new(written: &'a mut Written, limit: usize) -> Self {
         Sink { written, limit }
     }
 }

@@ -11,7 +11,7 @@ use std::rt::Env;
 
 /// An engine, and how its devices behave.
 #[derive(Clone, Copy)]
-pub enum Engine {
+pub(crate) enum Engine {
     Fields,
     Check,
     Advise,
@@ -26,7 +26,7 @@ pub enum Engine {
 
 impl Engine {
     /// The engine of this name.
-    pub fn named(name: &str) -> Option<Engine> {
+    pub(crate) fn named(name: &str) -> Option<Engine> {
         Some(match name {
             "fields_stream" => Engine::Fields,
             "check_stream" => Engine::Check,
@@ -40,7 +40,11 @@ impl Engine {
     }
 
     /// Runs the engine, and prints its answer, how many bytes it wrote, and which.
-    pub fn run<R: Env + Print + AllocGlobal>(self, rt: &R, bytes: &[u8]) -> Result<(), Stop> {
+    pub(crate) fn run<R: Env + Print + AllocGlobal>(
+        self,
+        rt: &R,
+        bytes: &[u8],
+    ) -> Result<(), Stop> {
         let mut claim = [0u8; 256];
         let length = match self {
             Engine::Confirm => word(rt, 2, &mut claim)?.len(),

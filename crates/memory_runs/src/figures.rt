@@ -9,7 +9,7 @@ use std::rt::Env;
 
 /// A call on numbers.
 #[derive(Clone, Copy)]
-pub enum FigureCall {
+pub(crate) enum FigureCall {
     Draw,
     /// `spell` of the figure that the numbers draw.
     Spell,
@@ -19,7 +19,7 @@ pub enum FigureCall {
 
 impl FigureCall {
     /// The call of this name.
-    pub fn named(name: &str) -> Option<FigureCall> {
+    pub(crate) fn named(name: &str) -> Option<FigureCall> {
         match name {
             "draw" => Some(FigureCall::Draw),
             "spell" => Some(FigureCall::Spell),
@@ -29,7 +29,11 @@ impl FigureCall {
     }
 
     /// Makes the call on the numbers of a text, and prints its answer.
-    pub fn run<R: Env + Print + AllocGlobal>(self, rt: &R, bytes: &[u8]) -> Result<(), Stop> {
+    pub(crate) fn run<R: Env + Print + AllocGlobal>(
+        self,
+        rt: &R,
+        bytes: &[u8],
+    ) -> Result<(), Stop> {
         let mut name = [0u8; 16];
         let mut room = [0u32; 64];
         let kind = kind_named(word(rt, 2, &mut name)?)?;
@@ -40,15 +44,15 @@ impl FigureCall {
                 Err(fault) => println!(rt; "{fault:?}")?,
                 Ok(figure) => println!(rt; "{figure:?}")?,
             },
-            FigureCall::Spell => tell_spelled(rt, &figure_of(rt.alloc(), kind, numbers)?)?,
-            FigureCall::SpellFar => tell_spelled(rt, &far_points(rt.alloc())?)?,
+            FigureCall::Spell => report_spelled(rt, &figure_of(rt.alloc(), kind, numbers)?)?,
+            FigureCall::SpellFar => report_spelled(rt, &far_points(rt.alloc())?)?,
         }
         Ok(())
     }
 }
 
 /// Prints what `spell` answers.
-fn tell_spelled<R: Print + AllocGlobal>(rt: &R, figure: &Figure) -> Result<(), Stop> {
+fn report_spelled<R: Print + AllocGlobal>(rt: &R, figure: &Figure) -> Result<(), Stop> {
     match spell(rt.alloc(), figure) {
         Err(SpellFault::Memory) => return Err(Stop::Refused),
         Err(fault) => println!(rt; "{fault:?}")?,

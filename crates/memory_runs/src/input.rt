@@ -1,4 +1,5 @@
-//! What a call is made on: the words of the command line and the bytes of standard input, both in arrays.
+//! What a call is made on: the words of the command line and the bytes of standard input, both in
+//! arrays.
 use crate::stop::Stop;
 use std::io::Read;
 use std::rt::Env;
@@ -7,7 +8,7 @@ use std::rt::Env;
 pub const ROOM: usize = 2048;
 
 /// The word at a place of the command line.
-pub fn word<'a, R: Env>(rt: &R, at: usize, room: &'a mut [u8]) -> Result<&'a str, Stop> {
+pub(crate) fn word<'a, R: Env>(rt: &R, at: usize, room: &'a mut [u8]) -> Result<&'a str, Stop> {
     let Ok(length) = rt.arg(at, room) else {
         return Err(Stop::NoCall);
     };
@@ -15,7 +16,7 @@ pub fn word<'a, R: Env>(rt: &R, at: usize, room: &'a mut [u8]) -> Result<&'a str
 }
 
 /// The number at a place of the command line.
-pub fn number<R: Env>(rt: &R, at: usize) -> Result<usize, Stop> {
+pub(crate) fn number<R: Env>(rt: &R, at: usize) -> Result<usize, Stop> {
     let mut room = [0u8; 16];
     match word(rt, at, &mut room)?.parse() {
         Ok(number) => Ok(number),
@@ -24,7 +25,7 @@ pub fn number<R: Env>(rt: &R, at: usize) -> Result<usize, Stop> {
 }
 
 /// All bytes of standard input.
-pub fn read_input<'a, R: Input>(rt: &R, room: &'a mut [u8]) -> Result<&'a [u8], Stop> {
+pub(crate) fn read_input<'a, R: Input>(rt: &R, room: &'a mut [u8]) -> Result<&'a [u8], Stop> {
     let mut reader = rt.reader();
     let mut length = 0_usize;
     for _ in 0..room.len() {
@@ -43,7 +44,7 @@ pub fn read_input<'a, R: Input>(rt: &R, room: &'a mut [u8]) -> Result<&'a [u8], 
 }
 
 /// The numbers that a text spells in decimal, with spaces between them.
-pub fn numbers<'a>(bytes: &[u8], room: &'a mut [u32]) -> Result<&'a [u32], Stop> {
+pub(crate) fn numbers<'a>(bytes: &[u8], room: &'a mut [u32]) -> Result<&'a [u32], Stop> {
     let mut count = 0_usize;
     for word in text(Some(bytes))?.split_whitespace() {
         let (Some(slot), Ok(number)) = (room.get_mut(count), word.parse()) else {

@@ -1,5 +1,6 @@
-//! Edits of a status: memory_runs LIST EDIT PLACE FILL TAKE TIMES. A status is filled with so many edges, so many are
-//! taken from its front, and it is edited so often at one place. And LIST three: three edges are put into one.
+//! Edits of a status: memory_runs LIST EDIT PLACE FILL TAKE TIMES. A status is filled with so many
+//! edges, so many are taken from its front, and it is edited so often at one place. And LIST three:
+//! three edges are put into one.
 use crate::input::{number, word};
 use crate::status::{Course, Edit, Place};
 use crate::stop::Stop;
@@ -10,7 +11,7 @@ use std::rt::Env;
 
 /// Which status is edited.
 #[derive(Clone, Copy)]
-pub enum ListCall {
+pub(crate) enum ListCall {
     Tree,
     Vector,
 }
@@ -27,7 +28,7 @@ struct Plan {
 
 impl ListCall {
     /// The status of this name.
-    pub fn named(name: &str) -> Option<ListCall> {
+    pub(crate) fn named(name: &str) -> Option<ListCall> {
         match name {
             "tree" => Some(ListCall::Tree),
             "vector" => Some(ListCall::Vector),
@@ -36,7 +37,7 @@ impl ListCall {
     }
 
     /// Edits the status as the other words say, and prints what came of it.
-    pub fn run<R: Env + Print + AllocGlobal>(self, rt: &R) -> Result<(), Stop> {
+    pub(crate) fn run<R: Env + Print + AllocGlobal>(self, rt: &R) -> Result<(), Stop> {
         let mut room = [0u8; 16];
         if word(rt, 2, &mut room)? == "three" {
             let edges = match self {
@@ -110,7 +111,8 @@ impl Plan {
     }
 }
 
-/// The edges of an empty status into which 7 is put at the front, then 4 at the front, then 9 behind it.
+/// The edges of an empty status into which 7 is put at the front, then 4 at the front, then 9 after
+/// it.
 fn three_edges<S: Status>(status: &mut S) -> Result<[usize; 3], AllocError> {
     let mut count = Count::new();
     for (at, edge) in [(0, 7), (0, 4), (1, 9)] {

@@ -1,6 +1,7 @@
-//! One call that may ask for memory, on one input, for `tests/memory`, which refuses each of its requests in turn:
-//! memory_runs CALL [WORD..]. The input is what standard input holds. It prints one line: the call's answer, or that
-//! memory was refused to the call or to what the call is made on. What it does itself takes no memory.
+//! One call that may ask for memory, on one input, for `tests/memory`, which refuses each of its
+//! requests in turn: memory_runs CALL [WORD..]. The input is what standard input holds. It prints
+//! one line: the call's answer, or that memory was refused to the call or to what the call is made
+//! on. What it does itself takes no memory.
 #![tactic(auto)]
 
 mod devices;

@@ -1,5 +1,5 @@
 //! Calls on the rings that the numbers of a geometry draw.
-ghost use Rattle.mvt_plane.specs.Ring.{ArePolygonRings};
+ghost use Rattle.mvt_plane.specs.Geometry.Ring.{ArePolygonRings};
 ghost use Rattle.mvt_polygon.specs.Rings.{rings_of, AreProperRings};
 
 use crate::input::numbers;
@@ -12,7 +12,7 @@ use mvt_tile::ListedNumbers;
 
 /// A call on rings.
 #[derive(Clone, Copy)]
-pub enum PolygonCall {
+pub(crate) enum PolygonCall {
     Groups,
     FindMeeting,
     /// `find_meeting_with` a `TreeStatus`.
@@ -24,7 +24,7 @@ pub enum PolygonCall {
 
 impl PolygonCall {
     /// The call of this name.
-    pub fn named(name: &str) -> Option<PolygonCall> {
+    pub(crate) fn named(name: &str) -> Option<PolygonCall> {
         Some(match name {
             "groups" => PolygonCall::Groups,
             "find_meeting" => PolygonCall::FindMeeting,
@@ -36,7 +36,7 @@ impl PolygonCall {
     }
 
     /// Makes the call on the rings of the numbers of a text, and prints its answer.
-    pub fn run<R: Print + AllocGlobal>(self, rt: &R, bytes: &[u8]) -> Result<(), Stop> {
+    pub(crate) fn run<R: Print + AllocGlobal>(self, rt: &R, bytes: &[u8]) -> Result<(), Stop> {
         let mut room = [0u32; 64];
         let numbers = numbers(bytes, &mut room)?;
         let mut buffer = RingBuffer::new(rt.alloc());
@@ -47,13 +47,13 @@ impl PolygonCall {
         }
         let rings = buffer.rings();
         match check_rings(rings) {
-            None => self.tell(rt, rings),
+            None => self.report(rt, rings),
             Some(_) => Err(Stop::NoCall),
         }
     }
 
     /// Makes the call on rings, and prints its answer.
-    fn tell<R: Print + AllocGlobal>(self, rt: &R, rings: &[Vec<Point>]) -> Result<(), Stop>
+    fn report<R: Print + AllocGlobal>(self, rt: &R, rings: &[Vec<Point>]) -> Result<(), Stop>
         requires sound { ArePolygonRings (rings_of rings.now) }
         requires drawn { AreProperRings (rings_of rings.now) }
     {

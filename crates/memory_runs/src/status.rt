@@ -3,12 +3,12 @@ use mvt_plane::Count;
 use mvt_status::Status;
 use std::alloc::AllocError;
 
-/// The most edges that are looked at.
+/// The most edges that are checked.
 const ROOM: usize = 128;
 
 /// An edit of a status.
 #[derive(Clone, Copy)]
-pub enum Edit {
+pub(crate) enum Edit {
     Insert,
     InsertTwo,
     Replace,
@@ -16,7 +16,7 @@ pub enum Edit {
 
 /// Where a status is edited.
 #[derive(Clone, Copy)]
-pub enum Place {
+pub(crate) enum Place {
     Front,
     Middle,
     End,
@@ -24,7 +24,7 @@ pub enum Place {
 
 /// What came of edits, of which each that is refused is made again.
 #[derive(Clone, Copy, Debug, PartialEq, Eq)]
-pub struct Course {
+pub(crate) struct Course {
     /// How many were refused.
     pub refusals: usize,
     /// How many edges there were when one was.
@@ -67,7 +67,7 @@ impl Edges {
         self.count = self.count.saturating_add(1);
     }
 
-    /// The edges behind an edit.
+    /// The edges after an edit.
     fn edited(&self, edit: Edit, at: usize, (lower, upper): (usize, usize)) -> Edges {
         let mut edges = Edges::none();
         for (number, edge) in self.numbers.iter().enumerate() {
@@ -119,7 +119,7 @@ impl Place {
 
 impl Course {
     /// Before any edit.
-    pub fn new() -> Course {
+    pub(crate) fn new() -> Course {
         Course {
             refusals: 0,
             length: 0,
@@ -129,7 +129,7 @@ impl Course {
     }
 
     /// Edits a status, whose edges are numbered below 500.
-    pub fn edit<S: Status>(&mut self, status: &mut S, edit: Edit, place: Place) {
+    pub(crate) fn edit<S: Status>(&mut self, status: &mut S, edit: Edit, place: Place) {
         let before = Edges::of(status);
         let at = place.among(edit, before.count);
         let new = (

@@ -3,7 +3,7 @@ use std::io;
 
 /// Why a run prints no answer.
 #[derive(Clone, Copy)]
-pub enum Stop {
+pub(crate) enum Stop {
     /// The words and the input are those of no call.
     NoCall,
     /// Memory was refused to what the call is made on.

@@ -7,7 +7,7 @@ use std::alloc::Global;
 
 /// A call on bytes.
 #[derive(Clone, Copy)]
-pub enum TileCall {
+pub(crate) enum TileCall {
     Judge,
     /// `judge`, and then `judge` again, whatever the first one answered.
     JudgeTwice,
@@ -28,7 +28,7 @@ pub enum TileCall {
 
 impl TileCall {
     /// The call of this name.
-    pub fn named(name: &str) -> Option<TileCall> {
+    pub(crate) fn named(name: &str) -> Option<TileCall> {
         Some(match name {
             "judge" => TileCall::Judge,
             "judge_twice" => TileCall::JudgeTwice,
@@ -46,7 +46,7 @@ impl TileCall {
     }
 
     /// Makes the call, and prints its answer.
-    pub fn run<R: Print + AllocGlobal>(self, rt: &R, bytes: &[u8]) -> Result<(), Stop> {
+    pub(crate) fn run<R: Print + AllocGlobal>(self, rt: &R, bytes: &[u8]) -> Result<(), Stop> {
         match self {
             TileCall::Judge => {
                 let verdict = judge(rt.alloc(), bytes)?;
@@ -61,12 +61,12 @@ impl TileCall {
                 let verdict = judge_with(rt.alloc(), Profile::Feature, bytes)?;
                 println!(rt; "{verdict:?}")?;
             }
-            TileCall::ReadTile => tell_tile(rt, bytes)?,
+            TileCall::ReadTile => report_tile(rt, bytes)?,
             TileCall::CheckLayers => {
                 let fault = check_layers(rt.alloc(), &tile_of(rt.alloc(), bytes)?)?;
                 println!(rt; "{fault:?}")?;
             }
-            TileCall::CheckTags => tell_tags(rt, &tile_of(rt.alloc(), bytes)?)?,
+            TileCall::CheckTags => report_tags(rt, &tile_of(rt.alloc(), bytes)?)?,
             TileCall::Advise => {
                 let advice = advise(rt.alloc(), &tile_of(rt.alloc(), bytes)?)?;
                 println!(rt; "{advice:?}")?;
@@ -79,7 +79,7 @@ impl TileCall {
                 let text = dump_text(rt.alloc(), &tile_of(rt.alloc(), bytes)?)?;
                 println!(rt; "{text}")?;
             }
-            TileCall::FaultText => tell_fault(rt, bytes)?,
+            TileCall::FaultText => report_fault(rt, bytes)?,
             TileCall::FaultFromText => match fault_from_text(rt.alloc(), bytes) {
                 Err(FaultTextError::Memory) => return Err(Stop::Refused),
                 answer => println!(rt; "{answer:?}")?,
@@ -107,7 +107,7 @@ fn advice_of(alloc: Global, bytes: &[u8]) -> Result<Vec<Advice>, Stop> {
 }
 
 /// Prints what `read_tile` answers.
-fn tell_tile<R: Print + AllocGlobal>(rt: &R, bytes: &[u8]) -> Result<(), Stop> {
+fn report_tile<R: Print + AllocGlobal>(rt: &R, bytes: &[u8]) -> Result<(), Stop> {
     match read_tile(rt.alloc(), bytes) {
         Err(ReadFault::Memory) => return Err(Stop::Refused),
         Err(ReadFault::Wire(fault)) => println!(rt; "{fault:?}")?,
@@ -117,7 +117,7 @@ fn tell_tile<R: Print + AllocGlobal>(rt: &R, bytes: &[u8]) -> Result<(), Stop> {
 }
 
 /// Prints what `check_tags` answers of the first layer's first feature.
-fn tell_tags<R: Print + AllocGlobal>(rt: &R, tile: &Tile<'_>) -> Result<(), Stop> {
+fn report_tags<R: Print + AllocGlobal>(rt: &R, tile: &Tile<'_>) -> Result<(), Stop> {
     let Some(layer) = tile.layers.first() else {
         return Err(Stop::NoCall);
     };
@@ -130,7 +130,7 @@ fn tell_tags<R: Print + AllocGlobal>(rt: &R, tile: &Tile<'_>) -> Result<(), Stop
 }
 
 /// Prints the text of the tile's first wire fault.
-fn tell_fault<R: Print + AllocGlobal>(rt: &R, bytes: &[u8]) -> Result<(), Stop> {
+fn report_fault<R: Print + AllocGlobal>(rt: &R, bytes: &[u8]) -> Result<(), Stop> {
     let Some(fault) = wire_fault(bytes) else {
         return Err(Stop::NoCall);
     };

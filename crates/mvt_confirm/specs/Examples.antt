@@ -1,6 +1,6 @@
 -- Rings with known answers.
 use Rattle.std.specs.Prelude.{List, [], ◌∷◌}
-use Rattle.mvt_plane.specs.Examples.{at}
+use Rattle.mvt_plane.specs.Geometry.Examples.{at}
 use Rattle.mvt_plane.specs.Position.{Position}
 
 -- a square that is inside the frame

@@ -1,6 +1,6 @@
 -- The features of the tile that bytes are, and the rings that they have.
 use Rattle.std.specs.Prelude.{ℕ, List}
-use Rattle.mvt_plane.specs.Geometry.{HasRings}
+use Rattle.mvt_plane.specs.FeatureGeometry.{HasRings}
 use Rattle.mvt_plane.specs.Position.{Position}
 use Rattle.mvt_wire.specs.Rules.{IsFeatureOf}
 use Rattle.mvt_wire.specs.Tile.{FeatureRecord, LayerRecord, TileRecord, IsTile}

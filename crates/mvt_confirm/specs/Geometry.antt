@@ -1,4 +1,4 @@
--- The faults of the geometry of one feature, as a judge looks for them (Mapbox Vector Tile Specification 2.1, section
+-- The faults of the geometry of one feature, as a judge searches for them (Mapbox Vector Tile Specification 2.1, section
 -- 4.3). That they are the same as those of `Shows` is a law.
 use Rattle.std.specs.Prelude.{ℕ, ℤ}
 use Rattle.mvt_confirm.specs.Feature.{OfRings}
@@ -11,8 +11,8 @@ use Rattle.mvt_fault.specs.declared.profile.Profile.{Profile}
 use Rattle.mvt_fault.specs.declared.profile.Profile.TheVariants.{Polygon}
 use Rattle.mvt_fault.specs.declared.ring.RingCode.{RingCode}
 use Rattle.mvt_fault.specs.declared.ring.RingEdge.{RingEdge}
-use Rattle.mvt_plane.specs.Geometry.{BreaksCommands}
-use Rattle.mvt_plane.specs.Ring.{BreaksRings}
+use Rattle.mvt_plane.specs.FeatureGeometry.{BreaksCommands}
+use Rattle.mvt_plane.specs.Geometry.Ring.{BreaksRings}
 use Rattle.mvt_wire.specs.Tile.{FeatureRecord}
 
 -- the feature has this fault of its geometry, which names it by its ordinals
@@ -31,6 +31,6 @@ pub data IsFaultOfGeometryBy (profile : Profile) (feature_record : FeatureRecord
   in_polygon : (polygon vertex other : ℕ) → OfRings feature_record (λ rings. IsVertexInPolygonBy profile rings polygon vertex other)
       → IsFaultOfGeometryBy profile feature_record layer feature (InPolygon layer feature polygon vertex other)
 
--- the same by the profile that looks at each polygon by itself
+-- the same by the profile that checks each polygon by itself
 abbrev pub IsFaultOfGeometry : FeatureRecord → ℕ → ℕ → Fault → Type 0
 IsFaultOfGeometry = IsFaultOfGeometryBy Polygon

@@ -5,12 +5,12 @@ use Rattle.mvt_confirm.specs.Profiles.{IsInPolygonBy, IsKeptApart}
 use Rattle.mvt_fault.specs.declared.profile.Profile.{Profile}
 use Rattle.mvt_fault.specs.declared.profile.Profile.TheVariants.{Polygon}
 use Rattle.mvt_fault.specs.declared.ring.RingEdge.{RingEdge}
-use Rattle.mvt_plane.specs.Meeting.{EdgeNumber, ComesBefore, MeetsWrongly}
-use Rattle.mvt_plane.specs.Nesting.{IsOutside, IsInHole}
-use Rattle.mvt_plane.specs.Polygon.{PolygonRings, IsPolygon, IsRingOf}
+use Rattle.mvt_plane.specs.Geometry.Meeting.{EdgeNumber, ComesBefore, MeetsWrongly}
+use Rattle.mvt_plane.specs.Geometry.Nesting.{IsOutside, IsInHole}
+use Rattle.mvt_plane.specs.Geometry.Polygon.{PolygonRings, IsPolygon, IsRingOf}
 use Rattle.mvt_plane.specs.Position.{Position}
-use Rattle.mvt_plane.specs.RationalPoint.{RationalPoint, IsBounded}
-use Rattle.mvt_plane.specs.Ring.{ArePolygonRings}
+use Rattle.mvt_plane.specs.Geometry.RationalPoint.{RationalPoint, IsBounded}
+use Rattle.mvt_plane.specs.Geometry.Ring.{ArePolygonRings}
 
 -- an edge's numbers
 abbrev pub number_of : RingEdge → EdgeNumber

@@ -8,8 +8,8 @@ use Rattle.mvt_fault.specs.declared.fault.Fault.{Fault}
 use Rattle.mvt_fault.specs.declared.fault.Fault.TheVariants.{Wire, Version, Name, Tag, Command, Ring, Meeting, Outside, HoleInHole, InPolygon}
 use Rattle.mvt_fault.specs.declared.profile.Profile.{Profile}
 use Rattle.mvt_fault.specs.declared.profile.Profile.TheVariants.{Polygon}
-use Rattle.mvt_plane.specs.Geometry.{BreaksCommands}
-use Rattle.mvt_plane.specs.Ring.{BreaksRings}
+use Rattle.mvt_plane.specs.FeatureGeometry.{BreaksCommands}
+use Rattle.mvt_plane.specs.Geometry.Ring.{BreaksRings}
 use Rattle.mvt_wire.specs.Field.{cause_at}
 use Rattle.mvt_wire.specs.Rules.{OtherVersion, SameName}
 use Rattle.mvt_wire.specs.Tile.{FeatureRecord, LayerRecord, TileRecord, IsTile}
@@ -43,6 +43,6 @@ ShowsBy _ bytes (HoleInHole layer feature polygon ring vertex other) =
 ShowsBy profile bytes (InPolygon layer feature polygon vertex other) =
     OfFeature bytes layer feature (λ layer_record feature_record. OfRings feature_record (λ rings. IsVertexInPolygonBy profile rings polygon vertex other))
 
--- the same by the profile that looks at each polygon by itself
+-- the same by the profile that checks each polygon by itself
 abbrev pub Shows : List ℕ → Fault → Type 0
 Shows = ShowsBy Polygon

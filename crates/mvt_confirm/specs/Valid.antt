@@ -5,13 +5,13 @@ use Rattle.mvt_fault.specs.TrueFaults.{TagsBreak}
 use Rattle.mvt_fault.specs.declared.profile.Profile.{Profile}
 use Rattle.mvt_fault.specs.declared.profile.Profile.TheVariants.{Polygon}
 use Rattle.mvt_fault.specs.declared.tag.TagCode.{TagCode}
-use Rattle.mvt_plane.specs.Geometry.{HasFigure, HasRings}
-use Rattle.mvt_plane.specs.Meeting.{EdgeNumber, MeetsWrongly}
-use Rattle.mvt_plane.specs.Nesting.{IsOutside, IsInHole}
-use Rattle.mvt_plane.specs.Polygon.{PolygonRings, IsPolygon, IsRingOf}
+use Rattle.mvt_plane.specs.FeatureGeometry.{HasFigure, HasRings}
+use Rattle.mvt_plane.specs.Geometry.Meeting.{EdgeNumber, MeetsWrongly}
+use Rattle.mvt_plane.specs.Geometry.Nesting.{IsOutside, IsInHole}
+use Rattle.mvt_plane.specs.Geometry.Polygon.{PolygonRings, IsPolygon, IsRingOf}
 use Rattle.mvt_plane.specs.Position.{Position}
-use Rattle.mvt_plane.specs.RationalPoint.{RationalPoint}
-use Rattle.mvt_plane.specs.Ring.{ArePolygonRings}
+use Rattle.mvt_plane.specs.Geometry.RationalPoint.{RationalPoint}
+use Rattle.mvt_plane.specs.Geometry.Ring.{ArePolygonRings}
 use Rattle.mvt_wire.specs.Rules.{OtherVersion, SameName, IsFeatureOf}
 use Rattle.mvt_wire.specs.Tile.{FeatureRecord, LayerRecord, TileRecord, IsTile}
 
@@ -60,7 +60,7 @@ pub record ValidBy (profile : Profile) (bytes : List ℕ) : Type 0 where
   pub is : IsTile bytes tile
   pub valid : IsValidTileBy profile tile
 
--- The same by the profile that looks at each polygon by itself
+-- The same by the profile that checks each polygon by itself
 
 abbrev pub IsValidPolygon : List (List Position) → PolygonRings → Type 0
 IsValidPolygon = IsValidPolygonBy Polygon

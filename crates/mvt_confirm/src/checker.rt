@@ -1,10 +1,11 @@
-//! Whether a fault is true of the bytes of a tile (Mapbox Vector Tile Specification 2.1, section 4).
+//! Whether a fault is true of the bytes of a tile (Mapbox Vector Tile Specification 2.1, section
+//! 4).
 
 ghost use Rattle.std.specs.Prelude.{◌↔◌, IsTrue};
-ghost use Rattle.mvt_confirm.specs.HoleFault.{IsOfHole};
+ghost use Rattle.mvt_confirm.specs.Calls.HoleFault.{IsOfHole};
 ghost use Rattle.mvt_confirm.specs.Shows.{Shows, ShowsBy};
 ghost use Rattle.mvt_confirm.specs.Valid.{Valid, ValidBy};
-ghost use Rattle.mvt_fault.specs.Place.{IsOfPolygon};
+ghost use Rattle.mvt_fault.specs.Calls.Place.{IsOfPolygon};
 ghost use Rattle.mvt_fault.specs.declared.profile.Profile.{Profile};
 ghost use Rattle.mvt_wire.specs.Tile.{TileRecord, IsTile};
 
@@ -22,7 +23,8 @@ use crate::tile::is_tile;
 use crate::wire_fault::has_wire_fault;
 use mvt_fault::{Fault, Profile};
 
-/// Whether the fault is true of the bytes of a tile, by the profile that looks at each polygon by itself.
+/// Whether the fault is true of the bytes of a tile, by the profile that checks each polygon by
+/// itself.
 pub fn confirm(bytes: &[u8], fault: &Fault) -> bool
     ensures shown { IsTrue result ↔ Shows bytes.now fault.now }
     ensures invalid { IsTrue result → ¬ Valid bytes.now }
@@ -30,10 +32,11 @@ pub fn confirm(bytes: &[u8], fault: &Fault) -> bool
     confirm_with(Profile::Polygon, bytes, fault)
 }
 
-/// Whether the fault is true of the bytes of a tile, by the profile. On a fault that isn't, however it was made up,
-/// the answer is false: where an ordinal doesn't exist, where the edges of a meeting are out of order, or where its
-/// point is out of the range of `Hpoint`. A wire fault is true only where each message around its scope is whole;
-/// any other fault only where the bytes have no wire fault.
+/// Whether the fault is true of the bytes of a tile, by the profile. On a fault that isn't, however
+/// it was made up, the answer is false: where an ordinal doesn't exist, where the edges of a
+/// meeting are out of order, or where its point is out of the range of `Hpoint`. A wire fault is
+/// true only where each message around its scope is whole; any other fault only where the bytes
+/// have no wire fault.
 ///
 /// It takes no memory, keeps no list, and walks the bytes a constant number of times.
 pub fn confirm_with(profile: Profile, bytes: &[u8], fault: &Fault) -> bool
@@ -53,7 +56,8 @@ pub fn confirm_with(profile: Profile, bytes: &[u8], fault: &Fault) -> bool
 
 /// Whether the fault is true of bytes that are a tile, which have no wire fault.
 fn has_fault_of_tile(profile: Profile, bytes: &[u8], fault: &Fault) -> bool
-    ensures { (tile : TileRecord) → IsTile bytes.now tile → (IsTrue result ↔ ShowsBy profile bytes.now fault.now) }
+    ensures { (tile : TileRecord) → IsTile bytes.now tile
+        → (IsTrue result ↔ ShowsBy profile bytes.now fault.now) }
 {
     match *fault {
         Fault::Wire { .. } => false,
@@ -86,7 +90,8 @@ fn has_fault_of_tile(profile: Profile, bytes: &[u8], fault: &Fault) -> bool
 
 /// Whether the fault is one of a polygon, and true of bytes that are a tile.
 fn has_fault_of_polygon(profile: Profile, bytes: &[u8], fault: &Fault) -> bool
-    ensures { (tile : TileRecord) → IsTile bytes.now tile → (IsTrue result ↔ IsOfPolygon fault.now × ShowsBy profile bytes.now fault.now) }
+    ensures { (tile : TileRecord) → IsTile bytes.now tile
+        → (IsTrue result ↔ IsOfPolygon fault.now × ShowsBy profile bytes.now fault.now) }
 {
     match *fault {
         Fault::Meeting {
@@ -119,10 +124,11 @@ fn has_fault_of_polygon(profile: Profile, bytes: &[u8], fault: &Fault) -> bool
     }
 }
 
-/// Whether the fault is one of a hole of a polygon, and true of bytes that are a tile. It is the same by every
-/// profile.
+/// Whether the fault is one of a hole of a polygon, and true of bytes that are a tile. It is the
+/// same by every profile.
 fn has_fault_of_hole(bytes: &[u8], fault: &Fault) -> bool
-    ensures { (profile : Profile) (tile : TileRecord) → IsTile bytes.now tile → (IsTrue result ↔ IsOfHole fault.now × ShowsBy profile bytes.now fault.now) }
+    ensures { (profile : Profile) (tile : TileRecord) → IsTile bytes.now tile
+        → (IsTrue result ↔ IsOfHole fault.now × ShowsBy profile bytes.now fault.now) }
 {
     match *fault {
         Fault::Outside {

@@ -1,14 +1,14 @@
 ghost use Rattle.std.specs.Prelude.{◌≡◌, ◌++◌, List, [], ◌∷◌};
-ghost use Rattle.mvt_confirm.specs.EdgeTests.{IsParityOf};
+ghost use Rattle.mvt_confirm.specs.Calls.EdgeTests.{IsParityOf};
 ghost use Rattle.mvt_plane.specs.Position.{Position};
-ghost use Rattle.mvt_plane.specs.declared.edge.Edge.{Edge};
+ghost use Rattle.mvt_plane.specs.declared.geometry.edge.Edge.{Edge};
 
 use crate::edge_tests::passes_over;
 use mvt_plane::Point;
 
-/// The parity of the edges that pass over a position, of those that were met one behind another. A position
-/// is inside a ring where it is odd for all edges of the ring (Mapbox Vector Tile Specification 2.1, section
-/// 4.3.4.4).
+/// The parity of the edges that pass over a position, of those that were met one after another. A
+/// position is inside a ring where it is odd for all edges of the ring (Mapbox Vector Tile
+/// Specification 2.1, section 4.3.4.4).
 #[derive(Clone, Copy)]
 pub(crate) struct Crossings {
     is_odd: bool,
@@ -31,7 +31,8 @@ impl Crossings {
 
     /// Meets the edge from `a` to `b`.
     pub fn pass(&mut self, position: Point, a: Point, b: Point)
-        ensures { (passed : List Edge) → IsParityOf self.old position passed → IsParityOf self.new position (passed ++ (record { a = a; b = b } ∷ [])) }
+        ensures { (passed : List Edge) → IsParityOf self.old position passed
+            → IsParityOf self.new position (passed ++ (record { a = a; b = b } ∷ [])) }
     {
         self.is_odd ^= passes_over(position, a, b);
     }

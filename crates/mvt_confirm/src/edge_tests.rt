@@ -1,14 +1,14 @@
-//! Tests of one or two edges of a feature's rings (Mapbox Vector Tile Specification 2.1, section 4.3.4.4).
-//! They take edges as they come from a walk over vertices, and want no list of them.
+//! Tests of one or two edges of a feature's rings (Mapbox Vector Tile Specification 2.1, section
+//! 4.3.4.4). They take edges as they come from a walk over vertices, and want no list of them.
 
 ghost use Rattle.std.specs.Prelude.{◌≡◌, ◌↔◌, IsTrue, List, ◌*ℤ◌};
-ghost use Rattle.mvt_confirm.specs.EdgeTests.{AreEdgesOf, IsApartBehind};
+ghost use Rattle.mvt_confirm.specs.Calls.EdgeTests.{AreEdgesOf, IsApartAfter};
 ghost use Rattle.mvt_confirm.specs.PolygonFault.{number_of};
-ghost use Rattle.mvt_plane.specs.Inside.{PassesOver};
-ghost use Rattle.mvt_plane.specs.Meeting.{ComesBefore, MeetsWrongly};
+ghost use Rattle.mvt_plane.specs.Geometry.Inside.{PassesOver};
+ghost use Rattle.mvt_plane.specs.Geometry.Meeting.{ComesBefore, MeetsWrongly};
 ghost use Rattle.mvt_plane.specs.Position.{Position, IsCoordinate};
-ghost use Rattle.mvt_plane.specs.RationalPoint.{IsAt, IsBounded, LiesOn};
-ghost use Rattle.mvt_plane.specs.Ring.{next_round};
+ghost use Rattle.mvt_plane.specs.Geometry.RationalPoint.{IsAt, IsBounded, LiesOn};
+ghost use Rattle.mvt_plane.specs.Geometry.Ring.{next_round};
 
 use mvt_fault::RingEdge;
 use mvt_plane::{Edge, Hpoint, Point, on_edge, orient};
@@ -22,19 +22,19 @@ pub(crate) struct NumberedEdge {
     pub edge: Edge,
 }
 
-/// Whether the edge from `a` to `b` passes over the position: whether it goes past the position's x and has
-/// a greater y there. A negative orientation says so of an edge that goes to the right, and a positive one of
-/// an edge that goes to the left.
+/// Whether the edge from `a` to `b` passes over the position: whether it goes past the position's x
+/// and has a greater y there. A negative orientation says so of an edge that goes to the right, and
+/// a positive one of an edge that goes to the left.
 pub(crate) fn passes_over(position: Point, a: Point, b: Point) -> bool
     ensures { IsTrue result ↔ PassesOver position (record { a = a; b = b }) }
 {
-    let begins_behind = a.x() <= position.x();
-    let ends_behind = b.x() <= position.x();
-    if begins_behind == ends_behind {
+    let begins_after = a.x() <= position.x();
+    let ends_after = b.x() <= position.x();
+    if begins_after == ends_after {
         return false;
     }
     let turn = orient(a, b, position);
-    if begins_behind { turn < 0 } else { turn > 0 }
+    if begins_after { turn < 0 } else { turn > 0 }
 }
 
 /// Whether two edges are in order: by their rings, and in one ring by their own ordinals.
@@ -44,9 +44,9 @@ pub(crate) fn comes_before(first: RingEdge, second: RingEdge) -> bool
     first.ring < second.ring || (first.ring == second.ring && first.edge < second.edge)
 }
 
-/// Whether two edges of a feature meet wrongly at the rational point (x / w, y / w), whose numbers are in the
-/// range of `Hpoint`, and are named in order. The count is that of the vertices of their ring, if they are in
-/// one.
+/// Whether two edges of a feature meet wrongly at the rational point (x / w, y / w), whose numbers
+/// are in the range of `Hpoint`, and are named in order. The count is that of the vertices of their
+/// ring, if they are in one.
 pub(crate) fn meets_in_order(
     first: &NumberedEdge,
     second: &NumberedEdge,
@@ -55,10 +55,12 @@ pub(crate) fn meets_in_order(
     y: i128,
     w: i128,
 ) -> bool
-    ensures { (rings : List (List Position)) → AreEdgesOf rings first.now second.now vertex_count → IsTrue result
+    ensures { (rings : List (List Position)) → AreEdgesOf rings first.now second.now vertex_count
+        → IsTrue result
         ↔ (ComesBefore (number_of first.now.number) (number_of second.now.number)
         × IsBounded (record { x = x; y = y; w = w })
-        × MeetsWrongly rings (number_of first.now.number) (number_of second.now.number) (record { x = x; y = y; w = w })) }
+        × MeetsWrongly rings (number_of first.now.number) (number_of second.now.number)
+        (record { x = x; y = y; w = w })) }
 {
     if !comes_before(first.number, second.number) {
         return false;
@@ -69,15 +71,17 @@ pub(crate) fn meets_in_order(
     }
 }
 
-/// Whether two different edges of a feature have the rational point in common, and it isn't the vertex that
-/// they share as neighbours in a ring. The count is that of the vertices of their ring, if they are in one.
+/// Whether two different edges of a feature have the rational point in common, and it isn't the
+/// vertex that they share as neighbours in a ring. The count is that of the vertices of their ring,
+/// if they are in one.
 pub(crate) fn meets_at(
     first: &NumberedEdge,
     second: &NumberedEdge,
     vertex_count: usize,
     point: &Hpoint,
 ) -> bool
-    ensures { (rings : List (List Position)) → AreEdgesOf rings first.now second.now vertex_count → IsTrue result
+    ensures { (rings : List (List Position)) → AreEdgesOf rings first.now second.now vertex_count
+        → IsTrue result
         ↔ MeetsWrongly rings (number_of first.now.number) (number_of second.now.number) point.now }
 {
     if first.number == second.number {
@@ -96,29 +100,30 @@ fn lies_on_both(point: &Hpoint, first: Edge, second: Edge) -> bool
     on_edge(point, first.a, first.b) && on_edge(point, second.a, second.b)
 }
 
-/// Whether the rational point isn't a vertex that the two edges share as neighbours in their ring of so many
-/// vertices.
+/// Whether the rational point isn't a vertex that the two edges share as neighbours in their ring
+/// of so many vertices.
 fn is_apart_from_shared(
     first: &NumberedEdge,
     second: &NumberedEdge,
     vertex_count: usize,
     point: &Hpoint,
 ) -> bool
-    ensures { IsTrue result ↔ (IsApartBehind first.now second.now vertex_count point.now × IsApartBehind second.now first.now vertex_count point.now) }
+    ensures { IsTrue result ↔ (IsApartAfter first.now second.now vertex_count point.now
+        × IsApartAfter second.now first.now vertex_count point.now) }
 {
-    is_apart_behind(first, second, vertex_count, point)
-        && is_apart_behind(second, first, vertex_count, point)
+    is_apart_after(first, second, vertex_count, point)
+        && is_apart_after(second, first, vertex_count, point)
 }
 
-/// Whether the second edge doesn't follow the first in their ring of so many vertices, or the rational point
-/// isn't the vertex between them.
-fn is_apart_behind(
+/// Whether the second edge doesn't follow the first in their ring of so many vertices, or the
+/// rational point isn't the vertex between them.
+fn is_apart_after(
     first: &NumberedEdge,
     second: &NumberedEdge,
     vertex_count: usize,
     point: &Hpoint,
 ) -> bool
-    ensures { IsTrue result ↔ IsApartBehind first.now second.now vertex_count point.now }
+    ensures { IsTrue result ↔ IsApartAfter first.now second.now vertex_count point.now }
 {
     if second.number.ring == first.number.ring
         && is_next_round(vertex_count, first.number.edge, second.number.edge)
@@ -128,8 +133,8 @@ fn is_apart_behind(
     true
 }
 
-/// Whether a vertex comes behind another in a ring of so many vertices, going round: behind the last comes
-/// vertex 0. The numbers may be any.
+/// Whether a vertex comes after another in a ring of so many vertices, going round: after the last
+/// comes vertex 0. The numbers may be any.
 pub(crate) fn is_next_round(vertex_count: usize, number: usize, next: usize) -> bool
     ensures { IsTrue result ↔ (next ≡ next_round vertex_count number) }
 {

@@ -1,10 +1,11 @@
-//! Where the parameters of geometry commands lead (Mapbox Vector Tile Specification 2.1, section 4.3.2).
+//! Where the parameters of geometry commands lead (Mapbox Vector Tile Specification 2.1, section
+//! 4.3.2).
 
 ghost use Rattle.std.specs.Prelude.{◌≡◌, ◌≢◌, IfErr, IfOk, Some, ◌+ℤ◌, ◌-ℤ◌};
-ghost use Rattle.mvt_confirm.specs.Commands.{IsNoMove};
-ghost use Rattle.mvt_plane.specs.CommandFault.{greatest_parameter};
-ghost use Rattle.mvt_plane.specs.Drawing.{IsMove, unzigzag};
-ghost use Rattle.mvt_plane.specs.Figure.{IsStep, zigzag};
+ghost use Rattle.mvt_confirm.specs.Calls.Commands.{IsNoMove};
+ghost use Rattle.mvt_plane.specs.Commands.CommandFault.{greatest_parameter};
+ghost use Rattle.mvt_plane.specs.Commands.Drawing.{IsMove, unzigzag};
+ghost use Rattle.mvt_plane.specs.Commands.Figure.{IsStep, zigzag};
 ghost use Rattle.mvt_plane.specs.Position.{Position};
 
 use mvt_fault::CommandCode;
@@ -19,7 +20,8 @@ const GREATEST_PARAMETER: u32 = 4294967295;
 /// Errors: `GreatestParameter`, or `OutOfBounds` where that isn't from -2^30 to 2^30.
 pub(crate) fn moved_x(from: Point, parameter: u32) -> Result<Point, CommandCode>
     ensures allowed { IfOk result (λ _. IsMove from.x parameter) }
-    ensures there { IfOk result (λ to. to ≡ record { x = from.x +ℤ unzigzag parameter; y = from.y }) }
+    ensures there { IfOk result (λ to. to
+        ≡ record { x = from.x +ℤ unzigzag parameter; y = from.y }) }
     ensures fault { IfErr result (IsNoMove from.x parameter) }
 {
     let x = moved(from.x(), parameter)?;
@@ -31,7 +33,8 @@ pub(crate) fn moved_x(from: Point, parameter: u32) -> Result<Point, CommandCode>
 /// Errors: `GreatestParameter`, or `OutOfBounds` where that isn't from -2^30 to 2^30.
 pub(crate) fn moved_y(from: Point, parameter: u32) -> Result<Point, CommandCode>
     ensures allowed { IfOk result (λ _. IsMove from.y parameter) }
-    ensures there { IfOk result (λ to. to ≡ record { x = from.x; y = from.y +ℤ unzigzag parameter }) }
+    ensures there { IfOk result (λ to. to
+        ≡ record { x = from.x; y = from.y +ℤ unzigzag parameter }) }
     ensures fault { IfErr result (IsNoMove from.y parameter) }
 {
     let y = moved(from.y(), parameter)?;
@@ -40,7 +43,8 @@ pub(crate) fn moved_y(from: Point, parameter: u32) -> Result<Point, CommandCode>
 
 /// The position to which the two parameters of a step lead; None where one of them isn't allowed.
 pub(crate) fn moved_by(from: Point, x: u32, y: u32) -> Option<Point>
-    ensures { (to : Position) → IsStep from to → x ≡ zigzag (to.x -ℤ from.x) → y ≡ zigzag (to.y -ℤ from.y) → result ≡ Some to }
+    ensures { (to : Position) → IsStep from to → x ≡ zigzag (to.x -ℤ from.x)
+        → y ≡ zigzag (to.y -ℤ from.y) → result ≡ Some to }
 {
     let beside = moved_x(from, x).ok()?;
     moved_y(beside, y).ok()

@@ -1,30 +1,31 @@
 //! Holes that aren't where they should be (Mapbox Vector Tile Specification 2.1, section 4.3.4.4).
 
 ghost use Rattle.std.specs.Prelude.{◌≡◌, ◌↔◌, IsTrue, List, slice_get, Some, IfNone, IfSome};
-ghost use Rattle.mvt_confirm.specs.FeatureBytes.{DrawsRings};
+ghost use Rattle.mvt_confirm.specs.Calls.FeatureBytes.{DrawsRings};
 ghost use Rattle.mvt_confirm.specs.PolygonFault.{IsVertexInHole, IsVertexOutside};
-ghost use Rattle.mvt_plane.specs.Inside.{IsInside};
-ghost use Rattle.mvt_plane.specs.Nesting.{IsVertexOf};
-ghost use Rattle.mvt_plane.specs.Polygon.{PolygonRings, IsHoleOf, IsPolygon};
+ghost use Rattle.mvt_plane.specs.Geometry.Inside.{IsInside};
+ghost use Rattle.mvt_plane.specs.Geometry.Nesting.{IsVertexOf};
+ghost use Rattle.mvt_plane.specs.Geometry.Polygon.{PolygonRings, IsHoleOf, IsPolygon};
 ghost use Rattle.mvt_plane.specs.Position.{Position};
-ghost use Rattle.mvt_plane.specs.Ring.{ArePolygonRings};
+ghost use Rattle.mvt_plane.specs.Geometry.Ring.{ArePolygonRings};
 
 use crate::feature_bytes::FeatureBytes;
 use crate::polygons::{are_polygon_rings, place_of_ring};
 use crate::ring_edges::{edge_at, edges_of_ring, odd_number_over};
 use mvt_plane::Point;
 
-/// Whether the vertex with this ordinal, of the ring with that one, is one of a hole of this polygon and isn't
-/// inside its exterior, of a feature that draws rings.
+/// Whether the vertex with this ordinal, of the ring with that one, is one of a hole of this
+/// polygon and isn't inside its exterior, of a feature that draws rings.
 pub(crate) fn is_vertex_outside(
     feature: &FeatureBytes,
     polygon: usize,
     ring: usize,
     vertex: usize,
 ) -> bool
-    ensures { (rings : List (List Position)) → DrawsRings feature.now rings → (IsTrue result ↔ IsVertexOutside rings polygon ring vertex) }
+    ensures { (rings : List (List Position)) → DrawsRings feature.now rings
+        → (IsTrue result ↔ IsVertexOutside rings polygon ring vertex) }
 {
-    if !are_polygon_rings(feature.corners()) {
+    if !are_polygon_rings(feature.vertices()) {
         return false;
     }
     let Some(exterior) = exterior_round(feature, polygon, ring) else {
@@ -36,8 +37,9 @@ pub(crate) fn is_vertex_outside(
     !is_inside(feature, position, exterior)
 }
 
-/// Whether the vertex with this ordinal, of the ring with that one, is one of a hole of this polygon and inside
-/// another hole of it, which has this other ordinal, of a feature that draws rings.
+/// Whether the vertex with this ordinal, of the ring with that one, is one of a hole of this
+/// polygon and inside another hole of it, which has this other ordinal, of a feature that draws
+/// rings.
 pub(crate) fn is_vertex_in_hole(
     feature: &FeatureBytes,
     polygon: usize,
@@ -45,9 +47,10 @@ pub(crate) fn is_vertex_in_hole(
     vertex: usize,
     other: usize,
 ) -> bool
-    ensures { (rings : List (List Position)) → DrawsRings feature.now rings → (IsTrue result ↔ IsVertexInHole rings polygon ring vertex other) }
+    ensures { (rings : List (List Position)) → DrawsRings feature.now rings
+        → (IsTrue result ↔ IsVertexInHole rings polygon ring vertex other) }
 {
-    if ring == other || !are_polygon_rings(feature.corners()) {
+    if ring == other || !are_polygon_rings(feature.vertices()) {
         return false;
     }
     if !is_hole(feature, polygon, ring) || !is_hole(feature, polygon, other) {
@@ -59,23 +62,29 @@ pub(crate) fn is_vertex_in_hole(
     }
 }
 
-/// Whether the ring with this ordinal is a hole of this polygon, of rings that have no fault of their own.
+/// Whether the ring with this ordinal is a hole of this polygon, of rings that have no fault of
+/// their own.
 fn is_hole(feature: &FeatureBytes, polygon: usize, ring: usize) -> bool
-    ensures { (rings : List (List Position)) → DrawsRings feature.now rings → ArePolygonRings rings →
-        (IsTrue result ↔ ((polygon_rings : PolygonRings) × IsPolygon rings polygon polygon_rings × IsHoleOf polygon_rings ring)) }
+    ensures { (rings : List (List Position)) → DrawsRings feature.now rings
+        → ArePolygonRings rings →
+        (IsTrue result ↔ ((polygon_rings : PolygonRings) × IsPolygon rings polygon polygon_rings
+        × IsHoleOf polygon_rings ring)) }
 {
     exterior_round(feature, polygon, ring).is_some()
 }
 
-/// The ordinal of the polygon's exterior, if the ring with this ordinal is one of its holes, of rings that have
-/// no fault of their own.
+/// The ordinal of the polygon's exterior, if the ring with this ordinal is one of its holes, of
+/// rings that have no fault of their own.
 fn exterior_round(feature: &FeatureBytes, polygon: usize, ring: usize) -> Option<usize>
-    ensures there { IfSome result (λ exterior. (rings : List (List Position)) → DrawsRings feature.now rings → ArePolygonRings rings
-        → (polygon_rings : PolygonRings) × IsPolygon rings polygon polygon_rings × IsHoleOf polygon_rings ring × (polygon_rings.exterior ≡ exterior)) }
-    ensures none { IfNone result ((rings : List (List Position)) (polygon_rings : PolygonRings) → DrawsRings feature.now rings → ArePolygonRings rings
+    ensures there { IfSome result (λ exterior. (rings : List (List Position))
+        → DrawsRings feature.now rings → ArePolygonRings rings
+        → (polygon_rings : PolygonRings) × IsPolygon rings polygon polygon_rings
+        × IsHoleOf polygon_rings ring × (polygon_rings.exterior ≡ exterior)) }
+    ensures none { IfNone result ((rings : List (List Position)) (polygon_rings : PolygonRings)
+        → DrawsRings feature.now rings → ArePolygonRings rings
         → IsPolygon rings polygon polygon_rings → ¬ IsHoleOf polygon_rings ring) }
 {
-    let place = place_of_ring(feature.corners(), ring)?;
+    let place = place_of_ring(feature.vertices(), ring)?;
     if place.polygon == polygon && place.exterior != ring {
         Some(place.exterior)
     } else {
@@ -85,19 +94,22 @@ fn exterior_round(feature: &FeatureBytes, polygon: usize, ring: usize) -> Option
 
 /// The vertex with this ordinal, of the ring with that one; None where there is no such vertex.
 fn vertex_of(feature: &FeatureBytes, ring: usize, vertex: usize) -> Option<Point>
-    ensures there { IfSome result (λ position. (rings : List (List Position)) → DrawsRings feature.now rings → IsVertexOf rings ring vertex position) }
-    ensures none { IfNone result ((rings : List (List Position)) (position : Position) → DrawsRings feature.now rings → ¬ IsVertexOf rings ring vertex position) }
+    ensures there { IfSome result (λ position. (rings : List (List Position))
+        → DrawsRings feature.now rings → IsVertexOf rings ring vertex position) }
+    ensures none { IfNone result ((rings : List (List Position)) (position : Position)
+        → DrawsRings feature.now rings → ¬ IsVertexOf rings ring vertex position) }
 {
-    let walk = edges_of_ring(feature.corners(), ring)?;
+    let walk = edges_of_ring(feature.vertices(), ring)?;
     Some(edge_at(walk, vertex)?.a)
 }
 
 /// Whether a position is inside the ring with this ordinal.
 fn is_inside(feature: &FeatureBytes, position: Point, ring: usize) -> bool
-    ensures { (rings : List (List Position)) (vertices : List Position) → DrawsRings feature.now rings → slice_get rings ring ≡ Some vertices
+    ensures { (rings : List (List Position)) (vertices : List Position)
+        → DrawsRings feature.now rings → slice_get rings ring ≡ Some vertices
         → (IsTrue result ↔ IsInside position vertices) }
 {
-    match edges_of_ring(feature.corners(), ring) {
+    match edges_of_ring(feature.vertices(), ring) {
         Some(walk) => odd_number_over(position, walk),
         None => false,
     }

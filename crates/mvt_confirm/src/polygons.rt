@@ -1,13 +1,14 @@
-//! The polygons that the rings of a feature are (Mapbox Vector Tile Specification 2.1, section 4.3.4.4).
+//! The polygons that the rings of a feature are (Mapbox Vector Tile Specification 2.1, section
+//! 4.3.4.4).
 
 ghost use Rattle.std.specs.Prelude.{◌↔◌, ◌≤◌, IsTrue, List, length, IfNone, IfSome};
-ghost use Rattle.mvt_confirm.specs.Corners.{RingsLeft};
-ghost use Rattle.mvt_confirm.specs.Polygons.{IsPlaceOf};
+ghost use Rattle.mvt_confirm.specs.Calls.Vertices.{RingsLeft};
+ghost use Rattle.mvt_confirm.specs.Calls.Polygons.{IsPlaceOf};
 ghost use Rattle.mvt_plane.specs.Position.{Position};
-ghost use Rattle.mvt_plane.specs.Ring.{ArePolygonRings};
+ghost use Rattle.mvt_plane.specs.Geometry.Ring.{ArePolygonRings};
 
-use crate::corners::Corners;
 use crate::rings::{Measure, next_ring};
+use crate::vertices::Vertices;
 
 /// Where a ring belongs.
 #[derive(Clone, Copy)]
@@ -19,11 +20,12 @@ pub(crate) struct RingPlace {
 }
 
 /// Whether no ring has a fault of its own: whether the rings are those of polygons.
-pub(crate) fn are_polygon_rings(mut corners: Corners) -> bool
-    ensures { (rings : List (List Position)) → RingsLeft corners.entry rings → (IsTrue result ↔ ArePolygonRings rings) }
+pub(crate) fn are_polygon_rings(mut vertices: Vertices) -> bool
+    ensures { (rings : List (List Position)) → RingsLeft vertices.entry rings
+        → (IsTrue result ↔ ArePolygonRings rings) }
 {
     let mut is_first = true;
-    'rings: while let Some(measure) = next_ring(&mut corners) {
+    'rings: while let Some(measure) = next_ring(&mut vertices) {
         if measure.is_closed || measure.twice_area == 0 {
             return false;
         }
@@ -35,23 +37,25 @@ pub(crate) fn are_polygon_rings(mut corners: Corners) -> bool
     true
 }
 
-/// Where the ring with this ordinal belongs, of rings that have no fault of their own; None where there are
-/// fewer rings.
-pub(crate) fn place_of_ring(mut corners: Corners, ring: usize) -> Option<RingPlace>
-    ensures there { IfSome result (λ place. (rings : List (List Position)) → RingsLeft corners.entry rings → ArePolygonRings rings
+/// Where the ring with this ordinal belongs, of rings that have no fault of their own; None where
+/// there are fewer rings.
+pub(crate) fn place_of_ring(mut vertices: Vertices, ring: usize) -> Option<RingPlace>
+    ensures there { IfSome result (λ place. (rings : List (List Position))
+        → RingsLeft vertices.entry rings → ArePolygonRings rings
         → IsPlaceOf rings ring place) }
-    ensures none { IfNone result ((rings : List (List Position)) → RingsLeft corners.entry rings → ArePolygonRings rings → length rings ≤ ring) }
+    ensures none { IfNone result ((rings : List (List Position)) → RingsLeft vertices.entry rings
+        → ArePolygonRings rings → length rings ≤ ring) }
 {
     // How many exteriors were passed, and the ordinal of the last one of them.
     let mut exteriors = 0;
     let mut last = 0;
     'rings: for number in 0..ring {
-        if next_ring(&mut corners)?.twice_area > 0 {
+        if next_ring(&mut vertices)?.twice_area > 0 {
             exteriors += 1;
             last = number;
         }
     }
-    if next_ring(&mut corners)?.twice_area > 0 {
+    if next_ring(&mut vertices)?.twice_area > 0 {
         return Some(RingPlace {
             polygon: exteriors,
             exterior: ring,

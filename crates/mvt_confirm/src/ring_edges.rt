@@ -1,23 +1,25 @@
-//! The edges of one ring, one after another (Mapbox Vector Tile Specification 2.1, section 4.3.4.4).
+//! The edges of one ring, one after another (Mapbox Vector Tile Specification 2.1, section
+//! 4.3.4.4).
 
 ghost use Rattle.std.specs.Prelude.{◌≡◌, ◌↔◌, ◌<◌, ◌≤◌, IsTrue, IfNone, IfSome, List, [], length, slice_get, Some};
-ghost use Rattle.mvt_confirm.specs.Corners.{RingsLeft};
-ghost use Rattle.mvt_confirm.specs.RingEdges.{EdgeWalk, EdgesLeft, GivesEdge, count_ahead};
-ghost use Rattle.mvt_plane.specs.Inside.{PassesOver, HoldsOfOdd};
+ghost use Rattle.mvt_confirm.specs.Calls.Vertices.{RingsLeft};
+ghost use Rattle.mvt_confirm.specs.Calls.RingEdges.{EdgeWalk, EdgesLeft, GivesEdge, count_ahead};
+ghost use Rattle.mvt_plane.specs.Geometry.Inside.{PassesOver, HoldsOfOdd};
 ghost use Rattle.mvt_plane.specs.Position.{Position};
-ghost use Rattle.mvt_plane.specs.Ring.{edges};
-ghost use Rattle.mvt_plane.specs.declared.edge.Edge.{Edge};
+ghost use Rattle.mvt_plane.specs.Geometry.Ring.{edges};
+ghost use Rattle.mvt_plane.specs.declared.geometry.edge.Edge.{Edge};
 
-use crate::corners::Corners;
 use crate::crossings::Crossings;
 use crate::ring_faults::pass_rings;
+use crate::vertices::Vertices;
 use mvt_plane::{Edge, Point};
 use std::marker::Model;
 
-/// A cursor over the edges of a ring. Each goes from a vertex to the next one, the last to the first vertex.
+/// A cursor over the edges of a ring. Each goes from a vertex to the next one, the last to the
+/// first vertex.
 #[derive(Drop)]
 pub(crate) struct RingEdges<'a> {
-    corners: Corners<'a>,
+    vertices: Vertices<'a>,
     /// The ring's first vertex.
     first: Point,
     /// Where the next edge begins.
@@ -29,21 +31,29 @@ pub(crate) struct RingEdges<'a> {
 impl<'a> Model for RingEdges<'a> {
     ghost Value = { EdgeWalk };
 
-    ghost view = { λ walk. record { corners = walk.corners; first = walk.first; from = walk.from; is_closed = walk.is_closed } };
+    ghost view = { λ walk. record {
+      vertices = walk.vertices;
+      first = walk.first;
+      from = walk.from;
+      is_closed = walk.is_closed;
+    } };
 }
 
 /// The edges of the ring with this ordinal; None where there are fewer rings.
-pub(crate) fn edges_of_ring(mut corners: Corners, ring: usize) -> Option<RingEdges>
-    ensures there { IfSome result (λ walk. (rings : List (List Position)) → RingsLeft corners.entry rings
-        → (vertices : List Position) × (slice_get rings ring ≡ Some vertices) × EdgesLeft walk (edges vertices)) }
-    ensures none { IfNone result ((rings : List (List Position)) → RingsLeft corners.entry rings → length rings ≤ ring) }
+pub(crate) fn edges_of_ring(mut vertices: Vertices, ring: usize) -> Option<RingEdges>
+    ensures there { IfSome result (λ walk. (rings : List (List Position))
+        → RingsLeft vertices.entry rings
+        → (positions : List Position) × (slice_get rings ring ≡ Some positions)
+        × EdgesLeft walk (edges positions)) }
+    ensures none { IfNone result ((rings : List (List Position)) → RingsLeft vertices.entry rings
+        → length rings ≤ ring) }
 {
-    if !pass_rings(&mut corners, ring) {
+    if !pass_rings(&mut vertices, ring) {
         return None;
     }
-    let first = corners.next_corner()?.point;
+    let first = vertices.next_vertex()?.point;
     Some(RingEdges {
-        corners,
+        vertices,
         first,
         from: first,
         is_closed: false,
@@ -58,7 +68,7 @@ impl<'a> RingEdges<'a> {
         if self.is_closed {
             0
         } else {
-            self.corners.vertices_left() as usize + 1
+            self.vertices.vertices_left() as usize + 1
         }
     }
 
@@ -72,11 +82,11 @@ impl<'a> RingEdges<'a> {
             return None;
         }
         let a = self.from;
-        let b = if self.corners.vertices_left() == 0 {
+        let b = if self.vertices.vertices_left() == 0 {
             self.is_closed = true;
             self.first
         } else {
-            self.corners.next_corner()?.point
+            self.vertices.next_vertex()?.point
         };
         self.from = b;
         Some(Edge { a, b })
@@ -85,8 +95,10 @@ impl<'a> RingEdges<'a> {
 
 /// The edge with this ordinal, of those that are left; None where there are fewer.
 pub(crate) fn edge_at(mut walk: RingEdges, edge: usize) -> Option<Edge>
-    ensures there { IfSome result (λ found. (left : List Edge) → EdgesLeft walk.entry left → slice_get left edge ≡ Some found) }
-    ensures none { IfNone result ((left : List Edge) → EdgesLeft walk.entry left → length left ≤ edge) }
+    ensures there { IfSome result (λ found. (left : List Edge) → EdgesLeft walk.entry left
+        → slice_get left edge ≡ Some found) }
+    ensures none { IfNone result ((left : List Edge) → EdgesLeft walk.entry left
+        → length left ≤ edge) }
 {
     'edges: for _ in 0..edge {
         walk.next_edge()?;
@@ -96,7 +108,8 @@ pub(crate) fn edge_at(mut walk: RingEdges, edge: usize) -> Option<Edge>
 
 /// Whether an odd number of the edges that are left pass over a position.
 pub(crate) fn odd_number_over(position: Point, mut walk: RingEdges) -> bool
-    ensures { (left : List Edge) → EdgesLeft walk.entry left → (IsTrue result ↔ HoldsOfOdd (PassesOver position) left) }
+    ensures { (left : List Edge) → EdgesLeft walk.entry left
+        → (IsTrue result ↔ HoldsOfOdd (PassesOver position) left) }
 {
     let mut crossings = Crossings::new();
     'edges: while let Some(edge) = walk.next_edge() {

@@ -1,16 +1,21 @@
 //! The tags of a feature (Mapbox Vector Tile Specification 2.1, sections 4.2 and 4.4).
-ghost use Rattle.std.specs.Prelude.{◌≡◌, ◌↔◌, ℕ, IsTrue, List, [], ◌*◌, ◌<◌, ◌≤◌, length, slice_get, Some, None, IfSome, IfNone};
+ghost use Rattle.std.specs.Prelude.{◌≡◌, ◌↔◌, ℕ, IsTrue, List, ◌*◌, ◌<◌, ◌≤◌, length, slice_get, Some, IfSome, IfNone};
 ghost use Rattle.mvt_fault.specs.TrueFaults.{TagsBreak};
-ghost use Rattle.mvt_wire.specs.Numbers.{NumbersLeft, GivesNumber};
-ghost use Rattle.mvt_wire.specs.Rules.{OddTags, IsKeyAt, IsValueAt, NoSuchKey, NoSuchValue, KeyAgain, IsFeatureOf};
-ghost use Rattle.mvt_wire.specs.Tile.{FeatureRecord, IsFeature, LayerRecord, IsLayer, TileRecord, IsTile};
-ghost use Rattle.mvt_confirm.specs.Stretch.{as_span};
-ghost use Rattle.mvt_confirm.specs.Tags.{HasPassed};
+ghost use Rattle.mvt_wire.specs.Field.{Entry};
+ghost use Rattle.mvt_wire.specs.Rules.{OddTags, IsKeyAt, IsValueAt, KeyAgain};
+ghost use Rattle.mvt_wire.specs.Scope.{Span, IsMessageAt, IsScope, spans_of};
+ghost use Rattle.mvt_wire.specs.Tile.{FeatureRecord, TileRecord, IsTile};
+ghost use Rattle.mvt_wire.specs.declared.scope.Scope.TheVariants.{Layer};
+ghost use Rattle.mvt_confirm.specs.Calls.FeatureBytes.{IsFeatureAt};
+ghost use Rattle.mvt_confirm.specs.Calls.Tags.{HasPassed};
+ghost use Rattle.mvt_confirm.specs.Shows.{OfFeature};
 
-use crate::stretch::{Stretch, payload_of, stretch_of};
+use crate::feature_bytes::{FeatureBytes, feature_of};
+use crate::numbers::next_number;
+use crate::span::part_of_layer;
 use mvt_fault::TagCode;
-use mvt_wire::field_number::{KEYS, TAGS, VALUES};
-use mvt_wire::{Numbers, Scope};
+use mvt_wire::Numbers;
+use mvt_wire::field_number::{KEYS, VALUES};
 
 /// Of bytes that are a tile: there is a feature with this ordinal in the layer with that ordinal,
 /// and its tags are wrong at this index, with this code (section 4.4).
@@ -21,154 +26,126 @@ pub(crate) fn breaks_tags(
     feature: usize,
     index: usize,
 ) -> bool
-    ensures { (tile : TileRecord) → IsTile bytes.now tile → (IsTrue result ↔
-        ((layer_record : LayerRecord) × (feature_record : FeatureRecord) × IsFeatureOf tile layer feature layer_record feature_record
-        × TagsBreak code (length layer_record.keys) (length layer_record.values) feature_record.tags index)) }
+    ensures { (tile : TileRecord) → IsTile bytes.now tile → (IsTrue result
+        ↔ OfFeature bytes.now layer feature (λ layer_record feature_record.
+        TagsBreak code (length layer_record.keys) (length layer_record.values) feature_record.tags
+        index)) }
 {
-    let Some(layer_stretch) = stretch_of(bytes, &Scope::Layer(layer)) else {
-        return false;
-    };
-    let Some(feature_stretch) = stretch_of(bytes, &Scope::Feature(layer, feature)) else {
+    let Some(place) = feature_of(bytes, layer, feature) else {
         return false;
     };
     match code {
-        TagCode::OddLength => end_odd(bytes, feature_stretch, index),
-        TagCode::NoKey => lack_key(bytes, layer_stretch, feature_stretch, index),
-        TagCode::NoValue => lack_value(bytes, layer_stretch, feature_stretch, index),
-        TagCode::Repeated => repeat_key(bytes, feature_stretch, index),
+        TagCode::OddLength => end_odd(&place, index),
+        TagCode::NoKey => is_beyond(bytes, layer, KEYS, key_at(&place, index)),
+        TagCode::NoValue => is_beyond(bytes, layer, VALUES, value_at(&place, index)),
+        TagCode::Repeated => repeat_key(&place, index),
     }
 }
 
-/// The tags of the feature that a stretch holds are of an odd number, which is the index.
-fn end_odd(bytes: &[u8], feature: Stretch, index: usize) -> bool
-    requires forward { feature.from ≤ feature.to }
-    requires within { feature.to ≤ length bytes.now }
-    ensures { (feature_record : FeatureRecord) → IsFeature bytes.now (as_span feature) feature_record → (IsTrue result ↔ OddTags feature_record.tags index) }
+/// The feature's tags are of an odd number, which is the index.
+fn end_odd(feature: &FeatureBytes<'_>, index: usize) -> bool
+    ensures { (feature_record : FeatureRecord) → IsFeatureAt feature.now feature_record
+        → (IsTrue result ↔ OddTags feature_record.tags index) }
 {
-    !is_even(index) && end_at(bytes, feature, index)
+    !is_even(index) && end_at(feature, index)
 }
 
-/// In a list of pairs, the number there is the index of a key, and at or above the number of the
-/// layer's keys.
-fn lack_key(bytes: &[u8], layer: Stretch, feature: Stretch, index: usize) -> bool
-    requires layer_forward { layer.from ≤ layer.to }
-    requires layer_within { layer.to ≤ length bytes.now }
-    requires forward { feature.from ≤ feature.to }
-    requires within { feature.to ≤ length bytes.now }
-    ensures { (layer_record : LayerRecord) (feature_record : FeatureRecord) → IsLayer bytes.now (as_span layer) layer_record →
-        IsFeature bytes.now (as_span feature) feature_record → (IsTrue result ↔ NoSuchKey (length layer_record.keys) feature_record.tags index) }
+/// There is a tag, and it is at or above the number of the payloads that the layer with an ordinal
+/// has of a field number.
+fn is_beyond(bytes: &[u8], layer: usize, field_number: u32, tag: Option<u32>) -> bool
+    ensures { (outer : Span) (entries : List Entry) → IsScope bytes.now (Layer layer) outer
+        → IsMessageAt bytes.now outer entries → (IsTrue result ↔ ((own : ℕ)
+        × (tag ≡ Some own) × (length (spans_of field_number entries) ≤ own))) }
 {
-    match key_at(bytes, feature, index) {
-        Some(key) => payload_of(bytes, layer, KEYS, key as usize).is_none(),
+    match tag {
+        Some(own) => part_of_layer(bytes, layer, field_number, own as usize).is_none(),
         None => false,
     }
 }
 
-/// In a list of pairs, the number there is the index of a value, and at or above the number of the
-/// layer's values.
-fn lack_value(bytes: &[u8], layer: Stretch, feature: Stretch, index: usize) -> bool
-    requires layer_forward { layer.from ≤ layer.to }
-    requires layer_within { layer.to ≤ length bytes.now }
-    requires forward { feature.from ≤ feature.to }
-    requires within { feature.to ≤ length bytes.now }
-    ensures { (layer_record : LayerRecord) (feature_record : FeatureRecord) → IsLayer bytes.now (as_span layer) layer_record →
-        IsFeature bytes.now (as_span feature) feature_record → (IsTrue result ↔ NoSuchValue (length layer_record.values) feature_record.tags index) }
+/// In a list of pairs, the number there is the index of a key, and an earlier pair has the same
+/// key.
+fn repeat_key(feature: &FeatureBytes<'_>, index: usize) -> bool
+    ensures { (feature_record : FeatureRecord) → IsFeatureAt feature.now feature_record
+        → (IsTrue result ↔ KeyAgain feature_record.tags index) }
 {
-    match value_at(bytes, feature, index) {
-        Some(value) => payload_of(bytes, layer, VALUES, value as usize).is_none(),
-        None => false,
-    }
-}
-
-/// In a list of pairs, the number there is the index of a key, and an earlier pair has the same key.
-fn repeat_key(bytes: &[u8], feature: Stretch, index: usize) -> bool
-    requires forward { feature.from ≤ feature.to }
-    requires within { feature.to ≤ length bytes.now }
-    ensures { (feature_record : FeatureRecord) → IsFeature bytes.now (as_span feature) feature_record → (IsTrue result ↔ KeyAgain feature_record.tags index) }
-{
-    match key_at(bytes, feature, index) {
-        Some(key) => occurs_earlier(bytes, feature, key, index),
+    match key_at(feature, index) {
+        Some(key) => occurs_earlier(feature, key, index),
         None => false,
     }
 }
 
 /// The number at a place, if that is the index of a key in a list of pairs.
-fn key_at(bytes: &[u8], feature: Stretch, index: usize) -> Option<u32>
-    requires forward { feature.from ≤ feature.to }
-    requires within { feature.to ≤ length bytes.now }
-    ensures { (feature_record : FeatureRecord) (key : ℕ) → IsFeature bytes.now (as_span feature) feature_record →
+fn key_at(feature: &FeatureBytes<'_>, index: usize) -> Option<u32>
+    ensures { (feature_record : FeatureRecord) (key : ℕ)
+        → IsFeatureAt feature.now feature_record →
         (result ≡ Some key ↔ IsKeyAt feature_record.tags index key) }
 {
     if !is_even(index) {
         return None;
     }
-    tag_of_pairs(bytes, feature, index)
+    tag_of_pairs(feature, index)
 }
 
 /// The number at a place, if that is the index of a value in a list of pairs.
-fn value_at(bytes: &[u8], feature: Stretch, index: usize) -> Option<u32>
-    requires forward { feature.from ≤ feature.to }
-    requires within { feature.to ≤ length bytes.now }
-    ensures { (feature_record : FeatureRecord) (value : ℕ) → IsFeature bytes.now (as_span feature) feature_record →
+fn value_at(feature: &FeatureBytes<'_>, index: usize) -> Option<u32>
+    ensures { (feature_record : FeatureRecord) (value : ℕ)
+        → IsFeatureAt feature.now feature_record →
         (result ≡ Some value ↔ IsValueAt feature_record.tags index value) }
 {
     if is_even(index) {
         return None;
     }
-    tag_of_pairs(bytes, feature, index)
+    tag_of_pairs(feature, index)
 }
 
 /// The number at a place of a list of pairs.
-fn tag_of_pairs(bytes: &[u8], feature: Stretch, index: usize) -> Option<u32>
-    requires forward { feature.from ≤ feature.to }
-    requires within { feature.to ≤ length bytes.now }
-    ensures { (feature_record : FeatureRecord) (number : ℕ) → IsFeature bytes.now (as_span feature) feature_record →
-        (result ≡ Some number ↔ (((pairs : ℕ) × (length feature_record.tags ≡ 2 * pairs)) × (slice_get feature_record.tags index ≡ Some number))) }
+fn tag_of_pairs(feature: &FeatureBytes<'_>, index: usize) -> Option<u32>
+    ensures { (feature_record : FeatureRecord) (number : ℕ)
+        → IsFeatureAt feature.now feature_record →
+        (result ≡ Some number ↔ (((pairs : ℕ) × (length feature_record.tags ≡ 2 * pairs))
+        × (slice_get feature_record.tags index ≡ Some number))) }
 {
-    if !are_pairs(bytes, feature) {
+    if !are_pairs(feature) {
         return None;
     }
-    let mut numbers = tags_from(bytes, feature, index)?;
-    next_tag(&mut numbers)
+    let mut numbers = tags_from(feature, index)?;
+    next_number(&mut numbers)
 }
 
 /// The tags are pairs.
-fn are_pairs(bytes: &[u8], feature: Stretch) -> bool
-    requires forward { feature.from ≤ feature.to }
-    requires within { feature.to ≤ length bytes.now }
-    ensures { (feature_record : FeatureRecord) → IsFeature bytes.now (as_span feature) feature_record →
+fn are_pairs(feature: &FeatureBytes<'_>) -> bool
+    ensures { (feature_record : FeatureRecord) → IsFeatureAt feature.now feature_record →
         (IsTrue result ↔ ((pairs : ℕ) × (length feature_record.tags ≡ 2 * pairs))) }
 {
-    let mut numbers = Numbers::new(bytes, feature.from, feature.to, TAGS);
+    let mut numbers = feature.tags();
     let mut pairs = true;
-    'walk: while let Some(_) = next_tag(&mut numbers) {
+    'walk: while let Some(_) = next_number(&mut numbers) {
         pairs = !pairs;
     }
     pairs
 }
 
 /// There are as many tags as the index says.
-fn end_at(bytes: &[u8], feature: Stretch, index: usize) -> bool
-    requires forward { feature.from ≤ feature.to }
-    requires within { feature.to ≤ length bytes.now }
-    ensures { (feature_record : FeatureRecord) → IsFeature bytes.now (as_span feature) feature_record → (IsTrue result ↔ (length feature_record.tags ≡ index)) }
+fn end_at(feature: &FeatureBytes<'_>, index: usize) -> bool
+    ensures { (feature_record : FeatureRecord) → IsFeatureAt feature.now feature_record
+        → (IsTrue result ↔ (length feature_record.tags ≡ index)) }
 {
-    match tags_from(bytes, feature, index) {
-        Some(mut numbers) => next_tag(&mut numbers).is_none(),
+    match tags_from(feature, index) {
+        Some(mut numbers) => next_number(&mut numbers).is_none(),
         None => false,
     }
 }
 
 /// The number occurs at an even place before the index.
-fn occurs_earlier(bytes: &[u8], feature: Stretch, key: u32, index: usize) -> bool
-    requires forward { feature.from ≤ feature.to }
-    requires within { feature.to ≤ length bytes.now }
-    ensures { (feature_record : FeatureRecord) → IsFeature bytes.now (as_span feature) feature_record →
-        (IsTrue result ↔ ((pair : ℕ) × (2 * pair < index) × (slice_get feature_record.tags (2 * pair) ≡ Some key))) }
+fn occurs_earlier(feature: &FeatureBytes<'_>, key: u32, index: usize) -> bool
+    ensures { (feature_record : FeatureRecord) → IsFeatureAt feature.now feature_record →
+        (IsTrue result ↔ ((pair : ℕ) × (2 * pair < index)
+        × (slice_get feature_record.tags (2 * pair) ≡ Some key))) }
 {
-    let mut numbers = Numbers::new(bytes, feature.from, feature.to, TAGS);
+    let mut numbers = feature.tags();
     'walk: for place in 0..index {
-        let Some(number) = next_tag(&mut numbers) else {
+        let Some(number) = next_number(&mut numbers) else {
             return false;
         };
         if is_key(number, place, key) {
@@ -179,32 +156,21 @@ fn occurs_earlier(bytes: &[u8], feature: Stretch, key: u32, index: usize) -> boo
 }
 
 /// A walk over the tags from the index on, or None where there are fewer.
-fn tags_from(bytes: &[u8], feature: Stretch, index: usize) -> Option<Numbers<'_>>
-    requires forward { feature.from ≤ feature.to }
-    requires within { feature.to ≤ length bytes.now }
-    ensures there { IfSome result (λ numbers. (feature_record : FeatureRecord) → IsFeature bytes.now (as_span feature) feature_record →
+fn tags_from<'a>(feature: &FeatureBytes<'a>, index: usize) -> Option<Numbers<'a>>
+    ensures there { IfSome result (λ numbers. (feature_record : FeatureRecord)
+        → IsFeatureAt feature.now feature_record →
         HasPassed feature_record.tags numbers index) }
-    ensures none { IfNone result ((feature_record : FeatureRecord) → IsFeature bytes.now (as_span feature) feature_record → length feature_record.tags < index) }
+    ensures none { IfNone result ((feature_record : FeatureRecord)
+        → IsFeatureAt feature.now feature_record
+        → length feature_record.tags < index) }
 {
-    let mut numbers = Numbers::new(bytes, feature.from, feature.to, TAGS);
+    let mut numbers = feature.tags();
     'walk: for _ in 0..index {
-        let Some(_) = next_tag(&mut numbers) else {
+        let Some(_) = next_number(&mut numbers) else {
             return None;
         };
     }
     Some(numbers)
-}
-
-/// The next of the tags, or None behind the last.
-fn next_tag(numbers: &mut Numbers<'_>) -> Option<u32>
-    ensures number { IfSome result (GivesNumber numbers.old numbers.new) }
-    ensures none { IfNone result ((left : List ℕ) → NumbersLeft numbers.old left None → left ≡ []) }
-{
-    match numbers.next_number() {
-        Some(Ok(number)) => Some(number),
-        Some(Err(_)) => None,
-        None => None,
-    }
 }
 
 /// A number at a place of a list of pairs is the index of a key, and this one.

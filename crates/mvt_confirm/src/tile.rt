@@ -8,6 +8,8 @@ mod payload;
 mod rule;
 mod schema;
 
+use crate::message_bytes::MessageBytes;
+use crate::span::ByteSpan;
 use crate::tile::parts::layers_keep;
 use crate::tile::schema::keeps_schema;
 use mvt_wire::Message;
@@ -16,5 +18,9 @@ use mvt_wire::Message;
 pub(crate) fn is_tile(bytes: &[u8]) -> bool
     ensures { IsTrue result ↔ ((tile : TileRecord) × IsTile bytes.now tile) }
 {
-    keeps_schema(Message::Tile, bytes, 0, bytes.len()) && layers_keep(bytes)
+    let span = ByteSpan {
+        from: 0,
+        to: bytes.len(),
+    };
+    keeps_schema(Message::Tile, &MessageBytes { bytes, span }) && layers_keep(bytes)
 }

@@ -1,15 +1,17 @@
 //! Whether a wire fault is true of bytes (Mapbox Vector Tile Specification 2.1, section 4).
-ghost use Rattle.std.specs.Prelude.{◌≡◌, ◌≤◌, ◌↔◌, length, take, IsTrue};
+ghost use Rattle.std.specs.Prelude.{◌≡◌, ◌↔◌, IsTrue};
 ghost use Rattle.mvt_wire.specs.Field.{cause_at};
 ghost use Rattle.mvt_wire.specs.Scope.{message_of};
 ghost use Rattle.mvt_wire.specs.WireFault.{WireFault, MessageFault};
+ghost use Rattle.mvt_confirm.specs.Calls.MessageBytes.{front};
 
 mod defect;
 mod end;
 mod field;
 mod packed;
 
-use crate::stretch::{Stretch, stretch_of};
+use crate::message_bytes::MessageBytes;
+use crate::span::span_of_scope;
 use defect::has_defect;
 use end::has_end_fault;
 use field::has_field_fault;
@@ -27,22 +29,20 @@ pub(crate) fn has_wire_fault(
 ) -> bool
     ensures { IsTrue result ↔ WireFault bytes.now scope.now (cause_at code at field) }
 {
-    let Some(stretch) = stretch_of(bytes, scope) else {
+    let Some(span) = span_of_scope(bytes, scope) else {
         return false;
     };
     let cause = WireCause { code, at, field };
-    has_message_fault(bytes, stretch, message_in(scope), cause)
+    has_message_fault(&MessageBytes { bytes, span }, message_in(scope), cause)
 }
 
-/// Whether the message in a stretch has a fault.
-fn has_message_fault(bytes: &[u8], stretch: Stretch, message: Message, cause: WireCause) -> bool
-    requires forward { stretch.from ≤ stretch.to }
-    requires within { stretch.to ≤ length bytes.now }
-    ensures { IsTrue result ↔ MessageFault message (take stretch.to bytes.now) stretch.from cause }
+/// Whether the message in a span has a fault.
+fn has_message_fault(place: &MessageBytes<'_>, message: Message, cause: WireCause) -> bool
+    ensures { IsTrue result ↔ MessageFault message (front place.now) place.now.span.from cause }
 {
-    has_defect(bytes, stretch, cause)
-        || has_field_fault(bytes, stretch, message, cause)
-        || has_end_fault(bytes, stretch, message, cause)
+    has_defect(place, cause)
+        || has_field_fault(place, message, cause)
+        || has_end_fault(place, message, cause)
 }
 
 /// Which message a scope is.

@@ -1,12 +1,12 @@
 -- How a reader gets on with the steps of a figure.
 use Rattle.std.proofs.Common.{◌≡◌, ℕ, zero, suc, ◌+◌, List, [], ◌∷◌, ◌++◌, length, drop, get_or, ap, sym, ◌∙◌, subst, refl, append_assoc, arith}
-use Rattle.mvt_plane.specs.Figure.{steps, cursor, AreSteps}
+use Rattle.mvt_plane.specs.Commands.Figure.{steps, cursor, AreSteps}
 use Rattle.mvt_plane.specs.Position.{Position}
-use Rattle.mvt_plane.specs.Course.{Course, IsStepAhead}
+use Rattle.mvt_plane.specs.Commands.Course.{Course, IsStepAhead}
 
 -- A step
 
--- the number at a place, and those behind it
+-- the number at a place, and those after it
 one_at : (at : ℕ) (numbers : List ℕ) (n : ℕ) (rest : List ℕ) → drop at numbers ≡ n ∷ rest → (get_or numbers at 0 ≡ n) × (drop (suc at) numbers ≡ rest)
 one_at zero numbers n rest stands = (ap (λ (it : List ℕ). get_or it 0 0) stands, ap (λ (it : List ℕ). drop 1 it) stands)
 one_at (suc at) [] n rest stands = cc
@@ -37,7 +37,7 @@ pub record IsAmidRun (before : List Position) (start : Course) (positions : List
   pub end : cursor now.here ahead ≡ cursor start.here positions
   pub whole : drawn ++ ahead ≡ before ++ positions
 
--- behind it, one more is drawn
+-- after it, one more is drawn
 pub IsAmidRun-more : (before : List Position) (start : Course) (positions : List Position) (rest : List ℕ) (drawn : List Position) (now new : Course) (to : Position) (left : ℕ)
     → IsAmidRun before start positions rest drawn now (left + 1)
     → ((goal : Position) (more : List ℕ) → IsStepAhead now goal more → (to ≡ goal) × (new ≡ record { here = goal; left = more }))

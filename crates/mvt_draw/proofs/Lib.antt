@@ -2,7 +2,6 @@ pub mod Courses
 pub mod Parameters
 pub mod Paths
 pub mod ReadGeometries
-pub mod RingRoom
 pub mod Sources
 pub mod SpellingFaults
 pub mod SpellingFigures

@@ -1,7 +1,7 @@
 -- What the parameters of a step say of coordinates.
 use Rattle.std.proofs.Common.{◌≡◌, ℕ, ℤ, pos, negsuc, ap, sym, ◌∙◌}
-use Rattle.mvt_plane.proofs.Parameters.{unzigzag-zigzag}
-use Rattle.mvt_plane.specs.Drawing.{unzigzag}
+use Rattle.mvt_plane.proofs.Spelling.Parameters.{unzigzag-zigzag}
+use Rattle.mvt_plane.specs.Commands.Drawing.{unzigzag}
 use Rattle.mvt_plane.specs.Position.{Position}
 use Rattle.mvt_wire.specs.Number as wire
 

@@ -1,9 +1,9 @@
 -- How a reader gets on with the lines or rings of a figure.
 use Rattle.std.proofs.Common.{◌≡◌, ℕ, ◌<◌, Bool, List, [], ◌∷◌, ◌++◌, length, ap, sym, ◌∙◌, subst, append_assoc, append-nil}
-use Rattle.mvt_plane.specs.Figure.{cursor}
+use Rattle.mvt_plane.specs.Commands.Figure.{cursor}
 use Rattle.mvt_plane.specs.Position.{Position}
-use Rattle.mvt_plane.specs.Course.{Course, IsPathAhead, ArePathsAhead, ending_of}
-use Rattle.mvt_plane.proofs.Courses.{next_path, no_path}
+use Rattle.mvt_plane.specs.Commands.Course.{Course, IsPathAhead, ArePathsAhead, ending_of}
+use Rattle.mvt_plane.proofs.Spelling.Courses.{next_path, no_path}
 
 -- of the lines or rings, these are ahead of the reader, and those before them are drawn
 pub record IsAmidPaths (closed : Bool) (parts : List (List Position)) (drawn : List (List Position)) (now : Course) : Type 0 where
@@ -11,7 +11,7 @@ pub record IsAmidPaths (closed : Bool) (parts : List (List Position)) (drawn : L
   pub left : ArePathsAhead now closed ahead
   pub whole : drawn ++ ahead ≡ parts
 
--- whichever of them is next, one more is drawn behind it
+-- whichever of them is next, one more is drawn after it
 pub IsAmidPaths-next : (closed : Bool) (parts drawn after : List (List Position)) (now new : Course) → IsAmidPaths closed parts drawn now → 0 < length now.left
     → ((part : List Position) (rest : List ℕ) → IsPathAhead now part (ending_of closed ++ rest) → (after ≡ drawn ++ part ∷ []) × (new ≡ record { here = cursor now.here part; left = rest }))
     → IsAmidPaths closed parts after new

@@ -1,9 +1,10 @@
 -- The command fault of a geometry that was read.
 use Rattle.std.proofs.Common.{refl, ℕ, List}
 use Rattle.mvt_fault.specs.Code.{command_code}
-use Rattle.mvt_plane.specs.Figure.{polygon}
-use Rattle.mvt_plane.proofs.CommandFaults.{has_command_fault}
-use Rattle.mvt_draw.specs.Geometry.{IsDrawFault, IsFaultAhead}
+use Rattle.mvt_plane.specs.Commands.Figure.{polygon}
+use Rattle.mvt_plane.proofs.Spelling.CommandFaults.{has_command_fault}
+use Rattle.mvt_draw.specs.Geometry.{IsDrawFault}
+use Rattle.mvt_draw.specs.Calls.Geometry.{IsFaultAhead}
 use Rattle.mvt_draw.specs.declared.drawing.DrawFault.{DrawFault}
 use Rattle.mvt_draw.specs.declared.drawing.DrawFault.TheVariants.{Command, Memory}
 

@@ -3,8 +3,8 @@ use Rattle.std.proofs.Common.{◌≡◌, ℕ, ◌<◌, List, [], ◌∷◌, leng
 use Rattle.std.specs.Option.{IfSome, IfNone}
 use Rattle.std.proofs.lemmas.List.{length-drop}
 use Rattle.std.proofs.lemmas.Option.{same_Some}
-use Rattle.mvt_tile.proofs.Sources.{at_end}
-use Rattle.mvt_draw.specs.Given.{IsAt, IsGivenAt}
+use Rattle.mvt_tile.proofs.Reading.Sources.{at_end}
+use Rattle.mvt_draw.specs.Calls.Given.{IsAt, IsGivenAt}
 use Rattle.mvt_draw.proofs.Courses.{one_ahead}
 
 -- numbers are left where the place isn't their end
@@ -17,7 +17,7 @@ number_left After numbers at n told =
     let there = one_ahead at numbers n told.0 told.1 in
     ((omega (arith, ap (λ (it : List ℕ). length it) told.1, length-drop at numbers), there.0), subst After (sym there.1) told.2)
 
--- whatever a source gave is at the place, and those behind it are left
+-- whatever a source gave is at the place, and those after it are left
 pub given_there : (Before After : List ℕ → Type 0) (given : Option ℕ) → IfNone given ((numbers : List ℕ) → Before numbers → numbers ≡ [])
     → IfSome given (λ number. (numbers : List ℕ) → Before numbers → (rest : List ℕ) × (numbers ≡ number ∷ rest) × After rest)
     → (numbers : List ℕ) (at : ℕ) → Before (drop at numbers) → IsAt numbers at given × ((n : ℕ) → given ≡ Some n → IsGivenAt After numbers at n)

@@ -1,7 +1,7 @@
 -- Numbers that are a figure's spelling.
 use Rattle.std.proofs.Common.{◌≡◌, ℕ, List, [], ◌++◌, Some, ◌∙◌, ap, refl}
-use Rattle.mvt_plane.specs.Figure.{HasSpelling, spelling, type_of}
-use Rattle.mvt_plane.specs.Figure as plane
+use Rattle.mvt_plane.specs.Commands.Figure.{HasSpelling, spelling, type_of}
+use Rattle.mvt_plane.specs.Commands.Figure as plane
 use Rattle.mvt_draw.specs.Geometry.{IsSpelled, figure_of}
 use Rattle.mvt_draw.specs.declared.figure.Figure.{Figure}
 

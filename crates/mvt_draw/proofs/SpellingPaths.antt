@@ -3,11 +3,11 @@ use Rattle.std.proofs.Common.{◌≡◌, ℕ, List, [], ◌∷◌, ◌++◌, ◌
 use Rattle.std.proofs.lemmas.List.{drop_all, take_all}
 use Rattle.std.specs.Result.{IfOk}
 use Rattle.std.proofs.lemmas.Result.{IfOk-weaker}
-use Rattle.mvt_plane.specs.Figure.{AreApart, ArePaths, AreSteps, IsCount, IsPath, IsStep, command_integer, cursor, line_to, move_to, path, paths, steps, zigzag}
+use Rattle.mvt_plane.specs.Commands.Figure.{AreApart, ArePaths, AreSteps, IsCount, IsPath, IsStep, command_integer, cursor, line_to, move_to, path, paths, steps, zigzag}
 use Rattle.mvt_plane.specs.Position.{Position}
 use Rattle.mvt_draw.proofs.SpellingSteps.{drop_from}
 
--- behind the numbers before, the lines or rings from a position are spelled up to the last position, and these are left
+-- after the numbers before, the lines or rings from a position are spelled up to the last position, and these are left
 pub record ArePathsTo (least : ℕ) (ending before : List ℕ) (from : Position) (all : List (List Position)) (numbers : List ℕ) (last : Position) (rest : List (List Position)) : Type 0 where
   pub spelled : before ++ paths ending from all ≡ numbers ++ paths ending last rest
   pub able : ArePaths least last rest → ArePaths least from all
@@ -38,18 +38,14 @@ ArePathsTo-on least ending before from all numbers last part rest more so_far is
       left = λ whole. (so_far.left whole).1;
     }
 
--- behind the last one
-pub ArePathsTo-over : (least : ℕ) (ending before : List ℕ) (from : Position) (all : List (List Position)) (numbers : List ℕ) (last : Position)
-    → ArePathsTo least ending before from all numbers last [] → ArePaths least from all × (numbers ≡ before ++ paths ending from all)
-ArePathsTo-over least ending before from all numbers last so_far = (so_far.able tt, sym (so_far.spelled ∙ append-nil numbers))
-
--- behind the place of the last one
+-- after the place of the last one
 pub ArePathsTo-whole : {Part : Type 0} (positions : Part → List Position) (least : ℕ) (ending before : List ℕ) (from : Position) (all : List Part) (numbers : List ℕ) (last : Position) (place : ℕ)
     → ArePathsTo least ending before from (map positions all) numbers last (map positions (drop place all)) → length all ≤ place
     → ArePaths least from (map positions all) × (numbers ≡ before ++ paths ending from (map positions all))
-ArePathsTo-whole {Part} positions least ending before from all numbers last place so_far behind =
-    ArePathsTo-over least ending before from (map positions all) numbers last
-    (subst (λ (rest : List Part). ArePathsTo least ending before from (map positions all) numbers last (map positions rest)) (drop_all place all behind) so_far)
+ArePathsTo-whole {Part} positions least ending before from all numbers last place so_far following =
+    let over : ArePathsTo least ending before from (map positions all) numbers last [] =
+    subst (λ (rest : List Part). ArePathsTo least ending before from (map positions all) numbers last (map positions rest)) (drop_all place all following) so_far in
+    (over.able tt, sym (over.spelled ∙ append-nil numbers))
 
 -- a list that isn't empty has one or more
 pub some_parts : {Part : Type 0} (positions : Part → List Position) (all : List Part) → false ≡ (length all == 0) → 1 ≤ length (map positions all)

@@ -1,14 +1,14 @@
 -- Steps that are spelled in part: what was pushed, with the spelling of what is left, is the spelling of the whole.
-use Rattle.std.proofs.Common.{◌≡◌, ℕ, List, [], ◌∷◌, ◌++◌, ◌-ℤ◌, ◌+◌, ◌<◌, length, get_or, drop, ◌∙◌, sym, ap, subst, append_assoc, append-nil, refl}
+use Rattle.std.proofs.Common.{◌≡◌, ℕ, List, [], ◌∷◌, ◌++◌, ◌-ℤ◌, ◌+◌, ◌<◌, length, get_or, drop, ◌∙◌, sym, ap, subst, append_assoc}
 use Rattle.std.proofs.lemmas.List.{drop_more}
-use Rattle.mvt_plane.specs.Figure.{AreApart, AreSteps, IsParameter, IsStep, cursor, steps, zigzag}
+use Rattle.mvt_plane.specs.Commands.Figure.{AreApart, AreSteps, IsParameter, IsStep, cursor, steps, zigzag}
 use Rattle.mvt_plane.specs.Position.{Position, IsPosition}
 
 -- what is left from a place on begins with what is there
 pub drop_from : {X : Type 0} (all : List X) (place : ℕ) (here : X) → place < length all → here ≡ get_or all place here → drop place all ≡ here ∷ drop (place + 1) all
 drop_from all place here within is = drop_more all place here within ∙ ap (λ it. it ∷ drop (place + 1) all) (sym is)
 
--- the two parameters of a step, pushed one behind the other
+-- the two parameters of a step, pushed one after the other
 pub step_pushed : (from to : Position) (x y : ℕ) (before middle after : List ℕ) → IsPosition to
     → IsParameter (to.x -ℤ from.x) × (x ≡ zigzag (to.x -ℤ from.x)) → IsParameter (to.y -ℤ from.y) × (y ≡ zigzag (to.y -ℤ from.y))
     → middle ≡ before ++ x ∷ [] → after ≡ middle ++ y ∷ []
@@ -19,16 +19,12 @@ step_pushed from to x y before middle after there of_x of_y first second = (
       ∙ ap (λ (it : ℕ). before ++ it ∷ y ∷ []) of_x.1 ∙ ap (λ (it : ℕ). before ++ zigzag (to.x -ℤ from.x) ∷ it ∷ []) of_y.1,
 )
 
--- behind the numbers before, the steps from a position are spelled up to the last one, and these are left
+-- after the numbers before, the steps from a position are spelled up to the last one, and these are left
 pub record AreStepsTo (before : List ℕ) (from : Position) (all : List Position) (numbers : List ℕ) (last : Position) (rest : List Position) : Type 0 where
   pub spelled : before ++ steps from all ≡ numbers ++ steps last rest
   pub able : AreSteps last rest → AreSteps from all
   pub left : AreSteps from all → AreSteps last rest
-  pub behind : cursor from all ≡ cursor last rest
-
--- before the first step
-pub AreStepsTo-begun : (before : List ℕ) (from : Position) (all : List Position) → AreStepsTo before from all before from all
-AreStepsTo-begun before from all = record { spelled = refl; able = λ steps. steps; left = λ steps. steps; behind = refl }
+  pub following : cursor from all ≡ cursor last rest
 
 -- the next position is the one that is at the place
 pub AreStepsTo-at : (before : List ℕ) (from : Position) (all : List Position) (numbers : List ℕ) (last to : Position) (place : ℕ)
@@ -44,13 +40,8 @@ AreStepsTo-on before from all numbers last to rest more so_far step pushed = rec
       ∙ ap (λ (list : List ℕ). list ++ steps to rest) (sym pushed);
   able = λ others. so_far.able (step, others);
   left = λ whole. (so_far.left whole).1;
-  behind = so_far.behind;
+  following = so_far.following;
 }
-
--- behind the last step
-pub AreStepsTo-over : (before : List ℕ) (from : Position) (all : List Position) (numbers : List ℕ) (last : Position) → AreStepsTo before from all numbers last []
-    → AreSteps from all × (numbers ≡ before ++ steps from all) × (last ≡ cursor from all)
-AreStepsTo-over before from all numbers last so_far = (so_far.able tt, sym (so_far.spelled ∙ append-nil numbers), sym so_far.behind)
 
 -- no position up to the last one is the same as its neighbour, and these are left
 pub record AreApartTo (from : Position) (all : List Position) (last : Position) (rest : List Position) : Type 0 where

@@ -2,10 +2,9 @@
 use Rattle.std.specs.Prelude.{◌≡◌, ◌≢◌, ℕ, List, map, Option, Some, None}
 use Rattle.mvt_fault.specs.Code.{command_code}
 use Rattle.mvt_fault.specs.declared.command.CommandCode.{CommandCode}
-use Rattle.mvt_plane.specs.Figure.{GeometryType, points, lines, rings, HasSpelling, Spells}
-use Rattle.mvt_plane.specs.Figure as plane
-use Rattle.mvt_plane.specs.Geometry.{type_number, BreaksCommands}
-use Rattle.mvt_plane.specs.Reading.{IsFaulty}
+use Rattle.mvt_plane.specs.Commands.Figure.{GeometryType, points, lines, rings, HasSpelling, Spells}
+use Rattle.mvt_plane.specs.Commands.Figure as plane
+use Rattle.mvt_plane.specs.FeatureGeometry.{type_number, BreaksCommands}
 use Rattle.mvt_draw.specs.declared.drawing.DrawFault.{DrawFault}
 use Rattle.mvt_draw.specs.declared.drawing.DrawFault.TheVariants as draw_faults
 use Rattle.mvt_draw.specs.declared.figure.Figure.{Figure}
@@ -34,11 +33,6 @@ pub data IsDrawn (kind : ℕ) (numbers : List ℕ) (figure : Figure) : Type 0 wh
 abbrev pub IsDrawFault : ℕ → List ℕ → DrawFault → Type 0
 IsDrawFault kind numbers (draw_faults.Command code index) = IsCommandFault kind numbers code index
 IsDrawFault kind numbers draw_faults.Memory = Unit {0}
-
--- the numbers have the fault at the first one that isn't allowed, or memory was refused
-abbrev pub IsFaultAhead : GeometryType → List ℕ → DrawFault → Type 0
-IsFaultAhead geometry_type numbers (draw_faults.Command code index) = IsFaulty geometry_type numbers (command_code code) index
-IsFaultAhead geometry_type numbers draw_faults.Memory = Unit {0}
 
 -- the numbers are the figure's spelling
 pub record IsSpelled (figure : Figure) (numbers : List ℕ) : Type 0 where

@@ -1,3 +1,2 @@
-pub mod Cursor
+pub mod Calls
 pub mod Geometry
-pub mod Given

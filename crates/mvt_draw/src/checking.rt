@@ -1,10 +1,12 @@
+//! The command fault of a geometry, in one pass over its numbers that keeps nothing.
 ghost use Rattle.std.specs.Prelude.{◌≡◌, ◌≢◌, ◌^◌, ◌<◌, ℕ, List, IfErr, IfNone, IfSome, OnOk};
-ghost use Rattle.mvt_plane.specs.Reading.{IsWhole, path_type};
+ghost use Rattle.mvt_plane.specs.Commands.Reading.{IsWhole, path_type};
 ghost use Rattle.mvt_draw.specs.declared.drawing.DrawFault.{DrawFault};
-ghost use Rattle.mvt_draw.specs.Geometry.{IsCommandFault, IsFaultAhead};
-ghost use Rattle.mvt_plane.specs.Geometry.{HasFigure, type_number};
+ghost use Rattle.mvt_draw.specs.Geometry.{IsCommandFault};
+ghost use Rattle.mvt_draw.specs.Calls.Geometry.{IsFaultAhead};
+ghost use Rattle.mvt_plane.specs.FeatureGeometry.{HasFigure, type_number};
 ghost use Rattle.mvt_fault.specs.declared.command.CommandCode.{CommandCode};
-ghost use Rattle.mvt_plane.specs.Figure.{GeometryType};
+ghost use Rattle.mvt_plane.specs.Commands.Figure.{GeometryType};
 ghost use Rattle.mvt_tile.specs.View.{kind_number};
 
 #[cfg(test)]
@@ -17,14 +19,17 @@ use crate::sink::Nothing;
 use mvt_fault::CommandCode;
 use mvt_tile::{Kind, NumberSource};
 
-/// What keeps the numbers of a geometry from drawing a figure of the kind: the cause and the place among
-/// them, counted from 0 (Mapbox Vector Tile Specification 2.1, section 4.3). None where they draw one, and
-/// for a geometry of unknown kind. It takes no memory.
+/// What keeps the numbers of a geometry from drawing a figure of the kind: the cause and the place
+/// among them, counted from 0 (Mapbox Vector Tile Specification 2.1, section 4.3). None where they
+/// draw one, and for a geometry of unknown kind. It takes no memory.
 pub fn command_fault<N: NumberSource + Drop>(kind: Kind, numbers: N) -> Option<(CommandCode, usize)>
     requires few { N.most numbers < 2 ^ 64 }
-    ensures figure { IfNone result ((given : List ℕ) → N.Leaves numbers given → HasFigure (kind_number kind) given) }
-    ensures none { IfNone result ((given : List ℕ) → N.Leaves numbers given → (code : CommandCode) (index : ℕ) → ¬ IsCommandFault (kind_number kind) given code index) }
-    ensures fault { IfSome result (λ fault. (given : List ℕ) → N.Leaves numbers given → IsCommandFault (kind_number kind) given fault.0 fault.1) }
+    ensures figure { IfNone result ((given : List ℕ) → N.Leaves numbers given
+        → HasFigure (kind_number kind) given) }
+    ensures none { IfNone result ((given : List ℕ) → N.Leaves numbers given
+        → (code : CommandCode) (index : ℕ) → ¬ IsCommandFault (kind_number kind) given code index) }
+    ensures fault { IfSome result (λ fault. (given : List ℕ) → N.Leaves numbers given
+        → IsCommandFault (kind_number kind) given fault.0 fault.1) }
 {
     match read(kind, numbers) {
         Ok(()) => None,
@@ -37,9 +42,11 @@ pub fn command_fault<N: NumberSource + Drop>(kind: Kind, numbers: N) -> Option<(
 /// Reads the numbers of a geometry by its kind, which is known or not.
 fn read<N: NumberSource + Drop>(kind: Kind, mut source: N) -> Result<(), DrawFault>
     requires few { N.most source < 2 ^ 64 }
-    ensures figure { OnOk result ((given : List ℕ) → N.Leaves source given → HasFigure (kind_number kind) given) }
+    ensures figure { OnOk result ((given : List ℕ) → N.Leaves source given
+        → HasFigure (kind_number kind) given) }
     ensures no_memory { IfErr result (λ fault. fault ≢ DrawFault.Memory) }
-    ensures fault { IfErr result (λ fault. (geometry_type : GeometryType) × (kind_number kind ≡ type_number geometry_type)
+    ensures fault { IfErr result (λ fault. (geometry_type : GeometryType)
+        × (kind_number kind ≡ type_number geometry_type)
         × ((given : List ℕ) → N.Leaves source given → IsFaultAhead geometry_type given fault)) }
 {
     match kind {
@@ -53,17 +60,18 @@ fn read<N: NumberSource + Drop>(kind: Kind, mut source: N) -> Result<(), DrawFau
 /// Reads the numbers as lines, or as rings, which are closed (sections 4.3.4.3 and 4.3.4.4).
 fn read_paths<N: NumberSource + Drop>(mut source: N, closed: bool) -> Result<(), DrawFault>
     requires few { N.most source < 2 ^ 64 }
-    ensures whole { OnOk result ((given : List ℕ) → N.Leaves source given → IsWhole (path_type closed) given) }
+    ensures whole { OnOk result ((given : List ℕ) → N.Leaves source given
+        → IsWhole (path_type closed) given) }
     ensures no_memory { IfErr result (λ stop. stop ≢ DrawFault.Memory) }
-    ensures fault { IfErr result (λ stop. (given : List ℕ) → N.Leaves source given → IsFaultAhead (path_type closed) given stop) }
+    ensures fault { IfErr result (λ stop. (given : List ℕ) → N.Leaves source given
+        → IsFaultAhead (path_type closed) given stop) }
 {
     let Some(mut first) = source.next_number() else {
         return Err((CommandCode::Unfinished, 0).into());
     };
-    let mut at = 0;
     let mut cursor = Cursor::ORIGIN;
     'paths: loop {
-        (at, cursor) = read_path(&mut Nothing, first, &mut source, at, cursor, closed)?;
+        read_path(&mut Nothing, first, &mut source, &mut cursor, closed)?;
         match source.next_number() {
             Some(number) => first = number,
             None => return Ok(()),

@@ -1,9 +1,10 @@
+//! The figure that the numbers of a geometry draw, with its positions in lists.
 ghost use Rattle.std.specs.Prelude.{◌≡◌, List, [], map, IfErr, IfOk};
 ghost use Rattle.mvt_plane.specs.Position.{Position, origin};
 ghost use Rattle.mvt_tile.specs.View.{kind_number};
-ghost use Rattle.mvt_plane.specs.Course.{IsRunAhead, ArePathsAhead};
+ghost use Rattle.mvt_plane.specs.Commands.Course.{IsRunAhead, ArePathsAhead};
 ghost use Rattle.mvt_draw.specs.Geometry.{IsDrawn, IsDrawFault};
-ghost use Rattle.mvt_plane.specs.Geometry.{HasFigure};
+ghost use Rattle.mvt_plane.specs.FeatureGeometry.{HasFigure};
 
 #[cfg(test)]
 mod tests;
@@ -61,12 +62,12 @@ impl<T: Drop> From<AllocFailed<T>> for DrawFault {
     }
 }
 
-/// The figure that the numbers of a geometry draw, by its kind (Mapbox Vector Tile Specification 2.1,
-/// section 4.3). Nothing is reserved by a count that was read, and nothing is taken for numbers that draw
-/// none.
+/// The figure that the numbers of a geometry draw, by its kind (Mapbox Vector Tile Specification
+/// 2.1, section 4.3). Nothing is reserved by a count that was read, and nothing is taken for
+/// numbers that draw none.
 ///
-/// Errors: `Command` with what keeps the numbers from drawing a figure; `Memory` where a figure found no
-/// memory.
+/// Errors: `Command` with what keeps the numbers from drawing a figure; `Memory` where a figure
+/// found no memory.
 pub fn draw(alloc: Global, kind: Kind, numbers: &[u32]) -> Result<Figure, DrawFault>
     ensures figure { IfOk result (IsDrawn (kind_number kind) numbers.now) }
     ensures fault { IfErr result (IsDrawFault (kind_number kind) numbers.now) }
@@ -97,7 +98,8 @@ fn draw_figure(alloc: Global, kind: Kind, numbers: &[u32]) -> Result<Figure, Dra
 /// Points, to which one MoveTo leads (section 4.3.4.2).
 fn draw_points(alloc: Global, numbers: &[u32]) -> Result<Vec<Point>, DrawFault>
     ensures { IfOk result (λ points. (positions : List Position)
-        → IsRunAhead (record { here = origin; left = numbers.now }) positions [] → points.items ≡ positions) }
+        → IsRunAhead (record { here = origin; left = numbers.now }) positions []
+        → points.items ≡ positions) }
 {
     let mut points = Vec::new(alloc);
     read_points(&mut points, &mut ListedNumbers::new(numbers))?;
@@ -107,15 +109,15 @@ fn draw_points(alloc: Global, numbers: &[u32]) -> Result<Vec<Point>, DrawFault>
 /// Lines (section 4.3.4.3), or rings, each of which is closed (section 4.3.4.4).
 fn draw_paths(alloc: Global, numbers: &[u32], closed: bool) -> Result<Vec<Vec<Point>>, DrawFault>
     ensures { IfOk result (λ drawn. (parts : List (List Position))
-        → ArePathsAhead (record { here = origin; left = numbers.now }) closed parts → map (λ part. part.items) drawn.items ≡ parts) }
+        → ArePathsAhead (record { here = origin; left = numbers.now }) closed parts
+        → map (λ part. part.items) drawn.items ≡ parts) }
 {
     let mut source = ListedNumbers::new(numbers);
     let mut parts = Vec::new(alloc);
-    let mut at = 0;
     let mut cursor = Cursor::ORIGIN;
     'paths: while let Some(first) = source.next_number() {
         let mut points = Vec::new(alloc);
-        (at, cursor) = read_path(&mut points, first, &mut source, at, cursor, closed)?;
+        read_path(&mut points, first, &mut source, &mut cursor, closed)?;
         parts.push(points)?;
     }
     Ok(parts)

@@ -1,5 +1,5 @@
-//! The geometry of features: commands drawn as figures, figures spelled as commands, and what keeps commands
-//! from being a figure.
+//! The geometry of features: commands drawn as figures, figures spelled as commands, and what keeps
+//! commands from being a figure.
 #![tactic(auto)]
 
 mod checking;

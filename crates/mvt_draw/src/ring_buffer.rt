@@ -1,13 +1,16 @@
-ghost use Rattle.std.specs.Prelude.{◌≡◌, ◌+◌, ◌^◌, ◌<◌, ◌≤◌, ◌∷◌, ◌++◌, ℕ, Bool, true, IfErr, IfOk, List, [], OnOk, drop, length, map, take};
-ghost use Rattle.mvt_draw.specs.Cursor.{position_of};
-ghost use Rattle.mvt_draw.specs.Geometry.{IsDrawFault, IsFaultAhead};
-ghost use Rattle.mvt_draw.specs.Given.{IsGivenAt};
-ghost use Rattle.mvt_plane.specs.Course.{IsPathAhead, course_at, ending_of};
-ghost use Rattle.mvt_plane.specs.Drawing.{path_command};
-ghost use Rattle.mvt_plane.specs.Figure.{cursor, polygon};
-ghost use Rattle.mvt_plane.specs.Geometry.{HasRings};
+//! Lists for the rings of one geometry after another, which keep their memory.
+ghost use Rattle.std.specs.Prelude.{◌≡◌, ◌+◌, ◌^◌, ◌<◌, ◌≤◌, ◌∷◌, ◌++◌, ℕ, Bool, true, IfErr, List, [], OnOk, drop, length, map, take};
+ghost use Rattle.mvt_draw.specs.Calls.Cursor.{position_of, course_of};
+ghost use Rattle.mvt_draw.specs.Geometry.{IsDrawFault};
+ghost use Rattle.mvt_draw.specs.Calls.Geometry.{IsFaultAhead};
+ghost use Rattle.mvt_draw.specs.Calls.Given.{IsGivenAt};
+ghost use Rattle.mvt_plane.specs.Commands.Course.{IsPathAhead, ending_of};
+ghost use Rattle.mvt_plane.specs.Commands.Drawing.{path_command};
+ghost use Rattle.mvt_plane.specs.Commands.Figure.{polygon};
+ghost use Rattle.mvt_plane.specs.Commands.Figure as plane;
+ghost use Rattle.mvt_plane.specs.FeatureGeometry.{HasRings};
 ghost use Rattle.mvt_plane.specs.Position.{Position, IsPosition};
-ghost use Rattle.mvt_plane.specs.Reading.{StandsAt};
+ghost use Rattle.mvt_plane.specs.Calls.Reading.{StandsAt};
 
 #[cfg(test)]
 mod tests;
@@ -21,8 +24,8 @@ use mvt_tile::NumberSource;
 use std::alloc::Global;
 use std::marker::Model;
 
-/// The rings of one polygon geometry at a time. It serves one feature after another: the memory that one
-/// took is used again for the next.
+/// The rings of one polygon geometry at a time. It serves one feature after another: the memory
+/// that one took is used again for the next.
 #[derive(Drop)]
 pub struct RingBuffer {
     /// The first of these are the rings; the others are room.
@@ -50,36 +53,38 @@ impl RingBuffer {
         }
     }
 
-    /// The rings that were drawn last, in the order of drawing: positions in the coordinates of the tile,
-    /// at least three to a ring; the last position is joined to the first.
+    /// The rings that were drawn last, in the order of drawing: positions in the coordinates of the
+    /// tile, at least three to a ring; the last position is joined to the first.
     pub fn rings(&self) -> &[Vec<Point>]
         ensures { map (λ ring. ring.items) result.now ≡ self.now }
     {
         &self.parts[..self.count]
     }
 
-    /// Draws the rings of a polygon's geometry (Mapbox Vector Tile Specification 2.1, section 4.3.4.4) in
-    /// place of those that were here. Nothing is reserved by a count that was read.
+    /// Draws the rings of a polygon's geometry (Mapbox Vector Tile Specification 2.1, section
+    /// 4.3.4.4) in place of those that were here. Nothing is reserved by a count that was read.
     ///
-    /// Errors: `Command` with what keeps the numbers from drawing rings; `Memory` where the rings found no
-    /// memory. After an error nothing is said of the rings that are here; the buffer may be drawn into again.
+    /// Errors: `Command` with what keeps the numbers from drawing rings; `Memory` where the rings
+    /// found no memory. After an error nothing is said of the rings that are here; the buffer may
+    /// be drawn into again.
     pub fn draw<N: NumberSource + Drop>(
         &mut self,
         alloc: Global,
         mut numbers: N,
     ) -> Result<(), DrawFault>
         requires few { N.most numbers < 2 ^ 64 }
-        ensures rings { OnOk result ((given : List ℕ) → N.Leaves numbers given → HasRings 3 given self.new) }
-        ensures fault { IfErr result (λ fault. (given : List ℕ) → N.Leaves numbers given → IsDrawFault 3 given fault) }
+        ensures rings { OnOk result ((given : List ℕ) → N.Leaves numbers given
+            → HasRings 3 given self.new) }
+        ensures fault { IfErr result (λ fault. (given : List ℕ) → N.Leaves numbers given
+            → IsDrawFault 3 given fault) }
     {
         self.count = 0;
         let Some(mut first) = numbers.next_number() else {
             return Err((CommandCode::Unfinished, 0).into());
         };
-        let mut at = 0;
         let mut cursor = Cursor::ORIGIN;
         'rings: loop {
-            (at, cursor) = self.draw_ring(alloc, first, &mut numbers, at, cursor)?;
+            self.draw_ring(alloc, first, &mut numbers, &mut cursor)?;
             match numbers.next_number() {
                 Some(number) => first = number,
                 None => return Ok(()),
@@ -87,28 +92,37 @@ impl RingBuffer {
         }
     }
 
-    /// Draws one more ring. Its first number, at a place, was read before. It answers the place behind its numbers
-    /// and the cursor there.
+    /// Draws one more ring. Its first number, at the cursor, was read before.
     fn draw_ring<N: NumberSource + Drop>(
         &mut self,
         alloc: Global,
         first: u32,
         source: &mut N,
-        start: usize,
-        from: Cursor,
-    ) -> Result<(usize, Cursor), DrawFault>
-        requires few { start + 1 + N.most source.old < 2 ^ 64 }
-        ensures forward { IfOk result (λ behind. start < behind.0) }
-        ensures fewer { IfOk result (λ behind. behind.0 + N.most source.new ≤ start + 1 + N.most source.old) }
-        ensures left { IfOk result (λ behind. (numbers : List ℕ) → IsGivenAt (N.Leaves source.old) numbers start first → N.Leaves source.new (drop behind.0 numbers)) }
-        ensures goes { IfOk result (λ behind. (numbers : List ℕ) → IsGivenAt (N.Leaves source.old) numbers start first
-            → (drawn : Bool) → StandsAt polygon numbers start (path_command drawn (position_of from))
-            → StandsAt polygon numbers behind.0 (path_command true (position_of behind.1))) }
-        ensures drawn { IfOk result (λ behind. (numbers : List ℕ) → IsGivenAt (N.Leaves source.old) numbers start first → (ring : List Position) (rest : List ℕ)
-            → IsPathAhead (course_at numbers start (position_of from)) ring (ending_of true ++ rest)
-            → (self.new ≡ self.old ++ ring ∷ []) × (course_at numbers behind.0 (position_of behind.1) ≡ record { here = cursor (position_of from) ring; left = rest })) }
-        ensures fault { IfErr result (λ stop. (numbers : List ℕ) → IsGivenAt (N.Leaves source.old) numbers start first
-            → (drawn : Bool) → StandsAt polygon numbers start (path_command drawn (position_of from)) → IsFaultAhead polygon numbers stop) }
+        cursor: &mut Cursor,
+    ) -> Result<(), DrawFault>
+        requires few { cursor.old.at + 1 + N.most source.old < 2 ^ 64 }
+        ensures forward { OnOk result (cursor.old.at < cursor.new.at) }
+        ensures fewer { OnOk result (cursor.new.at + N.most source.new
+            ≤ cursor.old.at + 1 + N.most source.old) }
+        ensures left { OnOk result ((numbers : List ℕ)
+            → IsGivenAt (N.Leaves source.old) numbers cursor.old.at first
+            → N.Leaves source.new (drop cursor.new.at numbers)) }
+        ensures goes { OnOk result ((numbers : List ℕ)
+            → IsGivenAt (N.Leaves source.old) numbers cursor.old.at first
+            → (drawn : Bool) → StandsAt polygon numbers cursor.old.at
+            (path_command drawn (position_of cursor.old))
+            → StandsAt polygon numbers cursor.new.at (path_command true (position_of cursor.new))) }
+        ensures drawn { OnOk result ((numbers : List ℕ)
+            → IsGivenAt (N.Leaves source.old) numbers cursor.old.at first
+            → (ring : List Position) (rest : List ℕ)
+            → IsPathAhead (course_of numbers cursor.old) ring (ending_of true ++ rest)
+            → (self.new ≡ self.old ++ ring ∷ [])
+            × (course_of numbers cursor.new
+            ≡ record { here = plane.cursor (position_of cursor.old) ring; left = rest })) }
+        ensures fault { IfErr result (λ stop. (numbers : List ℕ)
+            → IsGivenAt (N.Leaves source.old) numbers cursor.old.at first
+            → (drawn : Bool) → StandsAt polygon numbers cursor.old.at
+            (path_command drawn (position_of cursor.old)) → IsFaultAhead polygon numbers stop) }
     {
         if self.count == self.parts.len() {
             // a ring has three vertices or more, so one of three takes no more memory than that
@@ -117,8 +131,8 @@ impl RingBuffer {
         }
         let ring = &mut self.parts[self.count];
         ring.clear();
-        let behind = read_path(ring, first, source, start, from, true)?;
+        read_path(ring, first, source, cursor, true)?;
         self.count += 1;
-        Ok(behind)
+        Ok(())
     }
 }

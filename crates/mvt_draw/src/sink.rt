@@ -1,6 +1,6 @@
 //! What takes the positions of a geometry as they are read.
 ghost use Rattle.std.specs.Prelude.{◌≡◌, ◌∷◌, [], ◌++◌, IfErr, List, OnOk};
-ghost use Rattle.mvt_draw.specs.Cursor.{position_of};
+ghost use Rattle.mvt_draw.specs.Calls.Cursor.{position_of};
 ghost use Rattle.mvt_plane.specs.Position.{Position, IsPosition};
 
 use crate::commands::Cursor;
@@ -17,7 +17,8 @@ pub(crate) trait PositionSink {
     /// Takes one more position. Only memory is refused, and only to what keeps positions.
     fn take(&mut self, cursor: Cursor) -> Result<(), DrawFault>
         requires { IsPosition (position_of cursor) }
-        ensures kept { OnOk result (Keeps → kept self.new ≡ kept self.old ++ position_of cursor ∷ []) }
+        ensures kept { OnOk result (Keeps
+            → kept self.new ≡ kept self.old ++ position_of cursor ∷ []) }
         ensures refused { IfErr result (λ fault. (fault ≡ DrawFault.Memory) × Keeps) };
 }
 

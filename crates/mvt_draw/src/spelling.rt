@@ -1,6 +1,7 @@
+//! The numbers that draw a figure.
 ghost use Rattle.std.specs.Prelude.{◌≡◌, ◌<◌, ◌↔◌, ◌++◌, ◌∷◌, [], IfErr, IfNone, IfOk, IfSome, IsTrue, OnOk, map, ◌-ℤ◌};
-ghost use Rattle.mvt_plane.specs.Figure.{AreApart, AreSteps, HasSpelling, IsCount, IsParameter, IsPath, IsStep, command_integer, cursor, path, spelling, steps, zigzag};
-ghost use Rattle.mvt_plane.specs.Figure as plane;
+ghost use Rattle.mvt_plane.specs.Commands.Figure.{AreApart, AreSteps, HasSpelling, IsCount, IsParameter, IsPath, IsStep, command_integer, cursor, path, spelling, steps, zigzag};
+ghost use Rattle.mvt_plane.specs.Commands.Figure as plane;
 ghost use Rattle.mvt_draw.specs.Geometry.{IsSpelled, IsSpellFault};
 
 #[cfg(test)]
@@ -13,8 +14,9 @@ use std::alloc::{AllocFailed, Global};
 /// Why a figure wasn't spelled.
 #[derive(Clone, Copy, Debug, PartialEq, Eq)]
 pub enum SpellFault {
-    /// The figure has no spelling: it is unknown or empty, a line has fewer than two positions or a ring
-    /// fewer than three, two neighbours of a line or ring are equal, or a step or a count is too large.
+    /// The figure has no spelling: it is unknown or empty, a line has fewer than two positions or a
+    /// ring fewer than three, two neighbours of a line or ring are equal, or a step or a count is
+    /// too large.
     Unspellable,
     /// Memory was refused.
     Memory,
@@ -30,15 +32,16 @@ impl<T: Drop> From<AllocFailed<T>> for SpellFault {
     }
 }
 
-/// A step along an axis is below this, and above its negative (Mapbox Vector Tile Specification 2.1, section 4.3.2).
+/// A step along an axis is below this, and above its negative (Mapbox Vector Tile Specification
+/// 2.1, section 4.3.2).
 const STEP_LIMIT: i64 = 1 << 31;
 
-/// The one list of numbers that draws the figure (Mapbox Vector Tile Specification 2.1, section 4.3): each
-/// command integer with its parameters. The cursor begins at (0, 0) and goes on from the last position of
-/// each line or ring to the next one; a ClosePath doesn't move it.
+/// The one list of numbers that draws the figure (Mapbox Vector Tile Specification 2.1, section
+/// 4.3): each command integer with its parameters. The cursor begins at (0, 0) and goes on from the
+/// last position of each line or ring to the next one; a ClosePath doesn't move it.
 ///
-/// Errors: `Unspellable` where the figure has no spelling; `Memory` where memory was refused. Where both hold,
-/// either may come.
+/// Errors: `Unspellable` where the figure has no spelling; `Memory` where memory was refused. Where
+/// both hold, either may come.
 pub fn spell(alloc: Global, figure: &Figure) -> Result<Vec<u32>, SpellFault>
     ensures numbers { IfOk result (λ numbers. IsSpelled figure.now numbers.items) }
     ensures fault { IfErr result (IsSpellFault figure.now) }
@@ -55,8 +58,10 @@ pub fn spell(alloc: Global, figure: &Figure) -> Result<Vec<u32>, SpellFault>
 
 /// Spells points: one MoveTo through all of them.
 fn spell_points(numbers: &mut Vec<u32>, positions: &[Point]) -> Result<(), SpellFault>
-    ensures spelled { OnOk result (let shape = plane.points positions.now in HasSpelling shape × (numbers.new.items ≡ numbers.old.items ++ spelling shape)) }
-    ensures fault { IfErr result (λ fault. fault ≡ SpellFault.Unspellable → ¬ HasSpelling (plane.points positions.now)) }
+    ensures spelled { OnOk result (let shape = plane.points positions.now in HasSpelling shape
+        × (numbers.new.items ≡ numbers.old.items ++ spelling shape)) }
+    ensures fault { IfErr result (λ fault. fault ≡ SpellFault.Unspellable
+        → ¬ HasSpelling (plane.points positions.now)) }
 {
     if positions.is_empty() {
         return Err(SpellFault::Unspellable);
@@ -68,8 +73,10 @@ fn spell_points(numbers: &mut Vec<u32>, positions: &[Point]) -> Result<(), Spell
 
 /// Spells lines, each from where the one before it ends.
 fn spell_lines(numbers: &mut Vec<u32>, lines: &[Vec<Point>]) -> Result<(), SpellFault>
-    ensures spelled { OnOk result (let shape = plane.lines (map (λ line. line.items) lines.now) in HasSpelling shape × (numbers.new.items ≡ numbers.old.items ++ spelling shape)) }
-    ensures fault { IfErr result (λ fault. fault ≡ SpellFault.Unspellable → ¬ HasSpelling (plane.lines (map (λ line. line.items) lines.now))) }
+    ensures spelled { OnOk result (let shape = plane.lines (map (λ line. line.items) lines.now) in
+        HasSpelling shape × (numbers.new.items ≡ numbers.old.items ++ spelling shape)) }
+    ensures fault { IfErr result (λ fault. fault ≡ SpellFault.Unspellable
+        → ¬ HasSpelling (plane.lines (map (λ line. line.items) lines.now))) }
 {
     if lines.is_empty() {
         return Err(SpellFault::Unspellable);
@@ -81,10 +88,12 @@ fn spell_lines(numbers: &mut Vec<u32>, lines: &[Vec<Point>]) -> Result<(), Spell
     Ok(())
 }
 
-/// Spells rings, each from the last position of the one before it, with a ClosePath behind each.
+/// Spells rings, each from the last position of the one before it, with a ClosePath after each.
 fn spell_rings(numbers: &mut Vec<u32>, rings: &[Vec<Point>]) -> Result<(), SpellFault>
-    ensures spelled { OnOk result (let shape = plane.rings (map (λ ring. ring.items) rings.now) in HasSpelling shape × (numbers.new.items ≡ numbers.old.items ++ spelling shape)) }
-    ensures fault { IfErr result (λ fault. fault ≡ SpellFault.Unspellable → ¬ HasSpelling (plane.rings (map (λ ring. ring.items) rings.now))) }
+    ensures spelled { OnOk result (let shape = plane.rings (map (λ ring. ring.items) rings.now) in
+        HasSpelling shape × (numbers.new.items ≡ numbers.old.items ++ spelling shape)) }
+    ensures fault { IfErr result (λ fault. fault ≡ SpellFault.Unspellable
+        → ¬ HasSpelling (plane.rings (map (λ ring. ring.items) rings.now))) }
 {
     if rings.is_empty() {
         return Err(SpellFault::Unspellable);
@@ -97,7 +106,7 @@ fn spell_rings(numbers: &mut Vec<u32>, rings: &[Vec<Point>]) -> Result<(), Spell
     Ok(())
 }
 
-/// Spells a line, or a ring without its end, that has to have so many positions behind its first. Ok
+/// Spells a line, or a ring without its end, that has to have so many positions after its first. Ok
 /// holds its last position.
 fn spell_path(
     numbers: &mut Vec<u32>,
@@ -105,8 +114,11 @@ fn spell_path(
     from: Point,
     positions: &[Point],
 ) -> Result<Point, SpellFault>
-    ensures spelled { IfOk result (λ last. IsPath least from positions.now × (numbers.new.items ≡ numbers.old.items ++ path from positions.now) × (last ≡ cursor from positions.now)) }
-    ensures fault { IfErr result (λ fault. fault ≡ SpellFault.Unspellable → ¬ IsPath least from positions.now) }
+    ensures spelled { IfOk result (λ last. IsPath least from positions.now
+        × (numbers.new.items ≡ numbers.old.items ++ path from positions.now)
+        × (last ≡ cursor from positions.now)) }
+    ensures fault { IfErr result (λ fault. fault ≡ SpellFault.Unspellable
+        → ¬ IsPath least from positions.now) }
 {
     let [first, rest @ ..] = positions else {
         return Err(SpellFault::Unspellable);
@@ -140,8 +152,11 @@ fn spell_steps(
     from: Point,
     positions: &[Point],
 ) -> Result<Point, SpellFault>
-    ensures spelled { IfOk result (λ last. AreSteps from positions.now × (numbers.new.items ≡ numbers.old.items ++ steps from positions.now) × (last ≡ cursor from positions.now)) }
-    ensures fault { IfErr result (λ fault. fault ≡ SpellFault.Unspellable → ¬ AreSteps from positions.now) }
+    ensures spelled { IfOk result (λ last. AreSteps from positions.now
+        × (numbers.new.items ≡ numbers.old.items ++ steps from positions.now)
+        × (last ≡ cursor from positions.now)) }
+    ensures fault { IfErr result (λ fault. fault ≡ SpellFault.Unspellable
+        → ¬ AreSteps from positions.now) }
 {
     let mut last = from;
     'walk: for &to in positions {
@@ -153,7 +168,9 @@ fn spell_steps(
 
 /// Spells a step: the parameters of its x and its y.
 fn spell_step(numbers: &mut Vec<u32>, from: Point, to: Point) -> Result<(), SpellFault>
-    ensures spelled { OnOk result (IsStep from to × (numbers.new.items ≡ numbers.old.items ++ zigzag (to.x -ℤ from.x) ∷ zigzag (to.y -ℤ from.y) ∷ [])) }
+    ensures spelled { OnOk result (IsStep from to
+        × (numbers.new.items ≡ numbers.old.items ++ zigzag (to.x -ℤ from.x) ∷ zigzag
+        (to.y -ℤ from.y) ∷ [])) }
     ensures fault { IfErr result (λ fault. fault ≡ SpellFault.Unspellable → ¬ IsStep from to) }
 {
     let Some(x) = parameter(from.x(), to.x()) else {
@@ -170,7 +187,8 @@ fn spell_step(numbers: &mut Vec<u32>, from: Point, to: Point) -> Result<(), Spel
 /// Spells a command with a count (section 4.3.1).
 fn spell_command(numbers: &mut Vec<u32>, id: u32, count: usize) -> Result<(), SpellFault>
     requires { id < 8 }
-    ensures spelled { OnOk result (IsCount count × (numbers.new.items ≡ numbers.old.items ++ command_integer id count ∷ [])) }
+    ensures spelled { OnOk result (IsCount count
+        × (numbers.new.items ≡ numbers.old.items ++ command_integer id count ∷ [])) }
     ensures fault { IfErr result (λ fault. fault ≡ SpellFault.Unspellable → ¬ IsCount count) }
 {
     if count > GREATEST_COUNT as usize {
@@ -180,10 +198,11 @@ fn spell_command(numbers: &mut Vec<u32>, id: u32, count: usize) -> Result<(), Sp
     Ok(())
 }
 
-/// The parameter that goes from a coordinate to another one (section 4.3.2), or None where the step is
-/// too large for one.
+/// The parameter that goes from a coordinate to another one (section 4.3.2), or None where the step
+/// is too large for one.
 fn parameter(from: i32, to: i32) -> Option<u32>
-    ensures parameter { IfSome result (λ number. IsParameter (to -ℤ from) × (number ≡ zigzag (to -ℤ from))) }
+    ensures parameter { IfSome result (λ number. IsParameter (to -ℤ from)
+        × (number ≡ zigzag (to -ℤ from))) }
     ensures none { IfNone result (¬ IsParameter (to -ℤ from)) }
 {
     let step = i64::from(to) - i64::from(from);

@@ -9,7 +9,7 @@ use Rattle.mvt_wire.specs.declared.cause.WireCode.TheVariants.{Ends}
 use Rattle.mvt_wire.specs.declared.scope.Scope.{Scope}
 use Rattle.mvt_wire.specs.declared.scope.Scope.TheVariants.{Tile, Layer, Value, Feature}
 use Rattle.mvt_fault.specs.Code.{tag_code, command_code, ring_code, fault_code}
-use Rattle.mvt_fault.specs.Candidate.{HasCode}
+use Rattle.mvt_fault.specs.Calls.Candidate.{HasCode}
 use Rattle.mvt_fault.specs.Reading.{HasDecimalForm, Writes, StandsFor, IsOutOfRange}
 use Rattle.mvt_fault.specs.Text.{whole, wire_data, feature_data, ring_data, edge_data, meeting_parts, HasWidth, IsInRange}
 use Rattle.mvt_fault.specs.declared.fault.Fault.{Fault}

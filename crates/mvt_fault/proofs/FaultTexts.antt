@@ -7,7 +7,7 @@ use Rattle.std.proofs.lemmas.Slice.Eq.{bytes_eq-Decides}
 use Rattle.serde_json.specs.Data.{Data, depth}
 use Rattle.serde_json.specs.Read.{read, max_depth}
 use Rattle.serde_json.specs.View.{view}
-use Rattle.mvt_fault.specs.Candidate.{IsAnswerTo, IsCandidate, HasCandidate}
+use Rattle.mvt_fault.specs.Calls.Candidate.{IsAnswerTo, IsCandidate, HasCandidate}
 use Rattle.mvt_fault.specs.Reading.{StandsFor, HasShape, IsOutOfRange, IsTextOf, IsNoJson, HasOtherShape, HasOtherRange}
 use Rattle.mvt_fault.specs.Text.{data_of, IsInRange, Reads}
 use Rattle.mvt_fault.specs.declared.fault.Fault.{Fault}

@@ -38,60 +38,60 @@ ComesFirst-transitive (x ∷ xs) (y ∷ ys) (z ∷ zs) (inr p) (inl q) = inl (om
 ComesFirst-transitive (x ∷ xs) (y ∷ ys) (z ∷ zs) (inr p) (inr q) = inr (p.0 ∙ q.0, ComesFirst-transitive xs ys zs p.1 q.1)
 
 -- what an ordering says of two places
-abbrev Tells : Ordering → List ℕ → List ℕ → Type 0
-Tells ordering xs ys = MatchOrdering ordering (ComesFirst xs ys × (xs ≢ ys)) (xs ≡ ys) (ComesFirst ys xs × (xs ≢ ys))
+abbrev Decides : Ordering → List ℕ → List ℕ → Type 0
+Decides ordering xs ys = MatchOrdering ordering (ComesFirst xs ys × (xs ≢ ys)) (xs ≡ ys) (ComesFirst ys xs × (xs ≢ ys))
 
-tells_by_heads : (x y : ℕ) (xs ys : List ℕ) (r o : Ordering) → MatchOrdering r (x < y) (x ≡ y) (y < x) → Tells o xs ys → Tells (ordering_then r o) (x ∷ xs) (y ∷ ys)
-tells_by_heads x y xs ys Less o below rest = (inl below, λ same. let heads : x ≡ y = cc same in omega arith)
-tells_by_heads x y xs ys Equal Less same rest = (inr (same, rest.0), λ all. rest.1 (cc all))
-tells_by_heads x y xs ys Equal Equal same rest = λ i. same i ∷ rest i
-tells_by_heads x y xs ys Equal Greater same rest = (inr (sym same, rest.0), λ all. rest.1 (cc all))
-tells_by_heads x y xs ys Greater o above rest = (inl above, λ same. let heads : x ≡ y = cc same in omega arith)
+decides_by_heads : (x y : ℕ) (xs ys : List ℕ) (r o : Ordering) → MatchOrdering r (x < y) (x ≡ y) (y < x) → Decides o xs ys → Decides (ordering_then r o) (x ∷ xs) (y ∷ ys)
+decides_by_heads x y xs ys Less o below rest = (inl below, λ same. let heads : x ≡ y = cc same in omega arith)
+decides_by_heads x y xs ys Equal Less same rest = (inr (same, rest.0), λ all. rest.1 (cc all))
+decides_by_heads x y xs ys Equal Equal same rest = λ i. same i ∷ rest i
+decides_by_heads x y xs ys Equal Greater same rest = (inr (sym same, rest.0), λ all. rest.1 (cc all))
+decides_by_heads x y xs ys Greater o above rest = (inl above, λ same. let heads : x ≡ y = cc same in omega arith)
 
 -- the comparison of lists gives the order
-tells : (xs ys : List ℕ) → Tells (slice_cmp nat_cmp xs ys) xs ys
-tells [] [] = refl
-tells [] (y ∷ ys) = (tt, λ same. cc same)
-tells (x ∷ xs) [] = (tt, λ same. cc same)
-tells (x ∷ xs) (y ∷ ys) = tells_by_heads x y xs ys (nat_cmp x y) (slice_cmp nat_cmp xs ys) (ranks x y) (tells xs ys)
+decides : (xs ys : List ℕ) → Decides (slice_cmp nat_cmp xs ys) xs ys
+decides [] [] = refl
+decides [] (y ∷ ys) = (tt, λ same. cc same)
+decides (x ∷ xs) [] = (tt, λ same. cc same)
+decides (x ∷ xs) (y ∷ ys) = decides_by_heads x y xs ys (nat_cmp x y) (slice_cmp nat_cmp xs ys) (ranks x y) (decides xs ys)
 
 -- of two places one comes first
 pub ComesFirst-total : (xs ys : List ℕ) → ComesFirst xs ys ⊎ ComesFirst ys xs
-ComesFirst-total xs ys = one (slice_cmp nat_cmp xs ys) (tells xs ys)
+ComesFirst-total xs ys = one (slice_cmp nat_cmp xs ys) (decides xs ys)
   where
-    one : (o : Ordering) → Tells o xs ys → ComesFirst xs ys ⊎ ComesFirst ys xs
+    one : (o : Ordering) → Decides o xs ys → ComesFirst xs ys ⊎ ComesFirst ys xs
     one Less h = inl h.0
     one Equal h = inl (subst (ComesFirst xs) h (ComesFirst-reflexive xs))
     one Greater h = inr h.0
 
 -- what each answer of a comparison says
-answers_tell : (o : Ordering) (xs ys : List ℕ) → Tells o xs ys
+answers_decide : (o : Ordering) (xs ys : List ℕ) → Decides o xs ys
     → ((o ≡ Less) ↔ (ComesFirst xs ys × (xs ≢ ys))) × ((o ≡ Equal) ↔ (xs ≡ ys)) × ((o ≡ Greater) ↔ (ComesFirst ys xs × (xs ≢ ys)))
-answers_tell Less xs ys h = (
+answers_decide Less xs ys h = (
   (λ e. h, λ p. refl),
   (λ e. cc e, λ p. absurd (h.1 p)),
   (λ e. cc e, λ p. absurd (h.1 (ComesFirst-antisymmetric xs ys h.0 p.0))),
 )
-answers_tell Equal xs ys h = ((λ e. cc e, λ p. absurd (p.1 h)), (λ e. h, λ p. refl), (λ e. cc e, λ p. absurd (p.1 h)))
-answers_tell Greater xs ys h = (
+answers_decide Equal xs ys h = ((λ e. cc e, λ p. absurd (p.1 h)), (λ e. h, λ p. refl), (λ e. cc e, λ p. absurd (p.1 h)))
+answers_decide Greater xs ys h = (
   (λ e. cc e, λ p. absurd (h.1 (ComesFirst-antisymmetric xs ys p.0 h.0))),
   (λ e. cc e, λ p. absurd (h.1 p)),
   (λ e. h, λ p. refl),
 )
 
-pub less_tells : (o : Ordering) (xs ys : List ℕ) → o ≡ slice_cmp nat_cmp xs ys → (o ≡ Less) ↔ (ComesFirst xs ys × (xs ≢ ys))
-less_tells o xs ys is = (answers_tell o xs ys (rw is (tells xs ys))).0
+pub less_decides : (o : Ordering) (xs ys : List ℕ) → o ≡ slice_cmp nat_cmp xs ys → (o ≡ Less) ↔ (ComesFirst xs ys × (xs ≢ ys))
+less_decides o xs ys is = (answers_decide o xs ys (rw is (decides xs ys))).0
 
-pub equal_tells : (o : Ordering) (xs ys : List ℕ) → o ≡ slice_cmp nat_cmp xs ys → (o ≡ Equal) ↔ (xs ≡ ys)
-equal_tells o xs ys is = (answers_tell o xs ys (rw is (tells xs ys))).1
+pub equal_decides : (o : Ordering) (xs ys : List ℕ) → o ≡ slice_cmp nat_cmp xs ys → (o ≡ Equal) ↔ (xs ≡ ys)
+equal_decides o xs ys is = (answers_decide o xs ys (rw is (decides xs ys))).1
 
-pub greater_tells : (o : Ordering) (xs ys : List ℕ) → o ≡ slice_cmp nat_cmp xs ys → (o ≡ Greater) ↔ (ComesFirst ys xs × (xs ≢ ys))
-greater_tells o xs ys is = (answers_tell o xs ys (rw is (tells xs ys))).2
+pub greater_decides : (o : Ordering) (xs ys : List ℕ) → o ≡ slice_cmp nat_cmp xs ys → (o ≡ Greater) ↔ (ComesFirst ys xs × (xs ≢ ys))
+greater_decides o xs ys is = (answers_decide o xs ys (rw is (decides xs ys))).2
 
-pub up_to_tells : (xs ys : List ℕ) → IsTrue (is_some_and is_le (slice_partial_cmp (λ x y. Some (nat_cmp x y)) xs ys)) ↔ ComesFirst xs ys
-up_to_tells xs ys = rw (lists_agrees {C = λ x y. Some (nat_cmp x y)} (λ x y. refl) xs ys) (up_to (slice_cmp nat_cmp xs ys) xs ys (tells xs ys))
+pub up_to_decides : (xs ys : List ℕ) → IsTrue (is_some_and is_le (slice_partial_cmp (λ x y. Some (nat_cmp x y)) xs ys)) ↔ ComesFirst xs ys
+up_to_decides xs ys = rw (lists_agrees {C = λ x y. Some (nat_cmp x y)} (λ x y. refl) xs ys) (up_to (slice_cmp nat_cmp xs ys) xs ys (decides xs ys))
   where
-    up_to : (o : Ordering) (xs ys : List ℕ) → Tells o xs ys → IsTrue (is_le o) ↔ ComesFirst xs ys
+    up_to : (o : Ordering) (xs ys : List ℕ) → Decides o xs ys → IsTrue (is_le o) ↔ ComesFirst xs ys
     up_to Less xs ys h = (λ e. h.0, λ p. refl)
     up_to Equal xs ys h = (λ e. subst (ComesFirst xs) h (ComesFirst-reflexive xs), λ p. refl)
     up_to Greater xs ys h = (λ e. absurd (cc e), λ p. absurd (h.1 (ComesFirst-antisymmetric xs ys p h.0)))

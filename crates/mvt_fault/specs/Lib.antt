@@ -1,10 +1,9 @@
 pub use Rattle.serde_json.specs.Data
 pub use Rattle.serde_json.specs.Read
 pub use Rattle.serde_json.specs.Written
-pub mod Candidate
+pub mod Calls
 pub mod Code
-pub mod Text
-pub mod Members
 pub mod Place
 pub mod Reading
+pub mod Text
 pub mod TrueFaults

@@ -28,19 +28,6 @@ place_of (Outside layer feature polygon ring vertex) = 2 ∷ layer ∷ feature �
 place_of (HoleInHole layer feature polygon ring vertex other) = 2 ∷ layer ∷ feature ∷ 3 ∷ polygon ∷ 1 ∷ ring ∷ vertex ∷ 506 ∷ other ∷ []
 place_of (InPolygon layer feature polygon vertex other) = 2 ∷ layer ∷ feature ∷ 3 ∷ polygon ∷ 2 ∷ vertex ∷ 507 ∷ other ∷ 0 ∷ []
 
--- a fault of a polygon: of its edges, of its holes, or of its place among the other polygons
-abbrev pub IsOfPolygon : Fault → Type 0
-IsOfPolygon (Wire code scope at field) = ⊥
-IsOfPolygon (Version layer) = ⊥
-IsOfPolygon (Name first second) = ⊥
-IsOfPolygon (Tag code layer feature index) = ⊥
-IsOfPolygon (Command code layer feature index) = ⊥
-IsOfPolygon (Ring code layer feature ring) = ⊥
-IsOfPolygon (Meeting layer feature polygon first second x y w) = Unit {0}
-IsOfPolygon (Outside layer feature polygon ring vertex) = Unit {0}
-IsOfPolygon (HoleInHole layer feature polygon ring vertex other) = Unit {0}
-IsOfPolygon (InPolygon layer feature polygon vertex other) = Unit {0}
-
 -- a meeting of two edges of this polygon
 pub record IsMeetingIn (layer feature polygon : ℕ) (fault : Fault) : Type 0 where
   pub first : RingEdge

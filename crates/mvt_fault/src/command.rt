@@ -1,10 +1,10 @@
 ghost use Rattle.std.specs.Prelude.{◌≡◌};
 
-/// What keeps the geometry of a feature from being commands that draw a figure of its type (Mapbox Vector
-/// Tile Specification 2.1, section 4.3). The numbers are those of `code`.
+/// What keeps the geometry of a feature from being commands that draw a figure of its type (Mapbox
+/// Vector Tile Specification 2.1, section 4.3). The numbers are those of `code`.
 #[derive(Clone, Copy, Debug, PartialEq, Eq)]
 pub enum CommandCode {
-    /// 401: another command than the one that is due, or a number behind all points.
+    /// 401: another command than the one that is due, or a number after all points.
     OtherCommand = 401,
     /// 402: the command that is due, with a count that isn't allowed.
     OtherCount,

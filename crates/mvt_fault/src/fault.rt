@@ -1,6 +1,7 @@
 ghost use Rattle.std.specs.Prelude.{◌≡◌, ◌∷◌, []};
 ghost use Rattle.mvt_fault.specs.Code.{fault_code};
-ghost use Rattle.mvt_fault.specs.Place.{IsOfPolygon, place_of, scope_place};
+ghost use Rattle.mvt_fault.specs.Calls.Place.{IsOfPolygon};
+ghost use Rattle.mvt_fault.specs.Place.{place_of, scope_place};
 ghost use Rattle.mvt_fault.specs.TrueFaults.{wire_fault_in};
 
 use crate::command::CommandCode;
@@ -71,8 +72,8 @@ pub enum Fault {
         /// The ordinal of the ring in the feature, counted from 0.
         ring: usize,
     },
-    /// Two edges of a polygon have a point in common that isn't the vertex between them as neighbours
-    /// (section 4.3.4.4). The point is (x / w, y / w).
+    /// Two edges of a polygon have a point in common that isn't the vertex between them as
+    /// neighbours (section 4.3.4.4). The point is (x / w, y / w).
     Meeting {
         /// The ordinal of the feature's layer, counted from 0.
         layer: usize,
@@ -119,8 +120,9 @@ pub enum Fault {
         /// The ordinal of the other hole among all rings of the feature, counted from 0.
         other: usize,
     },
-    /// A vertex of a polygon's exterior is inside another polygon of the feature: inside its exterior,
-    /// and inside none of its holes. It is a fault in the profile `Profile::Feature` alone.
+    /// A vertex of a polygon's exterior is inside another polygon of the feature: inside its
+    /// exterior, and inside none of its holes. It is a fault in the profile `Profile::Feature`
+    /// alone.
     InPolygon {
         /// The ordinal of the feature's layer, counted from 0.
         layer: usize,
@@ -160,9 +162,9 @@ pub fn wire_fault_in(scope: Scope, cause: WireCause) -> Fault
     }
 }
 
-/// The number that names the fault's cause: 101 to 111 for a wire fault, 201 for a layer's version, 202
-/// for two layers of one name, 301 to 304 for tags, 401 to 406 for geometry commands, 501 to 503 for
-/// rings, 504 for edges that meet, 505 and 506 for holes, 507 for a polygon in another one.
+/// The number that names the fault's cause: 101 to 111 for a wire fault, 201 for a layer's version,
+/// 202 for two layers of one name, 301 to 304 for tags, 401 to 406 for geometry commands, 501 to
+/// 503 for rings, 504 for edges that meet, 505 and 506 for holes, 507 for a polygon in another one.
 pub fn code(fault: &Fault) -> u16
     ensures { result ≡ fault_code fault.now }
 {
@@ -180,12 +182,12 @@ pub fn code(fault: &Fault) -> u16
     }
 }
 
-/// The fault's place in the order of faults. Wire faults come first: those of the tile's own fields;
-/// then, layer by layer, those of the layer's fields, its values and its features (Mapbox Vector Tile
-/// Specification 2.1, section 4). Within one message the offset in bytes decides, then the code, then
-/// the field number. Versions and names follow layer by layer, and then, feature by feature, tags,
-/// geometry commands, rings, and polygon by polygon the meeting of edges, the holes, and the polygon in
-/// another one. All meetings of one polygon have the same place.
+/// The fault's place in the order of faults. Wire faults come first: those of the tile's own
+/// fields; then, layer by layer, those of the layer's fields, its values and its features (Mapbox
+/// Vector Tile Specification 2.1, section 4). Within one message the offset in bytes decides, then
+/// the code, then the field number. Versions and names follow layer by layer, and then, feature by
+/// feature, tags, geometry commands, rings, and polygon by polygon the meeting of edges, the holes,
+/// and the polygon in another one. All meetings of one polygon have the same place.
 pub fn place(fault: &Fault) -> Place
     ensures { result ≡ place_of fault.now }
 {
@@ -229,8 +231,9 @@ pub fn place(fault: &Fault) -> Place
     })
 }
 
-// The first five numbers of a wire fault's place: 0, since faults of the bytes come before all others;
-// whether it is in a layer, and in which; whether it is in a value or a feature, and in which.
+// The first five numbers of a wire fault's place: 0, since faults of the bytes come before all
+// others; whether it is in a layer, and in which; whether it is in a value or a feature, and in
+// which.
 fn scope_numbers(scope: Scope) -> [usize; 5]
     ensures { result ≡ scope_place scope }
 {
@@ -242,8 +245,8 @@ fn scope_numbers(scope: Scope) -> [usize; 5]
     }
 }
 
-// The numbers of a fault in a feature: 2, since such faults come last; which layer and feature; 0 for its
-// tags, 1 for its commands and 2 for its rings; the place in their list, and the code.
+// The numbers of a fault in a feature: 2, since such faults come last; which layer and feature; 0
+// for its tags, 1 for its commands and 2 for its rings; the place in their list, and the code.
 fn feature_numbers(
     layer: usize,
     feature: usize,
@@ -267,9 +270,9 @@ fn feature_numbers(
     ]
 }
 
-// The numbers of a fault of a polygon: 2, since such faults come last; which layer and feature; 3, behind
-// its rings; which polygon; 0 for a meeting of edges, 1 for a hole, 2 for the exterior; the hole, the
-// vertex, the code, and the other hole or polygon.
+// The numbers of a fault of a polygon: 2, since such faults come last; which layer and feature; 3,
+// after its rings; which polygon; 0 for a meeting of edges, 1 for a hole, 2 for the exterior; the
+// hole, the vertex, the code, and the other hole or polygon.
 fn polygon_numbers(fault: &Fault) -> [usize; 10]
     requires { IsOfPolygon fault.now }
     ensures { result ≡ place_of fault.now }

@@ -5,6 +5,7 @@
 pub enum Profile {
     /// Each polygon by itself: its rings neither cross nor touch.
     Polygon,
-    /// All polygons of a feature: none of its rings cross or touch, whichever polygon they belong to.
+    /// All polygons of a feature: none of its rings cross or touch, whichever polygon they belong
+    /// to.
     Feature,
 }

@@ -1,9 +1,10 @@
+//! Reads a fault from its JSON text.
 ghost use Rattle.std.specs.Prelude.{◌≡◌, ◌≤◌, ◌≢◌, ◌↔◌, ℕ, IfOk, IfErr, IfSome, Result, Ok, Err, None};
 ghost use Rattle.serde_json.specs.Data.{depth};
 ghost use Rattle.serde_json.specs.Read.{max_depth};
 ghost use Rattle.serde_json.specs.View.{view};
 ghost use Rattle.mvt_fault.specs.Text.{Reads};
-ghost use Rattle.mvt_fault.specs.Candidate.{IsAnswerTo, HasCode, IsCandidate, HasCandidate, HasNoBareCode};
+ghost use Rattle.mvt_fault.specs.Calls.Candidate.{IsAnswerTo, HasCode, IsCandidate, HasCandidate, HasNoBareCode};
 ghost use Rattle.mvt_fault.specs.Reading.{IsNoJson, HasOtherShape, HasOtherRange};
 
 mod candidate;
@@ -51,17 +52,21 @@ impl From<AllocError> for FaultTextError {
     }
 }
 
-/// The fault that the bytes are a text of. Members may come in any order and with any space, as JSON
-/// (RFC 8259) has it, and of members with one key the last counts.
+/// The fault that the bytes are a text of. Members may come in any order and with any space, as
+/// JSON (RFC 8259) has it, and of members with one key the last counts.
 pub fn fault_from_text(alloc: Global, bytes: &[u8]) -> Result<Fault, FaultTextError>
     ensures ok { IfOk result (λ f. Reads bytes.now f) }
     ensures alone { IfOk result (λ f. (other : Fault) → Reads bytes.now other → other ≡ f) }
-    ensures refused { IfErr result (λ e. e ≢ FaultTextError.Memory → (f : Fault) → ¬ Reads bytes.now f) }
+    ensures refused { IfErr result (λ e. e ≢ FaultTextError.Memory → (f : Fault)
+        → ¬ Reads bytes.now f) }
 
     // Where memory isn't refused, each error comes exactly where it is due.
-    ensures json { result ≢ Err FaultTextError.Memory → (result ≡ Err FaultTextError.Json) ↔ IsNoJson bytes.now }
-    ensures shape { result ≢ Err FaultTextError.Memory → (result ≡ Err FaultTextError.Shape) ↔ HasOtherShape bytes.now }
-    ensures range { result ≢ Err FaultTextError.Memory → (result ≡ Err FaultTextError.Range) ↔ HasOtherRange bytes.now }
+    ensures json { result ≢ Err FaultTextError.Memory
+        → (result ≡ Err FaultTextError.Json) ↔ IsNoJson bytes.now }
+    ensures shape { result ≢ Err FaultTextError.Memory
+        → (result ≡ Err FaultTextError.Shape) ↔ HasOtherShape bytes.now }
+    ensures range { result ≢ Err FaultTextError.Memory
+        → (result ≡ Err FaultTextError.Range) ↔ HasOtherRange bytes.now }
 {
     match Value::from_slice(alloc, bytes) {
         Ok(value) => fault_of(alloc, &value),

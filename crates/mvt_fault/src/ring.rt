@@ -1,7 +1,7 @@
 ghost use Rattle.std.specs.Prelude.{◌≡◌};
 
-/// What keeps the rings of a feature from being those of polygons (Mapbox Vector Tile Specification 2.1,
-/// section 4.3.4.4). The numbers are those of `code`.
+/// What keeps the rings of a feature from being those of polygons (Mapbox Vector Tile Specification
+/// 2.1, section 4.3.4.4). The numbers are those of `code`.
 #[derive(Clone, Copy, Debug, PartialEq, Eq)]
 pub enum RingCode {
     /// 501: the last position is the first one, to which ClosePath leads anyway.
@@ -23,8 +23,8 @@ impl RingCode {
     }
 }
 
-/// An edge of a feature's rings. It goes from the vertex of its own number to the next one, the last edge
-/// of a ring to the first vertex.
+/// An edge of a feature's rings. It goes from the vertex of its own number to the next one, the
+/// last edge of a ring to the first vertex.
 #[derive(Clone, Copy, Debug, PartialEq, Eq)]
 pub struct RingEdge {
     /// The ordinal of the ring among all rings of the feature, counted from 0.

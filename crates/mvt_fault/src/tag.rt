@@ -1,7 +1,7 @@
 ghost use Rattle.std.specs.Prelude.{◌≡◌};
 
-/// What is wrong with the tags of a feature (Mapbox Vector Tile Specification 2.1, section 4.4). The
-/// numbers are those of `code`.
+/// What is wrong with the tags of a feature (Mapbox Vector Tile Specification 2.1, section 4.4).
+/// The numbers are those of `code`.
 #[derive(Clone, Copy, Debug, PartialEq, Eq)]
 pub enum TagCode {
     /// 301: the list has an odd length, so that it is no list of pairs.

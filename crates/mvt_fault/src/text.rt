@@ -1,3 +1,4 @@
+//! Writes a fault as its JSON text.
 ghost use Rattle.std.specs.Prelude.{◌≡◌, IfOk, OnOk, string_bytes};
 ghost use Rattle.serde_json.specs.View.{view};
 ghost use Rattle.mvt_fault.specs.Text.{data_of, text_of, IsInRange, Reads};
@@ -15,8 +16,8 @@ use std::alloc::{AllocError, Global};
 use wire::wire_object;
 
 /// The fault as a JSON text (RFC 8259) with no space, its keys in the order of their bytes. Offsets
-/// are in bytes, and they and the ordinals count from 0. The numbers of a point are strings of decimal
-/// digits, with a `-` before a negative one.
+/// are in bytes, and they and the ordinals count from 0. The numbers of a point are strings of
+/// decimal digits, with a `-` before a negative one.
 pub fn fault_text(alloc: Global, fault: &Fault) -> Result<String, AllocError>
     ensures text { IfOk result (λ s. string_bytes s ≡ text_of fault.now) }
 

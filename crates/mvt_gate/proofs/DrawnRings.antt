@@ -1,12 +1,12 @@
 -- Rings that numbers spell have three vertices or more, and none at the position of the next one.
 use Rattle.std.proofs.Common.{◌≡◌, ◌≢◌, ℕ, zero, suc, ◌-◌, ◌≤◌, inl, inr, List, [], ◌∷◌, length, slice_get, Some, sym, ◌∙◌, ap, subst, arith}
 use Rattle.std.proofs.lemmas.Bool.{cases_eq}
-use Rattle.mvt_plane.specs.Figure.{cursor, AreApart, IsPath, ArePaths}
-use Rattle.mvt_plane.specs.Geometry.{HasRings}
+use Rattle.mvt_plane.specs.Commands.Figure.{cursor, AreApart, IsPath, ArePaths}
+use Rattle.mvt_plane.specs.FeatureGeometry.{HasRings}
 use Rattle.mvt_plane.specs.Position.{Position, origin}
-use Rattle.mvt_plane.specs.Ring.{ArePolygonRings}
+use Rattle.mvt_plane.specs.Geometry.Ring.{ArePolygonRings}
 use Rattle.mvt_polygon.specs.Rings.{AreProperRings}
-use Rattle.mvt_plane.proofs.RingEdges.{round_last, round_next}
+use Rattle.mvt_plane.proofs.Rings.RingEdges.{round_last, round_next}
 
 -- no position is that of the next one
 apart_at : (from : Position) (rest : List Position) (vertex : ℕ) (position next : Position) → AreApart from rest → slice_get (from ∷ rest) vertex ≡ Some position → slice_get rest vertex ≡ Some next → position ≢ next
@@ -38,14 +38,14 @@ apart_in_ring start (first ∷ rest) vertex position next path here there = apar
 pub rings_are_drawn : (kind : ℕ) (numbers : List ℕ) (parts : List (List Position)) → HasRings kind numbers parts → ArePolygonRings parts → AreProperRings parts
 rings_are_drawn kind numbers parts has sound = record {
   several = λ number ring there. let path = ring_at origin parts number ring has.spelled.able.0 there in several path.0 ring path.1;
-  apart = λ number vertex ring position next there here behind same. elim (cases_eq (suc vertex) (length ring)) [
+  apart = λ number vertex ring position next there here following same. elim (cases_eq (suc vertex) (length ring)) [
     | inl last ↦
         let at_end : slice_get ring (length ring - 1) ≡ Some position = ap (slice_get ring) (omega arith) ∙ here in
-        let at_beginning : slice_get ring 0 ≡ Some position = ap (slice_get ring) (sym (round_last (length ring) vertex last)) ∙ (behind ∙ ap Some (sym same)) in
+        let at_beginning : slice_get ring 0 ≡ Some position = ap (slice_get ring) (sym (round_last (length ring) vertex last)) ∙ (following ∙ ap Some (sym same)) in
         sound.open_ends number (record { ring = ring; there = there; position = position; first = at_beginning; last = at_end })
     | inr other ↦
         let path = ring_at origin parts number ring has.spelled.able.0 there in
-        let behind_it : slice_get ring (suc vertex) ≡ Some next = ap (slice_get ring) (sym (round_next (length ring) vertex other)) ∙ behind in
-        apart_in_ring path.0 ring vertex position next path.1 here behind_it same
+        let after_it : slice_get ring (suc vertex) ≡ Some next = ap (slice_get ring) (sym (round_next (length ring) vertex other)) ∙ following in
+        apart_in_ring path.0 ring vertex position next path.1 here after_it same
   ];
 }

@@ -4,13 +4,13 @@ use Rattle.mvt_fault.specs.Place.{IsLeast, IsMeetingIn}
 use Rattle.mvt_fault.specs.TrueFaults.{IsWireFault, wire}
 use Rattle.mvt_fault.specs.declared.fault.Fault.{Fault}
 use Rattle.mvt_fault.specs.declared.profile.Profile.TheVariants.{Polygon}
-use Rattle.mvt_wire.proofs.Tiles.{one_tile}
+use Rattle.mvt_wire.proofs.Parts.Tiles.{one_tile}
 use Rattle.mvt_wire.specs.Tile.{TileRecord}
 use Rattle.mvt_gate.specs.Dump.{IsDumpAnswer, dump_text}
 use Rattle.mvt_gate.specs.FaultLine.{fault_line}
 use Rattle.mvt_gate.specs.declared.engine.Outcome.{Outcome}
 use Rattle.mvt_gate.specs.declared.engine.Outcome.TheVariants.{Yes, No}
-use Rattle.mvt_confirm.proofs.TrueFaults.{no_fault_of_tile}
+use Rattle.mvt_confirm.proofs.Validity.TrueFaults.{no_fault_of_tile}
 use Rattle.mvt_gate.proofs.Verdicts.{least_of_wire, one_least}
 
 -- a wire fault is no meeting of edges

@@ -1,4 +1,4 @@
--- The text of an array while its members are written one behind another.
+-- The text of an array while its members are written one after another.
 use Rattle.std.proofs.Common.{◌≡◌, ℕ, List, [], ◌∷◌, ◌++◌, Bool, true, false, if◌then◌else◌, codes, Result, Ok, Err, OnOk, map, take, length, get_or, ◌+◌, ◌<◌, ◌≤◌, refl, ap, subst, sym, ◌∙◌, append_assoc}
 use Rattle.std.proofs.lemmas.List.{append-nil, map_more, take_all}
 use Rattle.std.specs.Result.{is_ok}
@@ -6,7 +6,7 @@ use Rattle.serde_json.specs.Data.{Data, array}
 use Rattle.serde_json.specs.View.{items_of}
 use Rattle.serde_json.specs.Written.{compact_text, items_text, comma_if}
 
--- the text of members, without the bracket behind the last
+-- the text of members, without the bracket after the last
 abbrev pub members_text : Bool → List Data → List ℕ
 members_text later [] = []
 members_text later (d ∷ ds) = comma_if later ++ (compact_text d ++ members_text true ds)
@@ -16,12 +16,12 @@ abbrev pub has_none : List Data → Bool
 has_none [] = true
 has_none (d ∷ ds) = false
 
--- the bracket and these members are behind a text
+-- the bracket and these members are after a text
 pub record ListsMembers (old new : List ℕ) (ds : List Data) (is_first : Bool) : Type 0 where
   pub written : new ≡ old ++ (91 ∷ members_text false ds)
   pub first : is_first ≡ has_none ds
 
--- the bracket behind the last member ends the array
+-- the bracket after the last member ends the array
 closed : (later : Bool) (ds : List Data) → items_text later (items_of ds) ≡ members_text later ds ++ 93 ∷ []
 closed later [] = refl
 closed later (d ∷ ds) =
@@ -29,14 +29,14 @@ closed later (d ∷ ds) =
     ∙ sym (append_assoc (comma_if later) (compact_text d ++ members_text true ds) (93 ∷ [])
     ∙ ap (λ rest. comma_if later ++ rest) (append_assoc (compact_text d) (members_text true ds) (93 ∷ [])))
 
--- one more member behind others
+-- one more member after others
 later_push : (ds : List Data) (d : Data) → members_text true (ds ++ d ∷ []) ≡ members_text true ds ++ (44 ∷ compact_text d)
 later_push [] d = ap (λ rest. 44 ∷ rest) (append-nil (compact_text d))
 later_push (one ∷ ds) d =
     ap (λ rest. 44 ∷ (compact_text one ++ rest)) (later_push ds d)
     ∙ ap (λ rest. 44 ∷ rest) (sym (append_assoc (compact_text one) (members_text true ds) (44 ∷ compact_text d)))
 
--- the array's text with its bracket behind, where that was written
+-- the array's text with its bracket after it, where that was written
 pub ListsMembers-whole : {E : Type 0} (result : Result (Unit {0}) E) (old new last : List ℕ) (ds all : List Data) (is_first : Bool)
     → ListsMembers old new ds is_first
     → ds ≡ all

@@ -12,14 +12,14 @@ use Rattle.mvt_wire.specs.Tile.{FeatureRecord, LayerRecord, TileRecord}
 use Rattle.mvt_fault.specs.Text.{whole}
 use Rattle.mvt_gate.specs.Dump.{signed, list_data, id_data, feature_data, layer_data, value_data, dump_text}
 
--- a piece, and what is written behind it
-behind : {E : Type 0} (result : Result (Unit {0}) E) (t0 t1 t2 piece rest : List ℕ)
+-- a piece, and what is written after it
+following : {E : Type 0} (result : Result (Unit {0}) E) (t0 t1 t2 piece rest : List ℕ)
     → t1 ≡ t0 ++ piece
     → OnOk result (t2 ≡ t1 ++ rest)
     → OnOk result (t2 ≡ t0 ++ (piece ++ rest))
-behind result t0 t1 t2 piece rest same = on_ok_weaker result (λ (last : t2 ≡ t1 ++ rest). last ∙ ap (λ text. text ++ rest) same ∙ append_assoc t0 piece rest)
+following result t0 t1 t2 piece rest same = on_ok_weaker result (λ (last : t2 ≡ t1 ++ rest). last ∙ ap (λ text. text ++ rest) same ∙ append_assoc t0 piece rest)
 
--- an opening, a content, and the brace behind
+-- an opening, a content, and the brace after it
 pub braced : {E : Type 0} (result : Result (Unit {0}) E) (t0 t1 t2 t3 opening content : List ℕ)
     → t1 ≡ t0 ++ opening
     → t2 ≡ t1 ++ content
@@ -54,8 +54,8 @@ pub feature_pushed : {E : Type 0} (result : Result (Unit {0}) E) (feature : Feat
     → OnOk result (t7 ≡ t0 ++ compact_text (feature_data feature))
 unfolding serde_json_on_literals
 feature_pushed result feature geometry tags kind t0 t1 t2 t3 t4 t5 t6 t7 same_geometry same_tags same_kind e1 e2 e3 e4 e5 e6 e7 =
-    behind result t0 t1 t7 _ _ e1 (behind result t1 t2 t7 _ _ (rw same_geometry at e2) (behind result t2 t3 t7 _ _ e3
-    (behind result t3 t4 t7 _ _ e4 (behind result t4 t5 t7 _ _ e5 (behind result t5 t6 t7 _ _ (rw same_tags at e6) (rw same_kind at e7))))))
+    following result t0 t1 t7 _ _ e1 (following result t1 t2 t7 _ _ (rw same_geometry at e2) (following result t2 t3 t7 _ _ e3
+    (following result t3 t4 t7 _ _ e4 (following result t4 t5 t7 _ _ e5 (following result t5 t6 t7 _ _ (rw same_tags at e6) (rw same_kind at e7))))))
 
 -- what a layer writes, piece by piece
 pub layer_pushed : {E : Type 0} (result : Result (Unit {0}) E) (layer : LayerRecord) (features keys values : List ℕ) (t0 t1 t2 t3 t4 t5 t6 t7 t8 t9 : List ℕ)
@@ -75,8 +75,8 @@ pub layer_pushed : {E : Type 0} (result : Result (Unit {0}) E) (layer : LayerRec
 unfolding serde_json_on_literals
 layer_pushed result layer features keys values t0 t1 t2 t3 t4 t5 t6 t7 t8 t9 same_features same_keys same_values e1 e2 e3 e4 e5 e6 e7 e8 e9 =
     on_ok_weaker result (λ last. last ∙ ap (λ piece. t0 ++ (codes "{\"extent\":" ++ piece)) (append_assoc (decimal layer.extent) (codes ",\"features\":") _))
-    (behind result t0 t1 t9 _ _ e1 (behind result t1 t2 t9 _ _ (rw same_features at e2) (behind result t2 t3 t9 _ _ e3 (behind result t3 t4 t9 _ _ (rw same_keys at e4)
-    (behind result t4 t5 t9 _ _ e5 (behind result t5 t6 t9 _ _ e6 (behind result t6 t7 t9 _ _ e7 (behind result t7 t8 t9 _ _ (rw same_values at e8) e9))))))))
+    (following result t0 t1 t9 _ _ e1 (following result t1 t2 t9 _ _ (rw same_features at e2) (following result t2 t3 t9 _ _ e3 (following result t3 t4 t9 _ _ (rw same_keys at e4)
+    (following result t4 t5 t9 _ _ e5 (following result t5 t6 t9 _ _ e6 (following result t6 t7 t9 _ _ e7 (following result t7 t8 t9 _ _ (rw same_values at e8) e9))))))))
 
 -- what a tile writes
 pub tile_written : (tile : TileRecord) (layers t1 t2 t3 : List ℕ)

@@ -1,15 +1,15 @@
 -- What is found wrong with the first polygon of a feature that has a fault, where polygons are kept apart.
-use Rattle.std.proofs.Common.{◌≡◌, ℕ, ◌<◌, ◌≤◌, ◌⊎◌, inl, inr, List, [], ◌∷◌, length, refl, arith}
+use Rattle.std.proofs.Common.{◌≡◌, ℕ, ◌<◌, ◌≤◌, ◌⊎◌, inl, inr, List, [], ◌∷◌, refl, arith}
 use Rattle.std.proofs.lemmas.Bool.{cases_lt}
 use Rattle.mvt_confirm.specs.PolygonFault.{IsPolygonOf, IsVertexInPolygonBy}
 use Rattle.mvt_confirm.specs.Valid.{AreApartBy, AreValidRingsBy, IsValidPolygonBy}
 use Rattle.mvt_fault.specs.declared.profile.Profile.TheVariants.{Feature}
 use Rattle.mvt_fault.specs.Place.{ComesFirst}
-use Rattle.mvt_plane.proofs.PolygonNumbers.{exterior_within}
-use Rattle.mvt_plane.specs.Part.{part_of}
-use Rattle.mvt_plane.specs.Polygon.{PolygonRings, IsPolygon}
+use Rattle.mvt_plane.specs.Geometry.Part.{part_of}
+use Rattle.mvt_plane.specs.Geometry.Polygon.{PolygonRings, IsPolygon}
 use Rattle.mvt_plane.specs.Position.{Position}
-use Rattle.mvt_plane.specs.Ring.{ArePolygonRings}
+use Rattle.mvt_plane.specs.Geometry.Ring.{ArePolygonRings}
+use Rattle.mvt_polygon.proofs.Holes.ApartFaults.{ends_within}
 use Rattle.mvt_polygon.specs.Apart.{IsApartFault, IsFirstApartFault}
 use Rattle.mvt_polygon.specs.Feature.{IsCause, IsClear, IsFirstFault, front_of}
 use Rattle.mvt_polygon.specs.Meeting.{IsMeetingOf, NoMeeting}
@@ -20,17 +20,10 @@ use Rattle.mvt_polygon.specs.declared.feature.FeatureFault.{FeatureFault}
 use Rattle.mvt_polygon.specs.declared.meeting.Meeting.{Meeting as MeetingOf}
 use Rattle.mvt_gate.proofs.PolygonFaults.{HasGoodHoles, in_polygon_is_least, meeting_is_least}
 use Rattle.mvt_gate.proofs.PolygonParts.{apart_in_whole, apart_of_front, edge_in_whole, enclosed_in_whole, first_hole_is_least, hole_within, meeting_of_front, meeting_within}
-use Rattle.mvt_gate.specs.Polygons.{AreValidBefore, IsFirstOfRings, IsTellable, fault_of_apart, fault_of_cause, fault_of_meeting, front_place, rings_at}
+use Rattle.mvt_gate.specs.Calls.Polygons.{AreValidBefore, IsFirstOfRings, IsReportable, fault_of_apart, fault_of_cause, fault_of_meeting, front_place, rings_at}
 use Rattle.mvt_gate.specs.declared.polygons.PolygonPlace.{PolygonPlace}
 
 -- Polygons without a fault
-
--- the rings of a polygon are among all
-rings_within : (parts : List (List Position)) (polygon : ℕ) (its : PolygonRings) → IsPolygon parts polygon its → its.after ≤ length parts
-rings_within parts polygon its there = elim there.ends [
-  | inl last ↦ omega arith
-  | inr is_exterior ↦ let within = exterior_within parts its.after is_exterior in omega arith
-]
 
 -- where no edges of the front meet wrongly, those of the polygon are apart from it
 apart_by_front : (parts : List (List Position)) (its : PolygonRings) → NoMeeting (part_of parts (front_of its)) → AreApartBy Feature parts its
@@ -39,7 +32,7 @@ apart_by_front parts its none = apart_of_front parts its (apart_in_whole parts (
 -- a polygon without a fault is valid
 valid_of_clear : (parts : List (List Position)) (polygon : ℕ) (its : PolygonRings) → IsPolygon parts polygon its → IsClear parts polygon its → IsValidPolygonBy Feature parts its
 valid_of_clear parts polygon its there clear =
-    let good = enclosed_in_whole parts its (rings_within parts polygon its there) clear.placed.nested in
+    let good = enclosed_in_whole parts its (ends_within parts polygon its there) clear.placed.nested in
     record {
       apart = apart_by_front parts its clear.apart;
       enclosed = good.enclosed;
@@ -102,7 +95,7 @@ least_of_front : (parts : List (List Position)) (place : PolygonPlace) (found : 
 least_of_front parts place found of_it valid meets =
     meeting_is_least Feature parts place.layer place.feature place.polygon (edge_in_whole 0 found.first_ring found.first_edge) (edge_in_whole 0 found.second_ring found.second_edge)
     found.point.x found.point.y found.point.w valid
-    (meeting_of_front parts place.polygon (rings_at place) found (rings_within parts place.polygon (rings_at place) of_it.there) of_it valid meets)
+    (meeting_of_front parts place.polygon (rings_at place) found (ends_within parts place.polygon (rings_at place) of_it.there) of_it valid meets)
 
 -- so is the first vertex that is inside another polygon, where the polygon has no other fault
 least_of_apart : (parts : List (List Position)) (place : PolygonPlace) (found : ApartFault) → IsPolygonOf parts place.polygon (rings_at place) → AreValidBefore Feature parts place.polygon → AreApartBy Feature parts (rings_at place)
@@ -117,16 +110,16 @@ least_of_cause : (parts : List (List Position)) (place : PolygonPlace) (cause : 
     → IsCause parts place.polygon (rings_at place) cause → IsFirstOfRings Feature parts place.layer place.feature (fault_of_cause place cause)
 least_of_cause parts place (Meeting found) of_it valid is = least_of_front parts place found of_it valid is
 least_of_cause parts place (Nesting fault) of_it valid is =
-    first_hole_is_least Feature parts place fault (rings_within parts place.polygon (rings_at place) of_it.there) of_it valid (apart_by_front parts (rings_at place) is.0) is.1
+    first_hole_is_least Feature parts place fault (ends_within parts place.polygon (rings_at place) of_it.there) of_it valid (apart_by_front parts (rings_at place) is.0) is.1
 least_of_cause parts place (Apart found) of_it valid is =
     least_of_apart parts place found of_it valid (apart_by_front parts (rings_at place) is.0)
-    (enclosed_in_whole parts (rings_at place) (rings_within parts place.polygon (rings_at place) of_it.there) is.1) is.2
+    (enclosed_in_whole parts (rings_at place) (ends_within parts place.polygon (rings_at place) of_it.there) is.1) is.2
 
 -- its rings are there
-tellable_of_cause : (parts : List (List Position)) (place : PolygonPlace) (cause : FeatureCause) → IsPolygon parts place.polygon (rings_at place) → IsCause parts place.polygon (rings_at place) cause → IsTellable place cause
-tellable_of_cause parts place (Meeting found) there is = meeting_within parts (front_of (rings_at place)) found (rings_within parts place.polygon (rings_at place) there) is
-tellable_of_cause parts place (Nesting fault) there is = hole_within parts place fault (rings_within parts place.polygon (rings_at place) there) is.1
-tellable_of_cause parts place (Apart found) there is = tt
+reportable_of_cause : (parts : List (List Position)) (place : PolygonPlace) (cause : FeatureCause) → IsPolygon parts place.polygon (rings_at place) → IsCause parts place.polygon (rings_at place) cause → IsReportable place cause
+reportable_of_cause parts place (Meeting found) there is = meeting_within parts (front_of (rings_at place)) found (ends_within parts place.polygon (rings_at place) there) is
+reportable_of_cause parts place (Nesting fault) there is = hole_within parts place fault (ends_within parts place.polygon (rings_at place) there) is.1
+reportable_of_cause parts place (Apart found) there is = tt
 
 -- the place of the polygon that has a fault
 abbrev pub place_in : ℕ → ℕ → FeatureFault → PolygonPlace
@@ -137,5 +130,5 @@ pub least_of_found : (parts : List (List Position)) (layer feature : ℕ) (fault
 least_of_found parts layer feature fault sound found =
     least_of_cause parts (place_in layer feature fault) fault.cause (record { sound = sound; there = found.there }) (valid_before parts fault found) found.is
 
-pub tellable_of_found : (parts : List (List Position)) (layer feature : ℕ) (fault : FeatureFault) → IsFirstFault parts fault → IsTellable (place_in layer feature fault) fault.cause
-tellable_of_found parts layer feature fault found = tellable_of_cause parts (place_in layer feature fault) fault.cause found.there found.is
+pub reportable_of_found : (parts : List (List Position)) (layer feature : ℕ) (fault : FeatureFault) → IsFirstFault parts fault → IsReportable (place_in layer feature fault) fault.cause
+reportable_of_found parts layer feature fault found = reportable_of_cause parts (place_in layer feature fault) fault.cause found.there found.is

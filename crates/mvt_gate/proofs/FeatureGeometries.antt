@@ -10,7 +10,8 @@ use Rattle.mvt_fault.specs.declared.command.CommandCode.{CommandCode}
 use Rattle.mvt_fault.specs.declared.fault.Fault.{Fault}
 use Rattle.mvt_fault.specs.declared.fault.Fault.TheVariants.{Command}
 use Rattle.mvt_fault.specs.declared.profile.Profile.{Profile}
-use Rattle.mvt_plane.specs.Geometry.{HasFigure, HasRings}
+use Rattle.mvt_plane.specs.Commands.Figure.{polygon}
+use Rattle.mvt_plane.specs.FeatureGeometry.{HasFigure, HasRings, type_number}
 use Rattle.mvt_plane.specs.Position.{Position}
 use Rattle.mvt_tile.specs.View.{kind_number}
 use Rattle.mvt_tile.specs.declared.record.Kind.{Kind}
@@ -19,7 +20,7 @@ use Rattle.mvt_wire.proofs.NothingFound.{IfNone_then}
 use Rattle.mvt_wire.specs.Tile.{FeatureRecord}
 use Rattle.mvt_gate.proofs.FirstFaults.{command_is_least}
 use Rattle.mvt_gate.proofs.ValidGeometries.{valid_of_rings}
-use Rattle.mvt_gate.specs.Polygons.{IsFirstOfRings}
+use Rattle.mvt_gate.specs.Calls.Polygons.{IsFirstOfRings}
 
 -- what is known where nothing is found
 abbrev WhereNone : {E : Type 0} → Result (Option Fault) E → Type 0 → Type 0
@@ -31,14 +32,14 @@ where_none First Second found so = IfOk-weaker found (λ fault. IfNone fault Fir
 
 module _ {E : Type 0} (profile : Profile) (found : Result (Option Fault) E) (IsIt : FeatureRecord → Type 0) where
   -- where the rings of a feature are those of valid polygons, its geometry is valid
-  pub valid_by_rings : (parts drawn : List (List Position)) → parts ≡ drawn → ((it : FeatureRecord) → IsIt it → it.kind ≡ 3) → ((it : FeatureRecord) → IsIt it → HasRings 3 it.geometry drawn)
+  pub valid_by_rings : (parts drawn : List (List Position)) → parts ≡ drawn → ((it : FeatureRecord) → IsIt it → it.kind ≡ type_number polygon) → ((it : FeatureRecord) → IsIt it → HasRings (type_number polygon) it.geometry drawn)
       → WhereNone found (AreValidRingsBy profile parts) → WhereNone found ((it : FeatureRecord) → IsIt it → IsValidGeometryBy profile it)
   valid_by_rings parts drawn all kind has =
       where_none (AreValidRingsBy profile parts) ((it : FeatureRecord) → IsIt it → IsValidGeometryBy profile it) found
       (λ valid it is. valid_of_rings profile it parts (subst (λ (its : List (List Position)). HasRings it.kind it.geometry its) (sym all) (subst (λ (n : ℕ). HasRings n it.geometry drawn) (sym (kind it is)) (has it is))) valid)
 
   -- the first fault of its rings is the first of its geometry
-  pub least_by_rings : (parts drawn : List (List Position)) (layer ordinal : ℕ) → parts ≡ drawn → ((it : FeatureRecord) → IsIt it → it.kind ≡ 3) → ((it : FeatureRecord) → IsIt it → HasRings 3 it.geometry drawn)
+  pub least_by_rings : (parts drawn : List (List Position)) (layer ordinal : ℕ) → parts ≡ drawn → ((it : FeatureRecord) → IsIt it → it.kind ≡ type_number polygon) → ((it : FeatureRecord) → IsIt it → HasRings (type_number polygon) it.geometry drawn)
       → IfOk found (λ fault. IfSome fault (IsFirstOfRings profile parts layer ordinal)) → IfOk found (λ fault. IfSome fault (λ first. (it : FeatureRecord) → IsIt it → IsLeast (IsFaultOfGeometryBy profile it layer ordinal) first))
   least_by_rings parts drawn layer ordinal all kind has =
       IfOk-weaker found _ _
@@ -46,17 +47,17 @@ module _ {E : Type 0} (profile : Profile) (found : Result (Option Fault) E) (IsI
       (λ first least it is. least it (subst (λ (its : List (List Position)). HasRings it.kind it.geometry its) (sym all) (subst (λ (n : ℕ). HasRings n it.geometry drawn) (sym (kind it is)) (has it is)))))
 
 -- the number of polygons is that of no other kind
-other_number : (kind : Kind) → kind ≢ Polygon → kind_number kind ≢ 3
+other_number : (kind : Kind) → kind ≢ Polygon → kind_number kind ≢ type_number polygon
 other_number Unknown other = λ same. absurd (omega arith)
 other_number Point other = λ same. absurd (omega arith)
 other_number LineString other = λ same. absurd (omega arith)
 other_number Polygon other = absurd (other refl)
 
-pub other_kind : (kind : Kind) (it : FeatureRecord) → kind ≢ Polygon → kind_number kind ≡ it.kind → it.kind ≢ 3
-other_kind kind it other same three = other_number kind other (same ∙ three)
+pub other_kind : (kind : Kind) (it : FeatureRecord) → kind ≢ Polygon → kind_number kind ≡ it.kind → it.kind ≢ type_number polygon
+other_kind kind it other same is = other_number kind other (same ∙ is)
 
 -- a figure that is no polygon is valid where it is drawn
-pub valid_by_figure : (profile : Profile) (it : FeatureRecord) → it.kind ≢ 3 → HasFigure it.kind it.geometry → IsValidGeometryBy profile it
+pub valid_by_figure : (profile : Profile) (it : FeatureRecord) → it.kind ≢ type_number polygon → HasFigure it.kind it.geometry → IsValidGeometryBy profile it
 valid_by_figure profile it other has = record { figure = has; polygons = λ rings drawn. absurd (other drawn.typed) }
 
 -- a fault of the commands is the first of the feature's geometry

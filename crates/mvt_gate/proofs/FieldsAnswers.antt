@@ -1,6 +1,6 @@
 -- Each input has one answer of `fields`, by the laws of the wire encoding.
 use Rattle.std.proofs.Common.{◌≡◌, ℕ, List, inl, inr, refl, sym, ◌∙◌, ap, arith}
-use Rattle.mvt_wire.proofs.Messages.{one_list, whole_or_defect, one_defect, message_or_defect}
+use Rattle.mvt_wire.proofs.Encoding.Messages.{one_list, whole_or_defect, one_defect, message_or_defect}
 use Rattle.mvt_wire.specs.declared.cause.WireCause.{WireCause}
 use Rattle.mvt_wire.specs.declared.scope.Scope.TheVariants.{Tile}
 use Rattle.mvt_fault.specs.TrueFaults.{wire_fault_in}

@@ -2,7 +2,7 @@
 use Rattle.std.proofs.Common.{◌≡◌, ℕ, ◌<◌, List, [], ◌∷◌, ◌++◌, Bool, true, false, if◌then◌else◌, length, codes, map, refl, ap, subst, sym, ◌∙◌, append_assoc}
 use Rattle.std.proofs.lemmas.List.{map_push}
 use Rattle.std.specs.List.{join_with_byte}
-use Rattle.mvt_wire.proofs.Messages.{FieldList-push, whole_or_defect}
+use Rattle.mvt_wire.proofs.Encoding.Messages.{FieldList-push, whole_or_defect}
 use Rattle.mvt_wire.specs.Field.{Entry, FieldDefect, IsField}
 use Rattle.mvt_wire.specs.Message.{FieldList, HasDefect, IsMessage}
 use Rattle.mvt_wire.specs.Walk.{Walk, FindsDefect, GivesField}
@@ -50,7 +50,7 @@ Passing-defect input old new entries cause so_far found = record {
   defect = subst (λ bytes. FieldDefect bytes old.at cause) so_far.same_bytes found.defect;
 }
 
--- one more piece behind others
+-- one more piece after others
 join-push : (c : ℕ) (piece : List ℕ) (pieces : List (List ℕ)) (last : List ℕ)
     → join_with_byte c ((piece ∷ pieces) ++ last ∷ []) ≡ join_with_byte c (piece ∷ pieces) ++ (c ∷ last)
 join-push c piece [] last = refl

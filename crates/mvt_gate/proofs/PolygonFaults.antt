@@ -1,7 +1,7 @@
 -- Of the faults of one feature's polygons, the first.
 use Rattle.std.proofs.Common.{◌≡◌, ℕ, ◌<◌, ◌≤◌, inl, inr, List, [], ◌∷◌, ℤ, refl, sym, subst, arith}
 use Rattle.std.proofs.lemmas.Bool.{cases_lt}
-use Rattle.mvt_confirm.proofs.InvalidRings.{not_sound}
+use Rattle.mvt_confirm.proofs.Validity.InvalidRings.{not_sound}
 use Rattle.mvt_confirm.specs.Geometry.{IsFaultOfGeometryBy, command, ring, meeting, outside, hole_in_hole, in_polygon}
 use Rattle.mvt_confirm.specs.PolygonFault.{number_of, IsPolygonOf, IsMeetingBy, IsVertexOutside, IsVertexInHole, IsVertexInPolygonBy}
 use Rattle.mvt_confirm.specs.Profiles.{IsKeptApart}
@@ -13,16 +13,16 @@ use Rattle.mvt_fault.specs.declared.fault.Fault.{Fault}
 use Rattle.mvt_fault.specs.declared.fault.Fault.TheVariants.{Meeting, Outside, HoleInHole, InPolygon}
 use Rattle.mvt_fault.specs.declared.profile.Profile.{Profile}
 use Rattle.mvt_fault.specs.declared.ring.RingEdge.{RingEdge}
-use Rattle.mvt_plane.proofs.SamePolygons.{same_polygon}
-use Rattle.mvt_plane.specs.Geometry.{HasRings}
-use Rattle.mvt_plane.specs.Nesting.{IsOutside, IsInHole}
-use Rattle.mvt_plane.specs.Polygon.{PolygonRings, IsPolygon, IsRingOf}
+use Rattle.mvt_plane.proofs.Rings.SamePolygons.{same_polygon}
+use Rattle.mvt_plane.specs.FeatureGeometry.{HasRings}
+use Rattle.mvt_plane.specs.Geometry.Nesting.{IsOutside, IsInHole}
+use Rattle.mvt_plane.specs.Geometry.Polygon.{PolygonRings, IsPolygon, IsRingOf}
 use Rattle.mvt_plane.specs.Position.{Position}
-use Rattle.mvt_plane.specs.RationalPoint.{RationalPoint}
-use Rattle.mvt_plane.specs.Ring.{BreaksRings, ArePolygonRings}
+use Rattle.mvt_plane.specs.Geometry.RationalPoint.{RationalPoint}
+use Rattle.mvt_plane.specs.Geometry.Ring.{BreaksRings, ArePolygonRings}
 use Rattle.mvt_wire.specs.Tile.{FeatureRecord}
 use Rattle.mvt_gate.proofs.FirstFaults.{of_these, no_command_fault}
-use Rattle.mvt_gate.specs.Polygons.{IsFirstOfRings, AreValidBefore}
+use Rattle.mvt_gate.specs.Calls.Polygons.{IsFirstOfRings, AreValidBefore}
 
 -- Faults that there are none of
 
@@ -69,12 +69,12 @@ in_polygon_at_least profile parts polygon number vertex other valid of =
 
 -- Places
 
--- the order by a polygon's number, and then by what is behind it
+-- the order by a polygon's number, and then by what is after it
 by_polygon : (layer feature polygon number : ℕ) (xs ys : List ℕ) → polygon ≤ number → (polygon ≡ number → ComesFirst xs ys)
     → ComesFirst (2 ∷ layer ∷ feature ∷ 3 ∷ polygon ∷ xs) (2 ∷ layer ∷ feature ∷ 3 ∷ number ∷ ys)
-by_polygon layer feature polygon number xs ys most behind = elim (cases_lt polygon number) [
+by_polygon layer feature polygon number xs ys most following = elim (cases_lt polygon number) [
   | inl less ↦ inr (refl, inr (refl, inr (refl, inr (refl, inl less))))
-  | inr more ↦ let same : polygon ≡ number = omega arith in inr (refl, inr (refl, inr (refl, inr (refl, inr (same, behind same)))))
+  | inr more ↦ let same : polygon ≡ number = omega arith in inr (refl, inr (refl, inr (refl, inr (refl, inr (same, following same)))))
 ]
 
 -- Meetings

@@ -1,5 +1,5 @@
 -- What is found in the rings of one polygon, said of all rings of its feature.
-use Rattle.std.proofs.Common.{◌≡◌, ℕ, ◌+◌, ◌-◌, ◌<◌, ◌≤◌, inl, inr, List, [], ◌∷◌, length, slice_get, Some, sym, ◌∙◌, ap, subst, arith}
+use Rattle.std.proofs.Common.{◌≡◌, ℕ, ◌+◌, ◌-◌, ◌<◌, ◌≤◌, inl, inr, List, [], ◌∷◌, length, sym, ap, subst, arith}
 use Rattle.std.proofs.lemmas.Bool.{cases_lt}
 use Rattle.std.proofs.lemmas.Option.{slice_get_within}
 use Rattle.mvt_confirm.specs.PolygonFault.{IsPolygonOf, IsMeetingBy}
@@ -9,53 +9,35 @@ use Rattle.mvt_fault.specs.declared.profile.Profile.{Profile}
 use Rattle.mvt_fault.specs.declared.profile.Profile.TheVariants.{Polygon, Feature}
 use Rattle.mvt_fault.specs.Place.{ComesFirst}
 use Rattle.mvt_fault.specs.declared.ring.RingEdge.{RingEdge}
-use Rattle.mvt_plane.proofs.PolygonNumbers.{polygon_of_ring}
-use Rattle.mvt_plane.proofs.PartsOfRings.{ring_of_part, count_of_part, number_in_part, meeting_in_part, outside_in_part, in_hole_in_part}
-use Rattle.mvt_plane.specs.Meeting.{EdgeNumber, ComesBefore, MeetsWrongly}
-use Rattle.mvt_plane.specs.Nesting.{IsOutside, IsInHole}
-use Rattle.mvt_plane.specs.Part.{part_of, within_part, in_whole}
-use Rattle.mvt_plane.specs.Polygon.{PolygonRings, IsRingOf, IsHoleOf}
+use Rattle.mvt_plane.proofs.Rings.PolygonNumbers.{polygon_of_ring}
+use Rattle.mvt_plane.proofs.Rings.PartsOfRings.{number_in_part, meeting_in_part, outside_in_part, in_hole_in_part}
+use Rattle.mvt_plane.specs.Geometry.Meeting.{EdgeNumber, ComesBefore, MeetsWrongly}
+use Rattle.mvt_plane.specs.Geometry.Nesting.{IsOutside, IsInHole}
+use Rattle.mvt_plane.specs.Geometry.Part.{part_of, in_whole}
+use Rattle.mvt_plane.specs.Geometry.Polygon.{PolygonRings, IsRingOf, IsHoleOf}
 use Rattle.mvt_plane.specs.Position.{Position}
-use Rattle.mvt_plane.specs.RationalPoint.{RationalPoint, IsBounded}
+use Rattle.mvt_plane.specs.Geometry.RationalPoint.{RationalPoint, IsBounded}
+use Rattle.mvt_polygon.proofs.Features.FirstMeetings.{rings_in_order}
+use Rattle.mvt_polygon.proofs.Holes.FaultsByRings.{whole_part}
+use Rattle.mvt_polygon.proofs.Placed.OwnPassings.{ring_of_whole}
 use Rattle.mvt_polygon.specs.Feature.{front_of}
 use Rattle.mvt_polygon.specs.Meeting.{first_of, second_of, IsMeetingOf}
-use Rattle.mvt_polygon.specs.Nesting.{one_polygon, IsNestFault, outside, in_hole, IsFirstNestFault}
-use Rattle.mvt_polygon.specs.Rings.{AreProperRings}
+use Rattle.mvt_polygon.specs.Nesting.{IsNestFault, outside, in_hole, IsFirstNestFault}
 use Rattle.mvt_polygon.specs.declared.meeting.Meeting.{Meeting}
 use Rattle.mvt_polygon.specs.declared.nesting.NestFault.{NestFault}
 use Rattle.mvt_polygon.specs.declared.nesting.NestFault.TheVariants.{Outside, InHole}
 use Rattle.mvt_gate.proofs.PolygonFaults.{HasGoodHoles, IsFirstHole, in_hole_is_least, outside_is_least}
 use Rattle.mvt_gate.proofs.PolygonWalk.{begins_in_turn}
-use Rattle.mvt_gate.specs.Polygons.{AreValidBefore, AreWithin, IsFirstOfRings, fault_of_hole, rings_at}
+use Rattle.mvt_gate.specs.Calls.Polygons.{AreValidBefore, AreWithin, IsFirstOfRings, fault_of_hole, rings_at}
 use Rattle.mvt_gate.specs.declared.polygons.PolygonPlace.{PolygonPlace}
 
 -- Rings
 
--- a ring of the part is one of its feature's
-ring_of_whole : (parts : List (List Position)) (its : PolygonRings) (number : ℕ) (ring : List Position) → its.after ≤ length parts → slice_get (part_of parts its) number ≡ Some ring
-    → (number < its.after - its.exterior) × (slice_get parts (its.exterior + number) ≡ Some ring)
-ring_of_whole parts its number ring within there =
-    let count = count_of_part parts its within in
-    let less : number < length (part_of parts its) = slice_get_within (part_of parts its) number ring there in
-    let below : number < its.after - its.exterior = omega arith in
-    (below, sym (ring_of_part parts its number below) ∙ there)
-
--- the rings of the part are drawn where all are
-pub part_is_drawn : (parts : List (List Position)) (its : PolygonRings) → its.after ≤ length parts → AreProperRings parts → AreProperRings (part_of parts its)
-part_is_drawn parts its within drawn = record {
-  several = λ number ring there. drawn.several (its.exterior + number) ring (ring_of_whole parts its number ring within there).1;
-  apart = λ number vertex ring position next there. drawn.apart (its.exterior + number) vertex ring position next (ring_of_whole parts its number ring within there).1;
-}
-
 -- a ring of the polygon by its number in the part
 hole_in_part : (its : PolygonRings) (ring : ℕ) → IsHoleOf its ring → (own : ℕ) × (ring ≡ its.exterior + own)
 hole_in_part its ring hole =
-    let behind = hole.behind in
+    let following = hole.following in
     (ring - its.exterior, omega arith)
-
--- the part by its length
-whole_part : (parts : List (List Position)) (its : PolygonRings) → its.after ≤ length parts → one_polygon (part_of parts its) ≡ within_part its
-whole_part parts its within = ap (λ (count : ℕ). record { exterior = 0; after = count }) (count_of_part parts its within)
 
 -- Meetings
 
@@ -63,11 +45,6 @@ whole_part parts its within = ap (λ (count : ℕ). record { exterior = 0; after
 in_order : (from : ℕ) (first second : EdgeNumber) → ComesBefore first second → ComesBefore (in_whole from first) (in_whole from second)
 in_order from first second (inl less) = inl (omega arith)
 in_order from first second (inr same) = inr (ap (λ ring. from + ring) same.0, same.1)
-
--- edges in order are of rings in order
-rings_in_order : (first second : EdgeNumber) → ComesBefore first second → first.ring ≤ second.ring
-rings_in_order first second (inl before) = omega arith
-rings_in_order first second (inr within) = let same = within.0 in omega arith
 
 -- the rings of a meeting in the part
 pub meeting_within : (parts : List (List Position)) (its : PolygonRings) (found : Meeting) → its.after ≤ length parts → IsMeetingOf (part_of parts its) found
@@ -81,7 +58,7 @@ meeting_within parts its found within meets =
 abbrev pub edge_in_whole : ℕ → ℕ → ℕ → RingEdge
 edge_in_whole from ring edge = record { ring = from + ring; edge = edge }
 
--- what a meeting in the part is in the whole, whichever polygon it is told for
+-- what a meeting in the part is in the whole, whichever polygon it is reported for
 record IsMeetingOfWhole (parts : List (List Position)) (its : PolygonRings) (found : Meeting) : Type 0 where
   first_in : IsRingOf its (its.exterior + found.first_ring)
   second_in : IsRingOf its (its.exterior + found.second_ring)
@@ -249,15 +226,15 @@ pub outside_is_first : (parts : List (List Position)) (its : PolygonRings) (ring
 outside_is_first parts its ring vertex within least = record {
   outside = λ hole place wrong.
       let own = hole_in_part its hole wrong.hole in
-      let behind = least.first (Outside own.0 place) (outside_of_part parts its own.0 place within (subst (λ (n : ℕ). IsOutside parts its n place) own.1 wrong)) in
+      let following = least.first (Outside own.0 place) (outside_of_part parts its own.0 place within (subst (λ (n : ℕ). IsOutside parts its n place) own.1 wrong)) in
       subst (λ (n : ℕ). ComesFirst ((its.exterior + ring) ∷ vertex ∷ 505 ∷ 0 ∷ []) (n ∷ place ∷ 505 ∷ 0 ∷ [])) (sym own.1)
-      (shifted its.exterior ring vertex 505 0 own.0 place 505 0 0 0 (λ codes most. omega arith) behind);
+      (shifted its.exterior ring vertex 505 0 own.0 place 505 0 0 0 (λ codes most. omega arith) following);
   in_hole = λ hole place other wrong.
       let own = own_other parts its hole place other wrong in
       let at : IsInHole parts its (its.exterior + own.0) place (its.exterior + own.1) = subst (λ (n : ℕ). IsInHole parts its n place (its.exterior + own.1)) own.2 (subst (IsInHole parts its hole place) own.3 wrong) in
-      let behind = least.first (InHole own.0 place own.1) (in_hole_of_part parts its own.0 place own.1 within at) in
+      let following = least.first (InHole own.0 place own.1) (in_hole_of_part parts its own.0 place own.1 within at) in
       subst (λ (n : ℕ). ComesFirst ((its.exterior + ring) ∷ vertex ∷ 505 ∷ 0 ∷ []) (n ∷ place ∷ 506 ∷ other ∷ [])) (sym own.2)
-      (shifted its.exterior ring vertex 505 0 own.0 place 506 own.1 0 other (λ codes most. absurd (omega arith)) behind);
+      (shifted its.exterior ring vertex 505 0 own.0 place 506 own.1 0 other (λ codes most. absurd (omega arith)) following);
 }
 
 -- so is the first inside another hole
@@ -266,16 +243,16 @@ pub in_hole_is_first : (parts : List (List Position)) (its : PolygonRings) (ring
 in_hole_is_first parts its ring vertex another within least = record {
   outside = λ hole place wrong.
       let own = hole_in_part its hole wrong.hole in
-      let behind = least.first (Outside own.0 place) (outside_of_part parts its own.0 place within (subst (λ (n : ℕ). IsOutside parts its n place) own.1 wrong)) in
+      let following = least.first (Outside own.0 place) (outside_of_part parts its own.0 place within (subst (λ (n : ℕ). IsOutside parts its n place) own.1 wrong)) in
       subst (λ (n : ℕ). ComesFirst ((its.exterior + ring) ∷ vertex ∷ 506 ∷ (its.exterior + another) ∷ []) (n ∷ place ∷ 505 ∷ 0 ∷ [])) (sym own.1)
-      (shifted its.exterior ring vertex 506 another own.0 place 505 0 (its.exterior + another) 0 (λ codes most. absurd (omega arith)) behind);
+      (shifted its.exterior ring vertex 506 another own.0 place 505 0 (its.exterior + another) 0 (λ codes most. absurd (omega arith)) following);
   in_hole = λ hole place other wrong.
       let own = own_other parts its hole place other wrong in
       let at : IsInHole parts its (its.exterior + own.0) place (its.exterior + own.1) = subst (λ (n : ℕ). IsInHole parts its n place (its.exterior + own.1)) own.2 (subst (IsInHole parts its hole place) own.3 wrong) in
-      let behind = least.first (InHole own.0 place own.1) (in_hole_of_part parts its own.0 place own.1 within at) in
+      let following = least.first (InHole own.0 place own.1) (in_hole_of_part parts its own.0 place own.1 within at) in
       let last : other ≡ its.exterior + own.1 = own.3 in
       subst (λ (n : ℕ). ComesFirst ((its.exterior + ring) ∷ vertex ∷ 506 ∷ (its.exterior + another) ∷ []) (n ∷ place ∷ 506 ∷ other ∷ [])) (sym own.2)
-      (shifted its.exterior ring vertex 506 another own.0 place 506 own.1 (its.exterior + another) other (λ codes most. omega arith) behind);
+      (shifted its.exterior ring vertex 506 another own.0 place 506 own.1 (its.exterior + another) other (λ codes most. omega arith) following);
 }
 
 -- the rings of a polygon's first fault of a hole

@@ -6,21 +6,22 @@ use Rattle.mvt_confirm.specs.PolygonFault.{IsPolygonOf}
 use Rattle.mvt_confirm.specs.Valid.{AreApartBy, IsValidPolygon, AreValidRings}
 use Rattle.mvt_fault.specs.declared.profile.Profile.{Profile}
 use Rattle.mvt_fault.specs.declared.profile.Profile.TheVariants.{Polygon}
-use Rattle.mvt_plane.specs.Meeting.{EdgeNumber, MeetsWrongly}
-use Rattle.mvt_plane.specs.Part.{part_of}
-use Rattle.mvt_plane.specs.Polygon.{IsExterior, NoExterior}
+use Rattle.mvt_plane.specs.Geometry.Meeting.{EdgeNumber, MeetsWrongly}
+use Rattle.mvt_plane.specs.Geometry.Part.{part_of}
+use Rattle.mvt_plane.specs.Geometry.Polygon.{IsExterior, NoExterior}
 use Rattle.mvt_plane.specs.Position.{Position}
-use Rattle.mvt_plane.specs.RationalPoint.{RationalPoint}
-use Rattle.mvt_plane.specs.Ring.{ArePolygonRings}
+use Rattle.mvt_plane.specs.Geometry.RationalPoint.{RationalPoint}
+use Rattle.mvt_plane.specs.Geometry.Ring.{ArePolygonRings}
+use Rattle.mvt_polygon.proofs.Placed.OwnPassings.{proper_part}
 use Rattle.mvt_polygon.specs.Meeting.{IsMeetingOf}
 use Rattle.mvt_polygon.specs.Nesting.{IsNestFault, IsFirstNestFault}
 use Rattle.mvt_polygon.specs.Rings.{rings_of, AreProperRings}
 use Rattle.mvt_polygon.specs.declared.meeting.Meeting.{Meeting}
 use Rattle.mvt_polygon.specs.declared.nesting.NestFault.{NestFault}
 use Rattle.mvt_gate.proofs.PolygonFaults.{HasGoodHoles, meeting_is_least}
-use Rattle.mvt_gate.proofs.PolygonParts.{part_is_drawn, meeting_within, apart_in_whole, enclosed_in_whole, edge_in_whole, meeting_in_whole, hole_within, first_hole_is_least}
+use Rattle.mvt_gate.proofs.PolygonParts.{meeting_within, apart_in_whole, enclosed_in_whole, edge_in_whole, meeting_in_whole, hole_within, first_hole_is_least}
 use Rattle.mvt_gate.proofs.PolygonWalk.{HasPassed, polygon_here, one_passed, all_passed}
-use Rattle.mvt_gate.specs.Polygons.{IsFirstOfRings, AreValidBefore, AreWithin, IsRingWithin, fault_of_hole, fault_of_meeting, rings_at}
+use Rattle.mvt_gate.specs.Calls.Polygons.{IsFirstOfRings, AreValidBefore, AreWithin, IsRingWithin, fault_of_hole, fault_of_meeting, rings_at}
 use Rattle.mvt_gate.specs.declared.polygons.PolygonPlace.{PolygonPlace}
 
 -- the rings of the polygon, as a slice of the feature's
@@ -38,7 +39,7 @@ within_rings rings place within = rw length-map within
 -- the rings of the polygon are drawn
 pub own_is_drawn : (rings : List (Vec Position Global)) (place : PolygonPlace) → place.after ≤ length rings → AreProperRings (rings_of rings) → AreProperRings (Own rings place)
 own_is_drawn rings place within drawn =
-    subst AreProperRings (sym (own_part rings place)) (part_is_drawn (rings_of rings) (rings_at place) (within_rings rings place within) drawn)
+    subst AreProperRings (sym (own_part rings place)) (proper_part (rings_of rings) (rings_at place) (within_rings rings place within) drawn)
 
 -- a meeting is of rings of the polygon
 pub meeting_is_within : (rings : List (Vec Position Global)) (place : PolygonPlace) (found : Meeting) → place.after ≤ length rings → IsMeetingOf (Own rings place) found
@@ -101,8 +102,8 @@ polygon_passed rings polygon exterior after sound passed within further fits hol
     let number : suc polygon ≡ polygon + 1 = omega arith in
     subst (λ (n : ℕ). HasPassed (rings_of rings) n after) number (one_passed (rings_of rings) polygon exterior after passed of_it (omega arith) valid)
 
--- behind the last ring all polygons were passed
+-- after the last ring all polygons were passed
 pub polygons_passed : (rings : List (Vec Position Global)) (polygon exterior : ℕ) → ArePolygonRings (rings_of rings) → HasPassed (rings_of rings) polygon exterior → length rings ≤ exterior → AreValidRings (rings_of rings)
-polygons_passed rings polygon exterior sound passed behind =
+polygons_passed rings polygon exterior sound passed following =
     let count : length (rings_of rings) ≡ length rings = length-map rings (λ ring. ring.items) in
     all_passed (rings_of rings) polygon exterior sound passed (omega arith)

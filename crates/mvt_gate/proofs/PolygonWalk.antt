@@ -5,36 +5,27 @@ use Rattle.std.proofs.lemmas.Option.{slice_get_within}
 use Rattle.mvt_confirm.specs.PolygonFault.{IsPolygonOf}
 use Rattle.mvt_confirm.specs.Valid.{IsValidPolygon, AreValidRings}
 use Rattle.mvt_fault.specs.declared.profile.Profile.TheVariants.{Polygon}
-use Rattle.mvt_plane.proofs.SamePolygons.{exterior_of_polygon, first_begins, same_polygon, one_polygon}
-use Rattle.mvt_plane.specs.Polygon.{IsExterior, NoExterior, IsExteriorOf, first, next, PolygonRings, IsPolygon}
+use Rattle.mvt_plane.proofs.Rings.SamePolygons.{exterior_of_polygon, first_begins, same_polygon, one_polygon}
+use Rattle.mvt_plane.specs.Geometry.Polygon.{IsExterior, NoExterior, IsExteriorOf, first, next, PolygonRings, IsPolygon}
 use Rattle.mvt_plane.specs.Position.{Position}
-use Rattle.mvt_plane.specs.Ring.{ArePolygonRings}
-use Rattle.mvt_gate.specs.Polygons.{AreValidBefore}
+use Rattle.mvt_plane.specs.Geometry.Ring.{ArePolygonRings}
+use Rattle.mvt_polygon.proofs.Features.FirstPolygons.{numbers_up_to}
+use Rattle.mvt_gate.specs.Calls.Polygons.{AreValidBefore}
 
 -- The order of polygons is that of their exteriors
-
--- up to an exterior
-numbers_up_to : (rings : List (List Position)) (polygon other one another : ℕ) → IsExteriorOf rings polygon one → IsExteriorOf rings other another → one ≤ another → polygon ≤ other
-numbers_up_to rings _ other _ another (first one is_exterior none) others below = omega arith
-numbers_up_to rings _ _ _ _ (next polygon before one begins less is_exterior none) (first another is_another none_before) below =
-    absurd (none_before before (omega arith) (omega arith) (exterior_of_polygon rings polygon before begins))
-numbers_up_to rings _ _ _ _ (next polygon before one begins less is_exterior none) (next other its_before another its_begins its_less is_another its_none) below = elim (cases_lt its_before before) [
-  | inl behind ↦ absurd (its_none before behind (omega arith) (exterior_of_polygon rings polygon before begins))
-  | inr up_to ↦ let most = numbers_up_to rings polygon other before its_before begins its_begins up_to in omega arith
-]
 
 -- before an exterior
 pub begins_in_turn : (rings : List (List Position)) (polygon other one another : ℕ) → IsExteriorOf rings polygon one → IsExteriorOf rings other another → one < another → polygon < other
 begins_in_turn rings polygon _ one _ its (first another is_another none) less = absurd (none one (omega arith) less (exterior_of_polygon rings polygon one its))
 begins_in_turn rings polygon _ one _ its (next other before another begins below is_another none) less = elim (cases_lt before one) [
-  | inl behind ↦ absurd (none one behind less (exterior_of_polygon rings polygon one its))
+  | inl following ↦ absurd (none one following less (exterior_of_polygon rings polygon one its))
   | inr up_to ↦ let most = numbers_up_to rings polygon other one before its begins up_to in omega arith
 ]
 
 -- The walk
 
 -- The polygons before that of this number were passed, and all of them are valid. They are those that begin before this
--- ring, which is the exterior of the polygon of this number, or is behind the last ring.
+-- ring, which is the exterior of the polygon of this number, or is after the last ring.
 pub record HasPassed (rings : List (List Position)) (polygon exterior : ℕ) : Type 0 where
   pub count : polygon ≤ exterior
   pub within : exterior ≤ length rings
@@ -82,10 +73,10 @@ passed_or_here : (parts : List (List Position)) (polygon exterior after : ℕ) �
     → (earlier : ℕ) (it : PolygonRings) → IsPolygon parts earlier it → it.exterior < after → earlier < suc polygon
 passed_or_here parts polygon exterior after passed there earlier it at less = elim (cases_lt it.exterior exterior) [
   | inl before ↦ let below = passed.all earlier it at before in omega arith
-  | inr behind ↦
+  | inr following ↦
       let further = at.further in
       let same = one_polygon parts it.exterior earlier polygon it (record { exterior = exterior; after = after }) at
-      (record { from = omega arith; before = further }) there (record { from = behind; before = less }) in
+      (record { from = omega arith; before = further }) there (record { from = following; before = less }) in
       let number = same.0 in
       omega arith
 ]
@@ -104,9 +95,9 @@ one_passed parts polygon exterior after passed of_it within valid =
       all = passed_or_here parts polygon exterior after passed of_it.there;
     }
 
--- behind the last ring all polygons were passed
+-- after the last ring all polygons were passed
 pub all_passed : (parts : List (List Position)) (polygon exterior : ℕ) → ArePolygonRings parts → HasPassed parts polygon exterior → length parts ≤ exterior → AreValidRings parts
-all_passed parts polygon exterior sound passed behind = record {
+all_passed parts polygon exterior sound passed following = record {
   sound = sound;
   polygons = λ number it there.
       let is_exterior = exterior_of_polygon parts number it.exterior there.begins in

@@ -1,9 +1,9 @@
 -- Verdicts by the parts of a tile. No bytes have two, and no input has two answers of `check`, but for two meetings in one
 -- polygon.
 use Rattle.std.proofs.Common.{◌≡◌, ℕ, List, ◌⊎◌, inl, inr, refl, sym, ◌∙◌, ap, subst}
-use Rattle.mvt_confirm.proofs.ShownParts.{shown_by_parts}
-use Rattle.mvt_confirm.proofs.TrueFaults.{no_fault_of_tile, shown_is_invalid}
-use Rattle.mvt_confirm.proofs.ValidParts.{valid_by_parts}
+use Rattle.mvt_confirm.proofs.Validity.ShownParts.{shown_by_parts}
+use Rattle.mvt_confirm.proofs.Validity.TrueFaults.{no_fault_of_tile, shown_is_invalid}
+use Rattle.mvt_confirm.proofs.Validity.ValidParts.{valid_by_parts}
 use Rattle.mvt_confirm.specs.Geometry.{IsFaultOfGeometryBy}
 use Rattle.mvt_confirm.specs.Shows.{ShowsBy}
 use Rattle.mvt_confirm.specs.Valid.{IsValidGeometryBy, ValidBy}
@@ -12,9 +12,9 @@ use Rattle.mvt_fault.specs.Place.{AreMeetingsInOne, IsLeast, place_of}
 use Rattle.mvt_fault.specs.TrueFaults.{IsWireFault}
 use Rattle.mvt_fault.specs.declared.fault.Fault.{Fault}
 use Rattle.mvt_fault.specs.declared.profile.Profile.{Profile}
-use Rattle.mvt_tile.proofs.Tiles.{is_tile}
+use Rattle.mvt_tile.proofs.WireFaults.Tiles.{is_tile}
 use Rattle.mvt_tile.specs.RuleFaults.{BreaksAnyRule, KeepsRules}
-use Rattle.mvt_wire.proofs.Tiles.{one_tile}
+use Rattle.mvt_wire.proofs.Parts.Tiles.{one_tile}
 use Rattle.mvt_wire.specs.Tile.{IsTile, TileRecord}
 use Rattle.mvt_wire.specs.WireFault.{WireFault}
 use Rattle.mvt_wire.specs.declared.cause.WireCause.{WireCause}
@@ -80,8 +80,8 @@ abbrev NameMeetings : Verdict → Verdict → Type 0
 NameMeetings first second = (fault : Fault) × (other : Fault) × (first ≡ No fault) × (second ≡ No other) × AreMeetingsInOne fault other
 
 -- and so do two lines
-abbrev TellMeetings : List ℕ → List ℕ → Type 0
-TellMeetings line other = (fault : Fault) × (its : Fault) × (line ≡ fault_line fault) × (other ≡ fault_line its) × AreMeetingsInOne fault its
+abbrev ReportMeetings : List ℕ → List ℕ → Type 0
+ReportMeetings line other = (fault : Fault) × (its : Fault) × (line ≡ fault_line fault) × (other ≡ fault_line its) × AreMeetingsInOne fault its
 
 -- verdicts on the same bytes are the same, or do that
 pub one_verdict : (profile : Profile) (bytes : List ℕ) (first second : Verdict) → IsVerdictBy profile bytes first → IsVerdictBy profile bytes second → (first ≡ second) ⊎ NameMeetings first second
@@ -94,7 +94,7 @@ one_verdict profile bytes (No fault) (No other) least its = elim (one_least prof
 ]
 
 -- so for answers of `check`
-pub one_answer : (profile : Profile) (input : List ℕ) (first second : Outcome) (line other : List ℕ) → IsCheckAnswerBy profile input first line → IsCheckAnswerBy profile input second other → (first ≡ second) × ((line ≡ other) ⊎ TellMeetings line other)
+pub one_answer : (profile : Profile) (input : List ℕ) (first second : Outcome) (line other : List ℕ) → IsCheckAnswerBy profile input first line → IsCheckAnswerBy profile input second other → (first ≡ second) × ((line ≡ other) ⊎ ReportMeetings line other)
 one_answer profile input outcomes.Yes outcomes.Yes line other a b = (refl, inl (a.1 ∙ sym b.1))
 one_answer profile input outcomes.Yes outcomes.No line other a b = absurd (shown_is_invalid profile input b.0 b.1.holds a.0)
 one_answer profile input outcomes.No outcomes.Yes line other a b = absurd (shown_is_invalid profile input a.0 a.1.holds b.0)

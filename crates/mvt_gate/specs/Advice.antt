@@ -40,13 +40,13 @@ advice_text advice = compact_text (keyed (codes "advice") (list_data advice_data
 abbrev pub advice_line : List Advice → List ℕ
 advice_line advice = advice_text advice ++ codes "\n"
 
--- Where the input is a tile, the lines are this one and that of the advice on the tile behind it; else this one alone.
+-- Where the input is a tile, the lines are this one and that of the advice on the tile after it; else this one alone.
 abbrev pub AddsAdvice : List ℕ → List ℕ → List ℕ → Type 0
 AddsAdvice input line lines =
     ((tile : TileRecord) × (advice : List Advice) × IsTile input tile × IsAdvice tile advice × (lines ≡ line ++ advice_line advice))
     ⊎ (((tile : TileRecord) → ¬ IsTile input tile) × (lines ≡ line))
 
--- The outcome and the first line are the answer of `check` by the profile, and the advice is behind it. No input has two
+-- The outcome and the first line are the answer of `check` by the profile, and the advice is after it. No input has two
 -- answers (the law `one_advise_answer`).
 abbrev pub IsAdviseAnswerBy : Profile → List ℕ → Outcome → List ℕ → Type 0
 IsAdviseAnswerBy profile input outcome lines =

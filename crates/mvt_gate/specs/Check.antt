@@ -19,6 +19,6 @@ abbrev pub IsCheckAnswerBy : Profile → List ℕ → Outcome → List ℕ → T
 IsCheckAnswerBy profile input Yes line = IsVerdictBy profile input verdicts.Yes × (line ≡ ok_line)
 IsCheckAnswerBy profile input No line = (fault : Fault) × IsVerdictBy profile input (verdicts.No fault) × (line ≡ fault_line fault)
 
--- the same by the profile that looks at each polygon by itself
+-- the same by the profile that checks each polygon by itself
 abbrev pub IsCheckAnswer : List ℕ → Outcome → List ℕ → Type 0
 IsCheckAnswer = IsCheckAnswerBy Polygon

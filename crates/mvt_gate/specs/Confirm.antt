@@ -25,7 +25,7 @@ abbrev pub IsConfirmAnswerBy : Profile → List ℕ → List ℕ → Outcome →
 IsConfirmAnswerBy profile input claimed Yes line = (fault : Fault) × Reads claimed fault × ShowsBy profile input fault × (line ≡ confirmed_line)
 IsConfirmAnswerBy profile input claimed No line = (fault : Fault) × Reads claimed fault × (¬ ShowsBy profile input fault) × (line ≡ unconfirmed_line)
 
--- the same by the profile that looks at each polygon by itself
+-- the same by the profile that checks each polygon by itself
 abbrev pub IsConfirmAnswer : List ℕ → List ℕ → Outcome → List ℕ → Type 0
 IsConfirmAnswer = IsConfirmAnswerBy Polygon
 

@@ -1,4 +1,10 @@
+pub use Rattle.mvt_fault.specs.Place
+pub use Rattle.mvt_fault.specs.Text
+pub use Rattle.mvt_wire.specs.Field
+pub use Rattle.mvt_wire.specs.Message
+pub use Rattle.mvt_wire.specs.Tile
 pub mod Advice
+pub mod Calls
 pub mod Check
 pub mod Claim
 pub mod Confirm
@@ -7,11 +13,5 @@ pub mod Engine
 pub mod FaultLine
 pub mod Fields
 pub mod FieldsLine
-pub mod Polygons
 pub mod Tally
 pub mod Verdict
-pub use Rattle.mvt_fault.specs.Place
-pub use Rattle.mvt_fault.specs.Text
-pub use Rattle.mvt_wire.specs.Field
-pub use Rattle.mvt_wire.specs.Message
-pub use Rattle.mvt_wire.specs.Tile

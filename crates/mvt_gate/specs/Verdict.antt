@@ -14,6 +14,6 @@ abbrev pub IsVerdictBy : Profile → List ℕ → Verdict → Type 0
 IsVerdictBy profile bytes Yes = ValidBy profile bytes
 IsVerdictBy profile bytes (No fault) = IsLeast (ShowsBy profile bytes) fault
 
--- the same by the profile that looks at each polygon by itself
+-- the same by the profile that checks each polygon by itself
 abbrev pub IsVerdict : List ℕ → Verdict → Type 0
 IsVerdict = IsVerdictBy Polygon

@@ -1,5 +1,5 @@
-//! The engine of `check` with advice: the line of the verdict, and behind it what may be a mistake in the tile, though
-//! no rule forbids it.
+//! The engine of `check` with advice: the line of the verdict, and after it what may be a mistake
+//! in the tile, though no rule forbids it.
 ghost use Rattle.std.specs.Prelude.{◌≡◌, ◌≢◌, ℕ, List, ◌++◌, IfOk, IfErr, OnOk, string_bytes};
 ghost use Rattle.mvt_gate.specs.Advice.{IsAdviseAnswerBy, advice_line};
 ghost use Rattle.mvt_gate.specs.Engine.{Answers, BreaksOff, HasFailed, IsClean, IsOfClaim, IsTooLarge, ReadsBytes};
@@ -21,11 +21,12 @@ use std::io::{Read, Write};
 pub use text::advice_text;
 use text::push_advice;
 
-/// Reads a whole tile, of at most 67,108,864 bytes, and writes the line that `check_stream_with` writes. Where the bytes
-/// have no wire fault, so that they are a tile, whatever other rules it breaks, a second line with one LF is behind it:
-/// the text of `advice_text` for the advice on the tile. The outcome is that of the verdict. `Read` and `Write` come only
-/// where a device failed or the devices were interrupted too often, and `TooLarge` only where the input is too large, as
-/// the counts show. The only other error is `Memory`.
+/// Reads a whole tile, of at most 67,108,864 bytes, and writes the line that `check_stream_with`
+/// writes. Where the bytes have no wire fault, so that they are a tile, whatever other rules it
+/// breaks, a second line with one LF is after it: the text of `advice_text` for the advice on the
+/// tile. The outcome is that of the verdict. `Read` and `Write` come only where a device failed or
+/// the devices were interrupted too often, and `TooLarge` only where the input is too large, as the
+/// counts show. The only other error is `Memory`.
 pub fn advise_stream<R: Read, W: Write>(
     alloc: Global,
     profile: Profile,
@@ -37,17 +38,24 @@ pub fn advise_stream<R: Read, W: Write>(
         R.remaining W.contents reader.old reader.new writer.old writer.new) }
     ensures clean { OnOk result (IsClean writer.new (counts_of reader.new).interrupted) }
 
-    ensures read { result ≡ Err EngineFault.Read → HasFailed reader.new (counts_of writer.new).interrupted }
-    ensures too_large { result ≡ Err EngineFault.TooLarge → IsTooLarge reader.new (counts_of writer.new).interrupted }
-    ensures memory { result ≡ Err EngineFault.Memory → IsClean reader.new (counts_of writer.new).interrupted }
-    ensures write { result ≡ Err EngineFault.Write → HasFailed writer.new (counts_of reader.new).interrupted }
+    ensures read { result ≡ Err EngineFault.Read
+        → HasFailed reader.new (counts_of writer.new).interrupted }
+    ensures too_large { result ≡ Err EngineFault.TooLarge
+        → IsTooLarge reader.new (counts_of writer.new).interrupted }
+    ensures memory { result ≡ Err EngineFault.Memory
+        → IsClean reader.new (counts_of writer.new).interrupted }
+    ensures write { result ≡ Err EngineFault.Write
+        → HasFailed writer.new (counts_of reader.new).interrupted }
     // The bytes that the reader's tally counted came in this run.
-    ensures counted { IfErr result (λ _. (input : List ℕ) × ReadsBytes R.remaining reader.old reader.new input) }
+    ensures counted { IfErr result (λ _. (input : List ℕ)
+        × ReadsBytes R.remaining reader.old reader.new input) }
     // There is no second input that could be wrong.
     ensures no_claim { IfErr result (λ fault. ¬ IsOfClaim fault) }
 
-    // Before both lines are whole, nothing goes out; after a failed write, a first part of the lines.
-    ensures untouched { IfErr result (λ fault. fault ≢ EngineFault.Write → IsUntouched writer.old writer.new) }
+    // Before both lines are whole, nothing goes out; after a failed write, a first part of the
+    // lines.
+    ensures untouched { IfErr result (λ fault. fault ≢ EngineFault.Write
+        → IsUntouched writer.old writer.new) }
     ensures prefix { result ≡ Err EngineFault.Write → BreaksOff (IsAdviseAnswerBy profile)
         R.remaining W.contents reader.old reader.new writer.old writer.new }
 {
@@ -77,7 +85,7 @@ impl Task for AdviseOnTile {
     }
 }
 
-/// A line, and the line of the advice on a tile behind it.
+/// A line, and the line of the advice on a tile after it.
 fn with_advice(alloc: Global, line: String, tile: &Tile<'_>) -> Result<String, AllocError>
     ensures { IfOk result (λ lines. (advice : List Advice) × IsAdvice (tile_of tile.now) advice
         × (string_bytes lines ≡ string_bytes line ++ advice_line advice)) }

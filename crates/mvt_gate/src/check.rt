@@ -12,15 +12,16 @@ use mvt_fault::Profile;
 use std::alloc::{AllocError, Global};
 use std::io::{Read, Write};
 
-/// Reads a whole tile, of at most 67,108,864 bytes, and writes the line of its verdict, with one LF:
-/// `{"ok":true}` for a tile by the Mapbox Vector Tile Specification 2.1, section 4, whose layers have
-/// version 2 and different names (section 4.1), whose tags are pairs of a key and a value of their
-/// layer, no key twice in a feature (section 4.4), whose geometry draws a figure of the feature's
-/// type where that is known (section 4.3), and whose rings are those of polygons of which no two edges
-/// cross or touch and whose holes are inside their exterior and not inside each other (section 4.3.4.4;
-/// `judge` has the full rules); or else the JSON text of its first fault. `Read` and `Write` come only where
-/// a device failed or the devices were interrupted too often, and `TooLarge` only where the input is too
-/// large, as the counts show. The only other error is `Memory`.
+/// Reads a whole tile, of at most 67,108,864 bytes, and writes the line of its verdict, with one
+/// LF: `{"ok":true}` for a tile by the Mapbox Vector Tile Specification 2.1, section 4, whose
+/// layers have version 2 and different names (section 4.1), whose tags are pairs of a key and a
+/// value of their layer, no key twice in a feature (section 4.4), whose geometry draws a figure of
+/// the feature's type where that is known (section 4.3), and whose rings are those of polygons of
+/// which no two edges cross or touch and whose holes are inside their exterior and not inside each
+/// other (section 4.3.4.4; `judge` has the full rules); or else the JSON text of its first fault.
+/// `Read` and `Write` come only where a device failed or the devices were interrupted too often,
+/// and `TooLarge` only where the input is too large, as the counts show. The only other error is
+/// `Memory`.
 pub fn check_stream<R: Read, W: Write>(
     alloc: Global,
     reader: &mut Tally<R>,
@@ -31,17 +32,23 @@ pub fn check_stream<R: Read, W: Write>(
         R.remaining W.contents reader.old reader.new writer.old writer.new) }
     ensures clean { OnOk result (IsClean writer.new (counts_of reader.new).interrupted) }
 
-    ensures read { result ≡ Err EngineFault.Read → HasFailed reader.new (counts_of writer.new).interrupted }
-    ensures too_large { result ≡ Err EngineFault.TooLarge → IsTooLarge reader.new (counts_of writer.new).interrupted }
-    ensures memory { result ≡ Err EngineFault.Memory → IsClean reader.new (counts_of writer.new).interrupted }
-    ensures write { result ≡ Err EngineFault.Write → HasFailed writer.new (counts_of reader.new).interrupted }
+    ensures read { result ≡ Err EngineFault.Read
+        → HasFailed reader.new (counts_of writer.new).interrupted }
+    ensures too_large { result ≡ Err EngineFault.TooLarge
+        → IsTooLarge reader.new (counts_of writer.new).interrupted }
+    ensures memory { result ≡ Err EngineFault.Memory
+        → IsClean reader.new (counts_of writer.new).interrupted }
+    ensures write { result ≡ Err EngineFault.Write
+        → HasFailed writer.new (counts_of reader.new).interrupted }
     // The bytes that the reader's tally counted came in this run.
-    ensures counted { IfErr result (λ _. (input : List ℕ) × ReadsBytes R.remaining reader.old reader.new input) }
+    ensures counted { IfErr result (λ _. (input : List ℕ)
+        × ReadsBytes R.remaining reader.old reader.new input) }
     // There is no second input that could be wrong.
     ensures no_claim { IfErr result (λ fault. ¬ IsOfClaim fault) }
 
     // Before the line is whole, nothing goes out; after a failed write, a first part of the line.
-    ensures untouched { IfErr result (λ fault. fault ≢ EngineFault.Write → IsUntouched writer.old writer.new) }
+    ensures untouched { IfErr result (λ fault. fault ≢ EngineFault.Write
+        → IsUntouched writer.old writer.new) }
     ensures prefix { result ≡ Err EngineFault.Write → BreaksOff IsCheckAnswer
         R.remaining W.contents reader.old reader.new writer.old writer.new }
 {
@@ -60,17 +67,23 @@ pub fn check_stream_with<R: Read, W: Write>(
         R.remaining W.contents reader.old reader.new writer.old writer.new) }
     ensures clean { OnOk result (IsClean writer.new (counts_of reader.new).interrupted) }
 
-    ensures read { result ≡ Err EngineFault.Read → HasFailed reader.new (counts_of writer.new).interrupted }
-    ensures too_large { result ≡ Err EngineFault.TooLarge → IsTooLarge reader.new (counts_of writer.new).interrupted }
-    ensures memory { result ≡ Err EngineFault.Memory → IsClean reader.new (counts_of writer.new).interrupted }
-    ensures write { result ≡ Err EngineFault.Write → HasFailed writer.new (counts_of reader.new).interrupted }
+    ensures read { result ≡ Err EngineFault.Read
+        → HasFailed reader.new (counts_of writer.new).interrupted }
+    ensures too_large { result ≡ Err EngineFault.TooLarge
+        → IsTooLarge reader.new (counts_of writer.new).interrupted }
+    ensures memory { result ≡ Err EngineFault.Memory
+        → IsClean reader.new (counts_of writer.new).interrupted }
+    ensures write { result ≡ Err EngineFault.Write
+        → HasFailed writer.new (counts_of reader.new).interrupted }
     // The bytes that the reader's tally counted came in this run.
-    ensures counted { IfErr result (λ _. (input : List ℕ) × ReadsBytes R.remaining reader.old reader.new input) }
+    ensures counted { IfErr result (λ _. (input : List ℕ)
+        × ReadsBytes R.remaining reader.old reader.new input) }
     // There is no second input that could be wrong.
     ensures no_claim { IfErr result (λ fault. ¬ IsOfClaim fault) }
 
     // Before the line is whole, nothing goes out; after a failed write, a first part of the line.
-    ensures untouched { IfErr result (λ fault. fault ≢ EngineFault.Write → IsUntouched writer.old writer.new) }
+    ensures untouched { IfErr result (λ fault. fault ≢ EngineFault.Write
+        → IsUntouched writer.old writer.new) }
     ensures prefix { result ≡ Err EngineFault.Write → BreaksOff (IsCheckAnswerBy profile)
         R.remaining W.contents reader.old reader.new writer.old writer.new }
 {

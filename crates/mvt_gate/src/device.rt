@@ -1,4 +1,5 @@
-//! Devices for tests: a reader and a writer over memory, which can be set to fail. And bytes for them.
+//! Devices for tests: a reader and a writer over memory, which can be set to fail. And bytes for
+//! them.
 use std::io;
 use std::io::{ErrorKind, Read, Write};
 use std::test::Fail;
@@ -115,7 +116,7 @@ impl Read for Source<'_> {
     }
 }
 
-/// A writer that puts what it takes behind other bytes.
+/// A writer that puts what it takes after other bytes.
 #[derive(Drop)]
 pub struct Sink<'a> {
     calls: Calls,

@@ -29,10 +29,11 @@ const CHUNK_LENGTH: usize = 65_536;
 /// What the line of an engine says.
 #[derive(Clone, Copy, Debug, PartialEq, Eq)]
 pub enum Outcome {
-    /// `fields`: the outermost fields. `dump`: what the tile holds. `check`: that the tile is valid. `confirm`:
-    /// that the fault is true of the tile.
+    /// `fields`: the outermost fields. `dump`: what the tile holds. `check`: that the tile is
+    /// valid. `confirm`: that the fault is true of the tile.
     Yes,
-    /// `fields`, `dump` and `check`: a fault of the tile. `confirm`: that the fault isn't true of the tile.
+    /// `fields`, `dump` and `check`: a fault of the tile. `confirm`: that the fault isn't true of
+    /// the tile.
     No,
 }
 
@@ -67,14 +68,15 @@ pub trait Task {
     // this outcome and this line answer the input
     ghost IsAnswer: { Self → List ℕ → Outcome → List ℕ → Type 0 };
 
-    /// An answer to the input, and its line with the LF. A task with two lines gives both in one text.
+    /// An answer to the input, and its line with the LF. A task with two lines gives both in one
+    /// text.
     fn answer(&self, alloc: Global, input: &[u8]) -> Result<(Outcome, String), AllocError>
         ensures { IfOk result (λ r. IsAnswer self.now input.now r.0 (string_bytes r.1)) };
 }
 
-/// Reads the whole input and writes the line that answers it. `Read` and `Write` come only where a device
-/// failed or the devices were interrupted too often, and `TooLarge` only where the input is too large, as the
-/// counts show. The only other error is `Memory`.
+/// Reads the whole input and writes the line that answers it. `Read` and `Write` come only where a
+/// device failed or the devices were interrupted too often, and `TooLarge` only where the input is
+/// too large, as the counts show. The only other error is `Memory`.
 pub fn run<T: Task, R: Read, W: Write>(
     alloc: Global,
     task: &T,
@@ -85,17 +87,23 @@ pub fn run<T: Task, R: Read, W: Write>(
         R.remaining W.contents reader.old reader.new writer.old writer.new) }
     ensures clean { OnOk result (IsClean writer.new (counts_of reader.new).interrupted) }
 
-    ensures read { result ≡ Err EngineFault.Read → HasFailed reader.new (counts_of writer.new).interrupted }
-    ensures too_large { result ≡ Err EngineFault.TooLarge → IsTooLarge reader.new (counts_of writer.new).interrupted }
-    ensures memory { result ≡ Err EngineFault.Memory → IsClean reader.new (counts_of writer.new).interrupted }
-    ensures write { result ≡ Err EngineFault.Write → HasFailed writer.new (counts_of reader.new).interrupted }
+    ensures read { result ≡ Err EngineFault.Read
+        → HasFailed reader.new (counts_of writer.new).interrupted }
+    ensures too_large { result ≡ Err EngineFault.TooLarge
+        → IsTooLarge reader.new (counts_of writer.new).interrupted }
+    ensures memory { result ≡ Err EngineFault.Memory
+        → IsClean reader.new (counts_of writer.new).interrupted }
+    ensures write { result ≡ Err EngineFault.Write
+        → HasFailed writer.new (counts_of reader.new).interrupted }
     // The bytes that the reader's tally counted came in this run.
-    ensures counted { IfErr result (λ _. (input : List ℕ) × ReadsBytes R.remaining reader.old reader.new input) }
+    ensures counted { IfErr result (λ _. (input : List ℕ)
+        × ReadsBytes R.remaining reader.old reader.new input) }
     // There is no second input that could be wrong.
     ensures no_claim { IfErr result (λ fault. ¬ IsOfClaim fault) }
 
     // Before the line is whole, nothing goes out; after a failed write, a first part of the line.
-    ensures untouched { IfErr result (λ fault. fault ≢ EngineFault.Write → IsUntouched writer.old writer.new) }
+    ensures untouched { IfErr result (λ fault. fault ≢ EngineFault.Write
+        → IsUntouched writer.old writer.new) }
     ensures prefix { result ≡ Err EngineFault.Write → BreaksOff (T.IsAnswer task.now)
         R.remaining W.contents reader.old reader.new writer.old writer.new }
 {
@@ -118,7 +126,8 @@ pub fn fault_line(alloc: Global, fault: &Fault) -> Result<String, AllocError>
     Ok(line)
 }
 
-/// Reads all that the reader gives. `others` is how often the engine's other devices were interrupted.
+/// Reads all that the reader gives. `others` is how often the engine's other devices were
+/// interrupted.
 fn read_whole<R: Read>(
     alloc: Global,
     reader: &mut Tally<R>,
@@ -127,13 +136,15 @@ fn read_whole<R: Read>(
     requires fresh { counts_of reader.old ≡ no_counts }
     requires patient { others ≤ interruption_limit }
 
-    ensures whole { IfOk result (λ input. ReadsWhole R.remaining reader.old reader.new input.items) }
+    ensures whole { IfOk result (λ input.
+        ReadsWhole R.remaining reader.old reader.new input.items) }
     ensures clean { OnOk result (IsClean reader.new others) }
 
     ensures read { result ≡ Err EngineFault.Read → HasFailed reader.new others }
     ensures too_large { result ≡ Err EngineFault.TooLarge → IsTooLarge reader.new others }
     ensures memory { result ≡ Err EngineFault.Memory → IsClean reader.new others }
-    ensures counted { IfErr result (λ _. (input : List ℕ) × ReadsBytes R.remaining reader.old reader.new input) }
+    ensures counted { IfErr result (λ _. (input : List ℕ)
+        × ReadsBytes R.remaining reader.old reader.new input) }
     ensures no_write { result ≢ Err EngineFault.Write }
     ensures no_claim { IfErr result (λ fault. ¬ IsOfClaim fault) }
 {
@@ -169,7 +180,8 @@ fn write_whole<W: Write>(writer: &mut Tally<W>, line: &[u8], others: u64) -> Res
     ensures clean { OnOk result (IsClean writer.new others) }
 
     ensures write { IfErr result (λ e. (e ≡ EngineFault.Write) × HasFailed writer.new others) }
-    ensures prefix { OnErr result ((k : ℕ) × Writes W.contents writer.old writer.new (take k line.now)) }
+    ensures prefix { OnErr result ((k : ℕ)
+        × Writes W.contents writer.old writer.new (take k line.now)) }
 {
     write_bytes(writer, line, others)?;
     flush_all(writer, others)
@@ -183,7 +195,8 @@ fn write_bytes<W: Write>(writer: &mut Tally<W>, line: &[u8], others: u64) -> Res
     ensures clean { OnOk result (IsClean writer.new others) }
 
     ensures write { IfErr result (λ e. (e ≡ EngineFault.Write) × HasFailed writer.new others) }
-    ensures prefix { OnErr result ((k : ℕ) × Writes W.contents writer.old writer.new (take k line.now)) }
+    ensures prefix { OnErr result ((k : ℕ)
+        × Writes W.contents writer.old writer.new (take k line.now)) }
 {
     let mut written = 0;
     'bytes: while written < line.len() {
@@ -220,15 +233,16 @@ fn flush_all<W: Write>(writer: &mut Tally<W>, others: u64) -> Result<(), EngineF
     }
 }
 
-/// Whether a call that ended in this error is made again: an interrupted call is, unless the run was
-/// interrupted more often than allowed. `interruptions` counts those of the device, this one among
-/// them, and `others` those of the engine's other devices.
+/// Whether a call that ended in this error is made again: an interrupted call is, unless the run
+/// was interrupted more often than allowed. `interruptions` counts those of the device, this one
+/// among them, and `others` those of the engine's other devices.
 fn may_try_again(error: &io::Error, interruptions: u64, others: u64) -> bool
     requires { others ≤ interruption_limit }
     ensures yes { IsTrue result → (error_kind error.now ≡ ErrorKind.Interrupted)
         × (interruptions + others ≤ interruption_limit) }
     ensures no { IsFalse result → (error_kind error.now ≢ ErrorKind.Interrupted)
-        ⊎ ((error_kind error.now ≡ ErrorKind.Interrupted) × (interruption_limit < interruptions + others)) }
+        ⊎ ((error_kind error.now ≡ ErrorKind.Interrupted)
+        × (interruption_limit < interruptions + others)) }
 {
     error.kind() == ErrorKind::Interrupted && interruptions <= INTERRUPTION_LIMIT - others
 }

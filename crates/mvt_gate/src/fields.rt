@@ -17,9 +17,10 @@ use std::alloc::{AllocError, Global};
 use std::io::{Read, Write};
 
 /// Reads a whole tile, of at most 67,108,864 bytes, and writes the line of its outermost fields
-/// (Protocol Buffers encoding, "Message Structure"), or of the fault of their spelling, with one LF.
-/// `Read` and `Write` come only where a device failed or the devices were interrupted too often, and
-/// `TooLarge` only where the input is too large, as the counts show. The only other error is `Memory`.
+/// (Protocol Buffers encoding, "Message Structure"), or of the fault of their spelling, with one
+/// LF. `Read` and `Write` come only where a device failed or the devices were interrupted too
+/// often, and `TooLarge` only where the input is too large, as the counts show. The only other
+/// error is `Memory`.
 pub fn fields_stream<R: Read, W: Write>(
     alloc: Global,
     reader: &mut Tally<R>,
@@ -30,17 +31,23 @@ pub fn fields_stream<R: Read, W: Write>(
         R.remaining W.contents reader.old reader.new writer.old writer.new) }
     ensures clean { OnOk result (IsClean writer.new (counts_of reader.new).interrupted) }
 
-    ensures read { result ≡ Err EngineFault.Read → HasFailed reader.new (counts_of writer.new).interrupted }
-    ensures too_large { result ≡ Err EngineFault.TooLarge → IsTooLarge reader.new (counts_of writer.new).interrupted }
-    ensures memory { result ≡ Err EngineFault.Memory → IsClean reader.new (counts_of writer.new).interrupted }
-    ensures write { result ≡ Err EngineFault.Write → HasFailed writer.new (counts_of reader.new).interrupted }
+    ensures read { result ≡ Err EngineFault.Read
+        → HasFailed reader.new (counts_of writer.new).interrupted }
+    ensures too_large { result ≡ Err EngineFault.TooLarge
+        → IsTooLarge reader.new (counts_of writer.new).interrupted }
+    ensures memory { result ≡ Err EngineFault.Memory
+        → IsClean reader.new (counts_of writer.new).interrupted }
+    ensures write { result ≡ Err EngineFault.Write
+        → HasFailed writer.new (counts_of reader.new).interrupted }
     // The bytes that the reader's tally counted came in this run.
-    ensures counted { IfErr result (λ _. (input : List ℕ) × ReadsBytes R.remaining reader.old reader.new input) }
+    ensures counted { IfErr result (λ _. (input : List ℕ)
+        × ReadsBytes R.remaining reader.old reader.new input) }
     // There is no second input that could be wrong.
     ensures no_claim { IfErr result (λ fault. ¬ IsOfClaim fault) }
 
     // Before the line is whole, nothing goes out; after a failed write, a first part of the line.
-    ensures untouched { IfErr result (λ fault. fault ≢ EngineFault.Write → IsUntouched writer.old writer.new) }
+    ensures untouched { IfErr result (λ fault. fault ≢ EngineFault.Write
+        → IsUntouched writer.old writer.new) }
     ensures prefix { result ≡ Err EngineFault.Write → BreaksOff IsFieldsAnswer
         R.remaining W.contents reader.old reader.new writer.old writer.new }
 {

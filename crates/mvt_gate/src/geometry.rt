@@ -6,7 +6,8 @@ ghost use Rattle.mvt_fault.specs.Place.{IsLeast};
 ghost use Rattle.mvt_fault.specs.declared.fault.Fault.{Fault};
 ghost use Rattle.mvt_fault.specs.declared.profile.Profile.{Profile};
 ghost use Rattle.mvt_fault.specs.declared.profile.Profile.TheVariants as profiles;
-ghost use Rattle.mvt_plane.specs.Geometry.{HasFigure};
+ghost use Rattle.mvt_plane.specs.Commands.Figure.{polygon};
+ghost use Rattle.mvt_plane.specs.FeatureGeometry.{HasFigure, type_number};
 ghost use Rattle.mvt_tile.specs.FeatureBytes.{Shows};
 ghost use Rattle.mvt_tile.specs.View.{kind_number};
 ghost use Rattle.mvt_wire.specs.Tile.{FeatureRecord};
@@ -18,9 +19,9 @@ use mvt_plane::Count;
 use mvt_tile::{FeatureBytes, FeatureRule, Kind};
 use std::alloc::{AllocError, Global};
 
-/// That the geometry of a feature of a known type draws a figure of it (Mapbox Vector Tile Specification
-/// 2.1, section 4.3), and rings those of polygons that are valid by a profile (section 4.3.4.4). It serves one feature
-/// after another.
+/// That the geometry of a feature of a known type draws a figure of it (Mapbox Vector Tile
+/// Specification 2.1, section 4.3), and rings those of polygons that are valid by a profile
+/// (section 4.3.4.4). It serves one feature after another.
 #[derive(Drop)]
 struct GeometryRule {
     /// Room for the rings of one feature.
@@ -38,8 +39,8 @@ impl GeometryRule {
         }
     }
 
-    /// Stores the first fault of a feature's geometry by the profile in `found`, which is None before, and stays so where the
-    /// geometry is valid. The only error is that memory was refused.
+    /// Stores the first fault of a feature's geometry by the profile in `found`, which is None
+    /// before, and stays so where the geometry is valid. The only error is that memory was refused.
     fn find_fault_by(
         &mut self,
         alloc: Global,
@@ -50,9 +51,14 @@ impl GeometryRule {
         found: &mut Option<Fault>,
     ) -> Result<(), AllocError>
         requires { found.old ≡ None }
-        ensures none { IfOk result (λ _. IfNone found.new ((it : FeatureRecord) → Shows feature.now it → (fault : Fault) → ¬ IsFaultOfGeometryBy profile it layer ordinal fault)) }
-        ensures kept { IfOk result (λ _. IfNone found.new ((it : FeatureRecord) → Shows feature.now it → IsValidGeometryBy profile it)) }
-        ensures least { IfOk result (λ _. IfSome found.new (λ fault. (it : FeatureRecord) → Shows feature.now it → IsLeast (IsFaultOfGeometryBy profile it layer ordinal) fault)) }
+        ensures none { IfOk result (λ _. IfNone found.new ((it : FeatureRecord)
+            → Shows feature.now it → (fault : Fault)
+            → ¬ IsFaultOfGeometryBy profile it layer ordinal fault)) }
+        ensures kept { IfOk result (λ _. IfNone found.new ((it : FeatureRecord)
+            → Shows feature.now it → IsValidGeometryBy profile it)) }
+        ensures least { IfOk result (λ _. IfSome found.new (λ fault. (it : FeatureRecord)
+            → Shows feature.now it → IsLeast (IsFaultOfGeometryBy profile it layer ordinal)
+            fault)) }
     {
         match feature.kind() {
             Kind::Polygon => {
@@ -85,9 +91,12 @@ impl GeometryRule {
         layer: usize,
         ordinal: usize,
     ) -> Result<Option<Fault>, AllocError>
-        requires { (it : FeatureRecord) → Shows feature.now it → it.kind ≡ 3 }
-        ensures kept { IfOk result (λ found. IfNone found ((it : FeatureRecord) → Shows feature.now it → IsValidGeometryBy profile it)) }
-        ensures least { IfOk result (λ found. IfSome found (λ fault. (it : FeatureRecord) → Shows feature.now it → IsLeast (IsFaultOfGeometryBy profile it layer ordinal) fault)) }
+        requires { (it : FeatureRecord) → Shows feature.now it → it.kind ≡ type_number polygon }
+        ensures kept { IfOk result (λ found. IfNone found ((it : FeatureRecord)
+            → Shows feature.now it → IsValidGeometryBy profile it)) }
+        ensures least { IfOk result (λ found. IfSome found (λ fault. (it : FeatureRecord)
+            → Shows feature.now it → IsLeast (IsFaultOfGeometryBy profile it layer ordinal)
+            fault)) }
     {
         match self.rings.draw(alloc, feature.geometry()) {
             Ok(()) => rings_fault(
@@ -109,7 +118,7 @@ impl GeometryRule {
     }
 }
 
-/// The rule by the profile that looks at each polygon by itself.
+/// The rule by the profile that checks each polygon by itself.
 #[derive(Drop)]
 pub(crate) struct PolygonGeometry {
     rule: GeometryRule,

@@ -1,5 +1,6 @@
-//! Laws of the answers: an input has one answer of `fields`, with one line, and at most one of `check`, with advice or
-//! without, of `dump` and of `confirm`; but of the meetings of edges in one polygon `check` may name any.
+//! Laws of the answers: an input has one answer of `fields`, with one line, and at most one of
+//! `check`, with advice or without, of `dump` and of `confirm`; but of the meetings of edges in one
+//! polygon `check` may name any.
 ghost use Rattle.std.specs.Prelude.{◌≡◌, ◌⊎◌, ◌++◌, ℕ, List};
 ghost use Rattle.mvt_confirm.specs.Shows.{ShowsBy};
 ghost use Rattle.mvt_fault.specs.Place.{AreMeetingsInOne, IsLeast};
@@ -17,22 +18,27 @@ ghost use Rattle.mvt_gate.specs.declared.verdict.Verdict.{Verdict};
 
 /// Whatever the input is, there is an answer of `fields`, and no other answer and no other line.
 pub fn one_fields_answer()
-    ensures some { (input : List ℕ) → (outcome : Outcome) × (line : List ℕ) × IsFieldsAnswer input outcome line }
+    ensures some { (input : List ℕ) → (outcome : Outcome) × (line : List ℕ)
+        × IsFieldsAnswer input outcome line }
     ensures alone { (input : List ℕ) (first second : Outcome) (line other : List ℕ) →
-        IsFieldsAnswer input first line → IsFieldsAnswer input second other → (first ≡ second) × (line ≡ other) }
+        IsFieldsAnswer input first line → IsFieldsAnswer input second other
+        → (first ≡ second) × (line ≡ other) }
 {}
 
-/// Of the faults that are true of bytes, one alone has the least place; or all that have it are meetings in
-/// one polygon.
+/// Of the faults that are true of bytes, one alone has the least place; or all that have it are
+/// meetings in one polygon.
 pub fn one_least_fault()
-    ensures { (profile : Profile) (bytes : List ℕ) (fault other : Fault) → IsLeast (ShowsBy profile bytes) fault → IsLeast (ShowsBy profile bytes) other →
+    ensures { (profile : Profile) (bytes : List ℕ) (fault other : Fault)
+        → IsLeast (ShowsBy profile bytes) fault → IsLeast (ShowsBy profile bytes) other →
         (fault ≡ other) ⊎ AreMeetingsInOne fault other }
 {}
 
 /// No bytes have two verdicts, but for those that name two meetings in one polygon.
 pub fn one_verdict()
-    ensures { (profile : Profile) (bytes : List ℕ) (first second : Verdict) → IsVerdictBy profile bytes first → IsVerdictBy profile bytes second →
-        (first ≡ second) ⊎ ((fault : Fault) × (other : Fault) × (first ≡ Verdict.No fault) × (second ≡ Verdict.No other) × AreMeetingsInOne fault other) }
+    ensures { (profile : Profile) (bytes : List ℕ) (first second : Verdict)
+        → IsVerdictBy profile bytes first → IsVerdictBy profile bytes second →
+        (first ≡ second) ⊎ ((fault : Fault) × (other : Fault) × (first ≡ Verdict.No fault)
+        × (second ≡ Verdict.No other) × AreMeetingsInOne fault other) }
 {}
 
 /// No input has two answers of `check`, or two lines, but for those of two meetings in one polygon.
@@ -40,27 +46,33 @@ pub fn one_check_answer()
     ensures { (profile : Profile) (input : List ℕ) (first second : Outcome) (line other : List ℕ) →
         IsCheckAnswerBy profile input first line → IsCheckAnswerBy profile input second other →
         (first ≡ second) × ((line ≡ other) ⊎
-        ((fault : Fault) × (its : Fault) × (line ≡ fault_line fault) × (other ≡ fault_line its) × AreMeetingsInOne fault its)) }
+        ((fault : Fault) × (its : Fault) × (line ≡ fault_line fault) × (other ≡ fault_line its)
+        × AreMeetingsInOne fault its)) }
 {}
 
-/// No input has two answers of `check` with advice, or other lines, but that the first lines may be those of two meetings in
-/// one polygon. What is behind the first line is the same.
+/// No input has two answers of `check` with advice, or other lines, but that the first lines may be
+/// those of two meetings in one polygon. What is after the first line is the same.
 pub fn one_advise_answer()
     ensures { (profile : Profile) (input : List ℕ) (first second : Outcome) (lines others : List ℕ) →
         IsAdviseAnswerBy profile input first lines → IsAdviseAnswerBy profile input second others →
         (first ≡ second) × ((lines ≡ others) ⊎
-        ((fault : Fault) × (its : Fault) × (behind : List ℕ) × (lines ≡ fault_line fault ++ behind) × (others ≡ fault_line its ++ behind) × AreMeetingsInOne fault its)) }
+        ((fault : Fault) × (its : Fault) × (following : List ℕ)
+        × (lines ≡ fault_line fault ++ following) × (others ≡ fault_line its ++ following)
+        × AreMeetingsInOne fault its)) }
 {}
 
 /// No input has two answers of `dump`, or two lines.
 pub fn one_dump_answer()
     ensures { (input : List ℕ) (first second : Outcome) (line other : List ℕ) →
-        IsDumpAnswer input first line → IsDumpAnswer input second other → (first ≡ second) × (line ≡ other) }
+        IsDumpAnswer input first line → IsDumpAnswer input second other
+        → (first ≡ second) × (line ≡ other) }
 {}
 
 /// No tile and claim have two answers of `confirm`, or two lines: a text is one fault's at most.
 pub fn one_confirm_answer()
-    ensures { (profile : Profile) (input claimed : List ℕ) (first second : Outcome) (line other : List ℕ) →
-        IsConfirmAnswerBy profile input claimed first line → IsConfirmAnswerBy profile input claimed second other →
+    ensures { (profile : Profile) (input claimed : List ℕ) (first second : Outcome)
+        (line other : List ℕ) →
+        IsConfirmAnswerBy profile input claimed first line
+        → IsConfirmAnswerBy profile input claimed second other →
         (first ≡ second) × (line ≡ other) }
 {}

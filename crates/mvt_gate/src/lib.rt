@@ -1,4 +1,5 @@
-//! The gate: it judges a tile, and its engines read a tile from a device and write their answer, of one line or two.
+//! The gate: it judges a tile, and its engines read a tile from a device and write their answer, of
+//! one line or two.
 #![tactic(auto)]
 
 mod advice;

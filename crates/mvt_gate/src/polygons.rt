@@ -1,13 +1,14 @@
-//! The first fault of the rings of one feature, and of its polygons one after another (Mapbox Vector Tile
-//! Specification 2.1, section 4.3.4.4).
+//! The first fault of the rings of one feature, and of its polygons one after another (Mapbox
+//! Vector Tile Specification 2.1, section 4.3.4.4).
 ghost use Rattle.std.specs.Prelude.{◌≡◌, ℕ, ◌≤◌, List, length, IfOk, IfNone, IfSome};
 ghost use Rattle.mvt_confirm.specs.PolygonFault.{IsPolygonOf};
 ghost use Rattle.mvt_confirm.specs.Valid.{AreValidRings, AreValidRingsBy, IsValidPolygon};
 ghost use Rattle.mvt_fault.specs.declared.profile.Profile.TheVariants.{Polygon};
-ghost use Rattle.mvt_plane.specs.Geometry.{HasRings};
-ghost use Rattle.mvt_plane.specs.Ring.{ArePolygonRings};
+ghost use Rattle.mvt_plane.specs.Commands.Figure.{polygon};
+ghost use Rattle.mvt_plane.specs.FeatureGeometry.{HasRings, type_number};
+ghost use Rattle.mvt_plane.specs.Geometry.Ring.{ArePolygonRings};
 ghost use Rattle.mvt_polygon.specs.Rings.{rings_of, AreProperRings};
-ghost use Rattle.mvt_gate.specs.Polygons.{IsFirstOfRings, AreValidBefore, AreWithin, IsRingWithin, fault_of_hole, fault_of_meeting, rings_at};
+ghost use Rattle.mvt_gate.specs.Calls.Polygons.{IsFirstOfRings, AreValidBefore, AreWithin, IsRingWithin, fault_of_hole, fault_of_meeting, rings_at};
 
 mod apart;
 
@@ -17,10 +18,11 @@ use mvt_plane::{Count, Point};
 use mvt_polygon::{Meeting, NestFault, PolygonFault, check_polygon, check_rings, polygon_end};
 use std::alloc::{AllocError, Global};
 
-/// The first fault of the rings that the geometry of a feature draws, or None where they are those of polygons that are
-/// valid by the profile: faults that rings have of their own come first, and then those of the polygons, one polygon
-/// after another. `layer` and `feature` are the ordinals of the layer in its tile and of the feature in its
-/// layer, which the fault reports. The only error is that memory was refused.
+/// The first fault of the rings that the geometry of a feature draws, or None where they are those
+/// of polygons that are valid by the profile: faults that rings have of their own come first, and
+/// then those of the polygons, one polygon after another. `layer` and `feature` are the ordinals of
+/// the layer in its tile and of the feature in its layer, which the fault reports. The only error
+/// is that memory was refused.
 pub(crate) fn rings_fault(
     alloc: Global,
     profile: Profile,
@@ -29,9 +31,11 @@ pub(crate) fn rings_fault(
     layer: usize,
     feature: usize,
 ) -> Result<Option<Fault>, AllocError>
-    requires { (numbers : List ℕ) × HasRings 3 numbers (rings_of rings.now) }
-    ensures valid { IfOk result (λ found. IfNone found (AreValidRingsBy profile (rings_of rings.now))) }
-    ensures least { IfOk result (λ found. IfSome found (IsFirstOfRings profile (rings_of rings.now) layer feature)) }
+    requires { (numbers : List ℕ) × HasRings (type_number polygon) numbers (rings_of rings.now) }
+    ensures valid { IfOk result (λ found.
+        IfNone found (AreValidRingsBy profile (rings_of rings.now))) }
+    ensures least { IfOk result (λ found.
+        IfSome found (IsFirstOfRings profile (rings_of rings.now) layer feature)) }
 {
     if let Some(fault) = check_rings(rings) {
         return Ok(Some(Fault::Ring {
@@ -47,8 +51,8 @@ pub(crate) fn rings_fault(
     }
 }
 
-/// The first fault of the polygons of a feature, one after another, or None where each of them is valid by itself. No
-/// ring has a fault of its own.
+/// The first fault of the polygons of a feature, one after another, or None where each of them is
+/// valid by itself. No ring has a fault of its own.
 fn polygons_fault(
     alloc: Global,
     rings: &[Vec<Point>],
@@ -59,7 +63,8 @@ fn polygons_fault(
     requires sound { ArePolygonRings (rings_of rings.now) }
     requires drawn { AreProperRings (rings_of rings.now) }
     ensures valid { IfOk result (λ found. IfNone found (AreValidRings (rings_of rings.now))) }
-    ensures least { IfOk result (λ found. IfSome found (IsFirstOfRings Polygon (rings_of rings.now) layer feature)) }
+    ensures least { IfOk result (λ found.
+        IfSome found (IsFirstOfRings Polygon (rings_of rings.now) layer feature)) }
 {
     let mut polygon = 0;
     let mut exterior = 0;
@@ -89,14 +94,14 @@ struct PolygonPlace {
     feature: usize,
     /// The ordinal of the polygon in the feature.
     polygon: usize,
-    /// The ordinal of its exterior among the feature's rings. Its holes are the rings behind it.
+    /// The ordinal of its exterior among the feature's rings. Its holes are the rings after it.
     exterior: usize,
-    /// The ordinal behind that of its last ring.
+    /// The ordinal after that of its last ring.
     after: usize,
 }
 
-/// The first fault of one polygon of a feature, or None where it is valid by itself: edges that meet wrongly, and then
-/// the holes. The polygons before it are valid.
+/// The first fault of one polygon of a feature, or None where it is valid by itself: edges that
+/// meet wrongly, and then the holes. The polygons before it are valid.
 fn polygon_fault(
     alloc: Global,
     rings: &[Vec<Point>],
@@ -107,18 +112,20 @@ fn polygon_fault(
     requires within { place.after ≤ length rings.now }
     requires drawn { AreProperRings (rings_of rings.now) }
     requires before { AreValidBefore Polygon (rings_of rings.now) place.polygon }
-    ensures valid { IfOk result (λ found. IfNone found (IsValidPolygon (rings_of rings.now) (rings_at place))) }
-    ensures least { IfOk result (λ found. IfSome found (IsFirstOfRings Polygon (rings_of rings.now) place.layer place.feature)) }
+    ensures valid { IfOk result (λ found.
+        IfNone found (IsValidPolygon (rings_of rings.now) (rings_at place))) }
+    ensures least { IfOk result (λ found.
+        IfSome found (IsFirstOfRings Polygon (rings_of rings.now) place.layer place.feature)) }
 {
     match check_polygon(alloc, &rings[place.exterior..place.after], count)? {
-        Some(PolygonFault::Meeting(meeting)) => Ok(Some(tell_meeting(place, meeting))),
-        Some(PolygonFault::Nesting(fault)) => Ok(Some(tell_hole(place, fault))),
+        Some(PolygonFault::Meeting(meeting)) => Ok(Some(meeting_fault(place, meeting))),
+        Some(PolygonFault::Nesting(fault)) => Ok(Some(hole_fault(place, fault))),
         None => Ok(None),
     }
 }
 
 /// The fault of a meeting that was found among the rings of the polygon alone.
-fn tell_meeting(place: PolygonPlace, meeting: Meeting) -> Fault
+fn meeting_fault(place: PolygonPlace, meeting: Meeting) -> Fault
     requires first { IsRingWithin place meeting.first_ring }
     requires second { IsRingWithin place meeting.second_ring }
     ensures { result ≡ fault_of_meeting place meeting }
@@ -142,7 +149,7 @@ fn tell_meeting(place: PolygonPlace, meeting: Meeting) -> Fault
 }
 
 /// The fault of a hole that was found among the rings of the polygon alone.
-fn tell_hole(place: PolygonPlace, fault: NestFault) -> Fault
+fn hole_fault(place: PolygonPlace, fault: NestFault) -> Fault
     requires { AreWithin place fault }
     ensures { result ≡ fault_of_hole place fault }
 {

@@ -17,7 +17,8 @@ pub struct Tally<T> {
 }
 
 impl<T> Tally<T> {
-    ghost use Rattle.mvt_gate.specs.Tally.{counts_of, device_of, no_counts, after_bytes, after_failure, after_interruption};
+    ghost use Rattle.mvt_gate.specs.Tally.{counts_of, device_of, no_counts};
+    ghost use Rattle.mvt_gate.specs.Calls.Tally.{after_bytes, after_failure, after_interruption};
 
     /// A tally of a device, on which nothing was counted yet.
     pub fn new(device: T) -> Self
@@ -94,13 +95,15 @@ impl<T> Tally<T> {
 }
 
 impl<T: Read> Read for Tally<T> {
-    ghost use Rattle.mvt_gate.specs.Tally.{counts_of, tally_bytes, after_bytes, after_failure, after_interruption};
+    ghost use Rattle.mvt_gate.specs.Tally.{counts_of, tally_bytes};
+    ghost use Rattle.mvt_gate.specs.Calls.Tally.{after_bytes, after_failure, after_interruption};
 
     ghost remaining = { tally_bytes T.remaining };
 
     fn read(&mut self, buf: &mut [u8]) -> io::Result<usize>
         ensures bound { ReadsAtMost result buf.new }
-        ensures bytes { ReadConsumes (tally_bytes T.remaining self.old) (tally_bytes T.remaining self.new) result buf.new }
+        ensures bytes { ReadConsumes (tally_bytes T.remaining self.old)
+            (tally_bytes T.remaining self.new) result buf.new }
 
         ensures moved { IfOk result (λ n. counts_of self.new ≡ after_bytes (counts_of self.old) n) }
         ensures interrupted { IfErr result (λ e. error_kind e ≡ ErrorKind.Interrupted →
@@ -122,16 +125,20 @@ impl<T: Read> Read for Tally<T> {
 }
 
 impl<T: Write> Write for Tally<T> {
-    ghost use Rattle.mvt_gate.specs.Tally.{counts_of, tally_bytes, after_bytes, after_failure, after_interruption};
+    ghost use Rattle.mvt_gate.specs.Tally.{counts_of, tally_bytes};
+    ghost use Rattle.mvt_gate.specs.Calls.Tally.{after_bytes, after_failure, after_interruption};
 
     ghost contents = { tally_bytes T.contents };
 
     fn write(&mut self, buf: &[u8]) -> io::Result<usize>
         ensures bound { WritesAtMost result buf.now }
-        ensures bytes { WriteAppends (tally_bytes T.contents self.old) (tally_bytes T.contents self.new) result buf.now }
+        ensures bytes { WriteAppends (tally_bytes T.contents self.old)
+            (tally_bytes T.contents self.new) result buf.now }
 
-        ensures moved { IfOk result (λ n. 0 < n → counts_of self.new ≡ after_bytes (counts_of self.old) n) }
-        ensures nothing { OnOk result (length buf.now ≡ 0 → counts_of self.new ≡ after_bytes (counts_of self.old) 0) }
+        ensures moved { IfOk result (λ n. 0 < n
+            → counts_of self.new ≡ after_bytes (counts_of self.old) n) }
+        ensures nothing { OnOk result (length buf.now ≡ 0
+            → counts_of self.new ≡ after_bytes (counts_of self.old) 0) }
         // A write that takes none of some bytes would be tried forever, so it counts as failed.
         ensures took_none { IfOk result (λ n. n ≡ 0 → 0 < length buf.now →
             counts_of self.new ≡ after_failure (counts_of self.old)) }

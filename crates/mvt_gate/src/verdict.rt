@@ -1,3 +1,4 @@
+//! The verdict on bytes: they are a valid tile, or this is their first fault.
 ghost use Rattle.std.specs.Prelude.{◌≡◌, IfNone, IfOk, IfSome};
 ghost use Rattle.mvt_confirm.specs.Geometry.{IsFaultOfGeometryBy};
 ghost use Rattle.mvt_confirm.specs.Shows.{Shows, ShowsBy};
@@ -20,43 +21,48 @@ pub enum Verdict {
     /// The bytes are a valid tile: one that keeps every rule that `judge` names, or in the profile
     /// `Profile::Feature` every rule that `judge_with` names.
     Yes,
-    /// They are not. Of all faults that are true of them this one comes first. All meetings of edges in one
-    /// polygon have one place in that order; any of them may be reported.
+    /// They are not. Of all faults that are true of them this one comes first. All meetings of
+    /// edges in one polygon have one place in that order; any of them may be reported.
     No(Fault),
 }
 
-/// Whether the bytes, of any content and length, are an uncompressed valid tile: Protocol Buffers messages
-/// ("Message Structure") by the schema of the Mapbox Vector Tile Specification 2.1, section 4, whose layers
-/// have version 2 and different names (section 4.1), whose tags are pairs of a key and a value of the layer,
-/// no key twice in a feature (section 4.4), and whose geometry draws a figure of the feature's type where
-/// that is known (section 4.3).
+/// Whether the bytes, of any content and length, are an uncompressed valid tile: Protocol Buffers
+/// messages ("Message Structure") by the schema of the Mapbox Vector Tile Specification 2.1,
+/// section 4, whose layers have version 2 and different names (section 4.1), whose tags are pairs
+/// of a key and a value of the layer, no key twice in a feature (section 4.4), and whose geometry
+/// draws a figure of the feature's type where that is known (section 4.3).
 ///
-/// The rings of a feature are those of polygons (section 4.3.4.4): no ring's last position is its first one,
-/// each has an area, and the first one is an exterior, which has positive area. A polygon is an exterior with the holes
-/// behind it. No two edges of a polygon, of one ring or of two, cross or touch, but that neighbours share
-/// their vertex; so its rings may not touch either, not even in one vertex. Each vertex of a hole is inside
-/// the exterior, and inside no other hole of its polygon.
+/// The rings of a feature are those of polygons (section 4.3.4.4): no ring's last position is its
+/// first one, each has an area, and the first one is an exterior, which has positive area. A
+/// polygon is an exterior with the holes after it. No two edges of a polygon, of one ring or of
+/// two, cross or touch, but that neighbours share their vertex; so its rings may not touch either,
+/// not even in one vertex. Each vertex of a hole is inside the exterior, and inside no other hole
+/// of its polygon.
 ///
-/// Edges are tested at most three times for each vertex of their polygon, and the other work that is counted grows as
-/// n log n with the number n of its vertices, also where it has many holes. The only error is that memory was refused.
+/// Edges are tested at most three times for each vertex of their polygon, and the other work that
+/// is counted grows as n log n with the number n of its vertices, also where it has many holes. The
+/// only error is that memory was refused.
 pub fn judge(alloc: Global, bytes: &[u8]) -> Result<Verdict, AllocError>
     ensures verdict { IfOk result (IsVerdict bytes.now) }
-    ensures invalid { IfOk result (λ verdict. ¬ Valid bytes.now → (fault : Fault) × (verdict ≡ Verdict.No fault) × Shows bytes.now fault) }
+    ensures invalid { IfOk result (λ verdict. ¬ Valid bytes.now
+        → (fault : Fault) × (verdict ≡ Verdict.No fault) × Shows bytes.now fault) }
 {
     judge_with(alloc, Profile::Polygon, bytes)
 }
 
-/// The same by a profile. `Profile::Polygon` asks what `judge` asks. `Profile::Feature` also asks that the polygons of a
-/// feature are apart: no two edges of all its rings cross or touch, but that neighbours share their vertex; and no
-/// vertex of a polygon's exterior is inside another polygon of the feature, which is inside that one's exterior and inside
-/// none of its holes. So a polygon may lie in a hole of another.
+/// The same by a profile. `Profile::Polygon` asks what `judge` asks. `Profile::Feature` also asks
+/// that the polygons of a feature are apart: no two edges of all its rings cross or touch, but that
+/// neighbours share their vertex; and no vertex of a polygon's exterior is inside another polygon
+/// of the feature, which is inside that one's exterior and inside none of its holes. So a polygon
+/// may lie in a hole of another.
 ///
-/// In the profile `Profile::Feature` each polygon is held against the rings before it and against all other polygons, so the
-/// work on a feature of many polygons grows with their number times that of its vertices. The only error is that memory
-/// was refused.
+/// In the profile `Profile::Feature` each polygon is held against the rings before it and against
+/// all other polygons, so the work on a feature of many polygons grows with their number times that
+/// of its vertices. The only error is that memory was refused.
 pub fn judge_with(alloc: Global, profile: Profile, bytes: &[u8]) -> Result<Verdict, AllocError>
     ensures verdict { IfOk result (IsVerdictBy profile bytes.now) }
-    ensures invalid { IfOk result (λ verdict. ¬ ValidBy profile bytes.now → (fault : Fault) × (verdict ≡ Verdict.No fault) × ShowsBy profile bytes.now fault) }
+    ensures invalid { IfOk result (λ verdict. ¬ ValidBy profile bytes.now
+        → (fault : Fault) × (verdict ≡ Verdict.No fault) × ShowsBy profile bytes.now fault) }
 {
     if let Some(fault) = wire_fault(bytes) {
         return Ok(Verdict::No(fault));
@@ -67,16 +73,18 @@ pub fn judge_with(alloc: Global, profile: Profile, bytes: &[u8]) -> Result<Verdi
     }
 }
 
-/// The first fault of a tile by its rules and those of the profile, or None where it keeps them. The bytes have no wire
-/// fault. The only error is that memory was refused.
+/// The first fault of a tile by its rules and those of the profile, or None where it keeps them.
+/// The bytes have no wire fault. The only error is that memory was refused.
 fn fault_of_rules(
     alloc: Global,
     profile: Profile,
     bytes: &[u8],
 ) -> Result<Option<Fault>, AllocError>
     requires { (tile : TileRecord) × IsTile bytes.now tile }
-    ensures none { IfOk result (λ found. IfNone found ((tile : TileRecord) → IsTile bytes.now tile → KeepsRules (IsValidGeometryBy profile) tile)) }
-    ensures least { IfOk result (λ found. IfSome found (λ fault. (tile : TileRecord) → IsTile bytes.now tile
+    ensures none { IfOk result (λ found. IfNone found ((tile : TileRecord) → IsTile bytes.now tile
+        → KeepsRules (IsValidGeometryBy profile) tile)) }
+    ensures least { IfOk result (λ found. IfSome found (λ fault. (tile : TileRecord)
+        → IsTile bytes.now tile
         → IsLeast (BreaksAnyRule (IsFaultOfGeometryBy profile) tile) fault)) }
 {
     match profile {

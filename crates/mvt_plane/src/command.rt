@@ -1,5 +1,5 @@
-//! The commands of a geometry (Mapbox Vector Tile Specification 2.1, section 4.3.1). A command integer is an id
-//! in its low three bits and a count above them.
+//! The commands of a geometry (Mapbox Vector Tile Specification 2.1, section 4.3.1). A command
+//! integer is an id in its low three bits and a count above them.
 
 /// The id of a command that moves the cursor (section 4.3.3.1).
 pub const MOVE_TO: u32 = 1;

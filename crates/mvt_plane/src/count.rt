@@ -1,7 +1,7 @@
 use std::marker::Model;
 
-/// What is counted of the work of a sweep over edges. Each number stays at the greatest `u64` once it is
-/// there.
+/// What is counted of the work of a sweep over edges. Each number stays at the greatest `u64` once
+/// it is there.
 #[derive(Clone, Copy, Debug, PartialEq, Eq)]
 pub struct Count {
     tests: u64,
@@ -14,9 +14,15 @@ impl Model for Count {
 
     ghost Value = { Counted };
 
-    ghost view = { λ count. record { tests = count.tests; probes = count.probes; visits = count.visits } };
+    ghost view = { λ count. record {
+      tests = count.tests;
+      probes = count.probes;
+      visits =
+          count.visits;
+    } };
 
-    ghost inverse = { λ counted. record { tests = counted.tests; probes = counted.probes; visits = counted.visits } };
+    ghost inverse = { λ counted.
+        record { tests = counted.tests; probes = counted.probes; visits = counted.visits } };
 }
 
 impl Count {

@@ -1,3 +1,4 @@
+//! The tests of positions, edges and rings, a module for each file.
 mod count;
 mod crossing;
 mod edge;

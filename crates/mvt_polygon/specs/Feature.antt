@@ -1,12 +1,12 @@
--- The first fault of a feature whose polygons are kept apart, and the work of looking for it (Mapbox Vector Tile
+-- The first fault of a feature whose polygons are kept apart, and the work of searching for it (Mapbox Vector Tile
 -- Specification 2.1, section 4.3.4.4).
 use Rattle.std.specs.Prelude.{ℕ, ◌+◌, ◌*◌, ◌<◌, List, Option, Some, None}
 use Rattle.mvt_plane.specs.Counted.{Counted}
-use Rattle.mvt_plane.specs.Part.{part_of}
-use Rattle.mvt_plane.specs.Polygon.{PolygonRings, IsPolygon}
+use Rattle.mvt_plane.specs.Geometry.Part.{part_of}
+use Rattle.mvt_plane.specs.Geometry.Polygon.{PolygonRings, IsPolygon}
 use Rattle.mvt_plane.specs.Position.{Position}
 use Rattle.mvt_polygon.specs.Apart.{IsApartFault, IsFirstApartFault}
-use Rattle.mvt_polygon.specs.CornerOrder.{AddsWork}
+use Rattle.mvt_polygon.specs.Work.{AddsWork}
 use Rattle.mvt_polygon.specs.Meeting.{IsMeetingOf, NoMeeting}
 use Rattle.mvt_polygon.specs.Nesting.{IsFirstNestFault, IsNestFault}
 use Rattle.mvt_polygon.specs.declared.feature.FeatureCause.{FeatureCause}

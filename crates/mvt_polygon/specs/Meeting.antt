@@ -1,10 +1,10 @@
 -- The wrong meeting of two edges that is returned for rings (Mapbox Vector Tile Specification 2.1, section 4.3.4.4).
 use Rattle.std.specs.Prelude.{◌≡◌, ◌↔◌, List, Option, Some}
-use Rattle.mvt_plane.specs.CommonPoint.{IsNamed}
-use Rattle.mvt_plane.specs.Meeting.{EdgeNumber, ComesBefore, IsEdgeOf, IsShared, MeetsWrongly}
+use Rattle.mvt_plane.specs.Geometry.CommonPoint.{IsNamed}
+use Rattle.mvt_plane.specs.Geometry.Meeting.{EdgeNumber, ComesBefore, IsEdgeOf, IsShared, MeetsWrongly}
 use Rattle.mvt_plane.specs.Position.{Position}
-use Rattle.mvt_plane.specs.RationalPoint.{RationalPoint, IsBounded}
-use Rattle.mvt_plane.specs.declared.edge.Edge.{Edge}
+use Rattle.mvt_plane.specs.Geometry.RationalPoint.{RationalPoint, IsBounded}
+use Rattle.mvt_plane.specs.declared.geometry.edge.Edge.{Edge}
 use Rattle.mvt_polygon.specs.declared.meeting.Meeting.{Meeting}
 
 -- the numbers of the first edge

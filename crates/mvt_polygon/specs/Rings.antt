@@ -1,27 +1,15 @@
 -- The rings that lists of vertices are, and which of the faults that rings have of their own is returned (Mapbox Vector
 -- Tile Specification 2.1, section 4.3.4.4).
-use Rattle.std.specs.Prelude.{◌≡◌, ◌≢◌, ◌-◌, ◌<◌, ◌≤◌, ◌⊎◌, ℕ, List, length, map, slice_get, Some, Vec}
+use Rattle.std.specs.Prelude.{◌≡◌, ◌≢◌, ◌<◌, ◌≤◌, ◌⊎◌, ℕ, List, length, map, slice_get, Some, Vec}
 use Rattle.std.specs.declared.alloc.Global.{Global}
 use Rattle.mvt_fault.specs.Code.{ring_code}
 use Rattle.mvt_plane.specs.Position.{Position}
-use Rattle.mvt_plane.specs.Ring.{next_round, BreaksRings}
-use Rattle.mvt_fault.specs.declared.ring.RingCode.{RingCode}
+use Rattle.mvt_plane.specs.Geometry.Ring.{next_round, BreaksRings}
 use Rattle.mvt_polygon.specs.declared.rings.RingFault.{RingFault}
 
 -- the rings of these lists of vertices
 abbrev pub rings_of : List (Vec Position Global) → List (List Position)
 rings_of rings = map (λ ring. ring.items) rings
-
--- the last vertex of a ring is at the position of its first one
-pub record IsClosed (vertices : List Position) : Type 0 where
-  pub position : Position
-  pub first : slice_get vertices 0 ≡ Some position
-  pub last : slice_get vertices (length vertices - 1) ≡ Some position
-
--- the first, by the code, of all faults that this ring has of its own
-pub record IsLeastCode (rings : List (List Position)) (ring : ℕ) (code : RingCode) : Type 0 where
-  pub broken : BreaksRings rings (ring_code code) ring
-  pub least : (other : ℕ) → BreaksRings rings other ring → ring_code code ≤ other
 
 -- the first, by the ring's number and then by the code, of all faults that the rings have of their own
 pub record IsFirstRingFault (rings : List (List Position)) (fault : RingFault) : Type 0 where

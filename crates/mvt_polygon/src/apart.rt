@@ -1,8 +1,9 @@
 //! Vertices of a polygon's exterior that are inside another polygon of the feature.
 ghost use Rattle.std.specs.Prelude.{ℕ, ◌<◌, ◌≤◌, ◌↔◌, length, IsTrue, IfNone, IfSome};
-ghost use Rattle.mvt_plane.specs.Nesting.{IsInsidePolygon};
-ghost use Rattle.mvt_plane.specs.Ring.{ArePolygonRings};
-ghost use Rattle.mvt_polygon.specs.Apart.{IsApartFault, IsFirstApartFault, IsPolygonAround, IsFirstPolygonAround};
+ghost use Rattle.mvt_plane.specs.Geometry.Nesting.{IsInsidePolygon};
+ghost use Rattle.mvt_plane.specs.Geometry.Ring.{ArePolygonRings};
+ghost use Rattle.mvt_polygon.specs.Apart.{IsApartFault, IsFirstApartFault};
+ghost use Rattle.mvt_polygon.specs.Calls.Apart.{IsPolygonAround, IsFirstPolygonAround};
 ghost use Rattle.mvt_polygon.specs.Polygons.{ArePolygons};
 ghost use Rattle.mvt_polygon.specs.Rings.{rings_of};
 
@@ -20,11 +21,12 @@ pub struct ApartFault {
     pub other: usize,
 }
 
-/// The first vertex of a polygon's exterior that is inside another polygon of the feature: inside that one's exterior,
-/// and inside none of its holes. Where it is inside several, the first of them is named. None where there is no such
-/// vertex. No ring has a fault of its own (`check_rings`), `groups` is what the call of this name returns, and `polygon`
-/// is the ordinal of the polygon in it. All vertices of the exterior are tested against the other polygons, so the work
-/// grows with their number times that of all vertices. It takes no memory.
+/// The first vertex of a polygon's exterior that is inside another polygon of the feature: inside
+/// that one's exterior, and inside none of its holes. Where it is inside several, the first of them
+/// is named. None where there is no such vertex. No ring has a fault of its own (`check_rings`),
+/// `groups` is what the call of this name returns, and `polygon` is the ordinal of the polygon in
+/// it. All vertices of the exterior are tested against the other polygons, so the work grows with
+/// their number times that of all vertices. It takes no memory.
 pub fn check_apart(
     rings: &[Vec<Point>],
     groups: &[(usize, usize)],
@@ -33,7 +35,8 @@ pub fn check_apart(
     requires sound { ArePolygonRings (rings_of rings.now) }
     requires listed { ArePolygons (rings_of rings.now) groups.now }
     requires there { polygon < length groups.now }
-    ensures none { IfNone result ((vertex other : ℕ) → ¬ IsApartFault (rings_of rings.now) polygon vertex other) }
+    ensures none { IfNone result ((vertex other : ℕ)
+        → ¬ IsApartFault (rings_of rings.now) polygon vertex other) }
     ensures least { IfSome result (IsFirstApartFault (rings_of rings.now) polygon) }
 {
     let (exterior, _) = groups[polygon];
@@ -46,8 +49,8 @@ pub fn check_apart(
     None
 }
 
-/// The first of the other polygons that the position is inside. Of two polygons of a feature each has an exterior of its
-/// own, so they are told apart by their ordinals.
+/// The first of the other polygons that the position is inside. Of two polygons of a feature each
+/// has an exterior of its own, so they are told apart by their ordinals.
 pub(crate) fn polygon_around(
     rings: &[Vec<Point>],
     groups: &[(usize, usize)],
@@ -55,7 +58,8 @@ pub(crate) fn polygon_around(
     position: Point,
 ) -> Option<usize>
     requires listed { ArePolygons (rings_of rings.now) groups.now }
-    ensures none { IfNone result ((other : ℕ) → ¬ IsPolygonAround (rings_of rings.now) polygon position other) }
+    ensures none { IfNone result ((other : ℕ)
+        → ¬ IsPolygonAround (rings_of rings.now) polygon position other) }
     ensures first { IfSome result (IsFirstPolygonAround (rings_of rings.now) polygon position) }
 {
     for other in 0..groups.len() {
@@ -67,7 +71,8 @@ pub(crate) fn polygon_around(
     None
 }
 
-/// Whether the position is inside the polygon of these rings: inside its exterior, and inside none of its holes.
+/// Whether the position is inside the polygon of these rings: inside its exterior, and inside none
+/// of its holes.
 pub(crate) fn is_in_polygon(
     rings: &[Vec<Point>],
     exterior: usize,
@@ -76,7 +81,8 @@ pub(crate) fn is_in_polygon(
 ) -> bool
     requires further { exterior < after }
     requires within { after ≤ length rings.now }
-    ensures { IsTrue result ↔ IsInsidePolygon (rings_of rings.now) (record { exterior = exterior; after = after }) position }
+    ensures { IsTrue result ↔ IsInsidePolygon (rings_of rings.now)
+        (record { exterior = exterior; after = after }) position }
 {
     if !inside(position, &rings[exterior]) {
         return false;

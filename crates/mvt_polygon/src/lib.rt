@@ -1,6 +1,6 @@
-//! Rings and polygons: rings with a fault of their own, which rings make up which polygon, edges that meet
-//! wrongly, holes that aren't where they should be (Mapbox Vector Tile Specification 2.1, section 4.3.4.4), and
-//! polygons of a feature that aren't apart.
+//! Rings and polygons: rings with a fault of their own, which rings make up which polygon, edges
+//! that meet wrongly, holes that aren't where they should be (Mapbox Vector Tile Specification 2.1,
+//! section 4.3.4.4), and polygons of a feature that aren't apart.
 #![tactic(auto)]
 
 mod apart;

@@ -1,12 +1,14 @@
 //! Edges that meet wrongly.
 ghost use Rattle.std.specs.Prelude.{◌≡◌, ◌+◌, ◌*◌, ◌<◌, IfOk, IfNone, IfSome, None, Some, []};
-ghost use Rattle.mvt_polygon.specs.CornerOrder.{AddsWork, IsCounted};
-ghost use Rattle.mvt_polygon.specs.Corners.{AreCorners, IsNumbered, IsNamedMeeting, vertex_count};
+ghost use Rattle.mvt_polygon.specs.Work.{AddsWork, IsCounted};
+ghost use Rattle.mvt_polygon.specs.Calls.SweepVertices.{AreSweepVertices, IsNumbered, IsNamedMeeting};
+ghost use Rattle.mvt_polygon.specs.Work.{vertex_count};
 ghost use Rattle.mvt_polygon.specs.Meeting.{IsMeetingOf, NoMeeting};
 ghost use Rattle.mvt_polygon.specs.Rings.{rings_of, AreProperRings};
+ghost use Rattle.mvt_polygon.specs.TurnVertices.{turn_count};
 ghost use Rattle.mvt_status.specs.Counts.{bits};
 
-use crate::sweep::{Corners, NoNotes, Pair, Swept, sweep_over};
+use crate::sweep::{NoNotes, Pair, SweepVertices, Swept, sweep_over};
 use mvt_plane::{Count, Hpoint, Point};
 use mvt_status::{Status, TreeStatus};
 use std::alloc::{AllocError, Global};
@@ -25,18 +27,22 @@ pub struct Meeting {
     pub second_ring: usize,
     /// The ordinal of the second edge in its ring.
     pub second_edge: usize,
-    /// The point that they have in common, as `common` of `mvt_plane` names it for the first and the second
-    /// edge.
+    /// The point that they have in common, as `common` of `mvt_plane` names it for the first and
+    /// the second edge.
     pub point: Hpoint,
 }
 
-/// Two edges of the rings that have a point in common other than the vertex that they share as neighbours in
-/// a ring, or None where there are no such edges (Mapbox Vector Tile Specification 2.1, section 4.3.4.4).
-/// Each ring is to have three vertices or more, none at the position of the next one. `count` counts the
-/// work: of n vertices at most 3 * n tests of two edges, n * (2 * bits(n) + 2) comparisons of an edge with a vertex and
-/// n * 20 * bits(n) nodes of the status that are visited, where bits(n) is the number of n's binary digits; none of its
-/// numbers falls. Where a meeting is found, there is a test at least, and where none is, n comparisons. The edges are
-/// swept over. The only error is that memory was refused.
+/// Two edges of the rings that have a point in common other than the vertex that they share as
+/// neighbours in a ring, or None where there are no such edges (Mapbox Vector Tile Specification
+/// 2.1, section 4.3.4.4). Each ring is to have three vertices or more, none at the position of the
+/// next one. `count` counts the work: of n vertices at most 3 * n tests of two edges, n * (2 *
+/// bits(n) + 2) comparisons of an edge with a vertex and n * 20 * bits(n) nodes of the status that
+/// are visited, where bits(n) is the number of n's binary digits; none of its numbers falls. Only
+/// at turn vertices the status is searched and changed: both neighbours of such a vertex in its
+/// ring come before it by x and then y, or both after it. So of t turn vertices there are at most n
+/// + t * 2 * bits(n) comparisons and t * 12 * bits(n) visits. Where a meeting is found, there is a
+/// test at least, and where none is, n comparisons. The edges are swept over. The only error is
+/// that memory was refused.
 pub fn find_meeting(
     alloc: Global,
     rings: &[Vec<Point>],
@@ -45,8 +51,13 @@ pub fn find_meeting(
     requires { AreProperRings (rings_of rings.now) }
     ensures none { IfOk result (λ found. IfNone found (NoMeeting (rings_of rings.now))) }
     ensures some { IfOk result (λ found. IfSome found (IsMeetingOf (rings_of rings.now))) }
-    ensures counted { let vertices = vertex_count (rings_of rings.now) in AddsWork (3 * vertices) (vertices * (2 * bits vertices + 2)) (vertices * (20 * bits vertices)) count.old count.new }
-    ensures least { IfOk result (IsCounted (vertex_count (rings_of rings.now)) count.old count.new) }
+    ensures counted { let n = vertex_count (rings_of rings.now) in
+        AddsWork (3 * n) (n * (2 * bits n + 2)) (n * (20 * bits n)) count.old count.new }
+    ensures turns { let n = vertex_count (rings_of rings.now) in
+        let turns = turn_count (rings_of rings.now) in
+        AddsWork (3 * n) (n + turns * (2 * bits n)) (turns * (12 * bits n)) count.old count.new }
+    ensures least { IfOk result (IsCounted (vertex_count (rings_of rings.now)) count.old
+        count.new) }
 {
     find_meeting_with(alloc, rings, &mut TreeStatus::new(alloc), count)
 }
@@ -63,31 +74,41 @@ pub fn find_meeting_with<S: Status>(
     requires empty { S.edges status.old ≡ [] }
     ensures none { IfOk result (λ found. IfNone found (NoMeeting (rings_of rings.now))) }
     ensures some { IfOk result (λ found. IfSome found (IsMeetingOf (rings_of rings.now))) }
-    ensures counted { let vertices = vertex_count (rings_of rings.now) in AddsWork (3 * vertices) (vertices * (2 * bits vertices + 2)) (vertices * (20 * bits vertices)) count.old count.new }
-    ensures least { IfOk result (IsCounted (vertex_count (rings_of rings.now)) count.old count.new) }
+    ensures counted { let n = vertex_count (rings_of rings.now) in
+        AddsWork (3 * n) (n * (2 * bits n + 2)) (n * (20 * bits n)) count.old count.new }
+    ensures turns { let n = vertex_count (rings_of rings.now) in
+        let turns = turn_count (rings_of rings.now) in
+        AddsWork (3 * n) (n + turns * (2 * bits n)) (turns * (12 * bits n)) count.old count.new }
+    ensures least { IfOk result (IsCounted (vertex_count (rings_of rings.now)) count.old
+        count.new) }
 {
-    let corners = Corners::of_rings(alloc, rings)?;
-    meeting_by_sweep(alloc, rings, &corners, status, count)
+    let vertices = SweepVertices::of_rings(alloc, rings)?;
+    meeting_by_sweep(alloc, rings, &vertices, status, count)
 }
 
-/// The same, where the corners of the rings are given.
+/// The same, where the vertices of the rings are given.
 pub(crate) fn meeting_by_sweep<S: Status>(
     alloc: Global,
     rings: &[Vec<Point>],
-    corners: &Corners,
+    vertices: &SweepVertices,
     status: &mut S,
     count: &mut Count,
 ) -> Result<Option<Meeting>, AllocError>
     requires rings { AreProperRings (rings_of rings.now) }
-    requires corners { AreCorners (rings_of rings.now) corners.now }
+    requires vertices { AreSweepVertices (rings_of rings.now) vertices.now }
     requires empty { S.edges status.old ≡ [] }
     ensures none { IfOk result (λ found. IfNone found (NoMeeting (rings_of rings.now))) }
     ensures some { IfOk result (λ found. IfSome found (IsMeetingOf (rings_of rings.now))) }
-    ensures counted { let vertices = vertex_count (rings_of rings.now) in AddsWork (3 * vertices) (vertices * (2 * bits vertices + 2)) (vertices * (20 * bits vertices)) count.old count.new }
-    ensures least { IfOk result (IsCounted (vertex_count (rings_of rings.now)) count.old count.new) }
+    ensures counted { let n = vertex_count (rings_of rings.now) in
+        AddsWork (3 * n) (n * (2 * bits n + 2)) (n * (20 * bits n)) count.old count.new }
+    ensures turns { let n = vertex_count (rings_of rings.now) in
+        let turns = turn_count (rings_of rings.now) in
+        AddsWork (3 * n) (n + turns * (2 * bits n)) (turns * (12 * bits n)) count.old count.new }
+    ensures least { IfOk result (IsCounted (vertex_count (rings_of rings.now)) count.old
+        count.new) }
 {
     Ok(
-        match sweep_over::<S, NoNotes>(alloc, rings, corners, status, count)? {
+        match sweep_over::<S, NoNotes>(alloc, rings, vertices, status, count)? {
             Swept::Meets(meeting) => Some(meeting),
             Swept::Clear(_) => None,
         },
@@ -99,7 +120,8 @@ pub(crate) fn named_meeting(rings: &[Vec<Point>], found: Option<Pair>) -> Option
     requires first { IfSome found (λ pair. pair.first < vertex_count (rings_of rings.now)) }
     requires second { IfSome found (λ pair. pair.second < vertex_count (rings_of rings.now)) }
     ensures none { IfNone result (found ≡ None) }
-    ensures some { IfSome result (λ meeting. (pair : Pair) × (found ≡ Some pair) × IsNamedMeeting (rings_of rings.now) pair meeting) }
+    ensures some { IfSome result (λ meeting. (pair : Pair) × (found ≡ Some pair)
+        × IsNamedMeeting (rings_of rings.now) pair meeting) }
 {
     let pair = found?;
     let (first_ring, first_edge) = ring_and_ordinal(rings, pair.first);

@@ -1,7 +1,8 @@
 //! Holes that aren't where they should be.
 ghost use Rattle.std.specs.Prelude.{ℕ, ◌<◌, length, IfNone, IfSome};
-ghost use Rattle.mvt_plane.specs.Nesting.{IsVertexOf};
-ghost use Rattle.mvt_polygon.specs.Nesting.{IsNestFault, IsFirstNestFault, IsFirstOf, IsOfHole, IsOfVertex, IsHoleAround, IsFirstHoleAround};
+ghost use Rattle.mvt_plane.specs.Geometry.Nesting.{IsVertexOf};
+ghost use Rattle.mvt_polygon.specs.Nesting.{IsNestFault, IsFirstNestFault};
+ghost use Rattle.mvt_polygon.specs.Calls.Nesting.{IsFirstOf, IsOfHole, IsOfVertex, IsHoleAround, IsFirstHoleAround};
 ghost use Rattle.mvt_polygon.specs.Rings.{rings_of};
 ghost use Rattle.mvt_polygon.specs.declared.nesting.NestFault.{NestFault};
 
@@ -34,11 +35,12 @@ pub enum NestFault {
     },
 }
 
-/// The first vertex, by ring and then by vertex, of a polygon's holes that isn't inside the exterior or is
-/// inside another hole. Where both hold, `Outside` is returned; where several other holes are around it,
-/// `InHole` names the first. None where there is no such vertex (Mapbox Vector Tile Specification 2.1, section
-/// 4.3.4.4). The first ring is the exterior, the others are the holes. All vertices of holes are tested against
-/// all rings, so the work grows with the number of their vertices times that of all vertices. It takes no memory.
+/// The first vertex, by ring and then by vertex, of a polygon's holes that isn't inside the
+/// exterior or is inside another hole. Where both hold, `Outside` is returned; where several other
+/// holes are around it, `InHole` names the first. None where there is no such vertex (Mapbox Vector
+/// Tile Specification 2.1, section 4.3.4.4). The first ring is the exterior, the others are the
+/// holes. All vertices of holes are tested against all rings, so the work grows with the number of
+/// their vertices times that of all vertices. It takes no memory.
 pub fn check_nesting(rings: &[Vec<Point>]) -> Option<NestFault>
     ensures none { IfNone result ((fault : NestFault) → ¬ IsNestFault (rings_of rings.now) fault) }
     ensures least { IfSome result (IsFirstNestFault (rings_of rings.now)) }
@@ -55,7 +57,8 @@ pub fn check_nesting(rings: &[Vec<Point>]) -> Option<NestFault>
 fn fault_of_hole(rings: &[Vec<Point>], ring: usize) -> Option<NestFault>
     requires hole { 0 < ring }
     requires there { ring < length rings.now }
-    ensures none { IfNone result ((fault : NestFault) → IsOfHole ring fault → ¬ IsNestFault (rings_of rings.now) fault) }
+    ensures none { IfNone result ((fault : NestFault) → IsOfHole ring fault
+        → ¬ IsNestFault (rings_of rings.now) fault) }
     ensures least { IfSome result (IsFirstOf (rings_of rings.now) (IsOfHole ring)) }
 {
     let vertices = &rings[ring];
@@ -67,8 +70,8 @@ fn fault_of_hole(rings: &[Vec<Point>], ring: usize) -> Option<NestFault>
     None
 }
 
-/// Why a vertex of a hole isn't where it should be: it isn't inside the exterior, or else it is inside another
-/// hole, of which the first is returned.
+/// Why a vertex of a hole isn't where it should be: it isn't inside the exterior, or else it is
+/// inside another hole, of which the first is returned.
 fn fault_of_vertex(
     rings: &[Vec<Point>],
     ring: usize,
@@ -78,7 +81,8 @@ fn fault_of_vertex(
     requires hole { 0 < ring }
     requires there { ring < length rings.now }
     requires here { IsVertexOf (rings_of rings.now) ring vertex position }
-    ensures none { IfNone result ((fault : NestFault) → IsOfVertex ring vertex fault → ¬ IsNestFault (rings_of rings.now) fault) }
+    ensures none { IfNone result ((fault : NestFault) → IsOfVertex ring vertex fault
+        → ¬ IsNestFault (rings_of rings.now) fault) }
     ensures least { IfSome result (IsFirstOf (rings_of rings.now) (IsOfVertex ring vertex)) }
 {
     if !inside(position, &rings[0]) {
@@ -94,7 +98,8 @@ fn fault_of_vertex(
 
 /// The first of the other holes that the position of a hole's vertex is inside.
 fn hole_around(rings: &[Vec<Point>], ring: usize, position: Point) -> Option<usize>
-    ensures none { IfNone result ((other : ℕ) → ¬ IsHoleAround (rings_of rings.now) ring position other) }
+    ensures none { IfNone result ((other : ℕ)
+        → ¬ IsHoleAround (rings_of rings.now) ring position other) }
     ensures first { IfSome result (IsFirstHoleAround (rings_of rings.now) ring position) }
 {
     for other in 1..rings.len() {

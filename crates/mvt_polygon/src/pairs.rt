@@ -1,18 +1,18 @@
-//! Few edges: of all their pairs those are found that may meet, and only these are tested. It takes no memory, and no
-//! order of the vertices.
+//! Few edges: of all their pairs those are found that may meet, and only these are tested. It takes
+//! no memory, and no order of the vertices.
 ghost use Rattle.std.specs.Prelude.{◌≡◌, ◌*◌, ◌<◌, ◌≤◌, IfNone, IfSome, IsTrue, false, [], length};
 ghost use Rattle.mvt_plane.specs.Counted.{ticked};
-ghost use Rattle.mvt_polygon.specs.CornerOrder.{AddsWork, IsCounted};
-ghost use Rattle.mvt_polygon.specs.Corners.{IsMeetingAt, NoneWrong, corner_count, edge_at, plan_of};
-ghost use Rattle.mvt_polygon.specs.Pairs.{AreBoxesApart, AreEnough, AreEnoughForAll, AreLess, pairs_of};
-ghost use Rattle.mvt_polygon.specs.Sweep.{Tested};
+ghost use Rattle.mvt_polygon.specs.Work.{AddsWork, IsCounted};
+ghost use Rattle.mvt_polygon.specs.Calls.SweepVertices.{IsMeetingAt, NoneWrong, sweep_count, edge_at, plan_of};
+ghost use Rattle.mvt_polygon.specs.Calls.Pairs.{AreBoxesApart, AreEnough, AreEnoughForAll, AreLess, pairs_of};
+ghost use Rattle.mvt_polygon.specs.Calls.Sweep.{Tested};
 ghost use Rattle.mvt_status.specs.Counts.{raised};
 
-use crate::sweep::{Corners, Pair, heights_apart};
+use crate::sweep::{Pair, SweepVertices, heights_apart};
 use arrayvec::ArrayVec;
 use mvt_plane::{Count, Edge, orient};
 
-/// The most edges of which all pairs are looked at. A sweep over so few takes longer.
+/// The most edges of which all pairs are checked. A sweep over so few takes longer.
 const MOST_EDGES: usize = 16;
 
 /// Three pairs for each of `MOST_EDGES` edges.
@@ -21,42 +21,44 @@ const MOST_PAIRS: usize = 48;
 /// Pairs of edges by their numbers, the lesser one first.
 pub(crate) type Pairs = ArrayVec<(usize, usize), MOST_PAIRS>;
 
-/// Finds the pairs of edges that may meet wrongly, and answers whether these are all. It gives up where the edges are
-/// many, or such pairs more than three times as many as the edges. Ticks a probe for each pair that it looks at: for all
-/// pairs where it doesn't give up, and at most eight for each edge.
-pub(crate) fn find_pairs(corners: &Corners, pairs: &mut Pairs, count: &mut Count) -> bool
+/// Finds the pairs of edges that may meet wrongly, and answers whether these are all. It gives up
+/// where the edges are many, or such pairs more than three times as many as the edges. Ticks a
+/// probe for each pair that it checks: for all pairs where it doesn't give up, and at most eight
+/// for each edge.
+pub(crate) fn find_pairs(vertices: &SweepVertices, pairs: &mut Pairs, count: &mut Count) -> bool
     requires empty { pairs.old.items ≡ [] }
-    ensures enough { IsTrue result → AreEnoughForAll corners.now pairs.new.items }
-    ensures counted { AddsWork 0 (8 * corner_count corners.now) 0 count.old count.new }
-    ensures probed { IsTrue result → raised (pairs_of (corner_count corners.now)) count.old.probes ≤ count.new.probes }
+    ensures enough { IsTrue result → AreEnoughForAll vertices.now pairs.new.items }
+    ensures counted { AddsWork 0 (8 * sweep_count vertices.now) 0 count.old count.new }
+    ensures probed { IsTrue result → raised (pairs_of (sweep_count vertices.now)) count.old.probes
+        ≤ count.new.probes }
 {
-    if corners.len() > MOST_EDGES {
+    if vertices.len() > MOST_EDGES {
         return false;
     }
-    for second in 0..corners.len() {
-        if !add_pairs(corners, second, pairs, count) {
+    for second in 0..vertices.len() {
+        if !add_pairs(vertices, second, pairs, count) {
             return false;
         }
     }
     true
 }
 
-/// Adds the pairs of an edge with those of lesser numbers that it may meet wrongly, and answers whether there was room.
-/// Ticks a probe for each pair that it looks at.
-fn add_pairs(corners: &Corners, second: usize, pairs: &mut Pairs, count: &mut Count) -> bool
-    requires few { corner_count corners.now < 17 }
-    requires known { second < corner_count corners.now }
-    requires before { AreEnough corners.now pairs.old.items second 0 }
-    ensures enough { IsTrue result → AreEnough corners.now pairs.new.items second second }
+/// Adds the pairs of an edge with those of lesser numbers that it may meet wrongly, and answers
+/// whether there was room. Ticks a probe for each pair that it checks.
+fn add_pairs(vertices: &SweepVertices, second: usize, pairs: &mut Pairs, count: &mut Count) -> bool
+    requires few { sweep_count vertices.now < 17 }
+    requires known { second < sweep_count vertices.now }
+    requires before { AreEnough vertices.now pairs.old.items second 0 }
+    ensures enough { IsTrue result → AreEnough vertices.now pairs.new.items second second }
     ensures counted { AddsWork 0 second 0 count.old count.new }
     ensures probed { IsTrue result → raised second count.old.probes ≤ count.new.probes }
 {
-    let other = corners.edge(second);
+    let other = vertices.edge(second);
     // (a count of its own stays in a register)
     let mut looked = *count;
     for first in 0..second {
-        if may_meet(corners, first, second, &other, &mut looked) {
-            if pairs.len() >= 3 * corners.len() {
+        if may_meet(vertices, first, second, &other, &mut looked) {
+            if pairs.len() >= 3 * vertices.len() {
                 *count = looked;
                 return false;
             }
@@ -67,25 +69,31 @@ fn add_pairs(corners: &Corners, second: usize, pairs: &mut Pairs, count: &mut Co
     true
 }
 
-/// Whether two edges may meet wrongly: the boxes around them overlap, and if they are neighbours in a ring, they lie along
-/// one line. `other` is the second one. Ticks a probe.
+/// Whether two edges may meet wrongly: the boxes around them overlap, and if they are neighbours in
+/// a ring, they lie along one line. `other` is the second one. Ticks a probe.
 #[inline]
-fn may_meet(corners: &Corners, first: usize, second: usize, other: &Edge, count: &mut Count) -> bool
-    requires first { first < corner_count corners.now }
-    requires second { second < corner_count corners.now }
-    requires other { other.now ≡ edge_at corners.now second }
-    ensures clear { result ≡ false → Tested (plan_of corners.now) first second }
+fn may_meet(
+    vertices: &SweepVertices,
+    first: usize,
+    second: usize,
+    other: &Edge,
+    count: &mut Count,
+) -> bool
+    requires first { first < sweep_count vertices.now }
+    requires second { second < sweep_count vertices.now }
+    requires other { other.now ≡ edge_at vertices.now second }
+    ensures clear { result ≡ false → Tested (plan_of vertices.now) first second }
     ensures counted { AddsWork 0 1 0 count.old count.new }
     ensures probed { count.new.probes ≡ ticked count.old.probes }
 {
     count.tick_probe();
-    let one = corners.edge(first);
+    let one = vertices.edge(first);
     if boxes_apart(&one, other) {
         return false;
     }
-    if corners.next(first) == second {
+    if vertices.next(first) == second {
         orient(one.a, one.b, other.b) == 0
-    } else if corners.next(second) == first {
+    } else if vertices.next(second) == first {
         orient(other.a, other.b, one.b) == 0
     } else {
         true
@@ -108,23 +116,23 @@ fn is_left(one: &Edge, other: &Edge) -> bool
     one.a.x().max(one.b.x()) < other.a.x().min(other.b.x())
 }
 
-/// The first wrong meeting of edges of which these pairs are to be tested. Makes one test for each pair, up to the one
-/// that it answers.
+/// The first wrong meeting of edges of which these pairs are to be tested. Makes one test for each
+/// pair, up to the one that it answers.
 pub(crate) fn meeting_among(
-    corners: &Corners,
+    vertices: &SweepVertices,
     pairs: &[(usize, usize)],
     count: &mut Count,
 ) -> Option<Pair>
-    requires pairs { AreEnoughForAll corners.now pairs.now }
-    ensures none { IfNone result (NoneWrong corners.now) }
-    ensures some { IfSome result (IsMeetingAt corners.now) }
+    requires pairs { AreEnoughForAll vertices.now pairs.now }
+    ensures none { IfNone result (NoneWrong vertices.now) }
+    ensures some { IfSome result (IsMeetingAt vertices.now) }
     ensures counted { AddsWork (length pairs.now) 0 0 count.old count.new }
     ensures least { IsCounted 0 count.old count.new result }
     ensures tested { IfNone result (raised (length pairs.now) count.old.tests ≤ count.new.tests) }
 {
     for at in 0..pairs.len() {
         let (first, second) = pairs[at];
-        if let Some(pair) = corners.meeting_in_order(first, second, count) {
+        if let Some(pair) = vertices.meeting_in_order(first, second, count) {
             return Some(pair);
         }
     }

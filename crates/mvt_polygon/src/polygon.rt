@@ -1,10 +1,12 @@
-//! The first fault of a polygon: edges that meet wrongly, or else a hole that isn't where it should be.
+//! The first fault of a polygon: edges that meet wrongly, or else a hole that isn't where it should
+//! be.
 ghost use Rattle.std.specs.Prelude.{◌≡◌, ◌+◌, ◌*◌, IfNone, IfOk, IfSome, option_map};
-ghost use Rattle.mvt_polygon.specs.CornerOrder.{AddsWork, IsCounted};
-ghost use Rattle.mvt_polygon.specs.Corners.{vertex_count};
+ghost use Rattle.mvt_polygon.specs.Work.{AddsWork, IsCounted};
+ghost use Rattle.mvt_polygon.specs.Work.{vertex_count};
 ghost use Rattle.mvt_polygon.specs.Meeting.{IsMeetingOf, NoMeeting};
 ghost use Rattle.mvt_polygon.specs.PolygonFault.{IsPolygonAnswer, meeting_in};
 ghost use Rattle.mvt_polygon.specs.Rings.{rings_of, AreProperRings};
+ghost use Rattle.mvt_polygon.specs.TurnVertices.{turn_count};
 ghost use Rattle.mvt_polygon.specs.declared.polygon.PolygonFault.TheVariants as faults;
 ghost use Rattle.mvt_status.specs.Counts.{bits};
 
@@ -12,7 +14,7 @@ use crate::meeting::{Meeting, meeting_by_sweep, named_meeting};
 use crate::nesting::NestFault;
 use crate::nesting::noted::fault_of_holes;
 use crate::pairs::{Pairs, find_pairs, meeting_among};
-use crate::sweep::{Corners, Swept, sweep_rings};
+use crate::sweep::{SweepVertices, Swept, sweep_rings};
 use mvt_plane::{Count, Point};
 use mvt_status::TreeStatus;
 use std::alloc::{AllocError, Global};
@@ -29,15 +31,19 @@ pub enum PolygonFault {
     Nesting(NestFault),
 }
 
-/// The first fault of the polygon of these rings: a meeting, as `find_meeting` answers, or else what `check_nesting`
-/// answers, or None where there is neither (Mapbox Vector Tile Specification 2.1, section 4.3.4.4). The first ring is
-/// the exterior, the others are the holes. Each ring is to have three vertices or more, none at the position of the
-/// next one. One sweep decides both: where its line comes to a ring, the edges below say which rings are around it. A
-/// polygon of one ring has no holes, so nothing is noted of it; if it has at most 16 edges, all pairs are looked at, and
-/// it is swept over only where more than three pairs for each edge need a test. So of n vertices it makes at most 3 * n
-/// tests of two edges, n * (2 * bits(n) + 10) comparisons of an edge with a vertex or with another edge, and
-/// n * 20 * bits(n) visits of the status's nodes, as `count` has it, also where rings are many. It makes a test at least
-/// where it finds a meeting, and else n comparisons. The only error is that memory was refused.
+/// The first fault of the polygon of these rings: a meeting, as `find_meeting` answers, or else
+/// what `check_nesting` answers, or None where there is neither (Mapbox Vector Tile Specification
+/// 2.1, section 4.3.4.4). The first ring is the exterior, the others are the holes. Each ring is to
+/// have three vertices or more, none at the position of the next one. One sweep decides both: where
+/// its line comes to a ring, the edges below say which rings are around it. A polygon of one ring
+/// has no holes, so nothing is noted of it; if it has at most 16 edges, all pairs are checked,
+/// and it is swept over only where more than three pairs for each edge need a test. So of n
+/// vertices it makes at most 3 * n tests of two edges, n * (2 * bits(n) + 10) comparisons of an
+/// edge with a vertex or with another edge, and n * 20 * bits(n) visits of the status's nodes, as
+/// `count` has it, also where rings are many. Of t turn vertices, as `find_meeting` has them, it
+/// makes at most 9 * n + t * 2 * bits(n) comparisons and t * 12 * bits(n) visits. It makes a test
+/// at least where it finds a meeting, and else n comparisons. The only error is that memory was
+/// refused.
 pub fn check_polygon(
     alloc: Global,
     rings: &[Vec<Point>],
@@ -45,8 +51,14 @@ pub fn check_polygon(
 ) -> Result<Option<PolygonFault>, AllocError>
     requires { AreProperRings (rings_of rings.now) }
     ensures answer { IfOk result (IsPolygonAnswer (rings_of rings.now)) }
-    ensures counted { let vertices = vertex_count (rings_of rings.now) in AddsWork (3 * vertices) (vertices * (2 * bits vertices + 10)) (vertices * (20 * bits vertices)) count.old count.new }
-    ensures least { IfOk result (λ found. IsCounted (vertex_count (rings_of rings.now)) count.old count.new (meeting_in found)) }
+    ensures counted { let n = vertex_count (rings_of rings.now) in
+        AddsWork (3 * n) (n * (2 * bits n + 10)) (n * (20 * bits n)) count.old count.new }
+    ensures turns { let n = vertex_count (rings_of rings.now) in
+        let turns = turn_count (rings_of rings.now) in
+        AddsWork (3 * n) (9 * n + turns * (2 * bits n)) (turns * (12 * bits n)) count.old
+        count.new }
+    ensures least { IfOk result (λ found.
+        IsCounted (vertex_count (rings_of rings.now)) count.old count.new (meeting_in found)) }
 {
     if rings.len() == 1 {
         return Ok(fault_of_meeting(meeting_in_ring(alloc, rings, count)?));
@@ -54,8 +66,8 @@ pub fn check_polygon(
     check_with_holes(alloc, rings, count)
 }
 
-/// The meeting of two edges of rings, as `find_meeting` answers. Of few edges all pairs are looked at, with no sweep
-/// unless too many of them need a test.
+/// The meeting of two edges of rings, as `find_meeting` answers. Of few edges all pairs are looked
+/// at, with no sweep unless too many of them need a test.
 fn meeting_in_ring(
     alloc: Global,
     rings: &[Vec<Point>],
@@ -64,15 +76,19 @@ fn meeting_in_ring(
     requires { AreProperRings (rings_of rings.now) }
     ensures none { IfOk result (λ found. IfNone found (NoMeeting (rings_of rings.now))) }
     ensures some { IfOk result (λ found. IfSome found (IsMeetingOf (rings_of rings.now))) }
-    ensures counted { let vertices = vertex_count (rings_of rings.now) in AddsWork (3 * vertices) (vertices * (2 * bits vertices + 10)) (vertices * (20 * bits vertices)) count.old count.new }
-    ensures least { IfOk result (IsCounted (vertex_count (rings_of rings.now)) count.old count.new) }
+    ensures counted { let n = vertex_count (rings_of rings.now) in
+        let turns = turn_count (rings_of rings.now) in
+        AddsWork (3 * n) (9 * n + turns * (2 * bits n)) (turns * (12 * bits n)) count.old
+        count.new }
+    ensures least { IfOk result (IsCounted (vertex_count (rings_of rings.now)) count.old
+        count.new) }
 {
-    let corners = Corners::of_rings(alloc, rings)?;
+    let vertices = SweepVertices::of_rings(alloc, rings)?;
     let mut pairs = Pairs::new();
-    if find_pairs(&corners, &mut pairs, count) {
-        return Ok(named_meeting(rings, meeting_among(&corners, &pairs, count)));
+    if find_pairs(&vertices, &mut pairs, count) {
+        return Ok(named_meeting(rings, meeting_among(&vertices, &pairs, count)));
     }
-    meeting_by_sweep(alloc, rings, &corners, &mut TreeStatus::new(alloc), count)
+    meeting_by_sweep(alloc, rings, &vertices, &mut TreeStatus::new(alloc), count)
 }
 
 /// What `check_polygon` answers, by notes of the rings.
@@ -83,8 +99,12 @@ fn check_with_holes(
 ) -> Result<Option<PolygonFault>, AllocError>
     requires { AreProperRings (rings_of rings.now) }
     ensures answer { IfOk result (IsPolygonAnswer (rings_of rings.now)) }
-    ensures counted { let vertices = vertex_count (rings_of rings.now) in AddsWork (3 * vertices) (vertices * (2 * bits vertices + 3)) (vertices * (20 * bits vertices)) count.old count.new }
-    ensures least { IfOk result (λ found. IsCounted (vertex_count (rings_of rings.now)) count.old count.new (meeting_in found)) }
+    ensures counted { let n = vertex_count (rings_of rings.now) in
+        let turns = turn_count (rings_of rings.now) in
+        AddsWork (3 * n) (2 * n + turns * (2 * bits n)) (turns * (12 * bits n)) count.old
+        count.new }
+    ensures least { IfOk result (λ found.
+        IsCounted (vertex_count (rings_of rings.now)) count.old count.new (meeting_in found)) }
 {
     Ok(match sweep_rings(alloc, rings, count)? {
         Swept::Meets(meeting) => Some(PolygonFault::Meeting(meeting)),

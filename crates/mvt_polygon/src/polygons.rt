@@ -1,7 +1,7 @@
 //! Which rings of a feature make up which polygon.
 ghost use Rattle.std.specs.Prelude.{◌≡◌, ◌<◌, ◌≤◌, ◌⊎◌, ◌↔◌, suc, length, pos, ◌<ℤ◌, IfOk, IsTrue};
-ghost use Rattle.mvt_plane.specs.Polygon.{IsExterior, NoExterior};
-ghost use Rattle.mvt_plane.specs.Ring.{doubled_area, ArePolygonRings};
+ghost use Rattle.mvt_plane.specs.Geometry.Polygon.{IsExterior, NoExterior};
+ghost use Rattle.mvt_plane.specs.Geometry.Ring.{doubled_area, ArePolygonRings};
 ghost use Rattle.mvt_polygon.specs.Polygons.{ArePolygons};
 ghost use Rattle.mvt_polygon.specs.Rings.{rings_of};
 
@@ -11,9 +11,9 @@ mod tests;
 use mvt_plane::{Point, twice_area};
 use std::alloc::{AllocError, Global};
 
-/// The ring behind the last one of the polygon that begins with the ring `exterior`: the next one of
-/// positive area, or the number of rings (Mapbox Vector Tile Specification 2.1, section 4.3.4.4). It takes
-/// no memory.
+/// The ring after the last one of the polygon that begins with the ring `exterior`: the next one of
+/// positive area, or the number of rings (Mapbox Vector Tile Specification 2.1, section 4.3.4.4).
+/// It takes no memory.
 pub fn polygon_end(rings: &[Vec<Point>], exterior: usize) -> usize
     requires { exterior < length rings.now }
     ensures further { exterior < result }
@@ -36,8 +36,9 @@ fn is_exterior(vertices: &[Point]) -> bool
     twice_area(vertices) > 0
 }
 
-/// The polygons of a feature whose rings have no fault of their own (`check_rings`): of each its first ring,
-/// the exterior, and the ring behind its last one. The only error is that memory was refused.
+/// The polygons of a feature whose rings have no fault of their own (`check_rings`): of each its
+/// first ring, the exterior, and the ring after its last one. The only error is that memory was
+/// refused.
 pub fn groups(alloc: Global, rings: &[Vec<Point>]) -> Result<Vec<(usize, usize)>, AllocError>
     requires { ArePolygonRings (rings_of rings.now) }
     ensures { IfOk result (λ polygons. ArePolygons (rings_of rings.now) polygons.items) }

@@ -1,7 +1,9 @@
 //! Faults that rings have of their own.
 ghost use Rattle.std.specs.Prelude.{ℕ, ◌<◌, ◌↔◌, length, IfNone, IfSome, IsTrue};
-ghost use Rattle.mvt_plane.specs.Ring.{ArePolygonRings, BreaksRings};
-ghost use Rattle.mvt_polygon.specs.Rings.{rings_of, IsClosed, IsLeastCode, IsFirstRingFault};
+ghost use Rattle.mvt_plane.specs.Calls.Rings.{IsClosed};
+ghost use Rattle.mvt_plane.specs.Geometry.Ring.{ArePolygonRings, BreaksRings};
+ghost use Rattle.mvt_polygon.specs.Rings.{rings_of, IsFirstRingFault};
+ghost use Rattle.mvt_polygon.specs.Calls.Rings.{IsLeastCode};
 
 #[cfg(test)]
 pub(crate) mod tests;
@@ -18,9 +20,10 @@ pub struct RingFault {
     pub ring: usize,
 }
 
-/// The first ring of a feature that has a fault of its own, and of its faults the one of least code; None
-/// where the rings are those of polygons: no ring's last position is its first one, each has an area, and the
-/// first one is an exterior (Mapbox Vector Tile Specification 2.1, section 4.3.4.4). It takes no memory.
+/// The first ring of a feature that has a fault of its own, and of its faults the one of least
+/// code; None where the rings are those of polygons: no ring's last position is its first one, each
+/// has an area, and the first one is an exterior (Mapbox Vector Tile Specification 2.1, section
+/// 4.3.4.4). It takes no memory.
 pub fn check_rings(rings: &[Vec<Point>]) -> Option<RingFault>
     ensures none { IfNone result (ArePolygonRings (rings_of rings.now)) }
     ensures least { IfSome result (IsFirstRingFault (rings_of rings.now)) }

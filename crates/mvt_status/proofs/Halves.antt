@@ -34,10 +34,10 @@ whole_part answers edges to whole = record {
   before = λ point split. omega (arith, split.within);
 }
 
--- where the test is true, the split point is behind
-pub split_behind : (answers : ℕ → Bool → Type 0) (edges : List ℕ) (from to middle : ℕ) → SplitsWithin answers edges from to → middle < to
+-- where the test is true, the split point is later
+pub split_after : (answers : ℕ → Bool → Type 0) (edges : List ℕ) (from to middle : ℕ) → SplitsWithin answers edges from to → middle < to
     → (edge : ℕ) (answer : Bool) → edge ≡ slice_index edges middle → answers edge answer → answer ≡ true → SplitsWithin answers edges (middle + 1) to
-split_behind answers edges from to middle part below edge answer is answered holds = record {
+split_after answers edges from to middle part below edge answer is answered holds = record {
   within = part.within;
   after = λ point split. elim (cases_lt middle point) [
     | inl further ↦ omega arith

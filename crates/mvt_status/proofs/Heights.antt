@@ -1,10 +1,10 @@
 -- How high a side of a node can be, for as many edges as it has.
-use Rattle.std.proofs.Common.{◌≡◌, ℕ, zero, suc, max, ◌+◌, ◌*◌, ◌^◌, ◌<◌, ◌≤◌, inl, inr, Box, Global, List, length, append-nil, [], ◌∷◌, ◌++◌, ◌∙◌, ◌-◌, sym, Option, Some, None, IfSome, refl, ap, subst, arith}
+use Rattle.std.proofs.Common.{◌≡◌, ℕ, zero, suc, max, ◌+◌, ◌*◌, ◌^◌, ◌<◌, ◌≤◌, inl, inr, Box, Global, List, length, ◌∙◌, ◌-◌, Option, Some, None, IfSome, refl, ap, subst, arith}
 use Rattle.std.proofs.lemmas.Bool.{cases_lt}
 use Rattle.std.proofs.Math.Nat.{pow-suc}
 use Rattle.mvt_plane.specs.Counted.{Counted}
 use Rattle.mvt_status.specs.Counts.{AddsAtMost, bits}
-use Rattle.mvt_status.specs.Tree.{DifferByAtMost, IsNode, edges_of, fewest, height_of}
+use Rattle.mvt_status.specs.Calls.Tree.{DifferByAtMost, IsNode, edges_of, fewest, height_of}
 use Rattle.mvt_status.proofs.BinaryDigits.{least_digits, lesser_exponent, no_more_digits, within_digits}
 
 at_least_one : (height : ℕ) → 1 ≤ fewest height
@@ -167,11 +167,6 @@ one_more_level so_far visit probe = record {
   visits_added = omega (arith, so_far.visits_added, visit.visits_added, probe.visits_added);
 }
 
--- a side of no level has no edge
-no_level : (side : Option (Box (List ℕ × ℕ) Global)) → IfSome side (λ _. 0 < height_of side) → height_of side ≡ 0 → length (edges_of side) ≡ 0
-no_level None some none = refl
-no_level (Some node) some none = absurd (omega (arith, some))
-
 -- a side of no level is none
 pub level_of_none : (side : Option (Box (List ℕ × ℕ) Global)) → IfSome side (λ _. 0 < height_of side) → height_of side ≡ 0 → side ≡ None
 level_of_none None some none = refl
@@ -186,18 +181,6 @@ edge_of_levels height (suc edges) some filled = omega arith
 pub no_side : (side : Option (Box (List ℕ × ℕ) Global)) → IfSome side (λ _. 0 < height_of side) → fewest (height_of side) ≤ suc (length (edges_of side)) → length (edges_of side) ≡ 0 → side ≡ None
 no_side None some filled empty = refl
 no_side (Some node) some filled empty = absurd (omega (arith, some, at_most_twice node.value.1 0 (omega (arith, filled, empty))))
-
--- a node of one level has its own edges alone
-pub own_alone : (left right : Option (Box (List ℕ × ℕ) Global)) (own : List ℕ) (size height : ℕ) (edges : List ℕ) → edges_of left ++ (own ++ edges_of right) ≡ edges → IsNode left own right size height
-    → height ≡ 1 → IfSome left (λ _. 0 < height_of left) → IfSome right (λ _. 0 < height_of right) → own ≡ edges
-own_alone left right own size height edges same node low left_some right_some =
-    let left_none = no_level left left_some (omega (arith, node.measured)) in
-    let right_none = no_level right right_some (omega (arith, node.measured)) in
-    sym (append-nil own) ∙ ap (λ (rest : List ℕ). own ++ rest) (sym (no_edge (edges_of right) right_none)) ∙ ap (λ (front : List ℕ). front ++ (own ++ edges_of right)) (sym (no_edge (edges_of left) left_none)) ∙ same
-  where
-    no_edge : (list : List ℕ) → length list ≡ 0 → list ≡ []
-    no_edge [] none = refl
-    no_edge (first ∷ rest) none = absurd (omega (arith, none))
 
 -- a node with nothing on either side
 pub node_alone : (left right : Option (Box (List ℕ × ℕ) Global)) (own : List ℕ) → left ≡ None → right ≡ None → 0 < length own → IsNode left own right (length own) 1

@@ -2,11 +2,9 @@
 use Rattle.std.proofs.Common.{◌≡◌, ℕ, suc, max, ◌+◌, ◌-◌, ◌<◌, ◌≤◌, inl, inr, Box, Global, Option, List, ◌++◌, length, length-append, take, drop, ap, sym, subst, ◌∙◌, append_assoc, refl, arith}
 use Rattle.std.proofs.lemmas.List.{take-append-drop, take-append-le, drop-append-le}
 use Rattle.std.proofs.Math.Seq.{take-append-add, drop-append-add}
-use Rattle.std.proofs.lemmas.Bool.{cases_lt}
 use Rattle.mvt_plane.specs.Counted.{Counted}
-use Rattle.mvt_status.specs.Counts.{AddsAtMost}
-use Rattle.mvt_status.specs.Tree.{DifferByAtMost, IsHeightOfBoth, IsNode, edges_of, height_of}
-use Rattle.mvt_status.proofs.Heights.{more_levels}
+use Rattle.mvt_status.specs.Calls.Tree.{DifferByAtMost, IsHeightOfBoth, IsNode, edges_of, height_of}
+use Rattle.mvt_status.proofs.Levels.{IsHigher, height_of_both}
 
 -- put into the first of two parts
 pub put_in_front : (front rest part all new : List ℕ) (at : ℕ) → front ++ rest ≡ all → at ≤ length front → part ≡ take at front ++ (new ++ drop at front)
@@ -14,12 +12,12 @@ pub put_in_front : (front rest part all new : List ℕ) (at : ℕ) → front ++ 
 put_in_front front rest part all new at same within is =
     let start : take at all ≡ take at front = ap (take at) (sym same) ∙ take-append-le at front rest within in
     let end : drop at all ≡ drop at front ++ rest = ap (drop at) (sym same) ∙ drop-append-le at front rest within in
-    rw (is, start, end) (append_assoc (take at front) (new ++ drop at front) rest ∙ ap (λ (behind : List ℕ). take at front ++ behind) (append_assoc new (drop at front) rest))
+    rw (is, start, end) (append_assoc (take at front) (new ++ drop at front) rest ∙ ap (λ (following : List ℕ). take at front ++ following) (append_assoc new (drop at front) rest))
 
 -- put into the second of two parts
-pub put_in_behind : (front rest part all new : List ℕ) (at before : ℕ) → front ++ rest ≡ all → before ≡ length front → before ≤ at
+pub put_in_after : (front rest part all new : List ℕ) (at before : ℕ) → front ++ rest ≡ all → before ≡ length front → before ≤ at
     → part ≡ take (at - before) rest ++ (new ++ drop (at - before) rest) → front ++ part ≡ take at all ++ (new ++ drop at all)
-put_in_behind front rest part all new at before same many behind is =
+put_in_after front rest part all new at before same many following is =
     let place : length front + (at - before) ≡ at = omega arith in
     let start : take at all ≡ front ++ take (at - before) rest
     = subst (λ (i : ℕ). take i all ≡ front ++ take (at - before) rest) place (ap (take (length front + (at - before))) (sym same) ∙ take-append-add front rest (at - before)) in
@@ -30,23 +28,23 @@ put_in_behind front rest part all new at before same many behind is =
 -- put into the second of three parts
 pub put_in_middle : (left middle right part all new : List ℕ) (at before : ℕ) → left ++ (middle ++ right) ≡ all → before ≡ length left → before ≤ at → at ≤ before + length middle
     → part ≡ take (at - before) middle ++ (new ++ drop (at - before) middle) → left ++ (part ++ right) ≡ take at all ++ (new ++ drop at all)
-put_in_middle left middle right part all new at before same many behind within is =
-    put_in_behind left (middle ++ right) (part ++ right) all new at before same many behind
+put_in_middle left middle right part all new at before same many following within is =
+    put_in_after left (middle ++ right) (part ++ right) all new at before same many following
     (put_in_front middle right part (middle ++ right) new (at - before) refl (omega arith) is)
 
 -- put into the third of three parts
-pub put_in_last : (left middle right part all new : List ℕ) (at behind : ℕ) → left ++ (middle ++ right) ≡ all → behind ≡ length left + length middle → behind ≤ at
-    → part ≡ take (at - behind) right ++ (new ++ drop (at - behind) right) → left ++ (middle ++ part) ≡ take at all ++ (new ++ drop at all)
-put_in_last left middle right part all new at behind same many within is =
+pub put_in_last : (left middle right part all new : List ℕ) (at following : ℕ) → left ++ (middle ++ right) ≡ all → following ≡ length left + length middle → following ≤ at
+    → part ≡ take (at - following) right ++ (new ++ drop (at - following) right) → left ++ (middle ++ part) ≡ take at all ++ (new ++ drop at all)
+put_in_last left middle right part all new at following same many within is =
     sym (append_assoc left middle part)
-    ∙ put_in_behind (left ++ middle) right part all new at behind (append_assoc left middle right ∙ same) (omega (arith, length-append left middle)) within is
+    ∙ put_in_after (left ++ middle) right part all new at following (append_assoc left middle right ∙ same) (omega (arith, length-append left middle)) within is
 
 -- put into the second of three parts, of which the upper edges go over to the third
 pub put_over : (left middle right lower upper part all new : List ℕ) (at before : ℕ) → left ++ (middle ++ right) ≡ all → before ≡ length left → before ≤ at → at ≤ before + length middle
     → lower ++ upper ≡ take (at - before) middle ++ (new ++ drop (at - before) middle) → part ≡ upper ++ right → left ++ (lower ++ part) ≡ take at all ++ (new ++ drop at all)
-put_over left middle right lower upper part all new at before same many behind within is over =
+put_over left middle right lower upper part all new at before same many following within is over =
     ap (λ (rest : List ℕ). left ++ (lower ++ rest)) over ∙ ap (λ (rest : List ℕ). left ++ rest) (sym (append_assoc lower upper right))
-    ∙ put_in_middle left middle right (lower ++ upper) all new at before same many behind within is
+    ∙ put_in_middle left middle right (lower ++ upper) all new at before same many following within is
 
 -- how many there are then
 pub length_put_in : (list part new : List ℕ) (at : ℕ) → part ≡ take at list ++ (new ++ drop at list) → length part ≡ length list + length new
@@ -95,14 +93,14 @@ put_in_left left own right part size all new at before node many within is =
 pub put_in_upper : (left own right lower upper part : List ℕ) (size : ℕ) (all new : List ℕ) (at before : ℕ) → HasBetween left own right size all → before ≡ length left → before ≤ at
     → at ≤ before + length own → 0 < length lower → lower ++ upper ≡ take (at - before) own ++ (new ++ drop (at - before) own) → part ≡ upper ++ right
     → HasPutIn left lower part (size + length new) all new at
-put_in_upper left own right lower upper part size all new at before node many behind within some is over =
-    has_put_in left lower part (size + length new) all new at (put_over left own right lower upper part all new at before node.edges many behind within is over) some (omega (arith, node.counted))
+put_in_upper left own right lower upper part size all new at before node many following within some is over =
+    has_put_in left lower part (size + length new) all new at (put_over left own right lower upper part all new at before node.edges many following within is over) some (omega (arith, node.counted))
 
 -- and where they were put into the right side
-pub put_in_right : (left own right part : List ℕ) (size : ℕ) (all new : List ℕ) (at behind : ℕ) → HasBetween left own right size all → behind ≡ length left + length own → behind ≤ at
-    → part ≡ take (at - behind) right ++ (new ++ drop (at - behind) right) → HasPutIn left own part (size + length new) all new at
-put_in_right left own right part size all new at behind node many within is =
-    has_put_in left own part (size + length new) all new at (put_in_last left own right part all new at behind node.edges many within is) node.some (omega (arith, node.counted))
+pub put_in_right : (left own right part : List ℕ) (size : ℕ) (all new : List ℕ) (at following : ℕ) → HasBetween left own right size all → following ≡ length left + length own → following ≤ at
+    → part ≡ take (at - following) right ++ (new ++ drop (at - following) right) → HasPutIn left own part (size + length new) all new at
+put_in_right left own right part size all new at following node many within is =
+    has_put_in left own part (size + length new) all new at (put_in_last left own right part all new at following node.edges many within is) node.some (omega (arith, node.counted))
 
 -- a node with more edges, whose sides are as high as before
 pub node_with_more : (left right new_left new_right : Option (Box (List ℕ × ℕ) Global)) (own new_own : List ℕ) (size height new_size new_height more : ℕ) → IsNode left own right size height
@@ -119,51 +117,7 @@ node_with_more left right new_left new_right own new_own size height new_size ne
   filled = rw as_high (omega (arith, node.filled));
 }
 
--- the levels on both sides of a node where edges were put in on one of them, with what was counted there
-pub record IsHigher (left right new_left new_right spare : ℕ) (before after : Counted) : Type 0 where
-  pub left_not_lower : left ≤ new_left
-  pub right_not_lower : right ≤ new_right
-  pub at_most_one_higher : new_left + new_right ≤ left + right + 1
-  pub spared : spare ≤ 1
-  pub counted : AddsAtMost 0 (max left right) before after
-
--- on the left
-pub higher_left : (left right new_left spare : ℕ) (before after : Counted) → left ≤ new_left → new_left ≤ left + 1 → spare ≤ 1 → AddsAtMost 0 left before after
-    → IsHigher left right new_left right spare before after
-higher_left left right new_left spare before after not_lower near low added = record {
-  left_not_lower = not_lower;
-  right_not_lower = omega arith;
-  at_most_one_higher = omega (arith, near);
-  spared = low;
-  counted = more_levels left (max left right) before after added (omega arith);
-}
-
--- on the right
-pub higher_right : (left right new_right spare : ℕ) (before after : Counted) → right ≤ new_right → new_right ≤ right + 1 → spare ≤ 1 → AddsAtMost 0 right before after
-    → IsHigher left right left new_right spare before after
-higher_right left right new_right spare before after not_lower near low added = record {
-  left_not_lower = omega arith;
-  right_not_lower = not_lower;
-  at_most_one_higher = omega (arith, near);
-  spared = low;
-  counted = more_levels right (max left right) before after added (omega arith);
-}
-
--- a node that is put together of such sides is no lower
-pub higher_both : {left right new_left new_right spare out_left out_right height : ℕ} {before after : Counted} → DifferByAtMost 1 left right → IsHigher left right new_left new_right spare before after
+-- a node that is put together of its sides is no lower, where one of them is higher
+pub higher_both : {left right new_left new_right most spare out_left out_right height : ℕ} {before after : Counted} → DifferByAtMost 1 left right → IsHigher left right new_left new_right most spare before after
     → out_left ≡ new_left → out_right ≡ new_right → IsHeightOfBoth out_left out_right height → suc (max left right) ≤ height
-higher_both {left = left} {right = right} {new_left = new_left} {new_right = new_right} near up left_is right_is both = elim (cases_lt (max left right) (max new_left new_right)) [
-  | inl higher ↦ omega (arith, higher, left_is, right_is, both.not_lower)
-  | inr as_high ↦
-      omega (
-        arith,
-        left_is,
-        right_is,
-        up.left_not_lower,
-        up.right_not_lower,
-        both.exact (record {
-          first = omega (arith, as_high, left_is, right_is, near.first, near.second, up.left_not_lower, up.right_not_lower, up.at_most_one_higher);
-          second = omega (arith, as_high, left_is, right_is, near.first, near.second, up.left_not_lower, up.right_not_lower, up.at_most_one_higher);
-        }),
-      )
-]
+higher_both near up left_is right_is both = elim (height_of_both both) [ inl exact ↦ omega (arith, exact, left_is, right_is, up.left, up.right) | inr far ↦ omega (arith, far, left_is, right_is, near.first, near.second, up.left, up.right, up.at_most_one, both.not_lower) ]

@@ -2,6 +2,7 @@ pub mod BinaryDigits
 pub mod Halves
 pub mod Heights
 pub mod Insertions
+pub mod Levels
 pub mod ListEdits
 pub mod NodeSplits
 pub mod Removals

@@ -4,6 +4,7 @@ use Rattle.std.proofs.lemmas.Bool.{cases_lt}
 use Rattle.std.proofs.lemmas.Option.{slice_get-get_or}
 use Rattle.std.proofs.lemmas.List.{get_or_append_left, get_or-append-add}
 use Rattle.mvt_status.specs.Split.{AreBeside, IsSplit, before}
+use Rattle.mvt_status.proofs.Removals.{all_counted}
 
 -- Places in a list that is put together of others
 
@@ -28,14 +29,11 @@ read_there : (front own back edges : List ℕ) (i : ℕ) → edges ≡ front ++ 
 read_there front own back edges i whole within =
     ap (λ (all : List ℕ). slice_get all (length front + i)) whole ∙ past front (own ++ back) i ∙ in_front own back i within ∙ slice_get-get_or own i 0 within
 
--- the first edge behind the list in the middle
-read_behind : (front own back edges : List ℕ) → edges ≡ front ++ (own ++ back) → slice_get edges (length front + length own) ≡ slice_get back 0
-read_behind front own back edges whole =
+-- the first edge after the list in the middle
+read_after : (front own back edges : List ℕ) → edges ≡ front ++ (own ++ back) → slice_get edges (length front + length own) ≡ slice_get back 0
+read_after front own back edges whole =
     let at : length own ≡ length own + 0 = omega arith in
     ap (λ (all : List ℕ). slice_get all (length front + length own)) whole ∙ past front (own ++ back) (length own) ∙ ap (slice_get (own ++ back)) at ∙ past own back 0
-
-counted : (front own back edges : List ℕ) → edges ≡ front ++ (own ++ back) → length edges ≡ length front + length own + length back
-counted front own back edges whole = omega (arith, ap length whole, length-append front (own ++ back), length-append own back)
 
 -- The split of a list whose first edge is in front of it
 
@@ -48,7 +46,7 @@ whole_rest first rest =
     let many : length (first ∷ rest) - 1 ≡ length rest = omega arith in
     ap (λ (number : ℕ). take number rest) many ∙ take_all rest
 
--- the split of what is behind the first edge
+-- the split of what is after the first edge
 pub without_first : (answers : ℕ → Bool → Type 0) (edges : List ℕ) → (point : ℕ) × (0 < point) × IsSplit answers edges point
     → (point : ℕ) × IsSplit answers (take (length edges - 1) (drop 1 edges)) point
 without_first answers [] (point, some, split) = absurd (omega (arith, split.within, some))
@@ -66,20 +64,20 @@ pub with_first : (answers : ℕ → Bool → Type 0) (edges : List ℕ) (further
     → IsSplit answers (take (length edges - 1) (drop 1 edges)) further → IsSplit answers edges (1 + further)
 with_first answers [] further (point, some, split) part = absurd (omega (arith, split.within, some))
 with_first answers (first ∷ rest) further (point, some, split) part =
-    let behind : IsSplit answers rest further = subst (λ (list : List ℕ). IsSplit answers list further) (whole_rest first rest) part in
+    let following : IsSplit answers rest further = subst (λ (list : List ℕ). IsSplit answers list further) (whole_rest first rest) part in
     record {
-      within = omega (arith, behind.within);
-      front = each behind;
-      rest = each_other behind;
+      within = omega (arith, following.within);
+      front = each following;
+      rest = each_other following;
     }
   where
     each : IsSplit answers rest further → (i : ℕ) → i < 1 + further → (answer : Bool) → answers (slice_index (first ∷ rest) i) answer → answer ≡ true
-    each behind zero below answer is = split.front 0 some answer is
-    each behind (suc i) below answer is = behind.front i (omega arith) answer is
+    each following zero below answer is = split.front 0 some answer is
+    each following (suc i) below answer is = following.front i (omega arith) answer is
 
     each_other : IsSplit answers rest further → (i : ℕ) → 1 + further ≤ i → i < length (first ∷ rest) → (answer : Bool) → answers (slice_index (first ∷ rest) i) answer → answer ≡ false
-    each_other behind zero from below answer is = absurd (omega (arith, from))
-    each_other behind (suc i) from below answer is = behind.rest i (omega arith) (omega arith) answer is
+    each_other following zero from below answer is = absurd (omega (arith, from))
+    each_other following (suc i) from below answer is = following.rest i (omega arith) (omega arith) answer is
 
 -- A search that goes down
 
@@ -89,21 +87,21 @@ edges_in None = []
 edges_in (Some own) = own.now
 
 -- the edges of the last node whose first edge is in front of the split, the part of the tree where the split is looked
--- for, how many edges are in front of that part, and the first edge behind it
-pub record IsSearched (answers : ℕ → Bool → Type 0) (edges own part : List ℕ) (passed : ℕ) (behind : Option ℕ) : Type 0 where
+-- for, how many edges are in front of that part, and the first edge after it
+pub record IsSearched (answers : ℕ → Bool → Type 0) (edges own part : List ℕ) (passed : ℕ) (following : Option ℕ) : Type 0 where
   pub front : List ℕ
   pub back : List ℕ
   pub whole : edges ≡ front ++ (own ++ (part ++ back))
   pub none : length own ≡ 0 → length front ≡ 0
   pub passed_is : passed ≡ length front + length own
-  pub behind_is : behind ≡ slice_get back 0
+  pub following_is : following ≡ slice_get back 0
   pub after : (point : ℕ) → IsSplit answers edges point → 0 < length own → length front < point
   pub no_further : (point : ℕ) → IsSplit answers edges point → point ≤ passed + length part
 
 -- where there is a last node
-pub searched_in : (answers : ℕ → Bool → Type 0) (edges : List ℕ) (last : Option (Bor (List ℕ))) (own : Bor (List ℕ)) (part : List ℕ) (passed : ℕ) (behind : Option ℕ) → last ≡ Some own
-    → IsSearched answers edges (edges_in last) part passed behind → IsSearched answers edges own.now part passed behind
-searched_in answers edges last own part passed behind is found = subst (λ (list : List ℕ). IsSearched answers edges list part passed behind) (ap edges_in is) found
+pub searched_in : (answers : ℕ → Bool → Type 0) (edges : List ℕ) (last : Option (Bor (List ℕ))) (own : Bor (List ℕ)) (part : List ℕ) (passed : ℕ) (following : Option ℕ) → last ≡ Some own
+    → IsSearched answers edges (edges_in last) part passed following → IsSearched answers edges own.now part passed following
+searched_in answers edges last own part passed following is found = subst (λ (list : List ℕ). IsSearched answers edges list part passed following) (ap edges_in is) found
 
 -- what is true of it
 pub of_last : (P : Bor (List ℕ) → Type 0) (last : Option (Bor (List ℕ))) (own : Bor (List ℕ)) → last ≡ Some own → IfSome last P → P own
@@ -117,7 +115,7 @@ searched_all answers edges = record {
   whole = sym (append_none edges);
   none = λ nothing. refl;
   passed_is = refl;
-  behind_is = refl;
+  following_is = refl;
   after = λ point split some. absurd (omega (arith, some));
   no_further = λ point split. omega (arith, split.within);
 }
@@ -127,10 +125,10 @@ searched_all answers edges = record {
     append_none (first ∷ rest) = ap (λ (back : List ℕ). first ∷ back) (append_none rest)
 
 -- the part is that of a node, whose first edge is in front of the split
-pub searched_right : (answers : ℕ → Bool → Type 0) (edges own part left middle right : List ℕ) (passed more first : ℕ) (behind : Option ℕ) (answer : Bool)
-    → IsSearched answers edges own part passed behind → left ++ (middle ++ right) ≡ part → 0 < length middle → first ≡ slice_index middle 0
-    → answers first answer → answer ≡ true → more ≡ passed + (length left + length middle) → IsSearched answers edges middle right more behind
-searched_right answers edges own part left middle right passed more first behind answer so_far same some is answered holds sum =
+pub searched_right : (answers : ℕ → Bool → Type 0) (edges own part left middle right : List ℕ) (passed more first : ℕ) (following : Option ℕ) (answer : Bool)
+    → IsSearched answers edges own part passed following → left ++ (middle ++ right) ≡ part → 0 < length middle → first ≡ slice_index middle 0
+    → answers first answer → answer ≡ true → more ≡ passed + (length left + length middle) → IsSearched answers edges middle right more following
+searched_right answers edges own part left middle right passed more first following answer so_far same some is answered holds sum =
     let front : List ℕ = so_far.front ++ (own ++ left) in
     let many : length front ≡ passed + length left = omega (arith, length-append so_far.front (own ++ left), length-append own left, so_far.passed_is) in
     let whole : edges ≡ front ++ (middle ++ (right ++ so_far.back)) = so_far.whole ∙ rw (sym same) (grind (arith, append_assoc)) in
@@ -141,20 +139,20 @@ searched_right answers edges own part left middle right passed more first behind
       whole = whole;
       none = λ nothing. absurd (omega (arith, some, nothing));
       passed_is = omega (arith, sum, many);
-      behind_is = so_far.behind_is;
+      following_is = so_far.following_is;
       after = λ point split more. elim (cases_lt (length front) point) [
         | inl further ↦ further
         | inr no_further ↦ absurd (true≢false (sym holds
-            ∙ split.rest (length front + 0) (omega arith) (omega (arith, counted front middle (right ++ so_far.back) edges whole, some)) answer (subst (λ (it : ℕ). answers it answer) here answered)))
+            ∙ split.rest (length front + 0) (omega arith) (omega (arith, all_counted front middle (right ++ so_far.back) edges (sym whole), some)) answer (subst (λ (it : ℕ). answers it answer) here answered)))
       ];
       no_further = λ point split. omega (arith, so_far.no_further point split, sum, ap length same, length-append left (middle ++ right), length-append middle right);
     }
 
--- or whose first edge is behind it
-pub searched_left : (answers : ℕ → Bool → Type 0) (edges own part left middle right : List ℕ) (passed first : ℕ) (behind : Option ℕ) (answer : Bool)
-    → IsSearched answers edges own part passed behind → left ++ (middle ++ right) ≡ part → 0 < length middle → first ≡ slice_index middle 0
+-- or whose first edge is after it
+pub searched_left : (answers : ℕ → Bool → Type 0) (edges own part left middle right : List ℕ) (passed first : ℕ) (following : Option ℕ) (answer : Bool)
+    → IsSearched answers edges own part passed following → left ++ (middle ++ right) ≡ part → 0 < length middle → first ≡ slice_index middle 0
     → answers first answer → answer ≡ false → IsSearched answers edges own left passed (Some first)
-searched_left answers edges own part left middle right passed first behind answer so_far same some is answered fails =
+searched_left answers edges own part left middle right passed first following answer so_far same some is answered fails =
     let front : List ℕ = so_far.front ++ (own ++ left) in
     let many : length front ≡ passed + length left = omega (arith, length-append so_far.front (own ++ left), length-append own left, so_far.passed_is) in
     let whole : edges ≡ front ++ (middle ++ (right ++ so_far.back)) = so_far.whole ∙ rw (sym same) (grind (arith, append_assoc)) in
@@ -165,7 +163,7 @@ searched_left answers edges own part left middle right passed first behind answe
       whole = whole ∙ append_assoc so_far.front (own ++ left) _ ∙ ap (λ (rest : List ℕ). so_far.front ++ rest) (append_assoc own left _);
       none = so_far.none;
       passed_is = so_far.passed_is;
-      behind_is = ap Some is ∙ sym (in_front middle (right ++ so_far.back) 0 some ∙ slice_get-get_or middle 0 0 some);
+      following_is = ap Some is ∙ sym (in_front middle (right ++ so_far.back) 0 some ∙ slice_get-get_or middle 0 0 some);
       after = so_far.after;
       no_further = λ point split. elim (cases_lt (length front) point) [
         | inl further ↦ absurd (true≢false (sym (split.front (length front + 0) (omega arith) answer (subst (λ (it : ℕ). answers it answer) here answered)) ∙ fails))
@@ -176,9 +174,9 @@ searched_left answers edges own part left middle right passed first behind answe
 -- What the search has found
 
 -- where the part is empty, the split is among the edges of the last node
-pub split_among : (answers : ℕ → Bool → Type 0) (edges own part : List ℕ) (passed : ℕ) (behind : Option ℕ) → IsSearched answers edges own part passed behind → part ≡ []
+pub split_among : (answers : ℕ → Bool → Type 0) (edges own part : List ℕ) (passed : ℕ) (following : Option ℕ) → IsSearched answers edges own part passed following → part ≡ []
     → 0 < length own → (point : ℕ) × IsSplit answers edges point → (point : ℕ) × (0 < point) × IsSplit answers own point
-split_among answers edges own part passed behind found empty some (point, split) =
+split_among answers edges own part passed following found empty some (point, split) =
     let further = found.after point split some in
     let within = found.no_further point split in
     let whole : edges ≡ found.front ++ (own ++ found.back) = found.whole ∙ ap (λ (it : List ℕ). found.front ++ (own ++ (it ++ found.back))) empty in (
@@ -188,19 +186,19 @@ split_among answers edges own part passed behind found empty some (point, split)
         within = omega (arith, within, found.passed_is, ap length empty);
         front = λ i below answer is. split.front (length found.front + i) (omega (arith, below)) answer
             (subst (λ (it : ℕ). answers it answer) (there found.front own found.back edges i whole (omega (arith, below, within, found.passed_is, ap length empty))) is);
-        rest = λ i from below answer is. split.rest (length found.front + i) (omega (arith, from)) (omega (arith, below, counted found.front own found.back edges whole)) answer
+        rest = λ i from below answer is. split.rest (length found.front + i) (omega (arith, from)) (omega (arith, below, all_counted found.front own found.back edges (sym whole))) answer
             (subst (λ (it : ℕ). answers it answer) (there found.front own found.back edges i whole below) is);
       },
     )
 
 -- with it there is the split of all
-pub split_of_all : (answers : ℕ → Bool → Type 0) (edges own part : List ℕ) (passed there_point all_point : ℕ) (behind : Option ℕ) → IsSearched answers edges own part passed behind → part ≡ []
+pub split_of_all : (answers : ℕ → Bool → Type 0) (edges own part : List ℕ) (passed there_point all_point : ℕ) (following : Option ℕ) → IsSearched answers edges own part passed following → part ≡ []
     → 0 < length own → (point : ℕ) × IsSplit answers edges point → IsSplit answers own there_point → all_point ≡ passed - (length own - there_point) → IsSplit answers edges all_point
-split_of_all answers edges own part passed there_point all_point behind found empty some (point, split) part_split is =
+split_of_all answers edges own part passed there_point all_point following found empty some (point, split) part_split is =
     let further = found.after point split some in
     let within = found.no_further point split in
     let whole : edges ≡ found.front ++ (own ++ found.back) = found.whole ∙ ap (λ (it : List ℕ). found.front ++ (own ++ (it ++ found.back))) empty in
-    let many = counted found.front own found.back edges whole in
+    let many = all_counted found.front own found.back edges (sym whole) in
     let at : all_point ≡ length found.front + there_point = omega (arith, is, found.passed_is, part_split.within) in
     let moved : (i : ℕ) (answer : Bool) → length found.front ≤ i → i < length found.front + length own → answers (slice_index edges i) answer → answers (slice_index own (i - length found.front)) answer =
     λ i answer from below here. subst (λ (it : ℕ). answers it answer) (ap (slice_index edges) (omega (arith, from)) ∙ sym (there found.front own found.back edges (i - length found.front) whole (omega (arith, from, below)))) here in
@@ -216,62 +214,62 @@ split_of_all answers edges own part passed there_point all_point behind found em
       ];
     }
 
--- the edges in front of it and behind it, both in the node
-pub beside_in_node : (answers : ℕ → Bool → Type 0) (edges own part : List ℕ) (passed there_point all_point in_front_of next : ℕ) (behind : Option ℕ) → IsSearched answers edges own part passed behind → part ≡ []
+-- the edges in front of it and after it, both in the node
+pub beside_in_node : (answers : ℕ → Bool → Type 0) (edges own part : List ℕ) (passed there_point all_point in_front_of next : ℕ) (following : Option ℕ) → IsSearched answers edges own part passed following → part ≡ []
     → 0 < there_point → there_point < length own → all_point ≡ passed - (length own - there_point) → in_front_of ≡ slice_index own (there_point - 1) → next ≡ slice_index own there_point
-    → AreBeside edges (record { point = all_point; front = Some in_front_of; behind = Some next })
-beside_in_node answers edges own part passed there_point all_point in_front_of next behind found empty some within is front_is next_is =
+    → AreBeside edges (record { point = all_point; front = Some in_front_of; following = Some next })
+beside_in_node answers edges own part passed there_point all_point in_front_of next following found empty some within is front_is next_is =
     let whole : edges ≡ found.front ++ (own ++ found.back) = found.whole ∙ ap (λ (it : List ℕ). found.front ++ (own ++ (it ++ found.back))) empty in
     let at : suc (length found.front + (there_point - 1)) ≡ all_point = omega (arith, is, found.passed_is, some, within) in
     let at_next : length found.front + there_point ≡ all_point = omega (arith, is, found.passed_is, within) in
     record {
       front = ap Some front_is ∙ sym (read_there found.front own found.back edges (there_point - 1) whole (omega (arith, within))) ∙ ap (before edges) at;
-      behind = ap Some next_is ∙ sym (read_there found.front own found.back edges there_point whole within) ∙ ap (slice_get edges) at_next;
+      following = ap Some next_is ∙ sym (read_there found.front own found.back edges there_point whole within) ∙ ap (slice_get edges) at_next;
     }
 
--- or the last one of the node and what is behind it
-pub beside_node : (answers : ℕ → Bool → Type 0) (edges own part : List ℕ) (passed there_point all_point in_front_of : ℕ) (behind : Option ℕ) → IsSearched answers edges own part passed behind → part ≡ []
+-- or the last one of the node and what is after it
+pub beside_node : (answers : ℕ → Bool → Type 0) (edges own part : List ℕ) (passed there_point all_point in_front_of : ℕ) (following : Option ℕ) → IsSearched answers edges own part passed following → part ≡ []
     → 0 < there_point → there_point ≡ length own → all_point ≡ passed - (length own - there_point) → in_front_of ≡ slice_index own (there_point - 1)
-    → AreBeside edges (record { point = all_point; front = Some in_front_of; behind = behind })
-beside_node answers edges own part passed there_point all_point in_front_of behind found empty some last is front_is =
+    → AreBeside edges (record { point = all_point; front = Some in_front_of; following = following })
+beside_node answers edges own part passed there_point all_point in_front_of following found empty some last is front_is =
     let whole : edges ≡ found.front ++ (own ++ found.back) = found.whole ∙ ap (λ (it : List ℕ). found.front ++ (own ++ (it ++ found.back))) empty in
     let at : suc (length found.front + (there_point - 1)) ≡ all_point = omega (arith, is, found.passed_is, some, last) in
     let at_next : length found.front + length own ≡ all_point = omega (arith, is, found.passed_is, last) in
     record {
       front = ap Some front_is ∙ sym (read_there found.front own found.back edges (there_point - 1) whole (omega (arith, some, last))) ∙ ap (before edges) at;
-      behind = found.behind_is ∙ sym (read_behind found.front own found.back edges whole) ∙ ap (slice_get edges) at_next;
+      following = found.following_is ∙ sym (read_after found.front own found.back edges whole) ∙ ap (slice_get edges) at_next;
     }
 
 -- where no edge is in front of the split
-pub none_in_front : (answers : ℕ → Bool → Type 0) (edges own part : List ℕ) (passed : ℕ) (behind : Option ℕ) → IsSearched answers edges own part passed behind → part ≡ [] → own ≡ []
+pub none_in_front : (answers : ℕ → Bool → Type 0) (edges own part : List ℕ) (passed : ℕ) (following : Option ℕ) → IsSearched answers edges own part passed following → part ≡ [] → own ≡ []
     → (point : ℕ) × IsSplit answers edges point → IsSplit answers edges 0
-none_in_front answers edges own part passed behind found empty nothing (point, split) =
+none_in_front answers edges own part passed following found empty nothing (point, split) =
     let same : point ≡ 0 = omega (arith, found.no_further point split, found.passed_is, found.none (ap length nothing), ap length nothing, ap length empty) in
     subst (IsSplit answers edges) same split
 
--- there is none, and the first edge is behind it
-pub beside_none : (answers : ℕ → Bool → Type 0) (edges own part : List ℕ) (passed : ℕ) (behind : Option ℕ) → IsSearched answers edges own part passed behind → part ≡ [] → own ≡ []
-    → AreBeside edges (record { point = 0; front = None; behind = behind })
-beside_none answers edges own part passed behind found empty nothing =
+-- there is none, and the first edge is after it
+pub beside_none : (answers : ℕ → Bool → Type 0) (edges own part : List ℕ) (passed : ℕ) (following : Option ℕ) → IsSearched answers edges own part passed following → part ≡ [] → own ≡ []
+    → AreBeside edges (record { point = 0; front = None; following = following })
+beside_none answers edges own part passed following found empty nothing =
     let whole : edges ≡ found.front ++ (own ++ found.back) = found.whole ∙ ap (λ (it : List ℕ). found.front ++ (own ++ (it ++ found.back))) empty in
     let at : length found.front + length own ≡ 0 = omega (arith, found.none (ap length nothing), ap length nothing) in
     record {
       front = refl;
-      behind = found.behind_is ∙ sym (read_behind found.front own found.back edges whole) ∙ ap (slice_get edges) at;
+      following = found.following_is ∙ sym (read_after found.front own found.back edges whole) ∙ ap (slice_get edges) at;
     }
 
 -- what is true of all edges is true of those of the last node
-pub of_own : (P : ℕ → Type 0) (answers : ℕ → Bool → Type 0) (edges own part : List ℕ) (passed : ℕ) (behind : Option ℕ) → IsSearched answers edges own part passed behind → All P edges → All P own
-of_own P answers edges own part passed behind found all = λ i default within.
-    let here = all (length found.front + i) default (omega (arith, within, counted found.front own (part ++ found.back) edges found.whole)) in
+pub of_own : (P : ℕ → Type 0) (answers : ℕ → Bool → Type 0) (edges own part : List ℕ) (passed : ℕ) (following : Option ℕ) → IsSearched answers edges own part passed following → All P edges → All P own
+of_own P answers edges own part passed following found all = λ i default within.
+    let here = all (length found.front + i) default (omega (arith, within, all_counted found.front own (part ++ found.back) edges (sym found.whole))) in
     subst P (ap (λ (list : List ℕ). get_or list (length found.front + i) default) found.whole
     ∙ get_or-append-add found.front (own ++ (part ++ found.back)) i default ∙ get_or_append_left own (part ++ found.back) default i within) here
 
 -- and of the first edge of a node
-pub of_first : (P : ℕ → Type 0) (answers : ℕ → Bool → Type 0) (edges own part left middle right : List ℕ) (passed first : ℕ) (behind : Option ℕ) → IsSearched answers edges own part passed behind
+pub of_first : (P : ℕ → Type 0) (answers : ℕ → Bool → Type 0) (edges own part left middle right : List ℕ) (passed first : ℕ) (following : Option ℕ) → IsSearched answers edges own part passed following
     → left ++ (middle ++ right) ≡ part → 0 < length middle → first ≡ slice_index middle 0 → All P edges → P first
-of_first P answers edges own part left middle right passed first behind so_far same some is all =
+of_first P answers edges own part left middle right passed first following so_far same some is all =
     let front : List ℕ = so_far.front ++ (own ++ left) in
     let whole : edges ≡ front ++ (middle ++ (right ++ so_far.back)) = so_far.whole ∙ rw (sym same) (grind (arith, append_assoc)) in
     let here : first ≡ slice_index edges (length front + 0) = is ∙ there front middle (right ++ so_far.back) edges 0 whole some in
-    subst P (sym here) (all (length front + 0) 0 (omega (arith, some, counted front middle (right ++ so_far.back) edges whole)))
+    subst P (sym here) (all (length front + 0) 0 (omega (arith, some, all_counted front middle (right ++ so_far.back) edges (sym whole))))

@@ -1,12 +1,11 @@
 -- Edges that are taken out of what two sides and the edges between them have, or put in the place of others.
-use Rattle.std.proofs.Common.{◌≡◌, ℕ, zero, suc, max, ◌+◌, ◌-◌, ◌<◌, ◌≤◌, inl, inr, List, [], ◌∷◌, ◌++◌, length, length-append, insert, remove, slice_index, slice_set, refl, ap, sym, ◌∙◌, append_assoc, arith}
+use Rattle.std.proofs.Common.{◌≡◌, ℕ, max, ◌+◌, ◌-◌, ◌<◌, ◌≤◌, inl, inr, List, [], ◌∷◌, ◌++◌, length, length-append, insert, remove, slice_index, slice_set, refl, ap, sym, ◌∙◌, append_assoc, arith}
 use Rattle.std.proofs.lemmas.List.{get_or_append_left, get_or-append_right, set-append_left, set-append_right}
 use Rattle.std.proofs.lemmas.List.Edits.{insert-append_right, length-remove, remove-append_left, remove-append_right}
-use Rattle.std.proofs.lemmas.Bool.{cases_lt}
 use Rattle.mvt_plane.specs.Counted.{Counted}
-use Rattle.mvt_status.specs.Counts.{AddsAtMost}
-use Rattle.mvt_status.specs.Tree.{DifferByAtMost, IsHeightOfBoth}
-use Rattle.mvt_status.proofs.Heights.{more_levels}
+use Rattle.mvt_status.specs.Calls.Tree.{DifferByAtMost, IsHeightOfBoth}
+use Rattle.mvt_status.proofs.Levels.{IsHigher, height_of_both}
+use Rattle.mvt_status.proofs.ListEdits.{written}
 
 -- how many edges two sides and those between them have
 pub all_counted : (left own right all : List ℕ) → left ++ (own ++ right) ≡ all → length all ≡ length left + length own + length right
@@ -19,15 +18,15 @@ taken_left left own right part all at same within is = rw (is, sym same) (sym (r
 -- an edge taken out between the sides
 pub taken_between : (left own right part all : List ℕ) (at before : ℕ) → left ++ (own ++ right) ≡ all → before ≡ length left → before ≤ at → at < before + length own
     → part ≡ remove own (at - before) → left ++ (part ++ right) ≡ remove all at
-taken_between left own right part all at before same many behind within is =
-    rw (is, sym same) (sym (remove-append_right left (own ++ right) before at (sym many) behind ∙ ap (λ (rest : List ℕ). left ++ rest) (remove-append_left own right (at - before) (omega arith))))
+taken_between left own right part all at before same many following within is =
+    rw (is, sym same) (sym (remove-append_right left (own ++ right) before at (sym many) following ∙ ap (λ (rest : List ℕ). left ++ rest) (remove-append_left own right (at - before) (omega arith))))
 
 -- an edge taken out on the right
-pub taken_right : (left own right part all : List ℕ) (at behind : ℕ) → left ++ (own ++ right) ≡ all → behind ≡ length left + length own → behind ≤ at
-    → part ≡ remove right (at - behind) → left ++ (own ++ part) ≡ remove all at
-taken_right left own right part all at behind same many within is =
-    let front : length (left ++ own) ≡ behind = omega (arith, length-append left own) in
-    rw (is, sym same) (sym (append_assoc left own _) ∙ sym (remove-append_right (left ++ own) right behind at front within) ∙ ap (λ (list : List ℕ). remove list at) (append_assoc left own right))
+pub taken_right : (left own right part all : List ℕ) (at following : ℕ) → left ++ (own ++ right) ≡ all → following ≡ length left + length own → following ≤ at
+    → part ≡ remove right (at - following) → left ++ (own ++ part) ≡ remove all at
+taken_right left own right part all at following same many within is =
+    let front : length (left ++ own) ≡ following = omega (arith, length-append left own) in
+    rw (is, sym same) (sym (append_assoc left own _) ∙ sym (remove-append_right (left ++ own) right following at front within) ∙ ap (λ (list : List ℕ). remove list at) (append_assoc left own right))
 
 -- the first of a list of one edge taken out in front of others
 only_one : (own right : List ℕ) (at : ℕ) → at < length own → length own ≤ 1 → remove (own ++ right) at ≡ right
@@ -41,8 +40,8 @@ only_one (edge ∷ next ∷ rest) right at within one = absurd (omega arith)
 -- the only edge between the sides taken out
 pub taken_alone : (left own right part all : List ℕ) (at before : ℕ) → left ++ (own ++ right) ≡ all → before ≡ length left → before ≤ at → at < before + length own → length own ≤ 1
     → right ≡ part → left ++ part ≡ remove all at
-taken_alone left own right part all at before same many behind within one is =
-    rw (sym is, sym same) (sym (remove-append_right left (own ++ right) before at (sym many) behind ∙ ap (λ (rest : List ℕ). left ++ rest) (only_one own right (at - before) (omega arith) one)))
+taken_alone left own right part all at before same many following within one is =
+    rw (sym is, sym same) (sym (remove-append_right left (own ++ right) before at (sym many) following ∙ ap (λ (rest : List ℕ). left ++ rest) (only_one own right (at - before) (omega arith) one)))
 
 -- an edge on the left
 pub found_left : (left own right all : List ℕ) (at out : ℕ) → left ++ (own ++ right) ≡ all → at < length left → out ≡ slice_index left at → out ≡ slice_index all at
@@ -51,44 +50,38 @@ found_left left own right all at out same within is = is ∙ sym (get_or_append_
 -- an edge between the sides
 pub found_between : (left own right all : List ℕ) (at before out : ℕ) → left ++ (own ++ right) ≡ all → before ≡ length left → before ≤ at → at < before + length own
     → out ≡ slice_index own (at - before) → out ≡ slice_index all at
-found_between left own right all at before out same many behind within is =
-    is ∙ sym (get_or-append_right left (own ++ right) before at 0 (sym many) behind ∙ get_or_append_left own right 0 (at - before) (omega arith)) ∙ ap (λ (list : List ℕ). slice_index list at) same
+found_between left own right all at before out same many following within is =
+    is ∙ sym (get_or-append_right left (own ++ right) before at 0 (sym many) following ∙ get_or_append_left own right 0 (at - before) (omega arith)) ∙ ap (λ (list : List ℕ). slice_index list at) same
 
--- the first edge behind the left side
+-- the first edge after the left side
 pub found_first : (left rest all : List ℕ) (at out : ℕ) → left ++ rest ≡ all → at ≡ length left → out ≡ slice_index rest 0 → out ≡ slice_index all at
-found_first left rest all at out same behind is =
-    let first : 0 ≡ at - length left = omega (arith, behind) in
-    is ∙ ap (slice_index rest) first ∙ sym (get_or-append_right left rest (length left) at 0 refl (omega (arith, behind))) ∙ ap (λ (list : List ℕ). slice_index list at) same
+found_first left rest all at out same following is =
+    let first : 0 ≡ at - length left = omega (arith, following) in
+    is ∙ ap (slice_index rest) first ∙ sym (get_or-append_right left rest (length left) at 0 refl (omega (arith, following))) ∙ ap (λ (list : List ℕ). slice_index list at) same
 
 -- an edge on the right
-pub found_right : (left own right all : List ℕ) (at behind out : ℕ) → left ++ (own ++ right) ≡ all → behind ≡ length left + length own → behind ≤ at
-    → out ≡ slice_index right (at - behind) → out ≡ slice_index all at
-found_right left own right all at behind out same many within is =
-    let front : length (left ++ own) ≡ behind = omega (arith, length-append left own) in
-    is ∙ sym (get_or-append_right (left ++ own) right behind at 0 front within) ∙ ap (λ (list : List ℕ). slice_index list at) (append_assoc left own right ∙ same)
-
--- an edge written over another, or put in where that was taken out
-written : (list : List ℕ) (at edge : ℕ) → at < length list → slice_set list at edge ≡ insert (remove list at) at edge
-written [] at edge within = absurd (omega arith)
-written (first ∷ rest) zero edge within = refl
-written (first ∷ rest) (suc at) edge within = ap (λ (back : List ℕ). first ∷ back) (written rest at edge (omega arith))
+pub found_right : (left own right all : List ℕ) (at following out : ℕ) → left ++ (own ++ right) ≡ all → following ≡ length left + length own → following ≤ at
+    → out ≡ slice_index right (at - following) → out ≡ slice_index all at
+found_right left own right all at following out same many within is =
+    let front : length (left ++ own) ≡ following = omega (arith, length-append left own) in
+    is ∙ sym (get_or-append_right (left ++ own) right following at 0 front within) ∙ ap (λ (list : List ℕ). slice_index list at) (append_assoc left own right ∙ same)
 
 -- an edge in the place of one between the sides
 pub put_between : (left own right part all : List ℕ) (at before edge : ℕ) → left ++ (own ++ right) ≡ all → before ≡ length left → before ≤ at → at < before + length own
     → part ≡ slice_set own (at - before) edge → left ++ (part ++ right) ≡ insert (remove all at) at edge
-put_between left own right part all at before edge same many behind within is =
+put_between left own right part all at before edge same many following within is =
     rw (is, sym same)
-    (ap (λ (rest : List ℕ). left ++ rest) (sym (set-append_left own right (at - before) edge (omega arith))) ∙ sym (set-append_right left (own ++ right) before at edge (sym many) behind)
+    (ap (λ (rest : List ℕ). left ++ rest) (sym (set-append_left own right (at - before) edge (omega arith))) ∙ sym (set-append_right left (own ++ right) before at edge (sym many) following)
     ∙ written (left ++ (own ++ right)) at edge (omega (arith, length-append left (own ++ right), length-append own right)))
 
 -- an edge in the place of one on the right
-pub put_right : (left own right part all : List ℕ) (at behind edge : ℕ) → left ++ (own ++ right) ≡ all → behind ≡ length left + length own → behind ≤ at → at < length all
-    → part ≡ insert (remove right (at - behind)) (at - behind) edge → left ++ (own ++ part) ≡ insert (remove all at) at edge
-put_right left own right part all at behind edge same many within inside is =
-    let front : length (left ++ own) ≡ behind = omega (arith, length-append left own) in
+pub put_right : (left own right part all : List ℕ) (at following edge : ℕ) → left ++ (own ++ right) ≡ all → following ≡ length left + length own → following ≤ at → at < length all
+    → part ≡ insert (remove right (at - following)) (at - following) edge → left ++ (own ++ part) ≡ insert (remove all at) at edge
+put_right left own right part all at following edge same many within inside is =
+    let front : length (left ++ own) ≡ following = omega (arith, length-append left own) in
     rw (is, sym same)
-    (sym (append_assoc left own _) ∙ sym (insert-append_right (left ++ own) (remove right (at - behind)) behind at edge front within)
-    ∙ ap (λ (list : List ℕ). insert list at edge) (sym (remove-append_right (left ++ own) right behind at front within) ∙ ap (λ (list : List ℕ). remove list at) (append_assoc left own right)))
+    (sym (append_assoc left own _) ∙ sym (insert-append_right (left ++ own) (remove right (at - following)) following at edge front within)
+    ∙ ap (λ (list : List ℕ). insert list at edge) (sym (remove-append_right (left ++ own) right following at front within) ∙ ap (λ (list : List ℕ). remove list at) (append_assoc left own right)))
 
 -- what is left of a node is as it has to be without the edge at a place, which goes out
 pub record IsWithout (left own right all : List ℕ) (size at out : ℕ) : Type 0 where
@@ -108,72 +101,30 @@ without_left left own right part all size at out same counted some within is goe
 }
 
 -- a node with an edge less on the right
-pub without_right : (left own right part all : List ℕ) (size at behind out : ℕ) → left ++ (own ++ right) ≡ all → size ≡ length left + length own + length right → 0 < length own
-    → behind ≡ length left + length own → behind ≤ at → at < length all → part ≡ remove right (at - behind) → out ≡ slice_index right (at - behind) → IsWithout left own part all (size - 1) at out
-without_right left own right part all size at behind out same counted some many further within is goes =
-    let there : at - behind < length right = omega (arith, many, further, within, all_counted left own right all same) in
+pub without_right : (left own right part all : List ℕ) (size at following out : ℕ) → left ++ (own ++ right) ≡ all → size ≡ length left + length own + length right → 0 < length own
+    → following ≡ length left + length own → following ≤ at → at < length all → part ≡ remove right (at - following) → out ≡ slice_index right (at - following) → IsWithout left own part all (size - 1) at out
+without_right left own right part all size at following out same counted some many further within is goes =
+    let there : at - following < length right = omega (arith, many, further, within, all_counted left own right all same) in
     record {
       some = some;
-      counted = omega (arith, counted, ap length is, length-remove right (at - behind) there);
-      edges = taken_right left own right part all at behind same many further is;
-      found = found_right left own right all at behind out same many further goes;
+      counted = omega (arith, counted, ap length is, length-remove right (at - following) there);
+      edges = taken_right left own right part all at following same many further is;
+      found = found_right left own right all at following out same many further goes;
     }
 
 -- a node whose only edge went out, with the first of those on the right in its place
 pub without_own : (left own right new part all : List ℕ) (size at before out : ℕ) → left ++ (own ++ right) ≡ all → size ≡ length left + length own + length right → 0 < length new
     → before ≡ length left → before ≤ at → at < before + length own → length own ≤ 1 → right ≡ new ++ part → out ≡ slice_index own 0 → IsWithout left new part all (size - 1) at out
-without_own left own right new part all size at before out same counted some many behind within one is goes =
+without_own left own right new part all size at before out same counted some many following within one is goes =
     let first : 0 ≡ at - before = omega arith in
     record {
       some = some;
       counted = omega (arith, counted, ap length is, length-append new part);
-      edges = taken_alone left own right (new ++ part) all at before same many behind within one is;
-      found = found_between left own right all at before out same many behind within (goes ∙ ap (slice_index own) first);
+      edges = taken_alone left own right (new ++ part) all at before same many following within one is;
+      found = found_between left own right all at before out same many following within (goes ∙ ap (slice_index own) first);
     }
 
--- the levels on both sides of a node where an edge went out on one of them, with what was counted there
-pub record IsLower (left right new_left new_right spare : ℕ) (before after : Counted) : Type 0 where
-  pub left_not_higher : new_left ≤ left
-  pub right_not_higher : new_right ≤ right
-  pub at_most_one_lower : left + right ≤ new_left + new_right + 1
-  pub spared : spare ≤ 1
-  pub counted : AddsAtMost 0 (max left right) before after
-
--- on the left
-pub lower_left : (left right new_left spare : ℕ) (before after : Counted) → new_left ≤ left → left ≤ new_left + 1 → spare ≤ 1 → AddsAtMost 0 left before after
-    → IsLower left right new_left right spare before after
-lower_left left right new_left spare before after not_higher near low added = record {
-  left_not_higher = not_higher;
-  right_not_higher = omega arith;
-  at_most_one_lower = omega (arith, near);
-  spared = low;
-  counted = more_levels left (max left right) before after added (omega arith);
-}
-
--- on the right
-pub lower_right : (left right new_right spare : ℕ) (before after : Counted) → new_right ≤ right → right ≤ new_right + 1 → spare ≤ 1 → AddsAtMost 0 right before after
-    → IsLower left right left new_right spare before after
-lower_right left right new_right spare before after not_higher near low added = record {
-  left_not_higher = omega arith;
-  right_not_higher = not_higher;
-  at_most_one_lower = omega (arith, near);
-  spared = low;
-  counted = more_levels right (max left right) before after added (omega arith);
-}
-
--- a node that is put together of such sides is at most one level lower
-pub lower_both : {left right new_left new_right spare out_left out_right height : ℕ} {before after : Counted} → DifferByAtMost 1 left right → IsLower left right new_left new_right spare before after
+-- a node that is put together of its sides is at most one level lower, where one of them is lower
+pub lower_both : {left right new_left new_right most spare out_left out_right height : ℕ} {before after : Counted} → DifferByAtMost 1 left right → IsHigher new_left new_right left right most spare before after
     → out_left ≡ new_left → out_right ≡ new_right → IsHeightOfBoth out_left out_right height → max left right ≤ height
-lower_both {left = left} {right = right} {new_left = new_left} {new_right = new_right} near down left_is right_is both = elim (cases_lt (max new_left new_right) (max left right)) [
-  | inl lower ↦
-      omega (
-        arith,
-        lower,
-        down.at_most_one_lower,
-        both.exact (record {
-          first = omega (arith, lower, left_is, right_is, near.first, near.second, down.left_not_higher, down.right_not_higher, down.at_most_one_lower);
-          second = omega (arith, lower, left_is, right_is, near.first, near.second, down.left_not_higher, down.right_not_higher, down.at_most_one_lower);
-        }),
-      )
-  | inr as_high ↦ omega (arith, as_high, left_is, right_is, both.not_lower)
-]
+lower_both near down left_is right_is both = elim (height_of_both both) [ inl exact ↦ omega (arith, exact, left_is, right_is, down.at_most_one, down.left, down.right) | inr far ↦ omega (arith, far, left_is, right_is, near.first, near.second, down.left, down.right, down.at_most_one, both.not_lower) ]

@@ -1,3 +1,3 @@
+pub mod Calls
 pub mod Counts
 pub mod Split
-pub mod Tree

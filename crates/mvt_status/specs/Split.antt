@@ -13,7 +13,7 @@ abbrev pub before : List ℕ → ℕ → Option ℕ
 before edges zero = None
 before edges (suc at) = slice_get edges at
 
--- these edges are in front of the split and behind it
+-- these edges are in front of the split and after it
 pub record AreBeside (edges : List ℕ) (split : Split) : Type 0 where
   pub front : split.front ≡ before edges split.point
-  pub behind : split.behind ≡ slice_get edges split.point
+  pub following : split.following ≡ slice_get edges split.point

@@ -1,5 +1,5 @@
-//! The ordered status of a sweep over edges: the numbers of the edges that the sweep's line meets, in their order
-//! along it.
+//! The ordered status of a sweep over edges: the numbers of the edges that the sweep's line meets,
+//! in their order along it.
 #![tactic(auto)]
 
 pub mod laws;

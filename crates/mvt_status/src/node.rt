@@ -1,9 +1,9 @@
-//! Nodes of a tree: each holds a few edges between those of its two sides, and no side is more than one level higher
-//! than the other.
+//! Nodes of a tree: each holds a few edges between those of its two sides, and no side is more than
+//! one level higher than the other.
 ghost use Rattle.std.specs.Prelude.{◌≡◌, ℕ, ◌+◌, ◌^◌, ◌<◌, ◌≤◌, suc, max, IfNone, IfOk, IfSome, None, OnOk, Some, ◌∷◌, [], ◌++◌, length};
 ghost use Rattle.mvt_plane.specs.Counted.{ticked};
 ghost use Rattle.mvt_status.specs.Counts.{AddsAtMost};
-ghost use Rattle.mvt_status.specs.Tree.{DifferByAtMost, IsHeightOfBoth, edges_of, fewest, height_of};
+ghost use Rattle.mvt_status.specs.Calls.Tree.{DifferByAtMost, IsHeightOfBoth, edges_of, fewest, height_of};
 
 mod insert;
 mod lookup;
@@ -41,11 +41,14 @@ pub(crate) struct Node {
 impl Model for Node {
     ghost use Rattle.std.specs.Prelude.{ℕ, List, ◌++◌, length};
     ghost use Rattle.std.proofs.Common.{arith, length-append};
-    ghost use Rattle.mvt_status.specs.Tree.{IsNode, edges_of};
+    ghost use Rattle.mvt_status.specs.Calls.Tree.{IsNode, edges_of};
 
     ghost Value = { List ℕ × ℕ };
 
-    ghost view = { λ node. (edges_of node.left ++ (node.own.items ++ edges_of node.right), node.height) };
+    ghost view = { λ node. (
+      edges_of node.left ++ (node.own.items ++ edges_of node.right),
+      node.height,
+    ) };
 
     ghost invariant = { λ node. IsNode node.left node.own.items node.right node.size node.height };
 
@@ -125,7 +128,7 @@ fn refilled(mut node: Box<Node>, edges: &[usize]) -> Box<Node>
     node
 }
 
-/// Puts edges behind those of a node.
+/// Puts edges after those of a node.
 fn append(own: &mut Own, edges: &[usize])
     requires { length own.old.items + length edges.now ≤ 16 }
     ensures { own.new.items ≡ own.old.items ++ edges.now }
@@ -135,7 +138,8 @@ fn append(own: &mut Own, edges: &[usize])
     };
 }
 
-/// A node taken apart: what is on the left, the node with its own edges alone, what is on the right.
+/// A node taken apart: what is on the left, the node with its own edges alone, what is on the
+/// right.
 fn open(mut node: Box<Node>) -> (Side, Box<Node>, Side)
     ensures edges { node.value.0 ≡ edges_of result.0 ++ (result.1.value.0 ++ edges_of result.2) }
     ensures low { result.1.value.1 ≡ 1 }
@@ -156,7 +160,8 @@ fn open(mut node: Box<Node>) -> (Side, Box<Node>, Side)
 fn close(left: Side, mut node: Box<Node>, right: Side) -> Box<Node>
     requires low { node.value.1 ≡ 1 }
     requires near { DifferByAtMost 1 (height_of left) (height_of right) }
-    requires room { length (edges_of left) + length node.value.0 + length (edges_of right) < 2 ^ 64 }
+    requires room { length (edges_of left) + length node.value.0 + length (edges_of right) < 2 ^
+        64 }
     ensures edges { result.value.0 ≡ edges_of left ++ (node.value.0 ++ edges_of right) }
     ensures height { result.value.1 ≡ suc (max (height_of left) (height_of right)) }
 {
@@ -174,25 +179,27 @@ fn close(left: Side, mut node: Box<Node>, right: Side) -> Box<Node>
 fn join(left: Side, middle: Box<Node>, right: Side) -> Box<Node>
     requires low { middle.value.1 ≡ 1 }
     requires near { DifferByAtMost 2 (height_of left) (height_of right) }
-    requires room { length (edges_of left) + length middle.value.0 + length (edges_of right) < 2 ^ 64 }
+    requires room { length (edges_of left) + length middle.value.0 + length (edges_of right) < 2 ^
+        64 }
     ensures edges { result.value.0 ≡ edges_of left ++ (middle.value.0 ++ edges_of right) }
     ensures height { IsHeightOfBoth (height_of left) (height_of right) result.value.1 }
 {
     let (left_height, right_height) = (height(&left), height(&right));
     if left_height > right_height + 1 {
-        lean_right(left, middle, right)
+        rotate_right(left, middle, right)
     } else if right_height > left_height + 1 {
-        lean_left(left, middle, right)
+        rotate_left(left, middle, right)
     } else {
         close(left, middle, right)
     }
 }
 
 /// The same, where the left side is two levels higher.
-fn lean_right(left: Side, middle: Box<Node>, right: Side) -> Box<Node>
+fn rotate_right(left: Side, middle: Box<Node>, right: Side) -> Box<Node>
     requires low { middle.value.1 ≡ 1 }
     requires two_higher { height_of left ≡ height_of right + 2 }
-    requires room { length (edges_of left) + length middle.value.0 + length (edges_of right) < 2 ^ 64 }
+    requires room { length (edges_of left) + length middle.value.0 + length (edges_of right) < 2 ^
+        64 }
     ensures edges { result.value.0 ≡ edges_of left ++ (middle.value.0 ++ edges_of right) }
     ensures not_lower { height_of left ≤ result.value.1 }
     ensures at_most_one_higher { result.value.1 ≤ height_of left + 1 }
@@ -212,10 +219,11 @@ fn lean_right(left: Side, middle: Box<Node>, right: Side) -> Box<Node>
 }
 
 /// The same, where the right side is two levels higher.
-fn lean_left(left: Side, middle: Box<Node>, right: Side) -> Box<Node>
+fn rotate_left(left: Side, middle: Box<Node>, right: Side) -> Box<Node>
     requires low { middle.value.1 ≡ 1 }
     requires two_higher { height_of right ≡ height_of left + 2 }
-    requires room { length (edges_of left) + length middle.value.0 + length (edges_of right) < 2 ^ 64 }
+    requires room { length (edges_of left) + length middle.value.0 + length (edges_of right) < 2 ^
+        64 }
     ensures edges { result.value.0 ≡ edges_of left ++ (middle.value.0 ++ edges_of right) }
     ensures not_lower { height_of right ≤ result.value.1 }
     ensures at_most_one_higher { result.value.1 ≤ height_of right + 1 }
@@ -247,9 +255,12 @@ fn is_filled(side: &Side)
 #[inline(always)]
 fn level_over(left: &Side, right: &Side) -> Option<u8>
     requires room { length (edges_of left.now) + length (edges_of right.now) < 2 ^ 64 }
-    ensures near { IfSome result (λ _. DifferByAtMost 1 (height_of left.now) (height_of right.now)) }
-    ensures measured { IfSome result (λ level. level ≡ suc (max (height_of left.now) (height_of right.now))) }
-    ensures filled { IfSome result (λ level. fewest level ≤ length (edges_of left.now) + length (edges_of right.now) + 2) }
+    ensures near { IfSome result (λ _.
+        DifferByAtMost 1 (height_of left.now) (height_of right.now)) }
+    ensures measured { IfSome result (λ level. level
+        ≡ suc (max (height_of left.now) (height_of right.now))) }
+    ensures filled { IfSome result (λ level. fewest level
+        ≤ length (edges_of left.now) + length (edges_of right.now) + 2) }
 {
     let (left_height, right_height) = (height(left), height(right));
     if left_height > right_height + 1 || right_height > left_height + 1 {
@@ -258,16 +269,18 @@ fn level_over(left: &Side, right: &Side) -> Option<u8>
     Some(left_height.max(right_height) + 1)
 }
 
-/// Sets the height of a node whose sides have changed. Where one side is two levels higher than the other, takes both
-/// sides out of the node instead, and answers them.
+/// Sets the height of a node whose sides have changed. Where one side is two levels higher than the
+/// other, takes both sides out of the node instead, and answers them.
 #[inline(always)]
 fn settle(left: &mut Side, right: &mut Side, node_height: &mut u8) -> Option<(Side, Side)>
     requires room { length (edges_of left.old) + length (edges_of right.old) < 2 ^ 64 }
     ensures kept_left { IfNone result (left.new ≡ left.old) }
     ensures kept_right { IfNone result (right.new ≡ right.old) }
     ensures near { IfNone result (DifferByAtMost 1 (height_of left.old) (height_of right.old)) }
-    ensures measured { IfNone result (node_height.new ≡ suc (max (height_of left.old) (height_of right.old))) }
-    ensures filled { IfNone result (fewest node_height.new ≤ length (edges_of left.old) + length (edges_of right.old) + 2) }
+    ensures measured { IfNone result (node_height.new
+        ≡ suc (max (height_of left.old) (height_of right.old))) }
+    ensures filled { IfNone result (fewest node_height.new
+        ≤ length (edges_of left.old) + length (edges_of right.old) + 2) }
     ensures out_left { IfSome result (λ sides. sides.0 ≡ left.old) }
     ensures out_right { IfSome result (λ sides. sides.1 ≡ right.old) }
     ensures no_left { IfSome result (λ _. left.new ≡ None) }
@@ -282,11 +295,13 @@ fn settle(left: &mut Side, right: &mut Side, node_height: &mut u8) -> Option<(Si
     Some((left.take(), right.take()))
 }
 
-/// Puts two sides, of which one may be two levels higher than the other, on both sides of a node that has none.
+/// Puts two sides, of which one may be two levels higher than the other, on both sides of a node
+/// that has none.
 fn join_over(left: Side, side: &mut Side, right: Side)
     requires low { height_of side.old ≡ 1 }
     requires near { DifferByAtMost 2 (height_of left) (height_of right) }
-    requires room { length (edges_of left) + length (edges_of side.old) + length (edges_of right) < 2 ^ 64 }
+    requires room { length (edges_of left) + length (edges_of side.old) + length (edges_of right) <
+        2 ^ 64 }
     ensures edges { edges_of side.new ≡ edges_of left ++ (edges_of side.old ++ edges_of right) }
     ensures height { IsHeightOfBoth (height_of left) (height_of right) (height_of side.new) }
 {

@@ -13,15 +13,16 @@ pub struct Split {
     pub point: usize,
     /// The edge in front of the split, if there is one.
     pub front: Option<usize>,
-    /// The edge behind it, if there is one.
-    pub behind: Option<usize>,
+    /// The edge after it, if there is one.
+    pub following: Option<usize>,
 }
 
-/// A list of numbers of edges, which a sweep keeps in their order along its line. `count` counts the work of each
-/// call. No call tests two edges for a common point, and only `split_point` and `split_around` compare edges with a
-/// position. A call visits at most twice as many nodes, and makes at most twice as many comparisons, as the length of
-/// the list at the call has binary digits (`bits`). `replace` may visit twice as many nodes as the others,
-/// `split_around` three times as many, and `insert_two` three times as many as the others of a list with one edge more.
+/// A list of numbers of edges, which a sweep keeps in their order along its line. `count` counts
+/// the work of each call. No call tests two edges for a common point, and only `split_point` and
+/// `split_around` compare edges with a position. A call visits at most twice as many nodes, and
+/// makes at most twice as many comparisons, as the length of the list at the call has binary digits
+/// (`bits`). `replace` may visit twice as many nodes as the others, `split_around` three times as
+/// many, and `insert_two` three times as many as the others of a list with one edge more.
 pub trait Status {
     ghost edges: { Self → List ℕ };
 
@@ -35,15 +36,17 @@ pub trait Status {
         ensures value { result ≡ slice_index (edges self.now) at }
         ensures counted { AddsAtMost 0 (2 * bits (length (edges self.now))) count.old count.new };
 
-    /// Puts an edge at a place, in front of the one that was there. The only error is that memory was refused, as it
-    /// is to a list that has as many edges as a `usize` can count. The list is then as it was.
+    /// Puts an edge at a place, in front of the one that was there. The only error is that memory
+    /// was refused, as it is to a list that has as many edges as a `usize` can count. The list is
+    /// then as it was.
     fn insert(&mut self, at: usize, edge: usize, count: &mut Count) -> Result<(), AllocError>
         requires { at ≤ length (edges self.old) }
-        ensures list { edges self.new ≡ (if is_ok result then insert (edges self.old) at edge else edges self.old) }
+        ensures list { edges self.new ≡ (if is_ok result then insert (edges self.old) at edge else
+            edges self.old) }
         ensures counted { AddsAtMost 0 (2 * bits (length (edges self.old))) count.old count.new };
 
-    /// Puts two edges at a place, the lower one first, in front of the one that was there. The only error is that
-    /// memory was refused. The list is then as it was.
+    /// Puts two edges at a place, the lower one first, in front of the one that was there. The only
+    /// error is that memory was refused. The list is then as it was.
     fn insert_two(
         &mut self,
         at: usize,
@@ -52,8 +55,10 @@ pub trait Status {
         count: &mut Count,
     ) -> Result<(), AllocError>
         requires { at ≤ length (edges self.old) }
-        ensures list { edges self.new ≡ (if is_ok result then insert (insert (edges self.old) at upper) at lower else edges self.old) }
-        ensures counted { AddsAtMost 0 (6 * bits (suc (length (edges self.old)))) count.old count.new }
+        ensures list { edges self.new ≡ (if is_ok result then insert
+            (insert (edges self.old) at upper) at lower else edges self.old) }
+        ensures counted { AddsAtMost 0 (6 * bits (suc (length (edges self.old)))) count.old
+            count.new }
     {
         self.insert(at, upper, count)?;
         let placed = self.insert(at, lower, count);
@@ -70,33 +75,37 @@ pub trait Status {
         ensures list { edges self.new ≡ remove (edges self.old) at }
         ensures counted { AddsAtMost 0 (2 * bits (length (edges self.old))) count.old count.new };
 
-    /// Puts an edge in the place of the one that is there. The only error is that memory was refused. The list
-    /// is then without the edge that was there.
+    /// Puts an edge in the place of the one that is there. The only error is that memory was
+    /// refused. The list is then without the edge that was there.
     fn replace(&mut self, at: usize, edge: usize, count: &mut Count) -> Result<(), AllocError>
         requires { at < length (edges self.old) }
-        ensures list { edges self.new ≡ (if is_ok result then insert (remove (edges self.old) at) at edge else remove (edges self.old) at) }
+        ensures list { edges self.new ≡ (if is_ok result then insert (remove (edges self.old) at) at
+            edge else remove (edges self.old) at) }
         ensures counted { AddsAtMost 0 (4 * bits (length (edges self.old))) count.old count.new }
     {
         self.remove(at, count);
         self.insert(at, edge, count)
     }
 
-    /// How many edges are at the front of the list of which `below` is true, where it is false of all others.
-    /// Each call of `below` counts as a probe; of a list with an edge there is one at least.
+    /// How many edges are at the front of the list of which `below` is true, where it is false of
+    /// all others. Each call of `below` counts as a probe; of a list with an edge there is one at
+    /// least.
     fn split_point<F: Fn(usize) -> bool>(&self, below: &F, count: &mut Count) -> usize
         requires callable { All (F.pre below.now) (edges self.now) }
         requires splits { (point : ℕ) × IsSplit (F.post below.now) (edges self.now) point }
         ensures split { IsSplit (F.post below.now) (edges self.now) result }
-        ensures counted { AddsAtMost (2 * bits (length (edges self.now))) (2 * bits (length (edges self.now))) count.old count.new }
+        ensures counted { AddsAtMost (2 * bits (length (edges self.now)))
+            (2 * bits (length (edges self.now))) count.old count.new }
         ensures probed { 0 < length (edges self.now) → ticked count.old.probes ≤ count.new.probes };
 
-    /// The split point, as `split_point` answers it, with the edges in front of it and behind it.
+    /// The split point, as `split_point` answers it, with the edges in front of it and after it.
     fn split_around<F: Fn(usize) -> bool>(&self, below: &F, count: &mut Count) -> Split
         requires callable { All (F.pre below.now) (edges self.now) }
         requires splits { (point : ℕ) × IsSplit (F.post below.now) (edges self.now) point }
         ensures split { IsSplit (F.post below.now) (edges self.now) result.point }
         ensures beside { AreBeside (edges self.now) result }
-        ensures counted { AddsAtMost (2 * bits (length (edges self.now))) (6 * bits (length (edges self.now))) count.old count.new }
+        ensures counted { AddsAtMost (2 * bits (length (edges self.now)))
+            (6 * bits (length (edges self.now))) count.old count.new }
         ensures probed { 0 < length (edges self.now) → ticked count.old.probes ≤ count.new.probes }
     {
         let point = self.split_point(below, count);
@@ -105,7 +114,7 @@ pub trait Status {
         } else {
             None
         };
-        let behind = if point < self.len() {
+        let following = if point < self.len() {
             Some(self.get(point, count))
         } else {
             None
@@ -113,7 +122,7 @@ pub trait Status {
         Split {
             point,
             front,
-            behind,
+            following,
         }
     }
 }

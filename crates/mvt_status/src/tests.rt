@@ -21,8 +21,8 @@ pub(crate) fn list<S: Status>(
     Ok(edges)
 }
 
-/// Puts edges 7, 4 and 9 into a status, in the order 4, 9, 7. Answers how many are in front of the 7, and the edge at 1,
-/// which it takes out.
+/// Puts edges 7, 4 and 9 into a status, in the order 4, 9, 7. Answers how many are in front of the
+/// 7, and the edge at 1, which it takes out.
 fn three_edges<S: Status>(status: &mut S, count: &mut Count) -> Result<(usize, usize), AllocError>
     requires { S.edges status.old ≡ [] }
     ensures list { IfOk result (λ _. S.edges status.new ≡ 4 ∷ 7 ∷ []) }
@@ -37,8 +37,8 @@ fn three_edges<S: Status>(status: &mut S, count: &mut Count) -> Result<(usize, u
     Ok((split, status.remove(1, count)))
 }
 
-/// Edges come and go in a status that is empty at first, and each is found where it should be. Answers what was
-/// counted.
+/// Edges come and go in a status that is empty at first, and each is found where it should be.
+/// Answers what was counted.
 pub(crate) fn edges_come_and_go<S: Status>(
     rt: &impl Abort,
     alloc: Global,
@@ -58,11 +58,13 @@ pub(crate) fn edges_come_and_go<S: Status>(
     Ok(count)
 }
 
-/// Puts the numbers below `many` into a status, each at the end. Answers the most visits that one took.
+/// Puts the numbers below `many` into a status, each at the end. Answers the most visits that one
+/// took.
 fn count_up<S: Status>(status: &mut S, many: usize, count: &mut Count) -> Result<u64, AllocError>
     requires { S.edges status.old ≡ [] }
     ensures many { IfOk result (λ _. length (S.edges status.new) ≡ many) }
-    ensures numbered { IfOk result (λ _. (at : ℕ) → at < many → slice_index (S.edges status.new) at ≡ at) }
+    ensures numbered { IfOk result (λ _. (at : ℕ) → at < many
+        → slice_index (S.edges status.new) at ≡ at) }
 {
     let mut most = 0;
     for edge in 0..many {
@@ -76,8 +78,10 @@ fn count_up<S: Status>(status: &mut S, many: usize, count: &mut Count) -> Result
 /// How many numbers of a status that counts up are below a limit.
 fn split_below<S: Status>(status: &S, limit: usize, count: &mut Count) -> usize
     requires within { limit ≤ length (S.edges status.now) }
-    requires numbered { (at : ℕ) → at < length (S.edges status.now) → slice_index (S.edges status.now) at ≡ at }
-    ensures counted { AddsAtMost (2 * bits (length (S.edges status.now))) (2 * bits (length (S.edges status.now))) count.old count.new }
+    requires numbered { (at : ℕ) → at < length (S.edges status.now)
+        → slice_index (S.edges status.now) at ≡ at }
+    ensures counted { AddsAtMost (2 * bits (length (S.edges status.now)))
+        (2 * bits (length (S.edges status.now))) count.old count.new }
 {
     let below = |edge: usize| -> bool
         ensures { result ≡ nat_lt edge limit }
@@ -133,8 +137,8 @@ fn visits_to_insert_two<S: Status>(status: &mut S, at: usize) -> Result<u64, All
     Ok(count.visits())
 }
 
-/// The visits at both ends of a status that counts up, and is empty at first: to get its first edge and its last one,
-/// and to put two edges in front of all and behind them.
+/// The visits at both ends of a status that counts up, and is empty at first: to get its first edge
+/// and its last one, and to put two edges in front of all and after them.
 pub(crate) fn visits_at_ends<S: Status>(status: &mut S, many: usize) -> Result<[u64; 4], AllocError>
     requires empty { S.edges status.old ≡ [] }
     requires some { 0 < many }
@@ -144,6 +148,6 @@ pub(crate) fn visits_at_ends<S: Status>(status: &mut S, many: usize) -> Result<[
     let to_last = visits_to_get(status, many - 1);
     let in_front = visits_to_insert_two(status, 0)?;
     let end = status.len();
-    let behind = visits_to_insert_two(status, end)?;
-    Ok([to_first, to_last, in_front, behind])
+    let following = visits_to_insert_two(status, end)?;
+    Ok([to_first, to_last, in_front, following])
 }

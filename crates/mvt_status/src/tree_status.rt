@@ -1,3 +1,4 @@
+//! The status as a height-balanced tree; its nodes are in `node`.
 ghost use Rattle.std.specs.Prelude.{◌≡◌, ℕ, suc, ◌*◌, ◌<◌, ◌≤◌, All, [], IsOk, OnOk, if◌then◌else◌, insert, is_ok, length, remove, slice_index};
 ghost use Rattle.mvt_plane.specs.Counted.{ticked};
 ghost use Rattle.mvt_status.specs.Counts.{AddsAtMost, bits};
@@ -12,8 +13,8 @@ use std::marker::Model;
 #[cfg(test)]
 mod tests;
 
-/// A status in a height-balanced tree, whose nodes hold up to 16 edges each. Each call takes a number of steps that
-/// grows with the binary digits of the number of edges.
+/// A status in a height-balanced tree, whose nodes hold up to 16 edges each. Each call takes a
+/// number of steps that grows with the binary digits of the number of edges.
 #[derive(Drop)]
 pub struct TreeStatus {
     root: Side,
@@ -24,7 +25,7 @@ pub struct TreeStatus {
 
 impl Model for TreeStatus {
     ghost use Rattle.std.specs.Prelude.{ℕ, ◌≤◌, List};
-    ghost use Rattle.mvt_status.specs.Tree.{edges_of, height_of};
+    ghost use Rattle.mvt_status.specs.Calls.Tree.{edges_of, height_of};
 
     ghost Value = { List ℕ };
 
@@ -66,7 +67,8 @@ impl Status for TreeStatus {
         requires { at ≤ length self.old }
         ensures list { self.new ≡ (if is_ok result then insert self.old at edge else self.old) }
         ensures counted { AddsAtMost 0 (2 * bits (length self.old)) count.old count.new }
-        ensures visited { OnOk result (0 < length self.old → ticked count.old.visits ≤ count.new.visits) }
+        ensures visited { OnOk result (0 < length self.old
+            → ticked count.old.visits ≤ count.new.visits) }
     {
         if self.len() == usize::MAX {
             return Err(AllocError);
@@ -84,9 +86,11 @@ impl Status for TreeStatus {
         count: &mut Count,
     ) -> Result<(), AllocError>
         requires { at ≤ length self.old }
-        ensures list { self.new ≡ (if is_ok result then insert (insert self.old at upper) at lower else self.old) }
+        ensures list { self.new ≡ (if is_ok result then insert (insert self.old at upper) at lower
+            else self.old) }
         ensures counted { AddsAtMost 0 (2 * bits (suc (length self.old))) count.old count.new }
-        ensures visited { OnOk result (0 < length self.old → ticked count.old.visits ≤ count.new.visits) }
+        ensures visited { OnOk result (0 < length self.old
+            → ticked count.old.visits ≤ count.new.visits) }
     {
         if self.len() >= usize::MAX - 1 {
             return Err(AllocError);
@@ -121,7 +125,8 @@ impl Status for TreeStatus {
         requires callable { All (F.pre below.now) self.now }
         requires splits { (point : ℕ) × IsSplit (F.post below.now) self.now point }
         ensures split { IsSplit (F.post below.now) self.now result }
-        ensures counted { AddsAtMost (2 * bits (length self.now)) (2 * bits (length self.now)) count.old count.new }
+        ensures counted { AddsAtMost (2 * bits (length self.now)) (2 * bits (length self.now))
+            count.old count.new }
         ensures probed { 0 < length self.now → ticked count.old.probes ≤ count.new.probes }
         ensures visited { 0 < length self.now → ticked count.old.visits ≤ count.new.visits }
     {
@@ -133,7 +138,8 @@ impl Status for TreeStatus {
         requires splits { (point : ℕ) × IsSplit (F.post below.now) self.now point }
         ensures split { IsSplit (F.post below.now) self.now result.point }
         ensures beside { AreBeside self.now result }
-        ensures counted { AddsAtMost (2 * bits (length self.now)) (2 * bits (length self.now)) count.old count.new }
+        ensures counted { AddsAtMost (2 * bits (length self.now)) (2 * bits (length self.now))
+            count.old count.new }
         ensures probed { 0 < length self.now → ticked count.old.probes ≤ count.new.probes }
         ensures visited { 0 < length self.now → ticked count.old.visits ≤ count.new.visits }
     {

@@ -1,3 +1,4 @@
+//! The status as a vector, with binary search.
 ghost use Rattle.std.specs.Prelude.{◌≡◌, ℕ, ◌-◌, ◌<◌, ◌≤◌, suc, All, [], IsOk, if◌then◌else◌, insert, is_ok, length, remove, slice_index};
 ghost use Rattle.mvt_plane.specs.Counted.{ticked};
 ghost use Rattle.mvt_status.specs.Counts.{AddsAtMost, bits, raised};
@@ -12,8 +13,8 @@ use std::marker::Model;
 #[cfg(test)]
 mod tests;
 
-/// A status in a vector, where a place is found by halves. An edge that comes or goes moves all edges behind it. It has
-/// no nodes, so no call counts a visit.
+/// A status in a vector, where a place is found by halves. An edge that comes or goes moves all
+/// edges after it. It has no nodes, so no call counts a visit.
 #[derive(Drop)]
 pub struct VecStatus {
     edges: Vec<usize>,
@@ -70,7 +71,8 @@ impl Status for VecStatus {
         count: &mut Count,
     ) -> Result<(), AllocError>
         requires { at ≤ length self.old }
-        ensures list { self.new ≡ (if is_ok result then insert (insert self.old at upper) at lower else self.old) }
+        ensures list { self.new ≡ (if is_ok result then insert (insert self.old at upper) at lower
+            else self.old) }
         ensures counted { AddsAtMost 0 0 count.old count.new }
     {
         self.insert(at, upper, count)?;
@@ -107,7 +109,8 @@ impl Status for VecStatus {
         ensures split { IsSplit (F.post below.now) self.now result }
         ensures counted { AddsAtMost (bits (length self.now)) 0 count.old count.new }
         ensures probed { 0 < length self.now → ticked count.old.probes ≤ count.new.probes }
-        ensures halved { raised (bits (suc (length self.now)) - 1) count.old.probes ≤ count.new.probes }
+        ensures halved { raised (bits (suc (length self.now)) - 1) count.old.probes
+            ≤ count.new.probes }
     {
         split_in(&self.edges, below, count)
     }
@@ -119,7 +122,8 @@ impl Status for VecStatus {
         ensures beside { AreBeside self.now result }
         ensures counted { AddsAtMost (bits (length self.now)) 0 count.old count.new }
         ensures probed { 0 < length self.now → ticked count.old.probes ≤ count.new.probes }
-        ensures halved { raised (bits (suc (length self.now)) - 1) count.old.probes ≤ count.new.probes }
+        ensures halved { raised (bits (suc (length self.now)) - 1) count.old.probes
+            ≤ count.new.probes }
     {
         let point = split_in(&self.edges, below, count);
         let front = if 0 < point {
@@ -130,7 +134,7 @@ impl Status for VecStatus {
         Split {
             point,
             front,
-            behind: self.edges.get(point).copied(),
+            following: self.edges.get(point).copied(),
         }
     }
 }

@@ -1,5 +1,5 @@
 -- The numbers that a source has left.
-use Rattle.std.specs.Prelude.{◌≡◌, ℕ, List, None, length}
+use Rattle.std.specs.Prelude.{◌≡◌, ℕ, List, None}
 use Rattle.mvt_wire.specs.Numbers.{NumbersLeft, NumberWalk, most_left, walk_at}
 use Rattle.mvt_tile.specs.declared.numbers.ListedNumbers.{ListedNumbers}
 use Rattle.mvt_tile.specs.declared.numbers.FeatureNumbers.{FeatureNumbers}
@@ -7,10 +7,6 @@ use Rattle.mvt_tile.specs.declared.numbers.FeatureNumbers.{FeatureNumbers}
 -- those of a list
 abbrev pub AreListed : ListedNumbers → List ℕ → Type 0
 AreListed listed numbers = numbers ≡ listed.rest.now
-
--- how many these are
-abbrev pub most_listed : ListedNumbers → ℕ
-most_listed listed = length listed.rest.now
 
 -- the walk over those in a feature's bytes
 abbrev pub walk_of : FeatureNumbers → NumberWalk

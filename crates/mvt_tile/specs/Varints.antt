@@ -1,12 +1,7 @@
 -- The numbers of a message's fields of one number, where no fault ends them.
-use Rattle.std.specs.Prelude.{◌≡◌, ℕ, List, ◌∷◌, Some, None}
-use Rattle.mvt_wire.specs.Field.{Content, varint, eight_bytes, delimited, four_bytes}
+use Rattle.std.specs.Prelude.{ℕ, List, ◌∷◌, Some, None}
 use Rattle.mvt_wire.specs.Numbers.{NumbersEnd, NumbersLeft, NumberWalk}
 use Rattle.mvt_wire.specs.declared.cause.WireCause.{WireCause}
-
--- no fault ends the numbers from a place on
-abbrev pub HasNoNumberFault : List ℕ → ℕ → ℕ → Type 0
-HasNoNumberFault message from field_number = (given : List ℕ) (cause : WireCause) → ¬ NumbersEnd message from field_number given (Some cause)
 
 -- no field states numbers from a place on
 abbrev pub HasNoNumber : List ℕ → ℕ → ℕ → Type 0
@@ -15,10 +10,3 @@ HasNoNumber message from field_number = (number : ℕ) (given : List ℕ) → ¬
 -- no fault ends those that a walk has left
 abbrev pub IsFaultless : NumberWalk → Type 0
 IsFaultless walk = (given : List ℕ) (cause : WireCause) → ¬ NumbersLeft walk given (Some cause)
-
--- the varints of a field of numbers begin at a place
-abbrev pub BeginVarints : Content → ℕ → Type 0
-BeginVarints (varint value place) at = at ≡ place
-BeginVarints (eight_bytes part) at = ⊥
-BeginVarints (delimited from part) at = at ≡ from
-BeginVarints (four_bytes part) at = ⊥

@@ -1,7 +1,7 @@
 //! Advice on a tile: what may be a mistake in it, though no rule forbids it.
 ghost use Rattle.std.specs.Prelude.{◌≡◌, [], ◌∷◌, ◌++◌, ℕ, List, IfOk, OnOk};
 ghost use Rattle.mvt_tile.specs.Advice.{ArePairs, IsAdvice, IsLayerAdvice};
-ghost use Rattle.mvt_tile.specs.Equal.{StandsAt, equal_advice};
+ghost use Rattle.mvt_tile.specs.Calls.Equal.{StandsAt, equal_advice};
 ghost use Rattle.mvt_tile.specs.View.{layer_of, tile_of};
 
 mod first_places;
@@ -43,9 +43,10 @@ pub enum Advice {
     },
 }
 
-/// The advice on a tile. A tile without layers has that alone. Otherwise it goes layer by layer: that a layer has no
-/// feature; then, for each key in order that has an equal one before it, the first such; then the same of the ids of
-/// its features, of which a feature without an id has no part. The only error is that memory was refused.
+/// The advice on a tile. A tile without layers has that alone. Otherwise it goes layer by layer:
+/// that a layer has no feature; then, for each key in order that has an equal one before it, the
+/// first such; then the same of the ids of its features, of which a feature without an id has no
+/// part. The only error is that memory was refused.
 pub fn advise(alloc: Global, tile: &Tile<'_>) -> Result<Vec<Advice>, AllocError>
     ensures { IfOk result (λ advice. IsAdvice (tile_of tile.now) advice.items) }
 {
@@ -67,7 +68,8 @@ fn advise_layer(
     layer: &Layer<'_>,
     number: usize,
 ) -> Result<(), AllocError>
-    ensures { OnOk result ((own : List Advice) × IsLayerAdvice number (layer_of layer.now) own × (advice.new.items ≡ advice.old.items ++ own)) }
+    ensures { OnOk result ((own : List Advice) × IsLayerAdvice number (layer_of layer.now) own
+        × (advice.new.items ≡ advice.old.items ++ own)) }
 {
     if layer.features.is_empty() {
         advice.push(Advice::NoFeature { layer: number })?;
@@ -110,14 +112,16 @@ impl Equal {
     }
 }
 
-/// Adds the advice on each place of a layer at which another one stands. The only error is that memory was refused.
+/// Adds the advice on each place of a layer at which another one stands. The only error is that
+/// memory was refused.
 fn push_equal(
     advice: &mut Vec<Advice>,
     firsts: &[Option<usize>],
     equal: Equal,
     layer: usize,
 ) -> Result<(), AllocError>
-    ensures { OnOk result ((pairs : List (ℕ × ℕ)) × ArePairs (StandsAt firsts.now) pairs × (advice.new.items ≡ advice.old.items ++ equal_advice equal layer pairs)) }
+    ensures { OnOk result ((pairs : List (ℕ × ℕ)) × ArePairs (StandsAt firsts.now) pairs
+        × (advice.new.items ≡ advice.old.items ++ equal_advice equal layer pairs)) }
 {
     for (second, &place) in firsts.iter().enumerate() {
         if let Some(first) = place {

@@ -1,122 +1,120 @@
 //! A feature as it stands in the bytes of a tile.
-ghost use Rattle.std.specs.Prelude.{◌≡◌, ◌≤◌, ◌<◌, ◌^◌, ℕ, true, List, [], ◌∷◌, ◌++◌, length, take};
+ghost use Rattle.std.specs.Prelude.{◌≡◌, ◌≤◌, ◌<◌, ◌^◌, ℕ, true, List, [], ◌∷◌, ◌++◌, length};
 ghost use Rattle.mvt_wire.specs.Field.{Entry, IsField, entry_of};
-ghost use Rattle.mvt_wire.specs.Tile.{FeatureRecord, IsFeature, FitsRule};
+ghost use Rattle.mvt_wire.specs.Tile.{FeatureRecord, IsFeature};
+ghost use Rattle.mvt_wire.specs.Calls.Tile.{FitsRule};
 ghost use Rattle.mvt_wire.specs.declared.schema.Message.TheVariants as messages;
 ghost use Rattle.mvt_tile.specs.Numbers.{AreLeft, most_bytes};
-ghost use Rattle.mvt_tile.specs.NumberStretch.{LiesIn};
+ghost use Rattle.mvt_tile.specs.NumberSpan.{LiesIn};
+ghost use Rattle.mvt_tile.specs.Calls.Part.{Holds};
 ghost use Rattle.mvt_tile.specs.View.{kind_number};
 
-use crate::number_stretch::NumberStretch;
+use crate::number_span::NumberSpan;
 use crate::numbers::{FeatureNumbers, varints_in};
+use crate::part::Part;
 use crate::read::payload::number_in;
 use crate::read::walk::WholeFields;
 use crate::record::Kind;
 use mvt_wire::Field;
 use mvt_wire::field_number::{FEATURE_ID, GEOMETRY, GEOMETRY_TYPE, TAGS};
 
-/// A feature of a tile without wire fault (Mapbox Vector Tile Specification 2.1, section 4.2), as it stands in the tile's
-/// bytes: its numbers are decoded from them, and no list of them is made.
+/// A feature of a tile without wire fault (Mapbox Vector Tile Specification 2.1, section 4.2), as
+/// it stands in the tile's bytes: its numbers are decoded from them, and no list of them is made.
 #[derive(Clone, Copy)]
 pub struct FeatureBytes<'a> {
+    /// The bytes up to the feature's end.
     bytes: &'a [u8],
-    /// The offset behind the feature.
-    to: usize,
-    id: Option<u64>,
-    kind: Kind,
-    tags: NumberStretch,
-    geometry: NumberStretch,
-    ghost within: { to ≤ length bytes.now },
-    ghost tags_stand: { LiesIn (take to bytes.now) 2 tags },
-    ghost geometry_stands: { LiesIn (take to bytes.now) 4 geometry },
+    parts: FeatureParts,
+    ghost tags_stand: { LiesIn bytes.now 2 parts.tags },
+    ghost geometry_stands: { LiesIn bytes.now 4 parts.geometry },
 }
 
 impl<'a> FeatureBytes<'a> {
     ghost use Rattle.mvt_tile.specs.FeatureBytes.{Shows};
 
-    /// The feature that the bytes hold from one offset up to another.
-    pub(crate) fn new(bytes: &'a [u8], from: usize, to: usize) -> FeatureBytes<'a>
-        requires forward { from ≤ to }
-        requires within { to ≤ length bytes.now }
-        requires stands { (feature_record : FeatureRecord) × IsFeature bytes.now (record { from = from; to = to }) feature_record }
-        ensures { (feature_record : FeatureRecord) → IsFeature bytes.entry.now (record { from = from; to = to }) feature_record → Shows result feature_record }
+    /// The feature that a part of the bytes holds.
+    #[inline(never)]
+    pub(crate) fn new(part: Part<'a>) -> FeatureBytes<'a>
+        requires { (feature_record : FeatureRecord) × Holds IsFeature part feature_record }
+        ensures { (feature_record : FeatureRecord) → Holds IsFeature part.entry feature_record
+            → Shows result feature_record }
     {
-        let mut parts = FeatureParts::none(from);
-        let mut fields = WholeFields::new(bytes, from, to);
+        let mut parts = FeatureParts::none(part.from);
+        let mut fields = WholeFields::new(part.bytes, part.from, part.to);
         'walk: while let Some(field) = fields.next_field() {
             parts.add(&field, fields.at());
         }
-        FeatureBytes {
-            bytes,
-            to,
-            id: parts.id,
-            kind: parts.kind,
-            tags: parts.tags,
-            geometry: parts.geometry,
-        }
+        let bytes = &part.bytes[..part.to];
+        FeatureBytes { bytes, parts }
     }
 
     /// The feature's id, any number of 64 bits, where it has one (section 4.2).
     pub(crate) fn id(&self) -> Option<u64>
-        ensures { (feature_record : FeatureRecord) → Shows self.now feature_record → result ≡ feature_record.id }
+        ensures { (feature_record : FeatureRecord) → Shows self.now feature_record
+            → result ≡ feature_record.id }
     {
-        self.id
+        self.parts.id
     }
 
     /// What the feature's geometry is (section 4.3.4).
     pub fn kind(&self) -> Kind
-        ensures { (feature_record : FeatureRecord) → Shows self.now feature_record → kind_number result ≡ feature_record.kind }
+        ensures { (feature_record : FeatureRecord) → Shows self.now feature_record
+            → kind_number result ≡ feature_record.kind }
     {
-        self.kind
+        self.parts.kind
     }
 
-    /// The index of a key, that of its value, and so on (section 4.4), of all the feature's fields of tags.
+    /// The index of a key, that of its value, and so on (section 4.4), of all the feature's fields
+    /// of tags.
     pub(crate) fn tags(&self) -> FeatureNumbers<'a>
-        ensures all { (feature_record : FeatureRecord) → Shows self.now feature_record → AreLeft result feature_record.tags }
+        ensures all { (feature_record : FeatureRecord) → Shows self.now feature_record
+            → AreLeft result feature_record.tags }
         ensures few { most_bytes result < 2 ^ 63 }
     {
-        FeatureNumbers::new(self.bytes, self.tags, self.to, TAGS)
+        FeatureNumbers::new(self.bytes, self.parts.tags, TAGS)
     }
 
     /// Whether the feature has no tags.
     #[inline(always)]
     pub(crate) fn has_no_tag(&self) -> bool
-        ensures { result ≡ true → (feature_record : FeatureRecord) → Shows self.now feature_record → feature_record.tags ≡ [] }
+        ensures { result ≡ true → (feature_record : FeatureRecord) → Shows self.now feature_record
+            → feature_record.tags ≡ [] }
     {
-        self.tags.at == self.tags.last
+        self.parts.tags.at == self.parts.tags.last
     }
 
     /// Command and parameter integers (section 4.3), of all the feature's geometry fields.
     pub fn geometry(&self) -> FeatureNumbers<'a>
         ensures shows { (feature_record : FeatureRecord) × Shows self.now feature_record }
-        ensures all { (feature_record : FeatureRecord) → Shows self.now feature_record → AreLeft result feature_record.geometry }
+        ensures all { (feature_record : FeatureRecord) → Shows self.now feature_record
+            → AreLeft result feature_record.geometry }
         ensures few { most_bytes result < 2 ^ 63 }
     {
-        FeatureNumbers::new(self.bytes, self.geometry, self.to, GEOMETRY)
+        FeatureNumbers::new(self.bytes, self.parts.geometry, GEOMETRY)
     }
 }
 
-/// What is kept of the fields of a feature that were passed.
+/// What is kept of the fields of a feature.
 #[derive(Clone, Copy)]
 struct FeatureParts {
     id: Option<u64>,
     kind: Kind,
-    tags: NumberStretch,
-    geometry: NumberStretch,
+    tags: NumberSpan,
+    geometry: NumberSpan,
 }
 
 impl FeatureParts {
-    ghost use Rattle.mvt_tile.specs.FeatureBytes.{TellsParts};
+    ghost use Rattle.mvt_tile.specs.Calls.FeatureBytes.{GivesParts};
 
     /// No field was passed of a feature that begins at an offset.
     fn none(from: usize) -> FeatureParts
-        ensures { (message : List ℕ) → TellsParts message from [] from result }
+        ensures { (message : List ℕ) → GivesParts message from [] from result }
     {
         FeatureParts {
             id: None,
             kind: Kind::Unknown,
-            tags: NumberStretch::none(from),
-            geometry: NumberStretch::none(from),
+            tags: NumberSpan::none(from),
+            geometry: NumberSpan::none(from),
         }
     }
 
@@ -124,8 +122,10 @@ impl FeatureParts {
     #[inline(always)]
     fn add(&mut self, field: &Field<'_>, to: usize)
         requires { FitsRule messages.Feature (entry_of field.now) }
-        ensures { (message : List ℕ) (from : ℕ) (entries : List Entry) → IsField message to (entry_of field.now)
-            → TellsParts message from entries field.now.at self.old → TellsParts message from (entries ++ entry_of field.now ∷ []) to self.new }
+        ensures { (message : List ℕ) (from : ℕ) (entries : List Entry)
+            → IsField message to (entry_of field.now)
+            → GivesParts message from entries field.now.at self.old
+            → GivesParts message from (entries ++ entry_of field.now ∷ []) to self.new }
     {
         match field.number {
             FEATURE_ID => self.id = Some(number_in(field.body)),

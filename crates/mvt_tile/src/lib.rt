@@ -1,13 +1,14 @@
-//! The messages of a vector tile, over borrowed bytes: their first wire fault, their records, the first fault of the
-//! rules between their parts, and advice on what no rule forbids.
+//! The messages of a vector tile, over borrowed bytes: their first wire fault, their records, the
+//! first fault of the rules between their parts, and advice on what no rule forbids.
 #![tactic(auto)]
 
 mod advice;
 mod feature_bytes;
 pub mod laws;
 mod lists;
-mod number_stretch;
+mod number_span;
 mod numbers;
+mod part;
 mod read;
 mod record;
 mod rules;

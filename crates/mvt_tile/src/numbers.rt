@@ -1,14 +1,16 @@
 //! The numbers of tags and of geometry, given one after another.
 ghost use Rattle.std.specs.Prelude.{◌≡◌, ◌≤◌, ◌<◌, ◌^◌, ℕ, true, List, [], ◌∷◌, length, take, None, IfNone, IfOk, IfSome};
 ghost use Rattle.mvt_wire.specs.Field.{content_of, wire_type_of};
-ghost use Rattle.mvt_wire.specs.Numbers.{LeavesVarints, NumbersEnd, NumbersLeft, walk_at};
+ghost use Rattle.mvt_wire.specs.Calls.Numbers.{LeavesVarints};
+ghost use Rattle.mvt_wire.specs.Numbers.{NumbersEnd, NumbersLeft, walk_at};
 ghost use Rattle.mvt_wire.specs.Schema.{is_own};
 ghost use Rattle.mvt_wire.specs.Varint.{SpellsVarint};
 ghost use Rattle.mvt_wire.specs.declared.schema.Shape.TheVariants as Shapes;
-ghost use Rattle.mvt_tile.specs.NumberStretch.{LiesIn};
-ghost use Rattle.mvt_tile.specs.Varints.{BeginVarints, HasNoNumber, HasNoNumberFault, IsFaultless};
+ghost use Rattle.mvt_tile.specs.NumberSpan.{LiesIn};
+ghost use Rattle.mvt_tile.specs.Calls.Varints.{BeginVarints, HasNoNumberFault};
+ghost use Rattle.mvt_tile.specs.Varints.{HasNoNumber, IsFaultless};
 
-use crate::number_stretch::NumberStretch;
+use crate::number_span::NumberSpan;
 use crate::read::walk::{WholeFields, whole_varint};
 use mvt_wire::Body;
 use std::alloc::{AllocError, Global};
@@ -23,7 +25,8 @@ pub trait NumberSource {
     /// The next number, or None where none is left.
     fn next_number(&mut self) -> Option<u32>
         ensures end { IfNone result ((numbers : List ℕ) → Leaves self.old numbers → numbers ≡ []) }
-        ensures number { IfSome result (λ number. (numbers : List ℕ) → Leaves self.old numbers → (rest : List ℕ) × (numbers ≡ number ∷ rest) × Leaves self.new rest) }
+        ensures number { IfSome result (λ number. (numbers : List ℕ) → Leaves self.old numbers
+            → (rest : List ℕ) × (numbers ≡ number ∷ rest) × Leaves self.new rest) }
         ensures fewer { IfSome result (λ _. most self.new < most self.old) };
 }
 
@@ -45,7 +48,8 @@ impl<'a> ListedNumbers<'a> {
 }
 
 impl NumberSource for ListedNumbers<'_> {
-    ghost use Rattle.mvt_tile.specs.Numbers.{AreListed, most_listed};
+    ghost use Rattle.mvt_tile.specs.Numbers.{AreListed};
+    ghost use Rattle.mvt_tile.specs.Calls.Numbers.{most_listed};
 
     ghost Leaves = { AreListed };
 
@@ -59,8 +63,8 @@ impl NumberSource for ListedNumbers<'_> {
     }
 }
 
-/// The numbers that the fields of one number state in a feature of a tile without wire fault (Protocol Buffers encoding,
-/// "Packed Repeated Fields"). They are decoded where they stand.
+/// The numbers that the fields of one number state in a feature of a tile without wire fault
+/// (Protocol Buffers encoding, "Packed Repeated Fields"). They are decoded where they stand.
 #[derive(Drop)]
 pub struct FeatureNumbers<'a> {
     /// The bytes up to the feature's end.
@@ -68,7 +72,7 @@ pub struct FeatureNumbers<'a> {
     field_number: u32,
     /// The offset of the next number in the field that is being read.
     at: usize,
-    /// The offset behind that field.
+    /// The offset after that field.
     end: usize,
     /// An offset from which on no field states numbers.
     last: usize,
@@ -81,24 +85,19 @@ pub struct FeatureNumbers<'a> {
 impl<'a> FeatureNumbers<'a> {
     ghost use Rattle.mvt_tile.specs.Numbers.{AreLeft};
 
-    /// The numbers that the fields of a number state in a feature that ends at an offset.
+    /// The numbers that the fields of a number state in a feature, where its bytes end.
     #[inline(always)]
-    pub(crate) fn new(
-        bytes: &'a [u8],
-        stretch: NumberStretch,
-        to: usize,
-        number: u32,
-    ) -> FeatureNumbers<'a>
-        requires within { to ≤ length bytes.now }
-        requires stands { LiesIn (take to bytes.now) number stretch }
-        ensures { (given : List ℕ) → NumbersLeft (walk_at (take to bytes.entry.now) number stretch.at stretch.end) given None → AreLeft result given }
+    pub(crate) fn new(bytes: &'a [u8], span: NumberSpan, number: u32) -> FeatureNumbers<'a>
+        requires { LiesIn bytes.now number span }
+        ensures { (given : List ℕ) → NumbersLeft (walk_at bytes.entry.now number span.at span.end)
+            given None → AreLeft result given }
     {
         FeatureNumbers {
-            bytes: &bytes[..to],
+            bytes,
             field_number: number,
-            at: stretch.at,
-            end: stretch.end,
-            last: stretch.last,
+            at: span.at,
+            end: span.end,
+            last: span.last,
         }
     }
 }
@@ -123,15 +122,17 @@ impl NumberSource for FeatureNumbers<'_> {
     }
 }
 
-/// Where the varints begin that come next, and where they end: those left in a field, or else those of the next field of
-/// the number that states any, or none. From `last` on no field states numbers.
+/// Where the varints begin that come next, and where they end: those left in a field, or else those
+/// of the next field of the number that states any, or none. From `last` on no field states
+/// numbers.
 #[inline(always)]
 fn varints_left(bytes: &[u8], number: u32, at: usize, end: usize, last: usize) -> (usize, usize)
     requires forward { at ≤ end }
     requires within { end ≤ length bytes.now }
     requires faultless { IsFaultless (walk_at bytes.now number at end) }
     requires no_more { HasNoNumber bytes.now last number }
-    ensures found { result.0 < result.1 → LeavesVarints (walk_at bytes.now number at end) result.0 result.1 }
+    ensures found { result.0 < result.1 → LeavesVarints (walk_at bytes.now number at end) result.0
+        result.1 }
     ensures none { result.1 ≤ result.0 → NumbersLeft (walk_at bytes.now number at end) [] None }
 {
     if at < end {
@@ -148,7 +149,8 @@ fn varints_left(bytes: &[u8], number: u32, at: usize, end: usize, last: usize) -
 fn next_varints(bytes: &[u8], number: u32, from: usize) -> (usize, usize)
     requires within { from ≤ length bytes.now }
     requires faultless { HasNoNumberFault bytes.now from number }
-    ensures found { result.0 < result.1 → LeavesVarints (walk_at bytes.now number from from) result.0 result.1 }
+    ensures found { result.0 < result.1 → LeavesVarints (walk_at bytes.now number from from)
+        result.0 result.1 }
     ensures none { result.1 ≤ result.0 → NumbersLeft (walk_at bytes.now number from from) [] None }
 {
     let mut fields = WholeFields::new(bytes, from, bytes.len());
@@ -171,13 +173,13 @@ pub(crate) fn varints_in(body: Body) -> usize
     ensures { BeginVarints (content_of body.entry) result }
 {
     match body {
-        Body::Varint { at, .. } => at,
         Body::Bytes { from, .. } => from,
-        Body::Fixed64(_) | Body::Fixed32(_) => unreachable!(),
+        Body::Varint { at, .. } => at,
+        _ => unreachable!(),
     }
 }
 
-/// The number at an offset of a field's varints, and the offset behind it.
+/// The number at an offset of a field's varints, and the offset after it.
 #[inline(always)]
 fn next_varint(bytes: &[u8], at: usize, end: usize) -> (u32, usize)
     requires within { end ≤ length bytes.now }

@@ -1,11 +1,12 @@
 //! A tile's records, read from its bytes.
 ghost use Rattle.std.specs.Prelude.{◌≡◌, ◌≤◌, ℕ, List, ◌∷◌, [], ◌++◌, length, map, IfOk, IfErr, OnOk};
 ghost use Rattle.mvt_wire.specs.Field.{Entry, entry_of};
-ghost use Rattle.mvt_wire.specs.Tile.{TileRecord, IsTile, LayerRecord, IsLayer, FitsRule};
+ghost use Rattle.mvt_wire.specs.Tile.{TileRecord, IsTile, LayerRecord, IsLayer};
+ghost use Rattle.mvt_wire.specs.Calls.Tile.{FitsRule};
 ghost use Rattle.mvt_wire.specs.declared.schema.Message.TheVariants as messages;
 ghost use Rattle.mvt_tile.specs.ReadFault.{IsReadFault};
-ghost use Rattle.mvt_wire.specs.Scope.{Embeds};
-ghost use Rattle.mvt_tile.specs.Reading.{LiesIn, TellsTile};
+ghost use Rattle.mvt_wire.specs.Calls.Scope.{Embeds};
+ghost use Rattle.mvt_tile.specs.Calls.Reading.{LiesIn, GivesTile};
 ghost use Rattle.mvt_tile.specs.View.{layer_of, tile_of};
 
 pub(crate) mod feature;
@@ -17,13 +18,14 @@ mod value;
 pub(crate) mod walk;
 
 use crate::lists::push_item;
+use crate::part::Part;
 use crate::record::{Layer, Tile};
 use crate::wire::wire_fault;
 use layer::read_layer;
 use mvt_fault::Fault;
 use mvt_wire::Field;
 use mvt_wire::field_number::LAYERS;
-use payload::stretch_of;
+use payload::payload_span;
 use std::alloc::{AllocError, Global};
 use walk::WholeFields;
 
@@ -36,9 +38,9 @@ pub enum ReadFault {
     Memory,
 }
 
-/// The tile that the bytes are (Mapbox Vector Tile Specification 2.1, section 4). Texts and the bytes
-/// of floats are borrowed. Each message is walked once for its faults, and once for its record;
-/// nothing is reserved by a length or a count that was read.
+/// The tile that the bytes are (Mapbox Vector Tile Specification 2.1, section 4). Texts and the
+/// bytes of floats are borrowed. Each message is walked once for its faults, and once for its
+/// record; nothing is reserved by a length or a count that was read.
 ///
 /// Errors: `Wire` with the first wire fault, where the bytes are no tile; `Memory` where a tile's
 /// record found no memory.
@@ -58,7 +60,8 @@ pub fn read_tile(alloc: Global, bytes: &[u8]) -> Result<Tile<'_>, ReadFault>
 /// The layers of a tile.
 fn read_layers(alloc: Global, bytes: &[u8]) -> Result<Vec<Layer<'_>>, AllocError>
     requires { (tile : TileRecord) × IsTile bytes.now tile }
-    ensures { IfOk result (λ layers. IsTile bytes.now (record { layers = map layer_of layers.items })) }
+    ensures { IfOk result (λ layers.
+        IsTile bytes.now (record { layers = map layer_of layers.items })) }
 {
     let mut layers = Vec::new(alloc);
     let mut fields = WholeFields::new(bytes, 0, bytes.len());
@@ -77,14 +80,16 @@ fn add_field<'a>(
 ) -> Result<(), AllocError>
     requires fits { FitsRule messages.Tile (entry_of field) }
     requires inside { LiesIn bytes.now (entry_of field) }
-    requires layer { Embeds 3 (λ span. (layer : LayerRecord) × IsLayer bytes.now span layer) (entry_of field) }
+    requires layer { Embeds 3 (λ span. (layer : LayerRecord)
+        × IsLayer bytes.now span layer) (entry_of field) }
     ensures { OnOk result ((entries : List Entry)
-        → TellsTile bytes.entry.now entries (record { layers = map layer_of layers.old.items })
-        → TellsTile bytes.entry.now (entries ++ entry_of field.entry ∷ []) (record { layers = map layer_of layers.new.items })) }
+        → GivesTile bytes.entry.now entries (record { layers = map layer_of layers.old.items })
+        → GivesTile bytes.entry.now (entries ++ entry_of field.entry ∷ [])
+        (record { layers = map layer_of layers.new.items })) }
 {
     if field.number == LAYERS {
-        let (from, to) = stretch_of(field.body);
-        return push_item(layers, read_layer(alloc, bytes, from, to)?);
+        let (from, to) = payload_span(field.body);
+        return push_item(layers, read_layer(alloc, Part { bytes, from, to })?);
     }
     Ok(())
 }

@@ -27,7 +27,8 @@ pub struct Layer<'a> {
 pub struct Feature {
     /// The id, any number of 64 bits, where the feature has one.
     pub id: Option<u64>,
-    /// The index of a key, that of its value, and so on (section 4.4), of all the feature's fields of tags, joined.
+    /// The index of a key, that of its value, and so on (section 4.4), of all the feature's fields
+    /// of tags, joined.
     pub tags: Vec<u32>,
     /// What its geometry is.
     pub kind: Kind,

@@ -6,7 +6,7 @@ ghost use Rattle.mvt_wire.specs.declared.cause.WireCause.{WireCause};
 ghost use Rattle.mvt_wire.specs.declared.scope.Scope.{Scope};
 ghost use Rattle.mvt_fault.specs.Place.{IsLeast};
 ghost use Rattle.mvt_fault.specs.TrueFaults.{IsWireFault};
-ghost use Rattle.mvt_tile.specs.FieldPlace.{IsPlaced};
+ghost use Rattle.mvt_tile.specs.Calls.FieldPlace.{IsPlaced};
 
 mod embedded;
 mod field;
@@ -18,7 +18,8 @@ mod scan;
 mod tests;
 pub(crate) mod usual;
 
-use crate::wire::embedded::{EmbeddedScan, Look};
+use crate::part::Part;
+use crate::wire::embedded::{Check, EmbeddedScan};
 use crate::wire::layer::layer_fault;
 use crate::wire::scan::FieldScan;
 use mvt_fault::{Fault, wire_fault_in};
@@ -31,10 +32,11 @@ use mvt_wire::{Message, Scope};
 ///
 /// The tile's own fields come first; then layer by layer the layer's fields, its values and its
 /// features. Within a message the fault with the least offset comes first, then that with the least
-/// code, then that with the least field number. Offsets are in bytes from the tile's first byte. The
-/// bytes of each message are walked once, and no memory is taken.
+/// code, then that with the least field number. Offsets are in bytes from the tile's first byte.
+/// The bytes of each message are walked once, and no memory is taken.
 pub fn wire_fault(bytes: &[u8]) -> Option<Fault>
-    ensures none { IfNone result ((scope : Scope) (cause : WireCause) → ¬ WireFault bytes.now scope cause) }
+    ensures none { IfNone result ((scope : Scope) (cause : WireCause)
+        → ¬ WireFault bytes.now scope cause) }
     ensures least { IfSome result (IsLeast (IsWireFault bytes.now)) }
 {
     let mut own = FieldScan::new();
@@ -49,7 +51,7 @@ pub fn wire_fault(bytes: &[u8]) -> Option<Fault>
                 Err(cause) => return Some(wire_fault_in(Scope::Tile, cause)),
             },
         };
-        layers.note(bytes, &field);
+        layers.pass(bytes, &field);
         at = next;
     }
     if let Some(cause) = own.end_fault(Message::Tile, bytes.len()) {
@@ -62,8 +64,8 @@ pub fn wire_fault(bytes: &[u8]) -> Option<Fault>
 #[derive(Drop)]
 struct Layers;
 
-impl Look for Layers {
-    ghost use Rattle.mvt_tile.specs.LayersFound.{IsFaultless, IsFirstOf};
+impl Check for Layers {
+    ghost use Rattle.mvt_tile.specs.Calls.LayersFound.{IsFaultless, IsFirstOf};
 
     type Found = Fault;
 
@@ -71,7 +73,7 @@ impl Look for Layers {
 
     ghost IsFound = { λ _. IsFirstOf };
 
-    fn look(&self, bytes: &[u8], ordinal: usize, from: usize, to: usize) -> Option<Fault> {
-        layer_fault(bytes, ordinal, from, to)
+    fn check(&self, part: Part<'_>, ordinal: usize) -> Option<Fault> {
+        layer_fault(part, ordinal)
     }
 }

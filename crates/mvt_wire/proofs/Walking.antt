@@ -4,7 +4,7 @@ use Rattle.mvt_wire.specs.Field.{Entry, IsField, FieldDefect}
 use Rattle.mvt_wire.specs.Message.{FieldList, IsMessage, HasDefect}
 use Rattle.mvt_wire.specs.Walk.{Walk, IsOver, GivesField, FindsDefect}
 use Rattle.mvt_wire.specs.declared.cause.WireCause.{WireCause}
-use Rattle.mvt_wire.proofs.Messages.{FieldList-push}
+use Rattle.mvt_wire.proofs.Encoding.Messages.{FieldList-push}
 
 -- the walk over a message has passed these fields
 pub record IsWalking (bytes : List ℕ) (from : ℕ) (walk : Walk) (entries : List Entry) : Type 0 where

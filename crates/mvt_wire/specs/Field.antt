@@ -60,7 +60,7 @@ IsPayload bytes from to (delimited start part) =
 -- four bytes
 IsPayload bytes from to (four_bytes part) = (to ≡ from + 4) × (to ≤ length bytes) × (part ≡ slice_range bytes from to)
 
--- the field is spelled from its own place up to another: its key, and behind it its payload
+-- the field is spelled from its own place up to another: its key, and after it its payload
 pub record IsField (bytes : List ℕ) (to : ℕ) (entry : Entry) : Type 0 where
   pub key_end : ℕ
   pub key : IsKey bytes entry.at key_end entry.number (wire_type_of entry.content)
@@ -74,7 +74,7 @@ IsFieldSpelling bytes entry = (entry.at ≡ 0) × IsField bytes (length bytes) e
 abbrev pub IsRefusedType : ℕ → Type 0
 IsRefusedType wire_type = (wire_type ≡ 3) ⊎ (wire_type ≡ 4) ⊎ (wire_type ≡ 6) ⊎ (wire_type ≡ 7)
 
--- the payload behind a key begins with a varint: its value, or its length
+-- the payload after a key begins with a varint: its value, or its length
 abbrev pub HasLeadingVarint : ℕ → Type 0
 HasLeadingVarint wire_type = (wire_type ≡ 0) ⊎ (wire_type ≡ 2)
 
@@ -107,7 +107,7 @@ pub data FieldDefect (bytes : List ℕ) (at : ℕ) (cause : WireCause) : Type 0 
   leading_varint : (to field_number wire_type : ℕ) (code : WireCode)
       → IsKey bytes at to field_number wire_type → HasLeadingVarint wire_type → VarintDefect code (drop to bytes)
       → cause ≡ cause_at code to field_number → FieldDefect bytes at cause
-  -- the payload would end behind the message
+  -- the payload would end after the message
   past_end : (to field_number wire_type end : ℕ)
       → IsKey bytes at to field_number wire_type → PayloadEnd bytes to wire_type end → length bytes < end
       → cause ≡ cause_at PastEnd at field_number → FieldDefect bytes at cause

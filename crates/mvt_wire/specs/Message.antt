@@ -1,9 +1,9 @@
--- Messages: fields one behind another (Protocol Buffers encoding, "Message Structure").
+-- Messages: fields one after another (Protocol Buffers encoding, "Message Structure").
 use Rattle.std.specs.Prelude.{◌≡◌, ℕ, ◌+◌, ◌<◌, List, [], ◌∷◌, length}
 use Rattle.mvt_wire.specs.Field.{Content, varint, eight_bytes, delimited, four_bytes, Entry, IsField, IsFieldSpelling, FieldDefect}
 use Rattle.mvt_wire.specs.declared.cause.WireCause.{WireCause}
 
--- the bytes from one place up to another are the spellings of these fields, one behind another
+-- the bytes from one place up to another are the spellings of these fields, one after another
 abbrev pub FieldList : List ℕ → ℕ → List Entry → ℕ → Type 0
 FieldList bytes from [] to = from ≡ to
 FieldList bytes from (entry ∷ entries) to = (entry.at ≡ from) × ((next : ℕ) × IsField bytes next entry × FieldList bytes next entries to)
@@ -22,7 +22,7 @@ content_moved by (four_bytes part) = four_bytes part
 abbrev pub moved : ℕ → Entry → Entry
 moved by entry = record { number = entry.number; at = by + entry.at; content = content_moved by entry.content }
 
--- each piece is one field's spelling, the first of them from a place on and each next one behind it
+-- each piece is one field's spelling, the first of them from a place on and each next one after it
 abbrev pub AreSpellings : ℕ → List (List ℕ) → List Entry → Type 0
 AreSpellings at [] [] = Unit {0}
 AreSpellings at (piece ∷ pieces) (entry ∷ entries) =
@@ -30,7 +30,7 @@ AreSpellings at (piece ∷ pieces) (entry ∷ entries) =
 AreSpellings at [] (entry ∷ entries) = ⊥
 AreSpellings at (piece ∷ pieces) [] = ⊥
 
--- behind whole fields, and before the end, is a field that has a defect
+-- after whole fields, and before the end, is a field that has a defect
 pub record HasDefect (bytes : List ℕ) (from : ℕ) (cause : WireCause) : Type 0 where
   pub entries : List Entry
   pub at : ℕ

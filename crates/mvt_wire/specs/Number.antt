@@ -11,7 +11,7 @@ abbrev pub zigzag : ℤ → ℕ
 zigzag (pos n) = 2 * n
 zigzag (negsuc n) = 2 * n + 1
 
--- the bytes from one place up to another are the spellings of these numbers as varints, one behind another
+-- the bytes from one place up to another are the spellings of these numbers as varints, one after another
 abbrev pub VarintList : List ℕ → ℕ → List ℕ → ℕ → Type 0
 VarintList bytes from [] to = from ≡ to
 VarintList bytes from (n ∷ numbers) to = (next : ℕ) × SpellsVarint bytes from next n × VarintList bytes next numbers to

@@ -24,7 +24,7 @@ pub data NumberFault (entry : Entry) (numbers : List ℕ) (cause : WireCause) : 
       → entry.content ≡ varint value at → 2 ^ 32 ≤ value
       → numbers ≡ []
       → cause ≡ cause_at OutOfRange at entry.number → NumberFault entry numbers cause
-  -- behind those numbers its packed list has a fault
+  -- after those numbers its packed list has a fault
   in_packed_list : (from : ℕ) (part : List ℕ) (at : ℕ)
       → entry.content ≡ delimited from part → VarintList part 0 numbers at
       → PackedFault from part entry.number cause → cause.at ≡ from + at → NumberFault entry numbers cause
@@ -39,7 +39,7 @@ pub data StopsAt (bytes : List ℕ) (at field_number : ℕ) (numbers : List ℕ)
       → entry.at ≡ at → IsField bytes to entry → entry.number ≡ field_number
       → NumberFault entry numbers cause → StopsAt bytes at field_number numbers cause
 
--- what is wrong in a message, behind any whole fields of it, so that its numbers end there
+-- what is wrong in a message, after any whole fields of it, so that its numbers end there
 pub record IsNumbersFault (bytes : List ℕ) (from field_number : ℕ) (cause : WireCause) : Type 0 where
   pub entries : List Entry
   pub at : ℕ
@@ -74,7 +74,7 @@ StatesAt (delimited from part) place n =
     (numbers : List ℕ) × (at next : ℕ) × VarintList part 0 numbers at × SpellsVarint part at next n × (place ≡ from + at)
 StatesAt (four_bytes part) place n = ⊥
 
--- the varint that begins at a place is a number of a field of the number, behind any whole fields
+-- the varint that begins at a place is a number of a field of the number, after any whole fields
 pub record IsNumberAt (bytes : List ℕ) (from field_number place n : ℕ) : Type 0 where
   pub entries : List Entry
   pub at : ℕ
@@ -110,7 +110,7 @@ pub record NumberWalk : Type 0 where
 abbrev pub walk_at : List ℕ → ℕ → ℕ → ℕ → NumberWalk
 walk_at bytes field_number varint_at field_at = record { bytes = bytes; field_number = field_number; varint_at = varint_at; field_at = field_at }
 
--- the numbers of 32 bits that the bytes from a place on spell as varints, and the fault behind them
+-- the numbers of 32 bits that the bytes from a place on spell as varints, and the fault after them
 pub record StopsVarints (bytes : List ℕ) (from field_number : ℕ) (numbers : List ℕ) (cause : WireCause) : Type 0 where
   pub at : ℕ
   pub before : VarintList bytes from numbers at
@@ -121,7 +121,7 @@ pub record StopsVarints (bytes : List ℕ) (from field_number : ℕ) (numbers : 
 
 -- the numbers that a walk has left, and how they end
 pub data NumbersLeft (walk : NumberWalk) (numbers : List ℕ) (ending : Option WireCause) : Type 0 where
-  -- the list that is being read is whole, and the fields behind it follow
+  -- the list that is being read is whole, and the fields after it follow
   goes_on : (first rest : List ℕ)
       → VarintList (take walk.field_at walk.bytes) walk.varint_at first walk.field_at → AreSmall first
       → NumbersEnd walk.bytes walk.field_at walk.field_number rest ending
@@ -152,10 +152,3 @@ pub record EndsNumbers (old new : NumberWalk) (ending : Option WireCause) : Type
   pub none : NumbersLeft old [] ending
   pub only : (numbers : List ℕ) (other : Option WireCause) → NumbersLeft old numbers other → (numbers ≡ []) × (other ≡ ending)
   pub over : HasEnded new
-
--- all that was left is left from the varint on that begins at a place of a list
-pub record LeavesVarints (old : NumberWalk) (at end : ℕ) : Type 0 where
-  pub same : (numbers : List ℕ) (ending : Option WireCause) → NumbersLeft (walk_at old.bytes old.field_number at end) numbers ending → NumbersLeft old numbers ending
-  pub left : at < end
-  pub within : end ≤ length old.bytes
-  pub further : old.varint_at ≤ at

@@ -15,14 +15,10 @@ fields_of field_number entries = filter (λ entry. entry.number == field_number)
 abbrev pub contents_of : ℕ → List Entry → List Content
 contents_of field_number entries = map (λ entry. entry.content) (fields_of field_number entries)
 
--- a stretch of bytes, from one place up to another
+-- a span of bytes, from one place up to another
 pub record Span : Type 0 where
   pub from : ℕ
   pub to : ℕ
-
--- the bytes from one place up to another
-abbrev pub stretch : ℕ → ℕ → Span
-stretch from to = record { from = from; to = to }
 
 -- where a payload of wire type 2 lies
 abbrev pub span_of : Content → Option Span
@@ -35,11 +31,7 @@ span_of (four_bytes part) = None
 abbrev pub spans_of : ℕ → List Entry → List Span
 spans_of field_number entries = filter_map span_of (contents_of field_number entries)
 
--- where the field has the number and a payload of wire type 2, the stretch of that payload has the property
-abbrev pub Embeds : ℕ → (Span → Type 0) → Entry → Type 0
-Embeds field_number Holds entry = (span : Span) → entry.number ≡ field_number → span_of entry.content ≡ Some span → Holds span
-
--- the stretch holds a whole message, with this field list
+-- the span holds a whole message, with this field list
 abbrev pub IsMessageAt : List ℕ → Span → List Entry → Type 0
 IsMessageAt bytes span entries = IsMessage (take span.to bytes) span.from entries
 

@@ -20,10 +20,6 @@ pub record Fits (rule : FieldRule) (content : Content) : Type 0 where
   pub in_range : (value at : ℕ) → content ≡ varint value at → is_out_of_range rule.shape value ≡ false
   pub packed : (from : ℕ) (part : List ℕ) → rule.shape ≡ Numbers → content ≡ delimited from part → (numbers : List ℕ) × States content numbers × AreSmall numbers
 
--- the field fits the message's rule for its number, if there is one
-abbrev pub FitsRule : Message → Entry → Type 0
-FitsRule message entry = (rule : FieldRule) → rule_of message entry.number ≡ Some rule → Fits rule entry.content
-
 -- What the fields of a message keep: each of a known number fits its rule, and each number occurs as often as it may. A
 -- value has just one known field.
 pub record KeepsSchema (message : Message) (entries : List Entry) : Type 0 where
@@ -39,7 +35,7 @@ number_in (eight_bytes part) = None
 number_in (delimited from part) = None
 number_in (four_bytes part) = None
 
--- the bytes behind a length
+-- the bytes after a length
 abbrev pub bytes_in : Content → Option (List ℕ)
 bytes_in (varint value at) = None
 bytes_in (eight_bytes part) = None
@@ -84,7 +80,7 @@ pub record LayerRecord : Type 0 where
 pub record TileRecord : Type 0 where
   pub layers : List LayerRecord
 
--- the feature that the stretch holds
+-- the feature that the span holds
 pub record IsFeature (bytes : List ℕ) (span : Span) (feature : FeatureRecord) : Type 0 where
   pub entries : List Entry
   pub whole : IsMessageAt bytes span entries
@@ -107,7 +103,7 @@ pub data Says (field_number : ℕ) (content : Content) (value : ValueRecord) : T
   -- true where the varint isn't 0
   says_truth : (n at : ℕ) → field_number ≡ 7 → content ≡ varint n at → value ≡ truth (not (n == 0)) → Says field_number content value
 
--- the value that the stretch holds: what its one known field says
+-- the value that the span holds: what its one known field says
 pub record IsValue (bytes : List ℕ) (span : Span) (value : ValueRecord) : Type 0 where
   pub entries : List Entry
   pub whole : IsMessageAt bytes span entries
@@ -123,7 +119,7 @@ Each related (x ∷ xs) (y ∷ ys) = related x y × Each related xs ys
 Each related [] (y ∷ ys) = ⊥
 Each related (x ∷ xs) [] = ⊥
 
--- the layer that the stretch holds; an absent extent is 4096
+-- the layer that the span holds; an absent extent is 4096
 pub record IsLayer (bytes : List ℕ) (span : Span) (layer : LayerRecord) : Type 0 where
   pub entries : List Entry
   pub whole : IsMessageAt bytes span entries

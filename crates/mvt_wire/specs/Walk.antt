@@ -13,7 +13,7 @@ pub record IsOver (old new : Walk) : Type 0 where
   pub at_end : old.at ≡ length old.bytes
   pub unchanged : new ≡ old
 
--- The field at the place of the walk was given, and the walk is behind it. That it goes on, and stays within its
+-- The field at the place of the walk was given, and the walk is after it. That it goes on, and stays within its
 -- bytes, follows from the spelling, and is said for callers.
 pub record GivesField (old new : Walk) (entry : Entry) : Type 0 where
   pub left : old.at < length old.bytes

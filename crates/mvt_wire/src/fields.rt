@@ -1,6 +1,6 @@
 ghost use Rattle.std.specs.Prelude.{◌≡◌, ◌+◌, ◌<◌, ◌≤◌, length, take, IfSome, IfNone, IfOk, IfErr};
 ghost use Rattle.mvt_wire.specs.Field.{IsField, IsPayload, FieldDefect, HasLeadingVarint, PayloadEnd, content_of, entry_of, wire_type_of};
-ghost use Rattle.mvt_wire.specs.Key.{IsKeyOf, number_of};
+ghost use Rattle.mvt_wire.specs.Calls.Key.{IsKeyOf, number_of};
 ghost use Rattle.mvt_wire.specs.Varint.{SpellsVarint};
 ghost use Rattle.mvt_wire.specs.Walk.{Walk, IsOver, GivesField, FindsDefect};
 
@@ -46,8 +46,10 @@ impl<'a> Fields<'a> {
     #[inline(always)]
     pub fn next_field(&mut self) -> Option<Result<Field<'a>, WireCause>>
         ensures over { IfNone result (IsOver self.old self.new) }
-        ensures field { IfSome result (λ item. IfOk item (λ field. GivesField self.old self.new (entry_of field))) }
-        ensures defect { IfSome result (λ item. IfErr item (λ cause. FindsDefect self.old self.new cause)) }
+        ensures field { IfSome result (λ item.
+            IfOk item (λ field. GivesField self.old self.new (entry_of field))) }
+        ensures defect { IfSome result (λ item.
+            IfErr item (λ cause. FindsDefect self.old self.new cause)) }
     {
         if self.at >= self.bytes.len() {
             return None;
@@ -65,7 +67,7 @@ impl<'a> Fields<'a> {
     }
 }
 
-/// The field at an offset, and the offset behind it.
+/// The field at an offset, and the offset after it.
 #[inline(always)]
 pub(crate) fn read_field(bytes: &[u8], at: usize) -> Result<(Field<'_>, usize), WireCause>
     requires { at ≤ length bytes.now }
@@ -81,11 +83,12 @@ pub(crate) fn read_field(bytes: &[u8], at: usize) -> Result<(Field<'_>, usize), 
     Ok((Field { number, at, body }, next))
 }
 
-/// The payload behind a key, and the offset behind the payload.
+/// The payload after a key, and the offset after the payload.
 #[inline(always)]
 fn read_payload(bytes: &[u8], key: Key) -> Result<(Body<'_>, usize), WireCause>
     requires { IsKeyOf bytes.now key }
-    ensures wire_type { IfOk result (λ read. wire_type_of (content_of read.0) ≡ number_of key.wire_type) }
+    ensures wire_type { IfOk result (λ read. wire_type_of (content_of read.0)
+        ≡ number_of key.wire_type) }
     ensures payload { IfOk result (λ read. IsPayload bytes.now key.end read.1 (content_of read.0)) }
     ensures further { IfOk result (λ read. key.end ≤ read.1) }
     ensures within { IfOk result (λ read. read.1 ≤ length bytes.now) }
@@ -113,7 +116,7 @@ fn read_payload(bytes: &[u8], key: Key) -> Result<(Body<'_>, usize), WireCause>
     }
 }
 
-/// The varint that a payload begins with, its value or its length, and the offset behind it.
+/// The varint that a payload begins with, its value or its length, and the offset after it.
 #[inline(always)]
 fn read_leading(bytes: &[u8], key: Key) -> Result<(u64, usize), WireCause>
     requires key { IsKeyOf bytes.now key }
@@ -131,7 +134,7 @@ fn read_leading(bytes: &[u8], key: Key) -> Result<(u64, usize), WireCause>
     }
 }
 
-/// The offset behind the bytes of a payload, of which there are `size` from an offset on.
+/// The offset after the bytes of a payload, of which there are `size` from an offset on.
 #[inline(always)]
 fn payload_end(bytes: &[u8], key: Key, from: usize, size: u64) -> Result<usize, WireCause>
     requires key { IsKeyOf bytes.now key }

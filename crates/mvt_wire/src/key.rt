@@ -1,6 +1,6 @@
 ghost use Rattle.std.specs.Prelude.{◌≡◌, ◌<◌, ◌≤◌, ◌^◌, ◌↔◌, IsTrue, length, IfOk, IfErr};
 ghost use Rattle.mvt_wire.specs.Field.{FieldDefect};
-ghost use Rattle.mvt_wire.specs.Key.{IsKeyOf};
+ghost use Rattle.mvt_wire.specs.Calls.Key.{IsKeyOf};
 
 use crate::cause::{WireCause, WireCode};
 use crate::varint::read_varint;
@@ -14,7 +14,7 @@ pub(crate) enum WireType {
     Fixed32,
 }
 
-/// A field key that was read: its offset, the field's number, the wire type, and the offset behind
+/// A field key that was read: its offset, the field's number, the wire type, and the offset after
 /// the key.
 #[derive(Clone, Copy)]
 pub(crate) struct Key {

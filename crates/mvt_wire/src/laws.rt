@@ -21,61 +21,74 @@ pub mod messages;
 /// No spelling of a varint is a proper front of another one (Protocol Buffers encoding, "Base 128
 /// Varints").
 pub fn no_varint_begins_another()
-    ensures { (spelling more : List ℕ) (m n : ℕ) → IsVarint spelling m → IsVarint (spelling ++ more) n → more ≡ [] }
+    ensures { (spelling more : List ℕ) (m n : ℕ) → IsVarint spelling m
+        → IsVarint (spelling ++ more) n → more ≡ [] }
 {}
 
 /// At each place is exactly one of a varint and its two defects: that it ends too early, or is
 /// too long.
 pub fn varint_or_defect()
     ensures some { (bytes : List ℕ) (at : ℕ) → at ≤ length bytes →
-        ((to n : ℕ) × SpellsVarint bytes at to n) ⊎ ((code : WireCode) × VarintDefect code (drop at bytes)) }
-    ensures one_end { (bytes : List ℕ) (at to end m n : ℕ) → SpellsVarint bytes at to m → SpellsVarint bytes at end n → to ≡ end }
-    ensures one_value { (bytes : List ℕ) (at to end m n : ℕ) → SpellsVarint bytes at to m → SpellsVarint bytes at end n → m ≡ n }
-    ensures not_both { (bytes : List ℕ) (at to n : ℕ) (code : WireCode) → SpellsVarint bytes at to n → ¬ VarintDefect code (drop at bytes) }
-    ensures one_defect { (rest : List ℕ) (code other : WireCode) → VarintDefect code rest → VarintDefect other rest → code ≡ other }
+        ((to n : ℕ) × SpellsVarint bytes at to n) ⊎ ((code : WireCode)
+        × VarintDefect code (drop at bytes)) }
+    ensures one_end { (bytes : List ℕ) (at to end m n : ℕ) → SpellsVarint bytes at to m
+        → SpellsVarint bytes at end n → to ≡ end }
+    ensures one_value { (bytes : List ℕ) (at to end m n : ℕ) → SpellsVarint bytes at to m
+        → SpellsVarint bytes at end n → m ≡ n }
+    ensures not_both { (bytes : List ℕ) (at to n : ℕ) (code : WireCode) → SpellsVarint bytes at to n
+        → ¬ VarintDefect code (drop at bytes) }
+    ensures one_defect { (rest : List ℕ) (code other : WireCode) → VarintDefect code rest
+        → VarintDefect other rest → code ≡ other }
 {}
 
 /// Of a varint's bytes the last alone is below 128: the first such byte ends it, if the number has
 /// 64 bits. n groups of seven bits have a value below 128^n (Protocol Buffers encoding, "Base 128
 /// Varints").
 pub fn varint_ends_below_128()
-    ensures last { (bytes : List ℕ) (from to n : ℕ) → SpellsVarint bytes from to n → slice_index bytes (to - 1) < 128 }
+    ensures last { (bytes : List ℕ) (from to n : ℕ) → SpellsVarint bytes from to n
+        → slice_index bytes (to - 1) < 128 }
     ensures earlier { (bytes : List ℕ) (from to n : ℕ) → SpellsVarint bytes from to n →
         (i : ℕ) → from ≤ i → i + 1 < to → 128 ≤ slice_index bytes i }
     ensures ended { (rest : List ℕ) (last n : ℕ) → last < length rest → last ≤ 9 →
         ((i : ℕ) → i < last → 128 ≤ slice_index rest i) → slice_index rest last < 128 →
         n ≡ sum_of_groups (take (last + 1) rest) → n < 2 ^ 64 → IsVarint (take (last + 1) rest) n }
-    ensures weight { (rest : List ℕ) (size : ℕ) → size ≤ length rest → sum_of_groups (take size rest) < 128 ^ size }
+    ensures weight { (rest : List ℕ) (size : ℕ) → size ≤ length rest
+        → sum_of_groups (take size rest) < 128 ^ size }
 {}
 
 /// No spelling of a field is a proper front of another one (Protocol Buffers encoding, "Message
 /// Structure").
 pub fn no_field_begins_another()
-    ensures { (spelling more : List ℕ) (e f : Entry) → IsFieldSpelling spelling e → IsFieldSpelling (spelling ++ more) f → more ≡ [] }
+    ensures { (spelling more : List ℕ) (e f : Entry) → IsFieldSpelling spelling e
+        → IsFieldSpelling (spelling ++ more) f → more ≡ [] }
 {}
 
 /// A field takes bytes, all of them within its message (Protocol Buffers encoding, "Message
 /// Structure").
 pub fn field_takes_bytes()
-    ensures { (bytes : List ℕ) (to : ℕ) (entry : Entry) → IsField bytes to entry → (entry.at < to) × (to ≤ length bytes) }
+    ensures { (bytes : List ℕ) (to : ℕ) (entry : Entry) → IsField bytes to entry
+        → (entry.at < to) × (to ≤ length bytes) }
 {}
 
-/// A message is whole exactly where its bytes are spellings of fields, joined one behind another.
+/// A message is whole exactly where its bytes are spellings of fields, joined one after another.
 pub fn message_joins_spellings()
-    ensures joined { (pieces : List (List ℕ)) (entries : List Entry) → AreSpellings 0 pieces entries → IsMessage (concat pieces) 0 entries }
+    ensures joined { (pieces : List (List ℕ)) (entries : List Entry) → AreSpellings 0 pieces entries
+        → IsMessage (concat pieces) 0 entries }
     ensures parted { (bytes : List ℕ) (entries : List Entry) → IsMessage bytes 0 entries →
         (pieces : List (List ℕ)) × (bytes ≡ concat pieces) × AreSpellings 0 pieces entries }
 {}
 
 /// A message has one field list.
 pub fn one_field_list()
-    ensures { (bytes : List ℕ) (from : ℕ) (es fs : List Entry) → IsMessage bytes from es → IsMessage bytes from fs → es ≡ fs }
+    ensures { (bytes : List ℕ) (from : ℕ) (es fs : List Entry) → IsMessage bytes from es
+        → IsMessage bytes from fs → es ≡ fs }
 {}
 
 /// The bytes from a place on are a whole message, or have one defect.
 pub fn message_or_defect()
     ensures some { (bytes : List ℕ) (from : ℕ) → from ≤ length bytes →
-        ((entries : List Entry) × IsMessage bytes from entries) ⊎ ((cause : WireCause) × HasDefect bytes from cause) }
+        ((entries : List Entry) × IsMessage bytes from entries) ⊎ ((cause : WireCause)
+        × HasDefect bytes from cause) }
     ensures not_both { (bytes : List ℕ) (from : ℕ) (entries : List Entry) (cause : WireCause) →
         IsMessage bytes from entries → ¬ HasDefect bytes from cause }
     ensures one_defect { (bytes : List ℕ) (from : ℕ) (first second : WireCause) →
@@ -86,21 +99,25 @@ pub fn message_or_defect()
 /// begins there: every other one is a front of it.
 pub fn longest_field_list()
     ensures whole { (bytes : List ℕ) (from to : ℕ) (entries front : List Entry) →
-        IsMessage bytes from entries → FieldList bytes from front to → (rest : List Entry) × (entries ≡ front ++ rest) }
-    ensures before_defect { (bytes : List ℕ) (from to : ℕ) (cause : WireCause) (front : List Entry) (defect : HasDefect bytes from cause) →
+        IsMessage bytes from entries → FieldList bytes from front to
+        → (rest : List Entry) × (entries ≡ front ++ rest) }
+    ensures before_defect { (bytes : List ℕ) (from to : ℕ) (cause : WireCause) (front : List Entry)
+        (defect : HasDefect bytes from cause) →
         FieldList bytes from front to → (rest : List Entry) × (defect.entries ≡ front ++ rest) }
 {}
 
-/// A list of fields, and the field behind it, are a list of fields.
+/// A list of fields, and the field after it, are a list of fields.
 pub fn field_list_goes_on()
     ensures { (bytes : List ℕ) (from : ℕ) (entries : List Entry) (at next : ℕ) (entry : Entry) →
-        FieldList bytes from entries at → entry.at ≡ at → IsField bytes next entry → FieldList bytes from (entries ++ entry ∷ []) next }
+        FieldList bytes from entries at → entry.at ≡ at → IsField bytes next entry
+        → FieldList bytes from (entries ++ entry ∷ []) next }
 {}
 
 /// Of two lists of varints that begin at one place, one goes on where the other ends (Protocol
 /// Buffers encoding, "Packed Repeated Fields").
 pub fn varint_list_goes_on()
-    ensures { (bytes : List ℕ) (from to end : ℕ) (first second : List ℕ) → VarintList bytes from first to → VarintList bytes from second end →
+    ensures { (bytes : List ℕ) (from to end : ℕ) (first second : List ℕ)
+        → VarintList bytes from first to → VarintList bytes from second end →
         ((rest : List ℕ) × (first ≡ second ++ rest) × VarintList bytes end rest to)
         ⊎ ((rest : List ℕ) × (second ≡ first ++ rest) × VarintList bytes to rest end) }
 {}
@@ -111,36 +128,50 @@ pub fn packed_list_or_fault()
     ensures some { (from : ℕ) (part : List ℕ) (field_number : ℕ) →
         ((numbers : List ℕ) × VarintList part 0 numbers (length part) × AreSmall numbers)
         ⊎ ((cause : WireCause) × PackedFault from part field_number cause) }
-    ensures not_both { (from : ℕ) (part : List ℕ) (field_number : ℕ) (cause : WireCause) (numbers : List ℕ) →
-        VarintList part 0 numbers (length part) → AreSmall numbers → ¬ PackedFault from part field_number cause }
+    ensures not_both { (from : ℕ) (part : List ℕ) (field_number : ℕ) (cause : WireCause)
+        (numbers : List ℕ) →
+        VarintList part 0 numbers (length part) → AreSmall numbers
+        → ¬ PackedFault from part field_number cause }
 {}
 
 /// The numbers of a message's fields of one number end in one way: with a whole message, or at a
 /// fault (Protocol Buffers encoding, "Packed Repeated Fields").
 pub fn one_numbers_end()
     ensures some { (bytes : List ℕ) (from field_number : ℕ) → from ≤ length bytes →
-        (numbers : List ℕ) × (ending : Option WireCause) × NumbersEnd bytes from field_number numbers ending }
-    ensures only { (bytes : List ℕ) (from field_number : ℕ) (first second : List ℕ) (ending other : Option WireCause) →
-        NumbersEnd bytes from field_number first ending → NumbersEnd bytes from field_number second other → (first ≡ second) × (ending ≡ other) }
+        (numbers : List ℕ) × (ending : Option WireCause)
+        × NumbersEnd bytes from field_number numbers ending }
+    ensures only { (bytes : List ℕ) (from field_number : ℕ) (first second : List ℕ)
+        (ending other : Option WireCause) →
+        NumbersEnd bytes from field_number first ending
+        → NumbersEnd bytes from field_number second other → (first ≡ second) × (ending ≡ other) }
 {}
 
-/// The numbers end at the fault of least place, of all that could end them: all others are behind
+/// The numbers end at the fault of least place, of all that could end them: all others are later
 /// it.
 pub fn numbers_end_at_least_fault()
     ensures fault { (bytes : List ℕ) (from field_number : ℕ) (numbers : List ℕ) (cause : WireCause) →
-        NumbersEnd bytes from field_number numbers (Some cause) → IsNumbersFault bytes from field_number cause }
-    ensures least { (bytes : List ℕ) (from field_number : ℕ) (numbers : List ℕ) (cause other : WireCause) →
-        NumbersEnd bytes from field_number numbers (Some cause) → IsNumbersFault bytes from field_number other → cause.at ≤ other.at }
-    ensures only { (bytes : List ℕ) (from field_number : ℕ) (numbers : List ℕ) (cause other : WireCause) →
-        NumbersEnd bytes from field_number numbers (Some cause) → IsNumbersFault bytes from field_number other → cause.at ≡ other.at → cause ≡ other }
+        NumbersEnd bytes from field_number numbers (Some cause)
+        → IsNumbersFault bytes from field_number cause }
+    ensures least { (bytes : List ℕ) (from field_number : ℕ) (numbers : List ℕ)
+        (cause other : WireCause) →
+        NumbersEnd bytes from field_number numbers (Some cause)
+        → IsNumbersFault bytes from field_number other → cause.at ≤ other.at }
+    ensures only { (bytes : List ℕ) (from field_number : ℕ) (numbers : List ℕ)
+        (cause other : WireCause) →
+        NumbersEnd bytes from field_number numbers (Some cause)
+        → IsNumbersFault bytes from field_number other → cause.at ≡ other.at → cause ≡ other }
     ensures none { (bytes : List ℕ) (from field_number : ℕ) (numbers : List ℕ) (cause : WireCause) →
-        NumbersEnd bytes from field_number numbers None → ¬ IsNumbersFault bytes from field_number cause }
+        NumbersEnd bytes from field_number numbers None
+        → ¬ IsNumbersFault bytes from field_number cause }
 {}
 
 /// The numbers are those of the varints before the message's end or the fault, in order.
 pub fn numbers_stand_before_end()
-    ensures { (bytes : List ℕ) (from field_number : ℕ) (numbers : List ℕ) (ending : Option WireCause) →
-        NumbersEnd bytes from field_number numbers ending → StandBetween (IsNumberAt bytes from field_number) from numbers (place_of_end bytes ending) }
+    ensures { (bytes : List ℕ) (from field_number : ℕ) (numbers : List ℕ)
+        (ending : Option WireCause) →
+        NumbersEnd bytes from field_number numbers ending
+        → StandBetween (IsNumberAt bytes from field_number) from numbers
+        (place_of_end bytes ending) }
 {}
 
 /// The tags and the geometry of a feature are the numbers of its fields 2 and 4, which end with the
@@ -148,21 +179,25 @@ pub fn numbers_stand_before_end()
 /// Specification 2.1, section 4.2).
 pub fn feature_numbers_end()
     ensures tags { (bytes : List ℕ) (span : Span) (feature : FeatureRecord) →
-        IsFeature bytes span feature → NumbersEnd (take span.to bytes) span.from 2 feature.tags None }
+        IsFeature bytes span feature → NumbersEnd (take span.to bytes) span.from 2 feature.tags
+        None }
     ensures geometry { (bytes : List ℕ) (span : Span) (feature : FeatureRecord) →
-        IsFeature bytes span feature → NumbersEnd (take span.to bytes) span.from 4 feature.geometry None }
+        IsFeature bytes span feature → NumbersEnd (take span.to bytes) span.from 4 feature.geometry
+        None }
 {}
 
 /// Bytes are a tile, or have a wire fault, and not both (Mapbox Vector Tile Specification 2.1,
 /// section 4).
 pub fn tile_or_wire_fault()
     ensures some { (bytes : List ℕ) →
-        ((tile : TileRecord) × IsTile bytes tile) ⊎ ((scope : Scope) × (cause : WireCause) × WireFault bytes scope cause) }
+        ((tile : TileRecord) × IsTile bytes tile) ⊎ ((scope : Scope) × (cause : WireCause)
+        × WireFault bytes scope cause) }
     ensures not_both { (bytes : List ℕ) (tile : TileRecord) (scope : Scope) (cause : WireCause) →
         IsTile bytes tile → ¬ WireFault bytes scope cause }
 {}
 
 /// Bytes are at most one tile (Mapbox Vector Tile Specification 2.1, section 4).
 pub fn one_tile()
-    ensures { (bytes : List ℕ) (first second : TileRecord) → IsTile bytes first → IsTile bytes second → first ≡ second }
+    ensures { (bytes : List ℕ) (first second : TileRecord) → IsTile bytes first
+        → IsTile bytes second → first ≡ second }
 {}

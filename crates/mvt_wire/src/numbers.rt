@@ -1,6 +1,8 @@
+//! A cursor over the numbers of a message's fields of one field number, single or packed.
 ghost use Rattle.std.specs.Prelude.{◌≡◌, ◌↔◌, ℕ, List, [], ◌<◌, ◌≤◌, ◌^◌, length, take, Option, Some, None, IsNone, IfSome, IfNone, IfOk, IfErr};
 ghost use Rattle.mvt_wire.specs.Varint.{SpellsVarint};
-ghost use Rattle.mvt_wire.specs.Numbers.{NumbersEnd, NumberWalk, walk_at, StopsVarints, NumbersLeft, HasEnded, GivesNumber, EndsNumbers, LeavesVarints};
+ghost use Rattle.mvt_wire.specs.Numbers.{NumbersEnd, NumberWalk, walk_at, StopsVarints, NumbersLeft, HasEnded, GivesNumber, EndsNumbers};
+ghost use Rattle.mvt_wire.specs.Calls.Numbers.{LeavesVarints};
 ghost use Rattle.mvt_wire.specs.declared.cause.WireCause.{WireCause};
 
 use crate::cause::{WireCause, WireCode};
@@ -12,7 +14,7 @@ use std::marker::Model;
 #[cfg(test)]
 mod tests;
 
-/// Varints one behind another: the offset of the first, and the one behind the last.
+/// Varints one after another: the offset of the first, and the one after the last.
 #[derive(Clone, Copy)]
 struct Varints {
     at: usize,
@@ -26,16 +28,18 @@ struct Varints {
 pub struct Numbers<'a> {
     bytes: &'a [u8],
     field_number: u32,
-    // What is left of the list that is being read. The next field is due behind it.
+    // What is left of the list that is being read. The next field is due after it.
     varints: Varints,
 }
 
 impl<'a> Model for Numbers<'a> {
     ghost Value = { NumberWalk };
 
-    ghost view = { λ numbers. walk_at numbers.bytes.now numbers.field_number numbers.varints.at numbers.varints.end };
+    ghost view = { λ numbers. walk_at numbers.bytes.now numbers.field_number numbers.varints.at
+        numbers.varints.end };
 
-    ghost invariant = { λ numbers. (numbers.varints.at ≤ numbers.varints.end) × (numbers.varints.end ≤ length numbers.bytes.now) };
+    ghost invariant = { λ numbers. (numbers.varints.at ≤ numbers.varints.end)
+        × (numbers.varints.end ≤ length numbers.bytes.now) };
 }
 
 impl<'a> Numbers<'a> {
@@ -45,7 +49,8 @@ impl<'a> Numbers<'a> {
         requires forward { from ≤ to }
         requires within { to ≤ length bytes.now }
         ensures { (numbers : List ℕ) (ending : Option WireCause) →
-            NumbersLeft result numbers ending ↔ NumbersEnd (take to bytes.entry.now) from number numbers ending }
+            NumbersLeft result numbers ending
+            ↔ NumbersEnd (take to bytes.entry.now) from number numbers ending }
     {
         Numbers {
             bytes: &bytes[..to],
@@ -67,7 +72,8 @@ impl<'a> Numbers<'a> {
     pub fn next_number(&mut self) -> Option<Result<u32, WireCause>>
         ensures end { IfNone result (EndsNumbers self.old self.new None) }
         ensures number { IfSome result (λ item. IfOk item (GivesNumber self.old self.new)) }
-        ensures fault { IfSome result (λ item. IfErr item (λ cause. EndsNumbers self.old self.new (Some cause))) }
+        ensures fault { IfSome result (λ item.
+            IfErr item (λ cause. EndsNumbers self.old self.new (Some cause))) }
         ensures none_from_then_on { HasEnded self.old → (IsNone result) × (self.new ≡ self.old) }
     {
         match varints_left(self.bytes, self.field_number, self.varints) {
@@ -118,7 +124,8 @@ fn varints_left(
         LeavesVarints (walk_at bytes.now field_number varints.at varints.end) next.at next.end)) }
     ensures fault { IfSome result (λ item. IfErr item (λ cause.
         NumbersLeft (walk_at bytes.now field_number varints.at varints.end) [] (Some cause))) }
-    ensures end { IfNone result (NumbersLeft (walk_at bytes.now field_number varints.at varints.end) [] None) }
+    ensures end { IfNone result (NumbersLeft (walk_at bytes.now field_number varints.at varints.end)
+        [] None) }
     ensures not_over { IfSome result (λ _. varints.at < length bytes.now) }
 {
     if varints.at < varints.end {
@@ -157,7 +164,8 @@ fn next_varints(bytes: &[u8], field_number: u32, from: usize) -> Option<Result<V
 fn field_varints(bytes: &[u8], field_number: u32, at: usize) -> Result<Varints, WireCause>
     requires { at < length bytes.now }
     ensures same { IfOk result (λ varints. (numbers : List ℕ) (ending : Option WireCause) →
-        NumbersLeft (walk_at bytes.now field_number varints.at varints.end) numbers ending → NumbersEnd bytes.now at field_number numbers ending) }
+        NumbersLeft (walk_at bytes.now field_number varints.at varints.end) numbers ending
+        → NumbersEnd bytes.now at field_number numbers ending) }
     ensures further { IfOk result (λ varints. at < varints.at) }
     ensures forward { IfOk result (λ varints. varints.at ≤ varints.end) }
     ensures within { IfOk result (λ varints. varints.end ≤ length bytes.now) }
@@ -181,14 +189,16 @@ fn field_varints(bytes: &[u8], field_number: u32, at: usize) -> Result<Varints, 
     }
 }
 
-/// The number that the varints begin with, and the offset behind it.
+/// The number that the varints begin with, and the offset after it.
 #[inline(always)]
 fn read_number(bytes: &[u8], field_number: u32, varints: Varints) -> Result<(u32, usize), WireCause>
     requires left { varints.at < varints.end }
     requires within { varints.end ≤ length bytes.now }
-    ensures number { IfOk result (λ read. SpellsVarint (take varints.end bytes.now) varints.at read.1 read.0) }
+    ensures number { IfOk result (λ read.
+        SpellsVarint (take varints.end bytes.now) varints.at read.1 read.0) }
     ensures small { IfOk result (λ read. read.0 < 2 ^ 32) }
-    ensures fault { IfErr result (λ cause. StopsVarints (take varints.end bytes.now) varints.at field_number [] cause) }
+    ensures fault { IfErr result (λ cause.
+        StopsVarints (take varints.end bytes.now) varints.at field_number [] cause) }
 {
     let at = varints.at;
     let field = field_number;

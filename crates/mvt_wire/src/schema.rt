@@ -169,7 +169,8 @@ impl Message {
         }
     }
 
-    /// What the message requires of the fields of a number, or None where it doesn't know the number.
+    /// What the message requires of the fields of a number, or None where it doesn't know the
+    /// number.
     #[inline(always)]
     pub fn rule(self, number: u32) -> Option<FieldRule>
         ensures { result ≡ rule_of self number }

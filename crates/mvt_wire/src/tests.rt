@@ -28,8 +28,8 @@ fn no_varints(rt: HostRuntime) {
     assert!(rt; read_varint(&[], 0) == Err(WireCode::Ends));
 }
 
-/// A field's number, the place of its key, its content (a varint's value, or the length of bytes), and the content's
-/// place; of a field of fixed width its length alone.
+/// A field's number, the place of its key, its content (a varint's value, or the length of bytes),
+/// and the content's place; of a field of fixed width its length alone.
 fn next_of(fields: &mut Fields) -> Option<(u32, usize, u64, usize)> {
     let Some(Ok(field)) = fields.next_field() else {
         return None;

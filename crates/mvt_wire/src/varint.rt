@@ -4,7 +4,7 @@ ghost use Rattle.mvt_wire.specs.declared.cause.WireCode.{WireCode};
 
 use crate::cause::WireCode;
 
-/// The varint at an offset: its value, and the offset behind it (Protocol Buffers encoding, "Base
+/// The varint at an offset: its value, and the offset after it (Protocol Buffers encoding, "Base
 /// 128 Varints"). A varint longer than its value needs is read as well, up to ten bytes.
 ///
 /// Errors: `Ends` where the bytes end before the varint does, `TooLong` where it isn't below 2^64.
@@ -14,7 +14,8 @@ pub fn read_varint(bytes: &[u8], at: usize) -> Result<(u64, usize), WireCode>
     ensures found { IfOk result (λ read. SpellsVarint bytes.now at read.1 read.0) }
     ensures only { (n to : ℕ) → SpellsVarint bytes.now at to n → result ≡ Ok (n, to) }
     ensures refused { IfErr result (λ code. VarintDefect code (drop at bytes.now)) }
-    ensures refused_only { (code : WireCode) → VarintDefect code (drop at bytes.now) → result ≡ Err code }
+    ensures refused_only { (code : WireCode) → VarintDefect code (drop at bytes.now)
+        → result ≡ Err code }
 {
     if let Some(read) = short_varint(bytes, at) {
         return Ok(read);
@@ -26,14 +27,15 @@ pub fn read_varint(bytes: &[u8], at: usize) -> Result<(u64, usize), WireCode>
     }
 }
 
-/// The varint at an offset, and the offset behind it, where it has one byte or two, as nearly all
+/// The varint at an offset, and the offset after it, where it has one byte or two, as nearly all
 /// have in a tile.
 #[inline(always)]
 fn short_varint(bytes: &[u8], at: usize) -> Option<(u64, usize)>
     requires { at ≤ length bytes.now }
     ensures found { IfSome result (λ read. SpellsVarint bytes.now at read.1 read.0) }
     ensures long { IfNone result ((n to : ℕ) → SpellsVarint bytes.now at to n → at + 2 < to) }
-    ensures continued { IfNone result (at + 2 ≤ length bytes.now → (128 ≤ slice_index bytes.now at) × (128 ≤ slice_index bytes.now (at + 1))) }
+    ensures continued { IfNone result (at + 2 ≤ length bytes.now
+        → (128 ≤ slice_index bytes.now at) × (128 ≤ slice_index bytes.now (at + 1))) }
 {
     let &first = bytes.get(at)?;
     if first < 128 {
@@ -46,10 +48,12 @@ fn short_varint(bytes: &[u8], at: usize) -> Option<(u64, usize)>
     None
 }
 
-/// The varint that the bytes begin with, and how many bytes it has, at least three; None where they begin with none.
+/// The varint that the bytes begin with, and how many bytes it has, at least three; None where they
+/// begin with none.
 #[inline(always)]
 fn long_varint(rest: &[u8]) -> Option<(u64, usize)>
-    requires { 2 ≤ length rest.now → (128 ≤ slice_index rest.now 0) × (128 ≤ slice_index rest.now 1) }
+    requires { 2 ≤ length rest.now → (128 ≤ slice_index rest.now 0)
+        × (128 ≤ slice_index rest.now 1) }
     ensures within { IfSome result (λ read. read.1 ≤ length rest.now) }
     ensures found { IfSome result (λ read. IsVarint (take read.1 rest.now) read.0) }
     ensures refused { IfNone result (EndsEarly rest.now ⊎ IsTooLong rest.now) }
@@ -64,7 +68,8 @@ fn long_varint(rest: &[u8]) -> Option<(u64, usize)>
 /// The same, where it has three to five bytes, as those of 32-bit numbers have.
 #[inline(always)]
 fn middle_varint(rest: &[u8]) -> Option<(u64, usize)>
-    requires { 2 ≤ length rest.now → (128 ≤ slice_index rest.now 0) × (128 ≤ slice_index rest.now 1) }
+    requires { 2 ≤ length rest.now → (128 ≤ slice_index rest.now 0)
+        × (128 ≤ slice_index rest.now 1) }
     ensures within { IfSome result (λ read. read.1 ≤ length rest.now) }
     ensures found { IfSome result (λ read. IsVarint (take read.1 rest.now) read.0) }
 {
@@ -91,7 +96,8 @@ fn middle_varint(rest: &[u8]) -> Option<(u64, usize)>
 #[inline(never)]
 fn varint_size(rest: &[u8]) -> Option<usize>
     ensures within { IfSome result (λ size. size ≤ length rest.now) }
-    ensures found { IfSome result (λ size. IsVarint (take size rest.now) (sum_of_groups (take size rest.now))) }
+    ensures found { IfSome result (λ size.
+        IsVarint (take size rest.now) (sum_of_groups (take size rest.now))) }
     ensures refused { IfNone result (EndsEarly rest.now ⊎ IsTooLong rest.now) }
 {
     for (i, &byte) in rest.iter().enumerate() {

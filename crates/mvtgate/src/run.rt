@@ -41,7 +41,7 @@ Exit status:
   4  out of memory
   5  the fault file holds no fault";
 
-/// The names of the profiles, that by which each polygon is looked at by itself first.
+/// The names of the profiles, that by which each polygon is checked by itself first.
 static PROFILES: [&str; 2] = ["polygon", "feature"];
 
 /// What the help of a command says of profiles.
@@ -55,7 +55,7 @@ Profiles:
 enum Engine {
     Fields,
     Check(Profile),
-    /// To check it, with advice behind the verdict.
+    /// To check it, with advice after the verdict.
     Advise(Profile),
     Dump,
 }
@@ -234,8 +234,10 @@ fn call_of<'a>(matches: &ArgMatches<'a>) -> Option<Call<'a>> {
 
 /// The profile that the words name, which `clap` has checked; without one that of polygons.
 fn profile_of(found: &ArgMatches<'_>) -> Profile
-    ensures feature { first_value (found_of found.now) (codes "profile") ≡ Some (codes "feature") → result ≡ Profile.Feature }
-    ensures polygon { first_value (found_of found.now) (codes "profile") ≢ Some (codes "feature") → result ≡ Profile.Polygon }
+    ensures feature { first_value (found_of found.now) (codes "profile") ≡ Some (codes "feature")
+        → result ≡ Profile.Feature }
+    ensures polygon { first_value (found_of found.now) (codes "profile") ≢ Some (codes "feature")
+        → result ≡ Profile.Polygon }
 {
     match found.get_str("profile") {
         Some("feature") => Profile::Feature,
@@ -245,9 +247,12 @@ fn profile_of(found: &ArgMatches<'_>) -> Profile
 
 /// What `check` does by a profile, with advice where the words ask for it.
 fn check_of(found: &ArgMatches<'_>, profile: Profile) -> Engine
-    ensures advice { one_text (found_of found.now) (codes "advice") ≡ Some (codes "true") → result ≡ Engine.Advise profile }
-    ensures plain { one_text (found_of found.now) (codes "advice") ≡ Some (codes "false") → result ≡ Engine.Check profile }
-    ensures none { one_text (found_of found.now) (codes "advice") ≡ None → result ≡ Engine.Check profile }
+    ensures advice { one_text (found_of found.now) (codes "advice") ≡ Some (codes "true")
+        → result ≡ Engine.Advise profile }
+    ensures plain { one_text (found_of found.now) (codes "advice") ≡ Some (codes "false")
+        → result ≡ Engine.Check profile }
+    ensures none { one_text (found_of found.now) (codes "advice") ≡ None
+        → result ≡ Engine.Check profile }
 {
     if found.get_flag("advice") {
         Engine::Advise(profile)
@@ -256,7 +261,8 @@ fn check_of(found: &ArgMatches<'_>, profile: Profile) -> Engine
     }
 }
 
-/// Prints what `clap` has to say: help and the version on standard output, and anything else as an error.
+/// Prints what `clap` has to say: help and the version on standard output, and anything else as an
+/// error.
 fn explain<R: Print + Eprint>(rt: &R, error: &clap::Error) -> u8
     ensures help { kind_of error.now ≡ ErrorKind.DisplayHelp → result ≡ 0 }
     ensures version { kind_of error.now ≡ ErrorKind.DisplayVersion → result ≡ 0 }

@@ -23,7 +23,8 @@ use Rattle.mvt_fault.specs.declared.ring.RingCode.TheVariants.{EndsAtItsBeginnin
 use Rattle.mvt_fault.specs.declared.ring.RingEdge.{RingEdge}
 use Rattle.mvt_fault.specs.declared.tag.TagCode.{TagCode}
 use Rattle.mvt_fault.specs.declared.tag.TagCode.TheVariants.{OddLength, NoKey, NoValue, Repeated}
-use Rattle.mvtgate_c.specs.TextRoom.{IsInMemory, IsWord, IsEdgeOfWords, longest_text}
+use Rattle.mvtgate_c.specs.Calls.TextRoom.{IsInMemory, IsWord, IsEdgeOfWords}
+use Rattle.mvtgate_c.specs.TextRoom.{longest_text}
 
 -- a digit stands in a string as it is
 escape_digit : (c : ℕ) → 48 ≤ c → c ≤ 57 → escape_byte c ≡ c ∷ []
@@ -65,7 +66,7 @@ length_code n is = length-decimal-le_wide 3 n (omega arith) (omega (arith, is)) 
 length_field : (n : ℕ) → n < 2 ^ 32 → length (compact_text (whole n)) ≤ 10
 length_field n is = length-decimal-le_wide 10 n (omega arith) (omega (arith, is)) (omega (arith, is))
 
--- the members behind the first one, with the closing bracket
+-- the members after the first one, with the closing bracket
 record MoreFit (ms : Members) (n : ℕ) : Type 0 where
   fits : length (members_text true ms) ≤ n
 

@@ -1,6 +1,6 @@
 -- What the laws of faults say of the verdicts that are handed to C.
 use Rattle.std.proofs.Common.{ℕ, List}
-use Rattle.mvt_confirm.proofs.TrueFaults.{shown_is_invalid}
+use Rattle.mvt_confirm.proofs.Validity.TrueFaults.{shown_is_invalid}
 use Rattle.mvt_confirm.specs.Valid.{ValidBy}
 use Rattle.mvt_fault.specs.declared.fault.Fault.{Fault}
 use Rattle.mvt_fault.specs.declared.profile.Profile.{Profile}

@@ -1,3 +1,4 @@
+pub mod Calls
 pub mod ProfileNumber
 pub mod TextRoom
 pub mod Texts

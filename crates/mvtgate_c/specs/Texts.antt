@@ -29,16 +29,16 @@ IsDumpText bytes text = (tile : TileRecord) × IsTile bytes tile × (text ≡ du
 abbrev pub IsAdviceText : List ℕ → List ℕ → Type 0
 IsAdviceText bytes text = (tile : TileRecord) × (advice : List Advice) × IsTile bytes tile × IsAdvice tile advice × (text ≡ advice_text advice)
 
--- such a text is at the front of the room, with what was there behind it, and its length is told
-pub record Hands (Is : List ℕ → Type 0) (old new : List ℕ) (told : ℕ) : Type 0 where
+-- such a text is at the front of the room, with what was there after it, and its length is reported
+pub record Hands (Is : List ℕ → Type 0) (old new : List ℕ) (reported : ℕ) : Type 0 where
   pub text : List ℕ
   pub is : Is text
-  pub written : new ≡ text ++ drop told old
-  pub its_length : told ≡ length text
+  pub written : new ≡ text ++ drop reported old
+  pub its_length : reported ≡ length text
 
--- such a text is longer than the room, and its length is told
-pub record Wants (Is : List ℕ → Type 0) (old : List ℕ) (told : ℕ) : Type 0 where
+-- such a text is longer than the room, and its length is reported
+pub record Wants (Is : List ℕ → Type 0) (old : List ℕ) (reported : ℕ) : Type 0 where
   pub text : List ℕ
   pub is : Is text
-  pub its_length : told ≡ length text
-  pub longer : length old < told
+  pub its_length : reported ≡ length text
+  pub longer : length old < reported

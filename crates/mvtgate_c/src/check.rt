@@ -18,10 +18,11 @@ use std::alloc::Global;
 ///                   uint8_t *text, size_t text_room, size_t *text_length);
 /// ```
 ///
-/// Judges the bytes of a tile by the profile of a number. 0: they are a valid tile. 1: they aren't, and the text of their
-/// first fault is at the front of `text`, as `check` writes it, without LF; its length is in `text_length`. 2: memory was
-/// refused. 3: the same as 1, but that text is longer than `text`: only its length is written. 4: no profile has this
-/// number. With 0, 2 and 4 the length is 0. A room of `longest_text` bytes is enough for any fault.
+/// Judges the bytes of a tile by the profile of a number. 0: they are a valid tile. 1: they aren't,
+/// and the text of their first fault is at the front of `text`, as `check` writes it, without LF;
+/// its length is in `text_length`. 2: memory was refused. 3: the same as 1, but that text is longer
+/// than `text`: only its length is written. 4: no profile has this number. With 0, 2 and 4 the
+/// length is 0. A room of `longest_text` bytes is enough for any fault.
 #[unsafe(no_mangle)]
 pub extern "C" fn mvtgate_check(
     alloc: Global,
@@ -32,8 +33,10 @@ pub extern "C" fn mvtgate_check(
 ) -> i32
     ensures least { pos 0 ≤ℤ result }
     ensures greatest { result ≤ℤ pos 4 }
-    ensures valid { result ≡ pos 0 → (by : Profile) × (profile ≡ profile_number by) × ValidBy by tile.now }
-    ensures valid_alone { (by : Profile) → profile ≡ profile_number by → ValidBy by tile.now → (result ≡ pos 0) ⊎ (result ≡ pos 2) }
+    ensures valid { result ≡ pos 0 → (by : Profile) × (profile ≡ profile_number by)
+        × ValidBy by tile.now }
+    ensures valid_alone { (by : Profile) → profile ≡ profile_number by → ValidBy by tile.now
+        → (result ≡ pos 0) ⊎ (result ≡ pos 2) }
     ensures fault { result ≡ pos 1 → (by : Profile) × (profile ≡ profile_number by)
         × Hands (IsFaultText by tile.now) text.old text.new text_length.new }
     ensures no_room { result ≡ pos 3 → (by : Profile) × (profile ≡ profile_number by)
@@ -41,7 +44,8 @@ pub extern "C" fn mvtgate_check(
     ensures room_for_all { longest_text ≤ length text.old → result ≢ pos 3 }
     ensures no_profile { result ≡ pos 4 → (by : Profile) → profile ≢ profile_number by }
     ensures no_profile_alone { ((by : Profile) → profile ≢ profile_number by) → result ≡ pos 4 }
-    ensures no_text { (result ≡ pos 0) ⊎ ((result ≡ pos 2) ⊎ (result ≡ pos 4)) → text_length.new ≡ 0 }
+    ensures no_text { (result ≡ pos 0) ⊎ ((result ≡ pos 2) ⊎ (result ≡ pos 4))
+        → text_length.new ≡ 0 }
     ensures untouched { result ≢ pos 1 → text.new ≡ text.old }
 {
     match profile_of(profile) {
@@ -65,7 +69,8 @@ fn check_by(
     ensures greatest { result ≤ℤ pos 3 }
     ensures valid { result ≡ pos 0 → ValidBy by tile.now }
     ensures valid_alone { ValidBy by tile.now → (result ≡ pos 0) ⊎ (result ≡ pos 2) }
-    ensures fault { result ≡ pos 1 → Hands (IsFaultText by tile.now) text.old text.new text_length.new }
+    ensures fault { result ≡ pos 1 → Hands (IsFaultText by tile.now) text.old text.new
+        text_length.new }
     ensures no_room { result ≡ pos 3 → Wants (IsFaultText by tile.now) text.old text_length.new }
     ensures room_for_all { longest_text ≤ length text.old → result ≢ pos 3 }
     ensures no_text { (result ≡ pos 0) ⊎ (result ≡ pos 2) → text_length.new ≡ 0 }

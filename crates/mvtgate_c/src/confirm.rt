@@ -20,19 +20,22 @@ use std::alloc::Global;
 ///                     const uint8_t *text, size_t text_length);
 /// ```
 ///
-/// Whether the fault of a text is true of the bytes of a tile by the profile of a number. 0: it is. 1: it isn't. 2: memory
-/// was refused. 4: no profile has this number. 5: the text is no JSON. 6: it is JSON, and no fault. 7: it is a fault with a
-/// number out of range.
+/// Whether the fault of a text is true of the bytes of a tile by the profile of a number. 0: it is.
+/// 1: it isn't. 2: memory was refused. 4: no profile has this number. 5: the text is no JSON. 6: it
+/// is JSON, and no fault. 7: it is a fault with a number out of range.
 #[unsafe(no_mangle)]
 pub extern "C" fn mvtgate_confirm(alloc: Global, profile: u32, tile: &[u8], text: &[u8]) -> i32
     ensures least { pos 0 ≤ℤ result }
     ensures greatest { result ≤ℤ pos 7 }
     ensures never_no_room { result ≢ pos 3 }
-    ensures confirmed { result ≡ pos 0 → (by : Profile) × (fault : Fault) × (profile ≡ profile_number by)
+    ensures confirmed { result ≡ pos 0 → (by : Profile) × (fault : Fault)
+        × (profile ≡ profile_number by)
         × Reads text.now fault × ShowsBy by tile.now fault }
-    ensures not_confirmed { result ≡ pos 1 → (by : Profile) × (fault : Fault) × (profile ≡ profile_number by)
+    ensures not_confirmed { result ≡ pos 1
+        → (by : Profile) × (fault : Fault) × (profile ≡ profile_number by)
         × Reads text.now fault × ¬ ShowsBy by tile.now fault }
-    ensures confirmed_alone { (by : Profile) (fault : Fault) → profile ≡ profile_number by → Reads text.now fault
+    ensures confirmed_alone { (by : Profile) (fault : Fault) → profile ≡ profile_number by
+        → Reads text.now fault
         → ShowsBy by tile.now fault → (result ≡ pos 0) ⊎ (result ≡ pos 2) }
     ensures no_profile { result ≡ pos 4 → (by : Profile) → profile ≢ profile_number by }
     ensures no_profile_alone { ((by : Profile) → profile ≢ profile_number by) → result ≡ pos 4 }
@@ -52,9 +55,12 @@ fn confirm_by(alloc: Global, by: Profile, tile: &[u8], text: &[u8]) -> i32
     ensures greatest { result ≤ℤ pos 7 }
     ensures never_no_room { result ≢ pos 3 }
     ensures never_no_profile { result ≢ pos 4 }
-    ensures confirmed { result ≡ pos 0 → (fault : Fault) × Reads text.now fault × ShowsBy by tile.now fault }
-    ensures not_confirmed { result ≡ pos 1 → (fault : Fault) × Reads text.now fault × ¬ ShowsBy by tile.now fault }
-    ensures confirmed_alone { (fault : Fault) → Reads text.now fault → ShowsBy by tile.now fault → (result ≡ pos 0) ⊎ (result ≡ pos 2) }
+    ensures confirmed { result ≡ pos 0 → (fault : Fault) × Reads text.now fault
+        × ShowsBy by tile.now fault }
+    ensures not_confirmed { result ≡ pos 1
+        → (fault : Fault) × Reads text.now fault × ¬ ShowsBy by tile.now fault }
+    ensures confirmed_alone { (fault : Fault) → Reads text.now fault → ShowsBy by tile.now fault
+        → (result ≡ pos 0) ⊎ (result ≡ pos 2) }
     ensures not_json { result ≡ pos 5 → IsNoJson text.now }
     ensures not_a_fault { result ≡ pos 6 → HasOtherShape text.now }
     ensures fault_range { result ≡ pos 7 → HasOtherRange text.now }

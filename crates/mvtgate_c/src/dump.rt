@@ -10,12 +10,14 @@ use mvt_tile::{ReadFault, read_tile};
 use std::alloc::Global;
 
 /// ```c
-/// int mvtgate_dump(const uint8_t *tile, size_t tile_length, uint8_t *text, size_t text_room, size_t *text_length);
+/// int mvtgate_dump(const uint8_t *tile, size_t tile_length, uint8_t *text, size_t text_room,
+/// size_t *text_length);
 /// ```
 ///
-/// Writes what a tile holds at the front of `text`, as `dump` does, without LF, and the text's length to `text_length`. 0:
-/// the text is written. 1: the bytes are no tile, and the text of their first wire fault is written instead. 2: memory was
-/// refused, and the length is 0. 3: the text, of either kind, is longer than `text`: only its length is written.
+/// Writes what a tile holds at the front of `text`, as `dump` does, without LF, and the text's
+/// length to `text_length`. 0: the text is written. 1: the bytes are no tile, and the text of their
+/// first wire fault is written instead. 2: memory was refused, and the length is 0. 3: the text, of
+/// either kind, is longer than `text`: only its length is written.
 #[unsafe(no_mangle)]
 pub extern "C" fn mvtgate_dump(
     alloc: Global,
@@ -25,9 +27,12 @@ pub extern "C" fn mvtgate_dump(
 ) -> i32
     ensures least { pos 0 ≤ℤ result }
     ensures greatest { result ≤ℤ pos 3 }
-    ensures dumped { result ≡ pos 0 → Hands (IsDumpText tile.now) text.old text.new text_length.new }
-    ensures fault { result ≡ pos 1 → Hands (IsWireFaultText tile.now) text.old text.new text_length.new }
-    ensures no_room { result ≡ pos 3 → Wants (λ it. IsDumpText tile.now it ⊎ IsWireFaultText tile.now it) text.old text_length.new }
+    ensures dumped { result ≡ pos 0 → Hands (IsDumpText tile.now) text.old text.new
+        text_length.new }
+    ensures fault { result ≡ pos 1 → Hands (IsWireFaultText tile.now) text.old text.new
+        text_length.new }
+    ensures no_room { result ≡ pos 3 → Wants (λ it. IsDumpText tile.now it
+        ⊎ IsWireFaultText tile.now it) text.old text_length.new }
     ensures no_text { result ≡ pos 2 → text_length.new ≡ 0 }
     ensures untouched { (result ≡ pos 2) ⊎ (result ≡ pos 3) → text.new ≡ text.old }
 {

@@ -2,7 +2,8 @@
 ghost use Rattle.std.specs.Prelude.{◌≡◌, ◌≢◌, ◌≤◌, ◌<◌, ◌⊎◌, ◌^◌, pos, length, IfOk, string_bytes};
 ghost use Rattle.mvt_fault.specs.Text.{text_of};
 ghost use Rattle.mvt_fault.specs.declared.fault.Fault.{Fault};
-ghost use Rattle.mvtgate_c.specs.TextRoom.{IsInMemory, IsWord, IsScopeOfWords, IsEdgeOfWords, longest_text};
+ghost use Rattle.mvtgate_c.specs.Calls.TextRoom.{IsInMemory, IsWord, IsScopeOfWords, IsEdgeOfWords};
+ghost use Rattle.mvtgate_c.specs.TextRoom.{longest_text};
 ghost use Rattle.mvtgate_c.specs.Texts.{Hands, Wants};
 
 use crate::status::{FAULT, NO_MEMORY, NO_ROOM};
@@ -15,7 +16,7 @@ fn short_text(alloc: Global, fault: Fault) -> Result<String, AllocError>
     ensures text { IfOk result (λ s. string_bytes s ≡ text_of fault) }
     ensures short { length (text_of fault) ≤ longest_text }
 {
-    look_at_fault(fault);
+    fault_fits(fault);
     text_has_room();
     fault_text(alloc, &fault)
 }
@@ -28,7 +29,8 @@ pub(crate) fn hand_fault(
     text_length: &mut usize,
 ) -> i32
     ensures statuses { (result ≡ pos 1) ⊎ ((result ≡ pos 2) ⊎ (result ≡ pos 3)) }
-    ensures fault { result ≡ pos 1 → Hands (λ it. it ≡ text_of fault) text.old text.new text_length.new }
+    ensures fault { result ≡ pos 1 → Hands (λ it. it
+        ≡ text_of fault) text.old text.new text_length.new }
     ensures no_room { result ≡ pos 3 → Wants (λ it. it ≡ text_of fault) text.old text_length.new }
     ensures room_for_all { longest_text ≤ length text.old → result ≢ pos 3 }
     ensures no_text { result ≡ pos 2 → text_length.new ≡ 0 }
@@ -54,7 +56,7 @@ fn text_has_room()
 {}
 
 /// Any fault of the program is one that memory can hold.
-fn look_at_fault(fault: Fault)
+fn fault_fits(fault: Fault)
     ensures { IsInMemory fault }
 {
     match fault {
@@ -63,7 +65,7 @@ fn look_at_fault(fault: Fault)
             at,
             field,
             ..
-        } => look_at_wire(scope, at, field),
+        } => wire_fits(scope, at, field),
         Fault::Version { layer: _ } => {}
         Fault::Name {
             first: _,
@@ -88,22 +90,22 @@ fn look_at_fault(fault: Fault)
             ..
         } => {}
         Fault::Meeting { first, second, .. } => {
-            look_at_edge(first);
-            look_at_edge(second);
+            edge_fits(first);
+            edge_fits(second);
         }
         Fault::Outside { .. } | Fault::HoleInHole { .. } | Fault::InPolygon { .. } => {}
     }
 }
 
-fn look_at_wire(scope: Scope, at: usize, field: u32)
+fn wire_fits(scope: Scope, at: usize, field: u32)
     ensures scope { IsScopeOfWords scope }
     ensures at { IsWord at }
     ensures field { field < 2 ^ 32 }
 {
-    look_at_scope(scope);
+    scope_fits(scope);
 }
 
-fn look_at_scope(scope: Scope)
+fn scope_fits(scope: Scope)
     ensures { IsScopeOfWords scope }
 {
     match scope {
@@ -114,7 +116,7 @@ fn look_at_scope(scope: Scope)
     }
 }
 
-fn look_at_edge(edge: RingEdge)
+fn edge_fits(edge: RingEdge)
     ensures { IsEdgeOfWords edge }
 {
     let RingEdge { ring: _, edge: _ } = edge;

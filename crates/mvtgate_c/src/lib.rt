@@ -1,5 +1,6 @@
-//! The gate for programs in C, and in any language that calls C: the exports of a static library. Each says what it
-//! writes and writes nothing else, and none keeps anything from one call to the next.
+//! The gate for programs in C, and in any language that calls C: the exports of a static library.
+//! Each says what it writes and writes nothing else, and none keeps anything from one call to the
+//! next.
 #![tactic(auto)]
 
 mod advise;

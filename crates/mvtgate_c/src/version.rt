@@ -9,7 +9,8 @@ const MINOR: u32 = 1;
 
 const PATCH: u32 = 0;
 
-/// `uint32_t mvtgate_version(void)`: 10000 times the major number, 100 times the minor one, and the patch number.
+/// `uint32_t mvtgate_version(void)`: 10000 times the major number, 100 times the minor one, and the
+/// patch number.
 #[unsafe(no_mangle)]
 pub extern "C" fn mvtgate_version() -> u32
     ensures { result ≡ version }

@@ -1,5 +1,5 @@
-//! Calls of the plane in a loop, which `bench/plane` times from outside: plane_timing CALL ROUNDS. It
-//! prints a sum over the answers, by which its peer shows that it does the same.
+//! Calls of the plane in a loop, which `bench/plane` times from outside: plane_timing CALL ROUNDS.
+//! It prints a sum over the answers, by which its peer shows that it does the same.
 #![tactic(auto)]
 
 mod points;
@@ -20,7 +20,8 @@ fn main(rt: HostRuntime) -> ExitCode {
     }
 }
 
-/// The sum over all rounds of the words' call, or None where the words name none or memory is refused.
+/// The sum over all rounds of the words' call, or None where the words name none or memory is
+/// refused.
 fn run<R: Env + AllocGlobal>(rt: &R) -> Option<u64> {
     let mut words = env::args(rt).ok()?;
     words.next()?;

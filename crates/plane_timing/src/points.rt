@@ -24,8 +24,8 @@ pub fn scattered(alloc: Global) -> Option<Vec<Point>> {
     Some(points)
 }
 
-/// Points each of which is at most 32 units from the one before, in both coordinates: a line as maps have
-/// it.
+/// Points each of which is at most 32 units from the one before, in both coordinates: a line as
+/// maps have it.
 pub fn walked(alloc: Global) -> Option<Vec<Point>> {
     let mut points = Vec::new(alloc);
     let (mut state, mut x, mut y) = (1_u64, 0_i32, 0_i32);

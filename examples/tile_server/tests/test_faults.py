@@ -41,7 +41,7 @@ FIRST = {
     TWO_NAMES: (304, "layer 0, feature 0", None),
 }
 FIRST_BY_FEATURE = {
-    # (the fault is told for the later polygon)
+    # (the fault is reported for the later polygon)
     NECK: (504, "layer 0, feature 0, polygon 1", (500, 500)),
     TWO_CORNERS: (504, "layer 0, feature 0, polygon 1", (500, 500)),
 }
@@ -70,7 +70,7 @@ def by_feature(database: Database, request: pytest.FixtureRequest) -> Any:
 
 
 def expect_fault(told: Dict[str, Any], wanted: Tuple[int, str, Optional[Tuple[int, int]]], scale: int = 1) -> Fault:
-    """What an answer tells of a fault, and the fault."""
+    """What an answer says of a fault, and the fault."""
     code, place, point = wanted
     fault = Fault.from_text(json.dumps(told["fault"]))
     assert told["code"] == fault.code == code
@@ -174,7 +174,7 @@ def test_touching_polygons_by_feature(by_feature: Tuple[Server, bool], column: i
     if column in FIRST_BY_FEATURE:
         expect_fault(told, FIRST_BY_FEATURE[column])
     else:
-        # (the two parts touch at two points, of which either may be told)
+        # (the two parts touch at two points, of which either may be reported)
         fault = Fault.from_text(json.dumps(told["fault"]))
         assert fault.code == 504 and fault.point in [(Fraction(300), Fraction(500)), (Fraction(500), Fraction(300))]
     if is_repairing:

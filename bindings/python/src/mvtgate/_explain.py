@@ -9,7 +9,7 @@ from ._faults import Fault
 
 
 def explain(it: Union[Fault, Advice]) -> str:
-    """Title, sentence, what causes it and what to do, in five lines without a line's end behind the last."""
+    """Title, sentence, what causes it and what to do, in five lines without a line's end after the last."""
     if isinstance(it, Fault):
         name, words = str(it.code), _words.words_of_fault(it.code)
     else:

@@ -1,3 +1,4 @@
+//! Faults that `confirm` accepts of tiles, and others close to them that it refuses.
 mod by_profile;
 
 use super::confirm;
@@ -121,7 +122,8 @@ fn a_crossing(rt: HostRuntime) {
     assert!(rt; !confirm(OF_UNKNOWN_TYPE, &fault));
 }
 
-/// Whether the edges of these rings and ordinals cross wrongly in the ring that crosses itself, at this point.
+/// Whether the edges of these rings and ordinals cross wrongly in the ring that crosses itself, at
+/// this point.
 fn crosses(
     layer: usize,
     polygon: usize,
@@ -239,8 +241,8 @@ fn one_fault_of_each_kind(rt: HostRuntime) {
     assert!(rt; has_only(HOLE_IN_HOLE, 7));
 }
 
-/// Whether bytes have a wire fault, at its own place, of its own field and in its own scope alone, and the point has none
-/// of them.
+/// Whether bytes have a wire fault, at its own place, of its own field and in its own scope alone,
+/// and the point has none of them.
 fn has_one(bytes: &[u8], code: WireCode, scope: Scope, at: usize, field: u32) -> bool {
     is_wire_fault(bytes, code, scope, at, field)
         && !is_wire_fault(bytes, code, scope, at.wrapping_add(1), field)

@@ -1,12 +1,12 @@
 //! What is due in a geometry's numbers, one number after another.
 
 ghost use Rattle.std.specs.Prelude.{◌≡◌, ◌↔◌, ◌-◌, ◌%◌, ◌/◌, ◌≢◌, ◌≤◌, IfErr, IfOk, IfSome, IfNone, IsFalse, IsTrue, Bool};
-ghost use Rattle.mvt_confirm.specs.Commands.{Faults, Goes, IsCommandOf, IsNoCommand, IsStay, before_x, plane_type, plane_leg, plane_state};
-ghost use Rattle.mvt_plane.specs.Drawing as plane;
-ghost use Rattle.mvt_plane.specs.Drawing.{GoesElsewhere, MayEnd, behind, behind_path, least, points_command, path_command, line_command, close_command, step_x, step_y};
-ghost use Rattle.mvt_plane.specs.Figure.{command_integer};
-ghost use Rattle.mvt_plane.specs.Figure as figures;
-ghost use Rattle.mvt_plane.specs.Geometry.{type_number};
+ghost use Rattle.mvt_confirm.specs.Calls.Commands.{Faults, Goes, IsCommandOf, IsNoCommand, IsStay, before_x, plane_type, plane_leg, plane_state};
+ghost use Rattle.mvt_plane.specs.Commands.Drawing as plane;
+ghost use Rattle.mvt_plane.specs.Commands.Drawing.{GoesElsewhere, MayEnd, following, after_path, least, points_command, path_command, line_command, close_command, step_x, step_y};
+ghost use Rattle.mvt_plane.specs.Commands.Figure.{command_integer};
+ghost use Rattle.mvt_plane.specs.Commands.Figure as figures;
+ghost use Rattle.mvt_plane.specs.FeatureGeometry.{type_number};
 
 use crate::moves::{moved_x, moved_y};
 use mvt_fault::CommandCode;
@@ -23,8 +23,10 @@ pub(crate) enum GeometryType {
 impl GeometryType {
     /// The type of this number; None where it isn't known.
     pub(crate) fn of_number(number: u64) -> Option<GeometryType>
-        ensures known { IfSome result (λ geometry_type. number ≡ type_number (plane_type geometry_type)) }
-        ensures unknown { IfNone result ((geometry_type : figures.GeometryType) → number ≢ type_number geometry_type) }
+        ensures known { IfSome result (λ geometry_type. number
+            ≡ type_number (plane_type geometry_type)) }
+        ensures unknown { IfNone result ((geometry_type : figures.GeometryType)
+            → number ≢ type_number geometry_type) }
     {
         match number {
             1 => Some(GeometryType::Point),
@@ -38,11 +40,11 @@ impl GeometryType {
 /// A step that is due.
 #[derive(Clone, Copy)]
 pub(crate) enum Leg {
-    /// To one of a list of points, with so many to go behind it.
+    /// To one of a list of points, with so many to go after it.
     ToPoint { left: u32 },
     /// To the first position of a line or ring.
     ToFirst,
-    /// To a further position of it, with so many to go behind it.
+    /// To a further position of it, with so many to go after it.
     ToNext { left: u32 },
 }
 
@@ -59,9 +61,9 @@ pub(crate) enum State {
     CloseCommand { from: Point },
     /// The x of a step.
     StepX { leg: Leg, from: Point },
-    /// The y of a step behind this x, which leads to an x that isn't the cursor's.
+    /// The y of a step after this x, which leads to an x that isn't the cursor's.
     StepY { leg: Leg, beside: Point, x: u32 },
-    /// Nothing, behind all points.
+    /// Nothing, after all points.
     AllDrawn,
 }
 
@@ -89,29 +91,32 @@ impl State {
         )
     }
 
-    /// The state behind a number.
+    /// The state after a number.
     ///
     /// Errors: what is wrong with the number where it isn't allowed.
     pub(crate) fn next(self, geometry_type: GeometryType, number: u32) -> Result<State, CommandCode>
-        ensures goes { IfOk result (λ to. Goes (plane_type geometry_type) (plane_state self) number (plane_state to)) }
+        ensures goes { IfOk result (λ to.
+            Goes (plane_type geometry_type) (plane_state self) number (plane_state to)) }
         ensures fault { IfErr result (Faults (plane_type geometry_type) (plane_state self) number) }
     {
         match self {
-            State::PointsCommand => behind_points_command(number),
-            State::PathCommand { from, .. } => behind_path_command(from, number),
-            State::LineCommand { from } => behind_line_command(geometry_type, from, number),
-            State::CloseCommand { from } => behind_close_command(from, number),
-            State::StepX { leg, from } => behind_x(leg, from, number),
-            State::StepY { leg, beside, x } => behind_y(geometry_type, leg, beside, x, number),
+            State::PointsCommand => after_points_command(number),
+            State::PathCommand { from, .. } => after_path_command(from, number),
+            State::LineCommand { from } => after_line_command(geometry_type, from, number),
+            State::CloseCommand { from } => after_close_command(from, number),
+            State::StepX { leg, from } => after_x(leg, from, number),
+            State::StepY { leg, beside, x } => after_y(geometry_type, leg, beside, x, number),
             State::AllDrawn => Err(CommandCode::OtherCommand),
         }
     }
 }
 
-/// Behind the MoveTo of points.
-fn behind_points_command(number: u32) -> Result<State, CommandCode>
-    ensures goes { IfOk result (λ to. (geometry_type : figures.GeometryType) → Goes geometry_type points_command number (plane_state to)) }
-    ensures fault { IfErr result (λ code. (geometry_type : figures.GeometryType) → Faults geometry_type points_command number code) }
+/// After the MoveTo of points.
+fn after_points_command(number: u32) -> Result<State, CommandCode>
+    ensures goes { IfOk result (λ to. (geometry_type : figures.GeometryType)
+        → Goes geometry_type points_command number (plane_state to)) }
+    ensures fault { IfErr result (λ code. (geometry_type : figures.GeometryType)
+        → Faults geometry_type points_command number code) }
 {
     let count = command(number, MOVE_TO, 1, GREATEST_COUNT)?;
     Ok(State::StepX {
@@ -120,8 +125,8 @@ fn behind_points_command(number: u32) -> Result<State, CommandCode>
     })
 }
 
-/// Behind the MoveTo of a line or ring.
-fn behind_path_command(from: Point, number: u32) -> Result<State, CommandCode>
+/// After the MoveTo of a line or ring.
+fn after_path_command(from: Point, number: u32) -> Result<State, CommandCode>
     ensures goes { IfOk result (λ to. (geometry_type : figures.GeometryType) (drawn : Bool)
         → Goes geometry_type (path_command drawn from) number (plane_state to)) }
     ensures fault { IfErr result (λ code. (geometry_type : figures.GeometryType) (drawn : Bool)
@@ -132,13 +137,14 @@ fn behind_path_command(from: Point, number: u32) -> Result<State, CommandCode>
     Ok(State::StepX { leg, from })
 }
 
-/// Behind the LineTo of a line or ring.
-fn behind_line_command(
+/// After the LineTo of a line or ring.
+fn after_line_command(
     geometry_type: GeometryType,
     from: Point,
     number: u32,
 ) -> Result<State, CommandCode>
-    ensures goes { IfOk result (λ to. Goes (plane_type geometry_type) (line_command from) number (plane_state to)) }
+    ensures goes { IfOk result (λ to.
+        Goes (plane_type geometry_type) (line_command from) number (plane_state to)) }
     ensures fault { IfErr result (Faults (plane_type geometry_type) (line_command from) number) }
 {
     let count = command(
@@ -151,7 +157,7 @@ fn behind_line_command(
     Ok(State::StepX { leg, from })
 }
 
-/// How many positions at least are behind the first one of a line or ring.
+/// How many positions at least are after the first one of a line or ring.
 fn least_further(geometry_type: GeometryType) -> u32
     ensures value { result ≡ least (plane_type geometry_type) }
     ensures some { 1 ≤ result }
@@ -162,17 +168,19 @@ fn least_further(geometry_type: GeometryType) -> u32
     }
 }
 
-/// Behind the ClosePath of a ring.
-fn behind_close_command(from: Point, number: u32) -> Result<State, CommandCode>
-    ensures goes { IfOk result (λ to. (geometry_type : figures.GeometryType) → Goes geometry_type (close_command from) number (plane_state to)) }
-    ensures fault { IfErr result (λ code. (geometry_type : figures.GeometryType) → Faults geometry_type (close_command from) number code) }
+/// After the ClosePath of a ring.
+fn after_close_command(from: Point, number: u32) -> Result<State, CommandCode>
+    ensures goes { IfOk result (λ to. (geometry_type : figures.GeometryType)
+        → Goes geometry_type (close_command from) number (plane_state to)) }
+    ensures fault { IfErr result (λ code. (geometry_type : figures.GeometryType)
+        → Faults geometry_type (close_command from) number code) }
 {
     command(number, CLOSE_PATH, 1, 1)?;
     Ok(State::PathCommand { drawn: true, from })
 }
 
-/// The count of a command integer, which is to have this id and a count from `fewest` to `most` (section
-/// 4.3.1).
+/// The count of a command integer, which is to have this id and a count from `fewest` to `most`
+/// (section 4.3.1).
 fn command(number: u32, id: u32, fewest: u32, most: u32) -> Result<u32, CommandCode>
     ensures count { IfOk result (λ count. count ≡ number / 8) }
     ensures allowed { IfOk result (λ _. IsCommandOf id fewest most number) }
@@ -188,31 +196,36 @@ fn command(number: u32, id: u32, fewest: u32, most: u32) -> Result<u32, CommandC
     Ok(count)
 }
 
-/// Behind the x of a step.
-fn behind_x(leg: Leg, from: Point, x: u32) -> Result<State, CommandCode>
-    ensures goes { IfOk result (λ to. (geometry_type : figures.GeometryType) → Goes geometry_type (step_x (plane_leg leg) from) x (plane_state to)) }
-    ensures fault { IfErr result (λ code. (geometry_type : figures.GeometryType) → Faults geometry_type (step_x (plane_leg leg) from) x code) }
+/// After the x of a step.
+fn after_x(leg: Leg, from: Point, x: u32) -> Result<State, CommandCode>
+    ensures goes { IfOk result (λ to. (geometry_type : figures.GeometryType)
+        → Goes geometry_type (step_x (plane_leg leg) from) x (plane_state to)) }
+    ensures fault { IfErr result (λ code. (geometry_type : figures.GeometryType)
+        → Faults geometry_type (step_x (plane_leg leg) from) x code) }
 {
     let beside = moved_x(from, x)?;
     Ok(State::StepY { leg, beside, x })
 }
 
-/// Behind the y of a step whose x isn't the cursor's.
-fn behind_y(
+/// After the y of a step whose x isn't the cursor's.
+fn after_y(
     geometry_type: GeometryType,
     leg: Leg,
     beside: Point,
     x: u32,
     y: u32,
 ) -> Result<State, CommandCode>
-    ensures goes { IfOk result (λ to. Goes (plane_type geometry_type) (step_y (plane_leg leg) (before_x beside x) x) y (plane_state to)) }
-    ensures fault { IfErr result (Faults (plane_type geometry_type) (step_y (plane_leg leg) (before_x beside x) x) y) }
+    ensures goes { IfOk result (λ to.
+        Goes (plane_type geometry_type) (step_y (plane_leg leg) (before_x beside x) x) y
+        (plane_state to)) }
+    ensures fault { IfErr result (Faults (plane_type geometry_type)
+        (step_y (plane_leg leg) (before_x beside x) x) y) }
 {
     let to = moved_y(beside, y)?;
     if stays(leg, x, y) {
         return Err(CommandCode::NoStep);
     }
-    Ok(behind(geometry_type, leg, to))
+    Ok(following(geometry_type, leg, to))
 }
 
 /// Whether these are the parameters of a LineTo that leads to where the cursor is.
@@ -223,9 +236,9 @@ fn stays(leg: Leg, x: u32, y: u32) -> bool
     matches!(leg, Leg::ToNext { .. }) && x == 0 && y == 0
 }
 
-/// Behind a step.
-fn behind(geometry_type: GeometryType, leg: Leg, to: Point) -> State
-    ensures { plane_state result ≡ plane.behind (plane_type geometry_type) (plane_leg leg) to }
+/// After a step.
+fn following(geometry_type: GeometryType, leg: Leg, to: Point) -> State
+    ensures { plane_state result ≡ plane.following (plane_type geometry_type) (plane_leg leg) to }
 {
     match leg {
         Leg::ToPoint { left: 0 } => State::AllDrawn,
@@ -234,7 +247,7 @@ fn behind(geometry_type: GeometryType, leg: Leg, to: Point) -> State
             State::StepX { leg, from: to }
         }
         Leg::ToFirst => State::LineCommand { from: to },
-        Leg::ToNext { left: 0 } => behind_path(geometry_type, to),
+        Leg::ToNext { left: 0 } => after_path(geometry_type, to),
         Leg::ToNext { left } => {
             let leg = Leg::ToNext { left: left - 1 };
             State::StepX { leg, from: to }
@@ -242,9 +255,9 @@ fn behind(geometry_type: GeometryType, leg: Leg, to: Point) -> State
     }
 }
 
-/// Behind the last position of a line or ring.
-fn behind_path(geometry_type: GeometryType, to: Point) -> State
-    ensures { plane_state result ≡ plane.behind_path (plane_type geometry_type) to }
+/// After the last position of a line or ring.
+fn after_path(geometry_type: GeometryType, to: Point) -> State
+    ensures { plane_state result ≡ plane.after_path (plane_type geometry_type) to }
 {
     match geometry_type {
         GeometryType::Point | GeometryType::LineString => State::PathCommand {

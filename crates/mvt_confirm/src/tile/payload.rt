@@ -5,7 +5,7 @@ ghost use Rattle.mvt_wire.specs.Field.{content_of};
 ghost use Rattle.mvt_wire.specs.Number.{VarintList, AreSmall};
 ghost use Rattle.mvt_wire.specs.Tile.{Fits};
 ghost use Rattle.mvt_wire.specs.declared.schema.Shape.TheVariants as shapes;
-ghost use Rattle.mvt_confirm.specs.Walking.{AreSmallFrom, IsInRange};
+ghost use Rattle.mvt_confirm.specs.Calls.Walking.{AreSmallFrom, IsInRange};
 
 use mvt_wire::{Body, FieldRule, Shape, read_varint, text};
 
@@ -28,10 +28,11 @@ fn is_in_range(shape: Shape, body: Body<'_>) -> bool
     }
 }
 
-/// Whether the bytes behind a length are what the shape requires: a text is UTF-8, and a packed list
+/// Whether the bytes after a length are what the shape requires: a text is UTF-8, and a packed list
 /// has numbers of 32 bits.
 fn bytes_fit(shape: Shape, slice: &[u8]) -> bool
-    ensures { IsTrue result ↔ ((shape ≡ shapes.Text → IsUtf8 slice.now) × (shape ≡ shapes.Numbers → AreSmallFrom slice.now 0)) }
+    ensures { IsTrue result ↔ ((shape ≡ shapes.Text → IsUtf8 slice.now) × (shape ≡ shapes.Numbers
+        → AreSmallFrom slice.now 0)) }
 {
     match shape {
         Shape::Text => text(slice).is_some(),
@@ -47,7 +48,7 @@ fn are_small(part: &[u8]) -> bool
 {
     let mut at = 0;
     'walk: while at < part.len() {
-        match behind_small(part, at) {
+        match after_small(part, at) {
             Some(next) => at = next,
             None => return false,
         }
@@ -55,8 +56,8 @@ fn are_small(part: &[u8]) -> bool
     true
 }
 
-/// The offset behind the number of 32 bits at an offset, or None where none is there.
-fn behind_small(part: &[u8], at: usize) -> Option<usize>
+/// The offset after the number of 32 bits at an offset, or None where none is there.
+fn after_small(part: &[u8], at: usize) -> Option<usize>
     requires { at < length part.now }
     ensures further { IfSome result (λ next. at < next) }
     ensures within { IfSome result (λ next. next ≤ length part.now) }

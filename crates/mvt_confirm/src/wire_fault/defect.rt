@@ -1,18 +1,17 @@
 //! Fields that aren't whole (Protocol Buffers encoding, "Message Structure").
-ghost use Rattle.std.specs.Prelude.{◌≡◌, ◌≤◌, ◌↔◌, length, take, IsTrue};
+ghost use Rattle.std.specs.Prelude.{◌≡◌, ◌↔◌, IsTrue};
 ghost use Rattle.mvt_wire.specs.Message.{HasDefect};
+ghost use Rattle.mvt_confirm.specs.Calls.MessageBytes.{front};
 
-use crate::stretch::Stretch;
+use crate::message_bytes::MessageBytes;
 use mvt_wire::{Fields, WireCause};
 
-/// Whether the defect of the message in a stretch is this one. A message has at most one, with code
+/// Whether the defect of the message in a span is this one. A message has at most one, with code
 /// 101 to 105.
-pub(crate) fn has_defect(bytes: &[u8], stretch: Stretch, cause: WireCause) -> bool
-    requires forward { stretch.from ≤ stretch.to }
-    requires within { stretch.to ≤ length bytes.now }
-    ensures { IsTrue result ↔ HasDefect (take stretch.to bytes.now) stretch.from cause }
+pub(crate) fn has_defect(place: &MessageBytes<'_>, cause: WireCause) -> bool
+    ensures { IsTrue result ↔ HasDefect (front place.now) place.now.span.from cause }
 {
-    let mut fields = Fields::new(bytes, stretch.from, stretch.to);
+    let mut fields = Fields::new(place.bytes, place.span.from, place.span.to);
     'walk: while let Some(item) = fields.next_field() {
         if let Err(defect) = item {
             return is_same(defect, cause);

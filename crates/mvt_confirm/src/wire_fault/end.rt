@@ -1,13 +1,12 @@
 //! The faults of a whole message at its end.
-ghost use Rattle.std.specs.Prelude.{◌≡◌, ◌≤◌, ◌↔◌, List, length, true, Some, IfNone, IfSome, IsTrue};
+ghost use Rattle.std.specs.Prelude.{◌≡◌, ◌↔◌, List, true, Some, IfNone, IfSome, IsTrue};
 ghost use Rattle.mvt_wire.specs.Field.{Entry};
 ghost use Rattle.mvt_wire.specs.Schema.{rule_of, is_required};
-ghost use Rattle.mvt_wire.specs.Scope.{IsMessageAt};
 ghost use Rattle.mvt_wire.specs.WireFault.{EndFault, count_of, count_known};
 ghost use Rattle.mvt_wire.specs.declared.schema.FieldRule.{FieldRule};
-ghost use Rattle.mvt_confirm.specs.Stretch.{as_span};
+ghost use Rattle.mvt_confirm.specs.Calls.MessageBytes.{HasFields};
 
-use crate::stretch::Stretch;
+use crate::message_bytes::MessageBytes;
 use mvt_wire::{Fields, Message, WireCause, WireCode};
 
 /// How many fields of a whole message have a number, and how many have numbers that it knows.
@@ -17,38 +16,32 @@ struct FieldCounts {
     known: usize,
 }
 
-/// Whether the message in a stretch has a fault at its end, with code 108 or 109; the message has
+/// Whether the message in a span has a fault at its end, with code 108 or 109; the message has
 /// to be whole.
-pub(crate) fn has_end_fault(
-    bytes: &[u8],
-    stretch: Stretch,
-    message: Message,
-    cause: WireCause,
-) -> bool
-    requires forward { stretch.from ≤ stretch.to }
-    requires within { stretch.to ≤ length bytes.now }
-    ensures { IsTrue result ↔ ((entries : List Entry) × IsMessageAt bytes.now (as_span stretch) entries × EndFault message entries stretch.to cause) }
+pub(crate) fn has_end_fault(place: &MessageBytes<'_>, message: Message, cause: WireCause) -> bool
+    ensures { IsTrue result ↔ ((entries : List Entry) × HasFields place.now entries
+        × EndFault message entries place.now.span.to cause) }
 {
-    match count_fields(bytes, stretch, message, cause.field) {
-        Some(counts) => cause.at == stretch.to && is_fault_of(message, counts, cause),
+    match count_fields(place, message, cause.field) {
+        Some(counts) => cause.at == place.span.to && is_fault_of(message, counts, cause),
         None => false,
     }
 }
 
 /// The counts of a message's fields, or None where the message isn't whole.
 fn count_fields(
-    bytes: &[u8],
-    stretch: Stretch,
+    place: &MessageBytes<'_>,
     message: Message,
     field_number: u32,
 ) -> Option<FieldCounts>
-    requires forward { stretch.from ≤ stretch.to }
-    requires within { stretch.to ≤ length bytes.now }
-    ensures counts { IfSome result (λ counts. (entries : List Entry) × IsMessageAt bytes.now (as_span stretch) entries
-        × (counts.of_number ≡ count_of field_number entries) × (counts.known ≡ count_known message entries)) }
-    ensures none { IfNone result ((entries : List Entry) → ¬ IsMessageAt bytes.now (as_span stretch) entries) }
+    ensures counts { IfSome result (λ counts. (entries : List Entry)
+        × HasFields place.now entries
+        × (counts.of_number ≡ count_of field_number entries)
+        × (counts.known ≡ count_known message entries)) }
+    ensures none { IfNone result ((entries : List Entry)
+        → ¬ HasFields place.now entries) }
 {
-    let mut fields = Fields::new(bytes, stretch.from, stretch.to);
+    let mut fields = Fields::new(place.bytes, place.span.from, place.span.to);
     let mut counts = FieldCounts {
         of_number: 0,
         known: 0,
@@ -69,7 +62,8 @@ fn count_fields(
 
 /// Whether a message of so many fields has this fault at its end, as its code and number say.
 fn is_fault_of(message: Message, counts: FieldCounts, cause: WireCause) -> bool
-    ensures { (entries : List Entry) → counts.of_number ≡ count_of cause.field entries → counts.known ≡ count_known message entries →
+    ensures { (entries : List Entry) → counts.of_number ≡ count_of cause.field entries
+        → counts.known ≡ count_known message entries →
         IsTrue result ↔ EndFault message entries cause.at cause }
 {
     match cause.code {
@@ -81,7 +75,8 @@ fn is_fault_of(message: Message, counts: FieldCounts, cause: WireCause) -> bool
 
 /// Whether a message requires a field of a number.
 fn is_required(message: Message, field_number: u32) -> bool
-    ensures { IsTrue result ↔ ((rule : FieldRule) × (rule_of message field_number ≡ Some rule) × (is_required rule.occurrence ≡ true)) }
+    ensures { IsTrue result ↔ ((rule : FieldRule) × (rule_of message field_number ≡ Some rule)
+        × (is_required rule.occurrence ≡ true)) }
 {
     match message.rule(field_number) {
         Some(rule) => rule.occurrence.is_required(),

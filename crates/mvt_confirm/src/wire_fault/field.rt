@@ -1,34 +1,27 @@
 //! The faults of a field of a whole message, by the rule for its number.
-ghost use Rattle.std.specs.Prelude.{◌≡◌, ◌⊎◌, ◌≤◌, ◌↔◌, ℕ, List, true, false, length, IsTrue, IsUtf8};
+ghost use Rattle.std.specs.Prelude.{◌≡◌, ◌↔◌, ℕ, List, true, false, IsTrue, IsUtf8};
 ghost use Rattle.mvt_wire.specs.Field.{Entry, varint, delimited, content_of, entry_of, wire_type_of, cause_at};
 ghost use Rattle.mvt_wire.specs.Number.{PackedFault};
 ghost use Rattle.mvt_wire.specs.Schema.{is_own, is_out_of_range, is_singular};
-ghost use Rattle.mvt_wire.specs.Scope.{IsMessageAt};
 ghost use Rattle.mvt_wire.specs.WireFault.{EntryFault, FieldFault};
 ghost use Rattle.mvt_wire.specs.declared.cause.WireCode.TheVariants.{OtherType, Again, NotUtf8, OutOfRange};
 ghost use Rattle.mvt_wire.specs.declared.schema.Shape.TheVariants.{Text, Numbers};
-ghost use Rattle.mvt_confirm.specs.Stretch.{as_span};
+ghost use Rattle.mvt_confirm.specs.Calls.MessageBytes.{HasFields};
 
 use super::packed::has_packed_fault;
-use crate::stretch::Stretch;
+use crate::message_bytes::MessageBytes;
 use mvt_wire::{Body, Field, FieldRule, Fields, Message, Shape, WireCause, WireCode, text};
 
-/// Whether a field of the message in a stretch has a fault, with code 101, 102, 106, 107, 110 or
+/// Whether a field of the message in a span has a fault, with code 101, 102, 106, 107, 110 or
 /// 111; the message has to be whole. Payloads of other fields than the fault's aren't looked into.
-pub(crate) fn has_field_fault(
-    bytes: &[u8],
-    stretch: Stretch,
-    message: Message,
-    cause: WireCause,
-) -> bool
-    requires forward { stretch.from ≤ stretch.to }
-    requires within { stretch.to ≤ length bytes.now }
-    ensures { IsTrue result ↔ ((entries : List Entry) × IsMessageAt bytes.now (as_span stretch) entries × FieldFault message entries cause) }
+pub(crate) fn has_field_fault(place: &MessageBytes<'_>, message: Message, cause: WireCause) -> bool
+    ensures { IsTrue result ↔ ((entries : List Entry) × HasFields place.now entries
+        × FieldFault message entries cause) }
 {
     let Some(rule) = message.rule(cause.field) else {
         return false;
     };
-    let mut fields = Fields::new(bytes, stretch.from, stretch.to);
+    let mut fields = Fields::new(place.bytes, place.span.from, place.span.to);
     let mut occurred = false;
     let mut found = false;
     'walk: while let Some(item) = fields.next_field() {
@@ -43,8 +36,8 @@ pub(crate) fn has_field_fault(
     found
 }
 
-/// Whether a field has this fault by the rule for its number. `occurred` says whether a field of that
-/// number comes before it.
+/// Whether a field has this fault by the rule for its number. `occurred` says whether a field of
+/// that number comes before it.
 fn is_fault_of(rule: FieldRule, occurred: bool, field: &Field<'_>, cause: WireCause) -> bool
     ensures { IsTrue result ↔ EntryFault rule occurred (entry_of field.now) cause }
 {
@@ -73,7 +66,8 @@ fn is_again(rule: FieldRule, occurred: bool, field: &Field<'_>, cause: WireCause
 
 /// Whether it is code 110: a text that isn't UTF-8.
 fn is_no_text(rule: FieldRule, field: &Field<'_>, cause: WireCause) -> bool
-    ensures { IsTrue result ↔ (from : ℕ) × (part : List ℕ) × (rule.shape ≡ Text) × (content_of field.now.body ≡ delimited from part)
+    ensures { IsTrue result ↔ (from : ℕ) × (part : List ℕ) × (rule.shape ≡ Text)
+        × (content_of field.now.body ≡ delimited from part)
         × (¬ IsUtf8 part) × (cause ≡ cause_at NotUtf8 field.now.at field.now.number) }
 {
     match field.body {
@@ -93,7 +87,8 @@ fn is_utf8(part: &[u8]) -> bool
 
 /// Whether it is code 111 of a single number: it is out of its range.
 fn is_out_of_range(rule: FieldRule, field: &Field<'_>, cause: WireCause) -> bool
-    ensures { IsTrue result ↔ (value at : ℕ) × (content_of field.now.body ≡ varint value at) × (is_out_of_range rule.shape value ≡ true)
+    ensures { IsTrue result ↔ (value at : ℕ) × (content_of field.now.body ≡ varint value at)
+        × (is_out_of_range rule.shape value ≡ true)
         × (cause ≡ cause_at OutOfRange at field.now.number) }
 {
     match field.body {
@@ -111,7 +106,8 @@ fn is_out_of_range(rule: FieldRule, field: &Field<'_>, cause: WireCause) -> bool
 
 /// Whether it is a fault in the field's packed list, with code 101, 102 or 111.
 fn is_in_packed_list(rule: FieldRule, field: &Field<'_>, cause: WireCause) -> bool
-    ensures { IsTrue result ↔ (from : ℕ) × (part : List ℕ) × (rule.shape ≡ Numbers) × (content_of field.now.body ≡ delimited from part)
+    ensures { IsTrue result ↔ (from : ℕ) × (part : List ℕ) × (rule.shape ≡ Numbers)
+        × (content_of field.now.body ≡ delimited from part)
         × PackedFault from part field.now.number cause }
 {
     match field.body {

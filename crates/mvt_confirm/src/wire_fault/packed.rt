@@ -2,7 +2,7 @@
 //! Fields").
 ghost use Rattle.std.specs.Prelude.{◌≡◌, ◌≤◌, ◌↔◌, length, IsTrue};
 ghost use Rattle.mvt_wire.specs.Number.{PackedFault};
-ghost use Rattle.mvt_confirm.specs.Packed.{IsBadAt};
+ghost use Rattle.mvt_confirm.specs.Calls.Packed.{IsBadAt};
 
 use mvt_wire::{WireCause, WireCode, read_varint};
 

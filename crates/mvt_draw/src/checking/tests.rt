@@ -33,7 +33,8 @@ fn commands(rt: HostRuntime) {
     assert!(rt; fail(Kind::LineString, &closed, CommandCode::OtherCommand, 6));
 }
 
-// The range of y coordinates, and the parameter that means -2^31. Those of x are in the tests of the whole gate.
+// The range of y coordinates, and the parameter that means -2^31. Those of x are in the tests of
+// the whole gate.
 #[test]
 fn parameters(rt: HostRuntime) {
     assert!(rt; draw(Kind::Point, &[9, 0, 2_147_483_648]));
@@ -72,8 +73,8 @@ fn steps_of_nothing(rt: HostRuntime) {
     assert!(rt; draw(Kind::Polygon, &rings));
 }
 
-// The cursor stays at a ring's last position when the ring is closed, here at the greatest x: from the
-// ring's start, the next step would be in range.
+// The cursor stays at a ring's last position when the ring is closed, here at the greatest x: from
+// the ring's start, the next step would be in range.
 #[test]
 fn next_ring_from_the_last_position(rt: HostRuntime) {
     let numbers = [9, 0, 0, 18, 2_147_483_648, 0, 0, 2, 15, 9, 2];

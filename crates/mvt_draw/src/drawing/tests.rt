@@ -29,8 +29,8 @@ fn draw_rings(alloc: Global, numbers: &[u32], expected: &[&[(i32, i32)]]) -> boo
     }
 }
 
-// The examples of Mapbox Vector Tile Specification 2.1, section 4.3.5, and the greatest and the least
-// coordinate.
+// The examples of Mapbox Vector Tile Specification 2.1, section 4.3.5, and the greatest and the
+// least coordinate.
 #[test]
 fn points(rt: HostRuntime) {
     let alloc = rt.alloc();

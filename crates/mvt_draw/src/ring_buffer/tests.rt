@@ -4,8 +4,9 @@ use crate::tests::are_parts;
 use mvt_fault::CommandCode;
 use mvt_tile::ListedNumbers;
 
-// The example of a polygon with a hole and of another one (Mapbox Vector Tile Specification 2.1, section
-// 4.3.5.6), then that of a single polygon, a geometry that ends too early, and again a good one.
+// The example of a polygon with a hole and of another one (Mapbox Vector Tile Specification 2.1,
+// section 4.3.5.6), then that of a single polygon, a geometry that ends too early, and again a good
+// one.
 #[test]
 fn one_feature_after_another(rt: HostRuntime) {
     let mut buffer = RingBuffer::new(rt.alloc());

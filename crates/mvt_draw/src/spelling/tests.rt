@@ -44,7 +44,8 @@ fn spells_points(alloc: Global, coordinates: &[(i32, i32)], numbers: Option<&[u3
     }
 }
 
-/// Whether lines through points at these coordinates are spelled as these numbers, or have no spelling.
+/// Whether lines through points at these coordinates are spelled as these numbers, or have no
+/// spelling.
 fn spells_lines(alloc: Global, coordinates: &[&[(i32, i32)]], numbers: Option<&[u32]>) -> bool {
     match parts(alloc, coordinates) {
         Some(lines) => is_spelled(alloc, &Figure::Lines(lines), numbers),
@@ -52,7 +53,8 @@ fn spells_lines(alloc: Global, coordinates: &[&[(i32, i32)]], numbers: Option<&[
     }
 }
 
-/// Whether rings through points at these coordinates are spelled as these numbers, or have no spelling.
+/// Whether rings through points at these coordinates are spelled as these numbers, or have no
+/// spelling.
 fn spells_rings(alloc: Global, coordinates: &[&[(i32, i32)]], numbers: Option<&[u32]>) -> bool {
     match parts(alloc, coordinates) {
         Some(rings) => is_spelled(alloc, &Figure::Rings(rings), numbers),

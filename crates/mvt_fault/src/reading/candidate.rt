@@ -9,16 +9,17 @@ ghost use Rattle.mvt_fault.specs.Text.{whole};
 use crate::fault::Fault;
 use serde_json::Value;
 
-/// The object that a value is, if it is that of a fault: it is built of what the value has at the keys of
-/// its code, and so it differs from a value of another shape. And the fault, or none where a number is
-/// out of range.
+/// The object that a value is, if it is that of a fault: it is built of what the value has at the
+/// keys of its code, and so it differs from a value of another shape. And the fault, or none where
+/// a number is out of range.
 #[derive(Drop)]
 pub(super) struct Candidate {
     pub object: Value,
     pub fault: Option<Fault>,
 }
 
-/// The whole number at the key. Where there is none it is 0, from which the candidate's object differs.
+/// The whole number at the key. Where there is none it is 0, from which the candidate's object
+/// differs.
 pub(super) fn number_at(value: &Value, key: &str) -> u64
     ensures { (n : ℕ) → get key.now (view value.now) ≡ Some (whole n) → result ≡ n }
 {

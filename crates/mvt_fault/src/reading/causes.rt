@@ -10,7 +10,8 @@ use crate::tag::TagCode;
 use mvt_wire::WireCode;
 
 pub(super) fn wire_code(number: u64) -> Option<WireCode>
-    ensures { MatchOption result ((code : WireCode) → code_of code ≢ number) (λ code. code_of code ≡ number) }
+    ensures { MatchOption result ((code : WireCode)
+        → code_of code ≢ number) (λ code. code_of code ≡ number) }
 {
     match number {
         101 => Some(WireCode::Ends),
@@ -29,7 +30,8 @@ pub(super) fn wire_code(number: u64) -> Option<WireCode>
 }
 
 pub(super) fn tag_code(number: u64) -> Option<TagCode>
-    ensures { MatchOption result ((code : TagCode) → tag_number code ≢ number) (λ code. tag_number code ≡ number) }
+    ensures { MatchOption result ((code : TagCode)
+        → tag_number code ≢ number) (λ code. tag_number code ≡ number) }
 {
     match number {
         301 => Some(TagCode::OddLength),
@@ -41,7 +43,8 @@ pub(super) fn tag_code(number: u64) -> Option<TagCode>
 }
 
 pub(super) fn command_code(number: u64) -> Option<CommandCode>
-    ensures { MatchOption result ((code : CommandCode) → command_number code ≢ number) (λ code. command_number code ≡ number) }
+    ensures { MatchOption result ((code : CommandCode)
+        → command_number code ≢ number) (λ code. command_number code ≡ number) }
 {
     match number {
         401 => Some(CommandCode::OtherCommand),
@@ -55,7 +58,8 @@ pub(super) fn command_code(number: u64) -> Option<CommandCode>
 }
 
 pub(super) fn ring_code(number: u64) -> Option<RingCode>
-    ensures { MatchOption result ((code : RingCode) → ring_number code ≢ number) (λ code. ring_number code ≡ number) }
+    ensures { MatchOption result ((code : RingCode)
+        → ring_number code ≢ number) (λ code. ring_number code ≡ number) }
 {
     match number {
         501 => Some(RingCode::EndsAtItsBeginning),

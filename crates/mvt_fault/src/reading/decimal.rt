@@ -11,11 +11,12 @@ ghost use Rattle.mvt_fault.specs.Text.{HasWidth};
 use super::candidate::text_at;
 use serde_json::Value;
 
-/// The string at the key, in decimal form. Where there is none it is "0", from which the candidate's
-/// object differs.
+/// The string at the key, in decimal form. Where there is none it is "0", from which the
+/// candidate's object differs.
 pub(super) fn decimal_at<'a>(value: &'a Value, key: &str) -> &'a str
     ensures form { HasDecimalForm result.now }
-    ensures found { (s : List ℕ) → HasDecimalForm s → get key.now (view value.now) ≡ Some (string s) → result.now ≡ s }
+    ensures found { (s : List ℕ) → HasDecimalForm s → get key.now (view value.now) ≡ Some (string s)
+        → result.now ≡ s }
 {
     let text = text_at(value, key);
     if has_decimal_form(text) { text } else { "0" }
@@ -24,7 +25,8 @@ pub(super) fn decimal_at<'a>(value: &'a Value, key: &str) -> &'a str
 /// The number that a string in decimal form writes, where it has 128 bits.
 pub(super) fn number_of(decimal: &str) -> Option<i128>
     requires { HasDecimalForm decimal.now }
-    ensures { MatchOption result ((z : ℤ) → Writes decimal.now z → ¬ HasWidth z) (λ z. Writes decimal.now z × HasWidth z) }
+    ensures { MatchOption result ((z : ℤ) → Writes decimal.now z
+        → ¬ HasWidth z) (λ z. Writes decimal.now z × HasWidth z) }
 {
     decimal.parse().ok()
 }

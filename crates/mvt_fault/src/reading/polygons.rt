@@ -5,7 +5,7 @@ ghost use Rattle.serde_json.specs.Data.{Data, string};
 ghost use Rattle.serde_json.specs.Find.{get};
 ghost use Rattle.serde_json.specs.View.{view};
 ghost use Rattle.mvt_fault.specs.Code.{ring_code};
-ghost use Rattle.mvt_fault.specs.Candidate.{HasCode, IsCandidate};
+ghost use Rattle.mvt_fault.specs.Calls.Candidate.{HasCode, IsCandidate};
 ghost use Rattle.mvt_fault.specs.Reading.{HasDecimalForm, IsOutOfRange, StandsFor};
 ghost use Rattle.mvt_fault.specs.Text.{edge_data, meeting_parts, whole, IsInRange};
 
@@ -68,7 +68,8 @@ fn meeting_fault(
     requires x { HasDecimalForm point.now.x.now }
     requires y { HasDecimalForm point.now.y.now }
     requires w { HasDecimalForm point.now.w.now }
-    ensures { (d : Data) → d ≡ meeting_parts id.layer id.feature id.polygon (edge_data first) (edge_data second)
+    ensures { (d : Data) → d ≡ meeting_parts id.layer id.feature id.polygon (edge_data first)
+        (edge_data second)
         (string point.now.w.now) (string point.now.x.now) (string point.now.y.now)
         → MatchOption result (IsOutOfRange d) (λ f. StandsFor f d × IsInRange f) }
 {
@@ -178,9 +179,12 @@ pub(super) fn in_polygon_candidate(alloc: Global, value: &Value) -> Result<Candi
 }
 
 fn polygon_of(value: &Value) -> PolygonId
-    ensures layer { (n : ℕ) → get (codes "layer") (view value.now) ≡ Some (whole n) → result.layer ≡ n }
-    ensures feature { (n : ℕ) → get (codes "feature") (view value.now) ≡ Some (whole n) → result.feature ≡ n }
-    ensures polygon { (n : ℕ) → get (codes "polygon") (view value.now) ≡ Some (whole n) → result.polygon ≡ n }
+    ensures layer { (n : ℕ) → get (codes "layer") (view value.now) ≡ Some (whole n)
+        → result.layer ≡ n }
+    ensures feature { (n : ℕ) → get (codes "feature") (view value.now) ≡ Some (whole n)
+        → result.feature ≡ n }
+    ensures polygon { (n : ℕ) → get (codes "polygon") (view value.now) ≡ Some (whole n)
+        → result.polygon ≡ n }
 {
     PolygonId {
         layer: ordinal_at(value, "layer"),
@@ -191,7 +195,8 @@ fn polygon_of(value: &Value) -> PolygonId
 
 /// The edge at the key. Where there is none its ordinals are 0, and the candidate's object differs.
 fn edge_at(value: &Value, key: &str) -> RingEdge
-    ensures { (edge : RingEdge) → get key.now (view value.now) ≡ Some (edge_data edge) → result ≡ edge }
+    ensures { (edge : RingEdge) → get key.now (view value.now) ≡ Some (edge_data edge)
+        → result ≡ edge }
 {
     let (edge, ring) = match value.get(key) {
         Some(object) => (ordinal_at(object, "edge"), ordinal_at(object, "ring")),

@@ -3,7 +3,7 @@
 ghost use Rattle.std.specs.Prelude.{IfOk};
 ghost use Rattle.serde_json.specs.View.{view};
 ghost use Rattle.mvt_fault.specs.Code.{tag_code, command_code};
-ghost use Rattle.mvt_fault.specs.Candidate.{HasCode, IsCandidate};
+ghost use Rattle.mvt_fault.specs.Calls.Candidate.{HasCode, IsCandidate};
 
 use super::candidate::{Candidate, ordinal_at};
 use crate::command::CommandCode;

@@ -3,7 +3,7 @@
 ghost use Rattle.std.specs.Prelude.{◌≡◌, ℕ, ◌^◌, ◌≤◌, ◌<◌, IfOk, MatchOption};
 ghost use Rattle.serde_json.specs.View.{view};
 ghost use Rattle.mvt_wire.specs.Code.{code_of};
-ghost use Rattle.mvt_fault.specs.Candidate.{HasCode, IsCandidate};
+ghost use Rattle.mvt_fault.specs.Calls.Candidate.{HasCode, IsCandidate};
 ghost use Rattle.mvt_fault.specs.Text.{wire_data};
 
 use super::candidate::{Candidate, number_at, ordinal_at, text_at};
@@ -30,10 +30,11 @@ pub(super) fn wire_candidate(
     })
 }
 
-/// The innermost message, by its name and ordinals. Where there is no such name it is the tile, from which
-/// the candidate's object differs.
+/// The innermost message, by its name and ordinals. Where there is no such name it is the tile,
+/// from which the candidate's object differs.
 fn scope_of(value: &Value) -> Scope
-    ensures { (code : WireCode) (scope : Scope) (at field : ℕ) → view value.now ≡ wire_data code scope at field → result ≡ scope }
+    ensures { (code : WireCode) (scope : Scope) (at field : ℕ)
+        → view value.now ≡ wire_data code scope at field → result ≡ scope }
 {
     match text_at(value, "scope") {
         "layer" => Scope::Layer(ordinal_at(value, "layer")),
@@ -44,7 +45,8 @@ fn scope_of(value: &Value) -> Scope
 }
 
 fn wire_fault(code: WireCode, scope: Scope, at: usize, field: u64) -> Option<Fault>
-    ensures { MatchOption result (2 ^ 32 ≤ field) (λ f. (f ≡ Fault.Wire code scope at field) × (field < 2 ^ 32)) }
+    ensures { MatchOption result (2 ^ 32 ≤ field) (λ f. (f ≡ Fault.Wire code scope at field)
+        × (field < 2 ^ 32)) }
 {
     let field = u32::try_from(field).ok()?;
     Some(Fault::Wire {

@@ -3,7 +3,7 @@
 ghost use Rattle.std.specs.Prelude.{◌≡◌, IfOk, OnOk};
 ghost use Rattle.serde_json.specs.Data.{no_members, put as with_member, string};
 ghost use Rattle.serde_json.specs.View.{members_view};
-ghost use Rattle.mvt_fault.specs.Members.{with_numbers};
+ghost use Rattle.mvt_fault.specs.Calls.Members.{with_numbers};
 ghost use Rattle.mvt_fault.specs.Text.{whole};
 
 use serde_json::{Map, Value, put};
@@ -29,7 +29,8 @@ fn add_number(
     key: &str,
     number: u64,
 ) -> Result<(), AllocError>
-    ensures { OnOk result (members_view map.new.entries ≡ with_member key.now (whole number) (members_view map.old.entries)) }
+    ensures { OnOk result (members_view map.new.entries
+        ≡ with_member key.now (whole number) (members_view map.old.entries)) }
 {
     put(map, alloc, key, Value::from(number))
 }
@@ -41,7 +42,8 @@ pub(crate) fn add_text(
     key: &str,
     text: &str,
 ) -> Result<(), AllocError>
-    ensures { OnOk result (members_view map.new.entries ≡ with_member key.now (string text.now) (members_view map.old.entries)) }
+    ensures { OnOk result (members_view map.new.entries
+        ≡ with_member key.now (string text.now) (members_view map.old.entries)) }
 {
     put(map, alloc, key, Value::try_from_str(alloc, text)?)
 }

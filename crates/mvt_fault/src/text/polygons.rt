@@ -3,7 +3,7 @@
 ghost use Rattle.std.specs.Prelude.{◌≡◌, IfOk, OnOk};
 ghost use Rattle.serde_json.specs.Data.{put as with_member, string};
 ghost use Rattle.serde_json.specs.View.{members_view, view};
-ghost use Rattle.mvt_fault.specs.Place.{IsOfPolygon};
+ghost use Rattle.mvt_fault.specs.Calls.Place.{IsOfPolygon};
 ghost use Rattle.mvt_fault.specs.Text.{data_of, IsInRange, ring_data, edge_data, meeting_data, meeting_parts, outside_data, hole_in_hole_data, in_polygon_data};
 
 use crate::fault::{Fault, HOLE_IN_HOLE_CODE, IN_POLYGON_CODE, MEETING_CODE, OUTSIDE_CODE};
@@ -12,8 +12,8 @@ use crate::text::members::{add_text, members_of};
 use serde_json::{Map, Value, put};
 use std::alloc::{AllocError, Global};
 
-/// A polygon of a tile by ordinals: of its layer, of the feature in the layer, and of the polygon in the
-/// feature.
+/// A polygon of a tile by ordinals: of its layer, of the feature in the layer, and of the polygon
+/// in the feature.
 #[derive(Clone, Copy)]
 pub(crate) struct PolygonId {
     pub layer: usize,
@@ -133,7 +133,8 @@ fn meeting_object(
     second: RingEdge,
     point: MeetingPoint,
 ) -> Result<Value, AllocError>
-    ensures { IfOk result (λ v. view v ≡ meeting_data id.layer id.feature id.polygon first second point.x point.y point.w) }
+    ensures { IfOk result (λ v.
+        view v ≡ meeting_data id.layer id.feature id.polygon first second point.x point.y point.w) }
 {
     let w = point.w.to_string(alloc)?;
     let x = point.x.to_string(alloc)?;
@@ -154,7 +155,8 @@ pub(crate) fn written_meeting_object(
     second: RingEdge,
     point: &WrittenPoint<'_>,
 ) -> Result<Value, AllocError>
-    ensures { IfOk result (λ v. view v ≡ meeting_parts id.layer id.feature id.polygon (edge_data first) (edge_data second)
+    ensures { IfOk result (λ v.
+        view v ≡ meeting_parts id.layer id.feature id.polygon (edge_data first) (edge_data second)
         (string point.now.w.now) (string point.now.x.now) (string point.now.y.now)) }
 {
     let members = [
@@ -179,7 +181,8 @@ fn add_edge(
     key: &str,
     edge: RingEdge,
 ) -> Result<(), AllocError>
-    ensures { OnOk result (members_view map.new.entries ≡ with_member key.now (edge_data edge) (members_view map.old.entries)) }
+    ensures { OnOk result (members_view map.new.entries
+        ≡ with_member key.now (edge_data edge) (members_view map.old.entries)) }
 {
     let members = [("edge", edge.edge as u64), ("ring", edge.ring as u64)];
     put(map, alloc, key, Value::Object(members_of(alloc, &members)?))
@@ -211,7 +214,8 @@ pub(crate) fn hole_in_hole_object(
     vertex: usize,
     other: usize,
 ) -> Result<Value, AllocError>
-    ensures { IfOk result (λ v. view v ≡ hole_in_hole_data id.layer id.feature id.polygon ring vertex other) }
+    ensures { IfOk result (λ v.
+        view v ≡ hole_in_hole_data id.layer id.feature id.polygon ring vertex other) }
 {
     let members = [
         ("code", u64::from(HOLE_IN_HOLE_CODE)),
@@ -231,7 +235,8 @@ pub(crate) fn in_polygon_object(
     vertex: usize,
     other: usize,
 ) -> Result<Value, AllocError>
-    ensures { IfOk result (λ v. view v ≡ in_polygon_data id.layer id.feature id.polygon vertex other) }
+    ensures { IfOk result (λ v.
+        view v ≡ in_polygon_data id.layer id.feature id.polygon vertex other) }
 {
     let members = [
         ("code", u64::from(IN_POLYGON_CODE)),

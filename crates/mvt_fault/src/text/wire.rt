@@ -3,7 +3,7 @@
 ghost use Rattle.std.specs.Prelude.{◌≡◌, IfOk, codes};
 ghost use Rattle.serde_json.specs.Data.{no_members, object, put, string};
 ghost use Rattle.serde_json.specs.View.{view};
-ghost use Rattle.mvt_fault.specs.Members.{with_numbers};
+ghost use Rattle.mvt_fault.specs.Calls.Members.{with_numbers};
 ghost use Rattle.mvt_fault.specs.Text.{wire_data};
 
 use crate::text::members::{add_text, members_of};
@@ -42,7 +42,9 @@ pub(crate) fn wire_object(
 
 /// The object of these numbers and of a scope's name.
 fn scope_object(alloc: Global, scope: &str, numbers: &[(&str, u64)]) -> Result<Value, AllocError>
-    ensures { IfOk result (λ v. view v ≡ object (put (codes "scope") (string scope.now) (with_numbers no_members numbers.now))) }
+    ensures { IfOk result (λ v.
+        view v ≡ object (put (codes "scope") (string scope.now)
+        (with_numbers no_members numbers.now))) }
 {
     let mut map = members_of(alloc, numbers)?;
     add_text(&mut map, alloc, "scope", scope)?;

@@ -5,7 +5,8 @@ use mvt_fault::Profile;
 use mvt_tile::Advice;
 use std::test::Fail;
 
-/// Bytes in hexadecimal, the line of their verdict, and the line of the advice on them where they are a tile.
+/// Bytes in hexadecimal, the line of their verdict, and the line of the advice on them where they
+/// are a tile.
 const ADVISED: &str = r#"
 # no layer
  => {"ok":true} => {"advice":[{"kind":"no_layer"}]}
@@ -42,7 +43,8 @@ const ADVISED: &str = r#"
 const OVERLAP: &str =
     "1a 21 78 02 0a 01 61 12 1a 18 03 22 16 09 00 00 1a 14 00 00 14 13 00 0f 09 0a 09 1a 14 00 00 14 13 00 0f";
 
-/// Whether the engine writes these lines, of which the second may be missing, of the bytes that a text spells.
+/// Whether the engine writes these lines, of which the second may be missing, of the bytes that a
+/// text spells.
 fn is_answer(rt: &HostRuntime, profile: Profile, text: &str, lines: &str) -> Result<bool, Fail> {
     let bytes = bytes_of(rt, text)?;
     let engine = Engine::AdviseBy(profile);
@@ -70,7 +72,7 @@ fn rows_held(rt: &HostRuntime, profile: Profile, rows: &str) -> Result<u32, Fail
 }
 
 #[test]
-fn advises_behind_the_verdict(rt: HostRuntime) -> Result<(), Fail> {
+fn advises_after_the_verdict(rt: HostRuntime) -> Result<(), Fail> {
     for profile in [Profile::Polygon, Profile::Feature] {
         assert_eq!(rt; rows_held(&rt, profile, ADVISED)?, 18);
     }

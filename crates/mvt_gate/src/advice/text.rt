@@ -7,8 +7,8 @@ use mvt_tile::Advice;
 use std::alloc::{AllocError, Global};
 use std::fmt::Write;
 
-/// All advice on a tile as one JSON object, with no space and with the keys of each object in the order of their bytes. It
-/// is written piece by piece: of memory it takes the text alone.
+/// All advice on a tile as one JSON object, with no space and with the keys of each object in the
+/// order of their bytes. It is written piece by piece: of memory it takes the text alone.
 pub fn advice_text(alloc: Global, advice: &[Advice]) -> Result<String, AllocError>
     ensures { IfOk result (λ text. string_bytes text ≡ advice_text advice.now) }
 {
@@ -17,13 +17,14 @@ pub fn advice_text(alloc: Global, advice: &[Advice]) -> Result<String, AllocErro
     Ok(text)
 }
 
-/// Writes that text behind another.
+/// Writes that text after another.
 pub(super) fn push_advice(
     alloc: Global,
     text: &mut String,
     advice: &[Advice],
 ) -> Result<(), AllocError>
-    ensures { OnOk result (string_bytes text.new ≡ string_bytes text.old ++ advice_text advice.now) }
+    ensures { OnOk result (string_bytes text.new
+        ≡ string_bytes text.old ++ advice_text advice.now) }
 {
     text.push_str("{\"advice\":")?;
     push_list(alloc, text, advice)?;

@@ -50,7 +50,8 @@ const TILES: &str = r#"
 1a 42 78 02 0a 01 61 12 3b 18 03 22 37 09 ff ff ff ff 07 ff ff ff ff 07 3a 80 80 80 80 08 00 80 80 80 80 08 00 00 80 80 80 80 08 00 80 80 80 80 08 ff ff ff ff 07 00 ff ff ff ff 07 00 00 ff ff ff ff 07 0f => {"ok":true}
 "#;
 
-/// Bytes in hexadecimal that are no tile, or one that breaks a rule, and the line of their first fault.
+/// Bytes in hexadecimal that are no tile, or one that breaks a rule, and the line of their first
+/// fault.
 const FAULTS: &str = r#"
 # the tile's own fields
 80 => {"at":0,"code":101,"field":0,"scope":"tile"}
@@ -84,7 +85,7 @@ const FAULTS: &str = r#"
 1a 1d 78 02 0a 01 61 12 0b 12 02 01 00 18 01 22 03 09 32 22 1a 01 6b 22 02 38 01 22 02 28 05 => {"code":302,"feature":0,"index":0,"layer":0}
 1a 1d 78 02 0a 01 61 12 0b 12 02 00 02 18 01 22 03 09 32 22 1a 01 6b 22 02 38 01 22 02 28 05 => {"code":303,"feature":0,"index":1,"layer":0}
 1a 1f 78 02 0a 01 61 12 0d 12 04 00 00 00 01 18 01 22 03 09 32 22 1a 01 6b 22 02 38 01 22 02 28 05 => {"code":304,"feature":0,"index":2,"layer":0}
-# geometry commands: another one than the one that is due, and one behind all points
+# geometry commands: another one than the one that is due, and one after all points
 1a 0e 78 02 0a 01 61 12 07 18 01 22 03 0a 32 22 => {"code":401,"feature":0,"index":0,"layer":0}
 1a 11 78 02 0a 01 61 12 0a 18 01 22 06 09 32 22 09 32 22 => {"code":401,"feature":0,"index":3,"layer":0}
 # a count that is not allowed
@@ -128,7 +129,7 @@ const FAULTS: &str = r#"
 # in one feature tags come before commands, and each feature before the next one
 1a 1c 78 02 0a 01 61 12 0a 12 01 00 18 01 22 03 0a 32 22 1a 01 6b 22 02 38 01 22 02 28 05 => {"code":301,"feature":0,"index":1,"layer":0}
 1a 25 78 02 0a 01 61 12 07 18 01 22 03 0a 32 22 12 0a 12 01 00 18 01 22 03 09 32 22 1a 01 6b 22 02 38 01 22 02 28 05 => {"code":401,"feature":0,"index":0,"layer":0}
-# both come behind the rules on layers, and behind wire faults
+# both come after the rules on layers, and after wire faults
 1a 0c 78 02 0a 01 61 12 05 18 01 22 01 01 1a 05 78 01 0a 01 62 => {"code":201,"layer":1}
 1a 0c 78 02 0a 01 61 12 05 18 01 22 01 01 80 => {"at":14,"code":101,"field":0,"scope":"tile"}
 "#;
@@ -155,7 +156,8 @@ fn is_judged(rt: &HostRuntime, bytes: &[u8], verdict: Verdict) -> Result<bool, F
     Ok(said == verdict && judge_and_confirm(rt.alloc(), bytes, &OTHER_FAULT)? == agreement)
 }
 
-/// Whether the line is what `judge` says of the bytes that a text spells, and what the engine writes and answers.
+/// Whether the line is what `judge` says of the bytes that a text spells, and what the engine
+/// writes and answers.
 fn is_answer(rt: &HostRuntime, text: &str, line: &str) -> Result<bool, Fail> {
     let bytes = bytes_of(rt, text)?;
     let verdict = verdict_of(rt, line)?;

@@ -26,7 +26,8 @@ type Manners = [Manner; 3];
 /// How many bytes of the tile and of the claim come in.
 type CameIn = (u64, u64);
 
-/// Runs the engine on a tile and a claim, with devices of these manners: its result, what came in, and what goes out.
+/// Runs the engine on a tile and a claim, with devices of these manners: its result, what came in,
+/// and what goes out.
 fn run(
     rt: &HostRuntime,
     (tile, claim): (&[u8], &str),
@@ -40,7 +41,8 @@ fn run(
     (got, (tile.bytes(), claim.bytes()))
 }
 
-/// Whether devices that move all at once, and those that move a byte a call, end in this result and line.
+/// Whether devices that move all at once, and those that move a byte a call, end in this result and
+/// line.
 fn says(
     rt: &HostRuntime,
     inputs: (&[u8], &str),
@@ -59,7 +61,8 @@ fn says(
 /// A polygon of which no fault is true.
 const TRIANGLE: &str = "1a 14 78 02 0a 01 61 12 0d 18 03 22 09 09 06 0c 12 0a 0c 18 2c 0f";
 
-/// The fault of a varint that ends too early, and the same with its keys in another order and with space.
+/// The fault of a varint that ends too early, and the same with its keys in another order and with
+/// space.
 const CUT: &str = r#"{"at":0,"code":101,"field":0,"scope":"tile"}"#;
 
 const SPACED: &str = " {\"scope\":\"tile\", \"field\":0, \"code\":101, \"at\":0}\n";
@@ -114,9 +117,10 @@ fn ends_so(
     got == want && taken.as_slice() == went_out.as_bytes()
 }
 
-/// The call that fails of the tile's device, of the claim's and of the writer's, if any does; the claim; how the run
-/// ends, and what comes in; and what goes out. The tile is read to its end before the claim's first byte, the claim to
-/// its end before it is judged, and it is judged before the writer is called. The writer's last call is the flush.
+/// The call that fails of the tile's device, of the claim's and of the writer's, if any does; the
+/// claim; how the run ends, and what comes in; and what goes out. The tile is read to its end
+/// before the claim's first byte, the claim to its end before it is judged, and it is judged before
+/// the writer is called. The writer's last call is the flush.
 type Failing = (
     [u64; 3],
     &'static str,
@@ -143,7 +147,8 @@ fn fails_with(failure: ErrorKind, at: u64) -> Manner {
     }
 }
 
-/// How many runs end so, on devices that fail with this error, before the first that does not, if any.
+/// How many runs end so, on devices that fail with this error, before the first that does not, if
+/// any.
 fn failing_held(rt: &HostRuntime, kind: ErrorKind) -> u32 {
     let mut held = 0_u32;
     for ([tile, of_claim, writer], claim, want, went_out) in FAILING {
@@ -182,9 +187,9 @@ fn refuses_an_endless_claim(rt: HostRuntime) {
     assert!(rt; ends_so(&rt, [CALM, endless, CALM], CUT, want, ""));
 }
 
-/// From which call on the tile's device is interrupted, and how many times; the same of the claim's and of the writer's;
-/// how the run ends, and what comes in; and what goes out. A run bears 1,000 interruptions, those of its three devices
-/// together.
+/// From which call on the tile's device is interrupted, and how many times; the same of the claim's
+/// and of the writer's; how the run ends, and what comes in; and what goes out. A run bears 1,000
+/// interruptions, those of its three devices together.
 type Interrupted = (
     [(u64, u64); 3],
     (Result<Outcome, EngineFault>, CameIn),

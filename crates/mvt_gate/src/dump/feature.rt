@@ -26,7 +26,8 @@ impl Part for Feature {
 
 /// Writes an id, or null.
 fn push_id(text: &mut String, id: Option<u64>) -> Result<(), AllocError>
-    ensures { OnOk result (string_bytes text.new ≡ string_bytes text.old ++ compact_text (id_data id)) }
+    ensures { OnOk result (string_bytes text.new
+        ≡ string_bytes text.old ++ compact_text (id_data id)) }
 {
     match id {
         Some(id) => write!(text, "{id}"),

@@ -1,4 +1,4 @@
-//! The parts of a tile as JSON, written one behind another into one text.
+//! The parts of a tile as JSON, written one after another into one text.
 ghost use Rattle.std.specs.Prelude.{◌≡◌, [], ◌++◌, codes, if◌then◌else◌, OnOk, string_bytes};
 ghost use Rattle.serde_json.specs.Data.{Data};
 ghost use Rattle.serde_json.specs.Written.{compact_text};
@@ -13,7 +13,7 @@ pub(crate) trait Part {
     // the part as JSON
     ghost part_data: { Self → Data };
 
-    /// Writes the part behind a text, with no space. What is taken of `alloc` besides the text's own
+    /// Writes the part after a text, with no space. What is taken of `alloc` besides the text's own
     /// growth is for one string at a time.
     fn push_to(&self, alloc: Global, text: &mut String) -> Result<(), AllocError>
         ensures { OnOk result (string_bytes text.new
@@ -38,7 +38,7 @@ pub(crate) fn push_list<P: Part>(
     text.push_str("]")
 }
 
-/// Writes a member of a list behind those before it.
+/// Writes a member of a list after those before it.
 fn push_member<P: Part>(
     alloc: Global,
     text: &mut String,
@@ -46,7 +46,8 @@ fn push_member<P: Part>(
     is_first: bool,
 ) -> Result<(), AllocError>
     ensures { OnOk result (string_bytes text.new
-        ≡ string_bytes text.old ++ (if is_first then [] else codes ",") ++ compact_text (P.part_data part.now)) }
+        ≡ string_bytes text.old ++ (if is_first then [] else codes ",") ++ compact_text
+        (P.part_data part.now)) }
 {
     if !is_first {
         text.push_str(",")?;

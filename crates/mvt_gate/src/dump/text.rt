@@ -10,8 +10,8 @@ use std::alloc::{AllocError, Global};
 use std::fmt::Write;
 
 /// A tile as one JSON object, with no space and with the keys of each object in the order of their
-/// bytes. It is written straight from the record: of memory it takes the text, and room for one of the
-/// tile's strings at a time.
+/// bytes. It is written straight from the record: of memory it takes the text, and room for one of
+/// the tile's strings at a time.
 pub fn dump_text(alloc: Global, tile: &Tile) -> Result<String, AllocError>
     ensures { IfOk result (λ text. string_bytes text ≡ dump_text (tile_of tile.now)) }
 {
@@ -41,7 +41,8 @@ impl<'a> Part for Layer<'a> {
 /// Writes the beginning of a layer, up to its features.
 fn push_extent(text: &mut String, extent: u32) -> Result<(), AllocError>
     ensures { OnOk result (string_bytes text.new
-        ≡ string_bytes text.old ++ (codes "{\"extent\":" ++ (decimal extent ++ codes ",\"features\":"))) }
+        ≡ string_bytes text.old ++ (codes "{\"extent\":" ++
+        (decimal extent ++ codes ",\"features\":"))) }
 {
     write!(text, "{{\"extent\":{extent},\"features\":")
 }

@@ -29,7 +29,7 @@ fn is_text(rt: &HostRuntime, fault: EngineFault, text: &str) -> bool {
 }
 
 #[test]
-fn tells_each_fault(rt: HostRuntime) {
+fn reports_each_fault(rt: HostRuntime) {
     for (fault, text) in TEXTS {
         assert!(rt; is_text(&rt, fault, text), "for {text}");
     }

@@ -29,10 +29,11 @@ pub fn fields_line(alloc: Global, input: &[u8]) -> Result<String, AllocError>
     Ok(line)
 }
 
-/// Writes a field behind the fields before it.
+/// Writes a field after the fields before it.
 fn push_field(line: &mut String, field: Field, is_first: bool) -> Result<(), AllocError>
     ensures { OnOk result (string_bytes line.new
-        ≡ string_bytes line.old ++ (if is_first then [] else codes ",") ++ field_text (entry_of field.entry)) }
+        ≡ string_bytes line.old ++ (if is_first then [] else codes ",") ++ field_text
+        (entry_of field.entry)) }
 {
     if !is_first {
         line.push_str(",")?;
@@ -47,7 +48,8 @@ fn push_field(line: &mut String, field: Field, is_first: bool) -> Result<(), All
 }
 
 fn push_varint(line: &mut String, at: usize, number: u32, value: u64) -> Result<(), AllocError>
-    ensures { OnOk result (string_bytes line.new ≡ string_bytes line.old ++ varint_text at number value) }
+    ensures { OnOk result (string_bytes line.new
+        ≡ string_bytes line.old ++ varint_text at number value) }
 {
     write!(
         line,

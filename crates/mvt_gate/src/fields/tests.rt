@@ -55,8 +55,8 @@ const READ: Result<Outcome, EngineFault> = Err(EngineFault::Read);
 
 const WRITE: Result<Outcome, EngineFault> = Err(EngineFault::Write);
 
-/// Whether a run on the point ends so where the reader and the writer have these manners: its result, and how many
-/// bytes of the line go out.
+/// Whether a run on the point ends so where the reader and the writer have these manners: its
+/// result, and how many bytes of the line go out.
 fn point_ends_so(
     rt: &HostRuntime,
     [of_reader, of_writer]: [Manner; 2],
@@ -74,7 +74,8 @@ fn point_ends_so(
     got == want && taken.len() == went_out && LINE.starts_with(&taken)
 }
 
-/// From which call on the reader is interrupted, and how many times; the same of the writer; and how the run ends.
+/// From which call on the reader is interrupted, and how many times; the same of the writer; and
+/// how the run ends.
 type Interrupted = ((u64, u64), (u64, u64), Result<Outcome, EngineFault>, usize);
 
 const INTERRUPTED: [Interrupted; 7] = [

@@ -2,18 +2,18 @@
 ghost use Rattle.std.specs.Prelude.{◌≡◌, IfNone, IfOk, IfSome};
 ghost use Rattle.mvt_confirm.specs.Valid.{AreValidRingsBy};
 ghost use Rattle.mvt_fault.specs.declared.profile.Profile.TheVariants.{Feature};
-ghost use Rattle.mvt_plane.specs.Ring.{ArePolygonRings};
+ghost use Rattle.mvt_plane.specs.Geometry.Ring.{ArePolygonRings};
 ghost use Rattle.mvt_polygon.specs.Rings.{rings_of, AreProperRings};
-ghost use Rattle.mvt_gate.specs.Polygons.{IsFirstOfRings, IsTellable, fault_of_cause};
+ghost use Rattle.mvt_gate.specs.Calls.Polygons.{IsFirstOfRings, IsReportable, fault_of_cause};
 
-use super::{PolygonPlace, tell_hole, tell_meeting};
+use super::{PolygonPlace, hole_fault, meeting_fault};
 use mvt_fault::Fault;
 use mvt_plane::{Count, Point};
 use mvt_polygon::{FeatureCause, check_feature};
 use std::alloc::{AllocError, Global};
 
-/// The first fault of the polygons of a feature, one after another, or None where all of them are valid and apart. No ring
-/// has a fault of its own. The only error is that memory was refused.
+/// The first fault of the polygons of a feature, one after another, or None where all of them are
+/// valid and apart. No ring has a fault of its own. The only error is that memory was refused.
 pub(super) fn feature_fault(
     alloc: Global,
     rings: &[Vec<Point>],
@@ -23,8 +23,10 @@ pub(super) fn feature_fault(
 ) -> Result<Option<Fault>, AllocError>
     requires sound { ArePolygonRings (rings_of rings.now) }
     requires drawn { AreProperRings (rings_of rings.now) }
-    ensures valid { IfOk result (λ found. IfNone found (AreValidRingsBy Feature (rings_of rings.now))) }
-    ensures least { IfOk result (λ found. IfSome found (IsFirstOfRings Feature (rings_of rings.now) layer feature)) }
+    ensures valid { IfOk result (λ found.
+        IfNone found (AreValidRingsBy Feature (rings_of rings.now))) }
+    ensures least { IfOk result (λ found.
+        IfSome found (IsFirstOfRings Feature (rings_of rings.now) layer feature)) }
 {
     let Some(found) = check_feature(alloc, rings, count)? else {
         return Ok(None);
@@ -36,12 +38,12 @@ pub(super) fn feature_fault(
         exterior: found.exterior,
         after: found.after,
     };
-    Ok(Some(tell_cause(place, found.cause)))
+    Ok(Some(cause_fault(place, found.cause)))
 }
 
 /// The fault of what was found wrong with a polygon of a feature.
-fn tell_cause(place: PolygonPlace, cause: FeatureCause) -> Fault
-    requires { IsTellable place cause }
+fn cause_fault(place: PolygonPlace, cause: FeatureCause) -> Fault
+    requires { IsReportable place cause }
     ensures { result ≡ fault_of_cause place cause }
 {
     match cause {
@@ -51,9 +53,9 @@ fn tell_cause(place: PolygonPlace, cause: FeatureCause) -> Fault
                 exterior: 0,
                 ..place
             };
-            tell_meeting(front, meeting)
+            meeting_fault(front, meeting)
         }
-        FeatureCause::Nesting(fault) => tell_hole(place, fault),
+        FeatureCause::Nesting(fault) => hole_fault(place, fault),
         FeatureCause::Apart(fault) => Fault::InPolygon {
             layer: place.layer,
             feature: place.feature,

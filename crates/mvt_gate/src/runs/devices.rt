@@ -1,4 +1,5 @@
-//! Each engine on devices that fail, one call after the other, that move little, that are interrupted, or that never end.
+//! Each engine on devices that fail, one call after the other, that move little, that are
+//! interrupted, or that never end.
 use super::{CROSSED, CROSSING, Engine, outcome_of, run};
 use crate::device::{CALM, Manner, bytes_of, fails, interrupted};
 use crate::engine::EngineFault;
@@ -6,12 +7,12 @@ use mvt_fault::Profile;
 use std::io::ErrorKind;
 use std::test::Fail;
 
-/// An engine, its tile in hexadecimal, a claim for `confirm`, and its line; and how many calls the run makes of the
-/// tile's device, of the claim's and of the writer, where each moves three bytes a call. The last read finds the end, and
-/// the writer's last call is the flush.
+/// An engine, its tile in hexadecimal, a claim for `confirm`, and its line; and how many calls the
+/// run makes of the tile's device, of the claim's and of the writer, where each moves three bytes a
+/// call. The last read finds the end, and the writer's last call is the flush.
 type Row = (Engine, &'static str, &'static str, &'static str, [u16; 3]);
 
-/// The line of a verdict, and that of the advice behind it, which a failing writer breaks off too.
+/// The line of a verdict, and that of the advice after it, which a failing writer breaks off too.
 const ADVISED: &str =
     "{\"ok\":true}\n{\"advice\":[{\"kind\":\"no_feature\",\"layer\":0},{\"first\":0,\"kind\":\"equal_key\",\"layer\":0,\"second\":1}]}";
 
@@ -69,8 +70,8 @@ struct Case<'a> {
     line: &'a str,
 }
 
-/// Whether a run ends so where one device has a manner of its own, and the others move three bytes a call: in this
-/// fault, with so many bytes written, or in its line.
+/// Whether a run ends so where one device has a manner of its own, and the others move three bytes
+/// a call: in this fault, with so many bytes written, or in its line.
 fn ends_so(
     rt: &HostRuntime,
     case: &Case<'_>,
@@ -101,8 +102,8 @@ fn fault_of(device: Device, call: u16) -> (EngineFault, usize) {
     }
 }
 
-/// Whether each of so many calls of a device in turn ends the run where it fails, and one behind them is never made.
-/// With no error a failing call moves no byte.
+/// Whether each of so many calls of a device in turn ends the run where it fails, and one after
+/// them is never made. With no error a failing call moves no byte.
 fn fails_in_turn(
     rt: &HostRuntime,
     case: &Case<'_>,
@@ -150,7 +151,7 @@ fn refuses_endless(rt: &HostRuntime, case: &Case<'_>, device: Device) -> bool {
     ends_so(rt, case, device, endless, Some((EngineFault::TooLarge, 0)))
 }
 
-/// Whether an engine tells what each of its devices failed at, and bears what is no failure.
+/// Whether an engine reports what each of its devices failed at, and bears what is no failure.
 fn bears_its_devices(
     rt: &HostRuntime,
     case: &Case<'_>,

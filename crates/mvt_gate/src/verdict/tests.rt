@@ -19,8 +19,8 @@ const COMB_END: &str = "03 00 0f";
 /// A tooth above with a vertex that was moved, so that it crosses a tooth below.
 const MOVED_TOOTH: &str = "09 09 06 09 03 00 00 14";
 
-/// The tile of a ring, a comb on either side, of its parts, each with how often it comes: its beginning, the teeth of the
-/// one comb, the way to the other, the teeth of that one, and its end.
+/// The tile of a ring, a comb on either side, of its parts, each with how often it comes: its
+/// beginning, the teeth of the one comb, the way to the other, the teeth of that one, and its end.
 fn tile_of(rt: &HostRuntime, comb: &[(&str, u32)]) -> Result<Vec<u8>, Fail> {
     let mut tile = Vec::new(rt.alloc());
     for (part, times) in comb {

@@ -13,7 +13,8 @@ const HOLE_OF_ISLAND: Coordinates = &[(25, 25), (25, 75), (75, 75), (75, 25)];
 
 const STONE: Coordinates = &[(30, 30), (40, 30), (40, 40), (30, 40)];
 
-/// The rings of features, and of each polygon of them the vertex and the other polygon of its fault.
+/// The rings of features, and of each polygon of them the vertex and the other polygon of its
+/// fault.
 const FEATURES: &[(&[Coordinates], &[Option<(usize, usize)>])] = &[
     // Squares that cross, that have a side in common, and in one place.
     (
@@ -36,7 +37,8 @@ const FEATURES: &[(&[Coordinates], &[Option<(usize, usize)>])] = &[
         &[GROUND, HOLE_OF_GROUND, ISLAND, STONE],
         &[None, None, Some((0, 1))],
     ),
-    // An earlier and a later polygon are around all vertices of the second one, or around one of them each.
+    // An earlier and a later polygon are around all vertices of the second one, or around one of
+    // them each.
     (
         &[GROUND, STONE, ISLAND],
         &[None, Some((0, 0)), Some((0, 0))],

@@ -1,7 +1,7 @@
 //! The least and the greatest coordinates of rings.
 ghost use Rattle.std.specs.Prelude.{◌<◌, ◌≤◌, ◌↔◌, IsTrue, length};
 ghost use Rattle.mvt_plane.specs.Position.{Position};
-ghost use Rattle.mvt_polygon.specs.Bounds.{AreBoundsOf, AreBoundsOfPolygon, AreBoundsApart, IsWithin};
+ghost use Rattle.mvt_polygon.specs.Calls.Bounds.{AreBoundsOf, AreBoundsOfPolygon, AreBoundsApart, IsWithin};
 ghost use Rattle.mvt_polygon.specs.Rings.{rings_of, AreProperRings};
 
 use mvt_plane::{Edge, Point};
@@ -49,7 +49,8 @@ impl Bounds {
         requires drawn { AreProperRings (rings_of rings.now) }
         requires further { exterior < after }
         requires within { after ≤ length rings.now }
-        ensures { AreBoundsOfPolygon (rings_of rings.now) (record { exterior = exterior; after = after }) result }
+        ensures { AreBoundsOfPolygon (rings_of rings.now)
+            (record { exterior = exterior; after = after }) result }
     {
         let mut bounds = Bounds::of(&rings[exterior]);
         for hole in exterior + 1..after {

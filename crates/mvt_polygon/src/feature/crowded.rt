@@ -1,8 +1,8 @@
 //! Polygons of a feature whose bounds may overlap those of others.
 ghost use Rattle.std.specs.Prelude.{◌≡◌, ◌≢◌, ◌⊎◌, ◌-◌, ◌<◌, length, IfOk, IsTrue, ◌<ℤ◌};
-ghost use Rattle.mvt_plane.specs.Ring.{ArePolygonRings};
-ghost use Rattle.mvt_polygon.specs.Islands.{AreMarked};
-ghost use Rattle.mvt_polygon.specs.Cells.{AreAllMarked, AreCells, AreCellsOf, AreParted, AreRefined, AreRingSpans, AreSharing, AreSpansOf, IsCellOrder, order_at};
+ghost use Rattle.mvt_plane.specs.Geometry.Ring.{ArePolygonRings};
+ghost use Rattle.mvt_polygon.specs.Calls.Islands.{AreMarked};
+ghost use Rattle.mvt_polygon.specs.Calls.Cells.{AreAllMarked, AreCells, AreCellsOf, AreParted, AreRefined, AreRingSpans, AreSharing, AreSpansOf, IsCellOrder, order_at};
 ghost use Rattle.mvt_polygon.specs.Polygons.{ArePolygons};
 ghost use Rattle.mvt_polygon.specs.Rings.{rings_of, AreProperRings};
 
@@ -12,9 +12,10 @@ use crate::feature::lands::{beside, have_lakes, lands};
 use mvt_plane::Point;
 use std::alloc::{AllocError, Global};
 
-/// Of each polygon whether it may meet or lie in another one. Where it is not crowded, its bounds are apart from those of each
-/// other one, or the one of the two is an island in a lake of the other. Polygons come into cells along one axis, the other, and
-/// the first one again, so this takes the time of a sort of all and two of those that still share a cell; where a land has
+/// Of each polygon whether it may meet or lie in another one. Where it is not crowded, its bounds
+/// are apart from those of each other one, or the one of the two is an island in a lake of the
+/// other. Polygons come into cells along one axis, the other, and the first one again, so this
+/// takes the time of a sort of all and two of those that still share a cell; where a land has
 /// lakes, three times as much.
 pub(super) fn crowded(
     alloc: Global,
@@ -48,7 +49,9 @@ fn spans_of(
 ) -> Result<(Vec<(i32, i32)>, Vec<(i32, i32)>), AllocError>
     requires drawn { AreProperRings (rings_of rings.now) }
     requires listed { ArePolygons (rings_of rings.now) polygons.now }
-    ensures { IfOk result (λ spans. AreSpansOf (rings_of rings.now) polygons.now (length polygons.now) spans.0.items spans.1.items) }
+    ensures { IfOk result (λ spans.
+        AreSpansOf (rings_of rings.now) polygons.now (length polygons.now) spans.0.items
+        spans.1.items) }
 {
     let mut across = Vec::with_capacity(alloc, polygons.len())?;
     let mut upward = Vec::with_capacity(alloc, polygons.len())?;
@@ -67,7 +70,8 @@ pub(super) fn ring_spans(
     rings: &[Vec<Point>],
 ) -> Result<(Vec<(i32, i32)>, Vec<(i32, i32)>), AllocError>
     requires { AreProperRings (rings_of rings.now) }
-    ensures { IfOk result (λ spans. AreRingSpans (rings_of rings.now) (length rings.now) spans.0.items spans.1.items) }
+    ensures { IfOk result (λ spans.
+        AreRingSpans (rings_of rings.now) (length rings.now) spans.0.items spans.1.items) }
 {
     let mut across = Vec::with_capacity(alloc, rings.len())?;
     let mut upward = Vec::with_capacity(alloc, rings.len())?;
@@ -79,7 +83,8 @@ pub(super) fn ring_spans(
     Ok((across, upward))
 }
 
-/// A cell for each number, by spans along two axes: where two have different cells, their spans along an axis are apart.
+/// A cell for each number, by spans along two axes: where two have different cells, their spans
+/// along an axis are apart.
 fn cells_of(
     alloc: Global,
     across: &[(i32, i32)],
@@ -124,8 +129,9 @@ fn part_shared(alloc: Global, spans: &[(i32, i32)], cells: &mut [usize]) -> Resu
     part_cells(alloc, spans, cells, &shared)
 }
 
-/// Parts each cell where no span of it, from the least to the greatest coordinate along an axis, goes across. A new cell is the
-/// first of its numbers. Only marked numbers are looked at: all that share a cell are.
+/// Parts each cell where no span of it, from the least to the greatest coordinate along an axis,
+/// goes across. A new cell is the first of its numbers. Only marked numbers are checked: all that
+/// share a cell are.
 fn part_cells(
     alloc: Global,
     spans: &[(i32, i32)],
@@ -134,8 +140,10 @@ fn part_cells(
 ) -> Result<(), AllocError>
     requires spans { length spans.now ≡ length cells.old }
     requires marks { AreSharing cells.old marks.now }
-    ensures all { IfOk result (λ _. AreAllMarked (length cells.old) marks.now → AreCells (length cells.old) cells.new) }
-    ensures known { IfOk result (λ _. AreCells (length cells.old) cells.old → AreCells (length cells.old) cells.new) }
+    ensures all { IfOk result (λ _. AreAllMarked (length cells.old) marks.now
+        → AreCells (length cells.old) cells.new) }
+    ensures known { IfOk result (λ _. AreCells (length cells.old) cells.old
+        → AreCells (length cells.old) cells.new) }
     ensures parted { IfOk result (λ _. AreParted spans.now cells.old cells.new) }
 {
     let order = cell_order(alloc, spans, cells, marks)?;
@@ -155,7 +163,8 @@ fn part_cells(
     Ok(())
 }
 
-/// The marked numbers by their cells and, in a cell, by the least coordinates: each with its cell and its least coordinate.
+/// The marked numbers by their cells and, in a cell, by the least coordinates: each with its cell
+/// and its least coordinate.
 fn cell_order(
     alloc: Global,
     spans: &[(i32, i32)],
@@ -178,12 +187,14 @@ fn cell_order(
     Ok(order)
 }
 
-/// Whether a new cell begins at this place of an order: at the first one, with another cell, or behind all spans so far of the
-/// new cell before.
+/// Whether a new cell begins at this place of an order: at the first one, with another cell, or
+/// after all spans so far of the new cell before.
 fn begins_cell(order: &[(usize, i32, usize)], at: usize, reach: i32) -> bool
     requires { at < length order.now }
     ensures first { (at ≡ 0) → IsTrue result }
-    ensures apart { IsTrue result → (at ≡ 0) ⊎ (((order_at order.now (at - 1)).0 ≢ (order_at order.now at).0) ⊎ (reach <ℤ (order_at order.now at).1)) }
+    ensures apart { IsTrue result → (at ≡ 0)
+        ⊎ (((order_at order.now (at - 1)).0 ≢ (order_at order.now at).0)
+        ⊎ (reach <ℤ (order_at order.now at).1)) }
 {
     if at == 0 {
         return true;

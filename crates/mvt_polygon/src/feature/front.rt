@@ -1,12 +1,12 @@
 //! The polygons of a feature before the first one of which an edge meets another one.
 ghost use Rattle.std.specs.Prelude.{◌≡◌, ◌+◌, ◌⊎◌, ◌<◌, ◌≤◌, ℕ, IfOk, IfNone, length};
 ghost use Rattle.mvt_plane.specs.Counted.{ticked};
-ghost use Rattle.mvt_plane.specs.Part.{part_of};
-ghost use Rattle.mvt_plane.specs.Polygon.{IsRingOf};
-ghost use Rattle.mvt_plane.specs.Ring.{ArePolygonRings};
-ghost use Rattle.mvt_polygon.specs.Corners.{vertex_count};
+ghost use Rattle.mvt_plane.specs.Geometry.Part.{part_of};
+ghost use Rattle.mvt_plane.specs.Geometry.Polygon.{IsRingOf};
+ghost use Rattle.mvt_plane.specs.Geometry.Ring.{ArePolygonRings};
+ghost use Rattle.mvt_polygon.specs.Work.{vertex_count};
 ghost use Rattle.mvt_polygon.specs.Feature.{AddsSweeps};
-ghost use Rattle.mvt_polygon.specs.FeatureParts.{IsFront, listed_at};
+ghost use Rattle.mvt_polygon.specs.Calls.FeatureParts.{IsFront, listed_at};
 ghost use Rattle.mvt_polygon.specs.Meeting.{IsMeetingOf, NoMeeting};
 ghost use Rattle.mvt_polygon.specs.Polygons.{ArePolygons};
 ghost use Rattle.mvt_polygon.specs.Rings.{rings_of, AreProperRings};
@@ -17,7 +17,8 @@ use crate::sweep::{RingNotes, Swept, sweep_rings};
 use mvt_plane::{Count, Point};
 use std::alloc::{AllocError, Global};
 
-/// The polygons before the first one of which an edge meets one of its own, or of the polygons before it, wrongly.
+/// The polygons before the first one of which an edge meets one of its own, or of the polygons
+/// before it, wrongly.
 #[derive(Drop)]
 pub(super) struct Front {
     /// How many they are.
@@ -26,7 +27,7 @@ pub(super) struct Front {
     pub(super) rings: usize,
     /// Which rings are around each of their rings.
     pub(super) notes: RingNotes,
-    /// The meeting of the polygon behind them, if there is one.
+    /// The meeting of the polygon after them, if there is one.
     pub(super) meeting: Option<Meeting>,
 }
 
@@ -41,10 +42,16 @@ pub(super) fn clear_front(
     requires drawn { AreProperRings (rings_of rings.now) }
     requires listed { ArePolygons (rings_of rings.now) polygons.now }
     ensures front { IfOk result (IsFront (rings_of rings.now) polygons.now) }
-    ensures counted { AddsSweeps (bits (length polygons.now) + 1) (vertex_count (rings_of rings.now)) count.old count.new }
-    ensures apart { NoMeeting (rings_of rings.now) → AddsSweeps 1 (vertex_count (rings_of rings.now)) count.old count.new }
-    ensures once { IfOk result (λ front. IfNone front.meeting (AddsSweeps 1 (vertex_count (rings_of rings.now)) count.old count.new)) }
-    ensures least { IfOk result (λ front. IfNone front.meeting (raised (vertex_count (rings_of rings.now)) count.old.probes ≤ count.new.probes)) }
+    ensures counted { AddsSweeps (bits (length polygons.now) + 1)
+        (vertex_count (rings_of rings.now)) count.old count.new }
+    ensures apart { NoMeeting (rings_of rings.now)
+        → AddsSweeps 1 (vertex_count (rings_of rings.now)) count.old count.new }
+    ensures once { IfOk result (λ front.
+        IfNone front.meeting (AddsSweeps 1 (vertex_count (rings_of rings.now)) count.old
+        count.new)) }
+    ensures least { IfOk result (λ front.
+        IfNone front.meeting (raised (vertex_count (rings_of rings.now)) count.old.probes
+        ≤ count.new.probes)) }
 {
     match sweep_rings(alloc, rings, count)? {
         Swept::Clear(notes) => Ok(Front {
@@ -57,8 +64,8 @@ pub(super) fn clear_front(
     }
 }
 
-/// Finds these polygons where edges meet, by halves: each sweep goes over the rings up to the end of the polygon in the
-/// middle of those that are left.
+/// Finds these polygons where edges meet, by halves: each sweep goes over the rings up to the end
+/// of the polygon in the middle of those that are left.
 fn front_before(
     alloc: Global,
     rings: &[Vec<Point>],
@@ -72,7 +79,8 @@ fn front_before(
     requires meets { IsMeetingOf (rings_of rings.now) meeting }
     ensures front { IfOk result (IsFront (rings_of rings.now) polygons.now) }
     ensures met { IfOk result (λ front. IfNone front.meeting ⊥) }
-    ensures counted { AddsSweeps (bits (length polygons.now)) (vertex_count (rings_of rings.now)) count.old count.new }
+    ensures counted { AddsSweeps (bits (length polygons.now)) (vertex_count (rings_of rings.now))
+        count.old count.new }
 {
     let mut front = Front {
         polygons: 0,
@@ -101,10 +109,12 @@ fn front_before(
 
 /// The polygon that a ring belongs to.
 fn polygon_of(polygons: &[(usize, usize)], ring: usize) -> usize
-    requires { (polygon : ℕ) × (polygon < length polygons.now) × IsRingOf (listed_at polygons.now polygon) ring }
+    requires { (polygon : ℕ) × (polygon < length polygons.now)
+        × IsRingOf (listed_at polygons.now polygon) ring }
     ensures within { result < length polygons.now }
     ensures of { ring < (listed_at polygons.now result).after }
-    ensures first { (polygon : ℕ) → polygon < result → (listed_at polygons.now polygon).after ≤ ring }
+    ensures first { (polygon : ℕ) → polygon < result
+        → (listed_at polygons.now polygon).after ≤ ring }
 {
     for polygon in 0..polygons.len() {
         let (_, after) = polygons[polygon];

@@ -1,7 +1,7 @@
 //! Some polygons of a feature as a feature of their own.
 ghost use Rattle.std.specs.Prelude.{◌≡◌, ◌<◌, ◌≤◌, ◌-◌, ◌++◌, length, option_map, slice_range, IfOk, IfSome};
 ghost use Rattle.std.specs.List.{range_with_len};
-ghost use Rattle.mvt_polygon.specs.Gathered.{cause_moved, fault_moved, gathered_numbers, gathered_places, gathered_rings, IsCauseWithin, IsFaultWithin};
+ghost use Rattle.mvt_polygon.specs.Calls.Gathered.{cause_moved, fault_moved, gathered_numbers, gathered_places, gathered_rings, IsCauseWithin, IsFaultWithin};
 ghost use Rattle.mvt_polygon.specs.Polygons.{ArePolygons};
 ghost use Rattle.mvt_polygon.specs.Rings.{rings_of};
 
@@ -31,9 +31,12 @@ pub(super) fn gather(
 ) -> Result<Gathered, AllocError>
     requires listed { ArePolygons (rings_of rings.now) polygons.now }
     requires marked { length marks.now ≡ length polygons.now }
-    ensures rings { IfOk result (λ it. rings_of it.rings.items ≡ gathered_rings (rings_of rings.now) polygons.now marks.now (length polygons.now)) }
-    ensures places { IfOk result (λ it. it.ring_of.items ≡ gathered_places polygons.now marks.now (length polygons.now)) }
-    ensures numbers { IfOk result (λ it. it.polygon_of.items ≡ gathered_numbers marks.now (length polygons.now)) }
+    ensures rings { IfOk result (λ it. rings_of it.rings.items
+        ≡ gathered_rings (rings_of rings.now) polygons.now marks.now (length polygons.now)) }
+    ensures places { IfOk result (λ it. it.ring_of.items
+        ≡ gathered_places polygons.now marks.now (length polygons.now)) }
+    ensures numbers { IfOk result (λ it. it.polygon_of.items
+        ≡ gathered_numbers marks.now (length polygons.now)) }
 {
     let mut gathered = Gathered {
         rings: Vec::new(alloc),
@@ -61,8 +64,10 @@ impl Gathered {
     ) -> Result<(), AllocError>
         requires in_order { from ≤ to }
         requires within { to ≤ length rings.now }
-        ensures rings { IfOk result (λ _. rings_of self.new.rings.items ≡ rings_of self.old.rings.items ++ slice_range (rings_of rings.now) from to) }
-        ensures places { IfOk result (λ _. self.new.ring_of.items ≡ self.old.ring_of.items ++ range_with_len from (to - from)) }
+        ensures rings { IfOk result (λ _. rings_of self.new.rings.items
+            ≡ rings_of self.old.rings.items ++ slice_range (rings_of rings.now) from to) }
+        ensures places { IfOk result (λ _. self.new.ring_of.items
+            ≡ self.old.ring_of.items ++ range_with_len from (to - from)) }
         ensures numbers { IfOk result (λ _. self.new.polygon_of.items ≡ self.old.polygon_of.items) }
     {
         for ring in from..to {
@@ -80,8 +85,10 @@ impl Gathered {
         polygons: &[(usize, usize)],
         found: Option<FeatureFault>,
     ) -> Option<FeatureFault>
-        requires { IfSome found (IsFaultWithin polygons.now self.now.ring_of.items self.now.polygon_of.items) }
-        ensures { result ≡ option_map (fault_moved polygons.now self.now.ring_of.items self.now.polygon_of.items) found }
+        requires { IfSome found (IsFaultWithin polygons.now self.now.ring_of.items
+            self.now.polygon_of.items) }
+        ensures { result ≡ option_map (fault_moved polygons.now self.now.ring_of.items
+            self.now.polygon_of.items) found }
     {
         let found = found?;
         let polygon = self.polygon_of[found.polygon];

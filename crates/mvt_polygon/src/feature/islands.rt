@@ -1,9 +1,9 @@
 //! Islands: polygons that lie in a hole of their cell's land are apart from it.
 ghost use Rattle.std.specs.Prelude.{◌≡◌, ◌<◌, ◌≤◌, length, IfNone, IfOk, IfSome, IsTrue};
-ghost use Rattle.mvt_plane.specs.Inside.{IsInside};
-ghost use Rattle.mvt_polygon.specs.Cells.{AreCells};
-ghost use Rattle.mvt_polygon.specs.Islands.{AreMarked, IsIslandOf, LiesIn};
-ghost use Rattle.mvt_polygon.specs.Lands.{AreCellsApart, AreFailing, AreFarFromNeighbours, AreLakes, AreLands, AreOfFailing, IsOnlyLake};
+ghost use Rattle.mvt_plane.specs.Geometry.Inside.{IsInside};
+ghost use Rattle.mvt_polygon.specs.Calls.Cells.{AreCells};
+ghost use Rattle.mvt_polygon.specs.Calls.Islands.{AreMarked, IsIslandOf, LiesIn};
+ghost use Rattle.mvt_polygon.specs.Calls.Lands.{AreCellsApart, AreFailing, AreFarFromNeighbours, AreLakes, AreLands, AreOfFailing, IsOnlyLake};
 ghost use Rattle.mvt_polygon.specs.Polygons.{ArePolygons};
 ghost use Rattle.mvt_polygon.specs.Rings.{rings_of, AreProperRings};
 
@@ -16,11 +16,11 @@ use super::lies_in::lies_in;
 use mvt_plane::{Point, inside};
 use std::alloc::{AllocError, Global};
 
-/// How many vertices of lakes are looked at for each vertex of the feature, at most.
+/// How many vertices of lakes are checked for each vertex of the feature, at most.
 const LAKE_VERTICES: usize = 4;
 
-/// Of each polygon whether it is crowded all the same. A cell is not, where each polygon of it but its land is an island in a
-/// lake of the land, and they are not beside each other.
+/// Of each polygon whether it is crowded all the same. A cell is not, where each polygon of it but
+/// its land is an island in a lake of the land, and they are not beside each other.
 pub(super) fn still_crowded(
     alloc: Global,
     rings: &[Vec<Point>],
@@ -34,7 +34,8 @@ pub(super) fn still_crowded(
     requires cells { AreCells (length polygons.now) cells.now }
     requires parted { AreCellsApart (rings_of rings.now) polygons.now cells.now }
     requires lands { AreLands cells.now (length cells.now) lands.now }
-    requires beside { AreFarFromNeighbours (rings_of rings.now) polygons.now cells.now lands.now beside.now }
+    requires beside { AreFarFromNeighbours (rings_of rings.now) polygons.now cells.now lands.now
+        beside.now }
     ensures { IfOk result (λ marks. AreMarked (rings_of rings.now) polygons.now marks.items) }
 {
     let lakes = lakes(alloc, rings, polygons, cells, lands, beside)?;
@@ -55,8 +56,11 @@ fn failing_cells(
     requires listed { ArePolygons (rings_of rings.now) polygons.now }
     requires cells { AreCells (length polygons.now) cells.now }
     requires lands { AreLands cells.now (length cells.now) lands.now }
-    requires lakes { AreLakes (rings_of rings.now) polygons.now cells.now lands.now (length polygons.now) lakes.now }
-    ensures { IfOk result (λ failing. AreFailing (rings_of rings.now) polygons.now cells.now lands.now lakes.now (length polygons.now) failing.items) }
+    requires lakes { AreLakes (rings_of rings.now) polygons.now cells.now lands.now
+        (length polygons.now) lakes.now }
+    ensures { IfOk result (λ failing.
+        AreFailing (rings_of rings.now) polygons.now cells.now lands.now lakes.now
+        (length polygons.now) failing.items) }
 {
     let mut budget = lake_vertices(rings);
     let mut failing = vec![in alloc; false; cells.len()]?;
@@ -77,7 +81,7 @@ fn failing_cells(
     Ok(failing)
 }
 
-/// How many vertices of lakes may be looked at in a feature.
+/// How many vertices of lakes may be checked in a feature.
 fn lake_vertices(rings: &[Vec<Point>]) -> usize {
     let mut vertices: usize = 0;
     for ring in rings {
@@ -86,8 +90,8 @@ fn lake_vertices(rings: &[Vec<Point>]) -> usize {
     vertices.saturating_mul(LAKE_VERTICES)
 }
 
-/// Whether the polygon is an island in this lake of the land. Takes the lake's vertices from the budget, and tells of no more
-/// islands where that has too few left.
+/// Whether the polygon is an island in this lake of the land. Takes the lake's vertices from the
+/// budget, and reports no more islands where that has too few left.
 fn is_settled(
     rings: &[Vec<Point>],
     polygon: (usize, usize),
@@ -99,9 +103,13 @@ fn is_settled(
     requires there { polygon.0 < length rings.now }
     requires land { land.0 < length rings.now }
     requires within { land.1 ≤ length rings.now }
-    requires lake { IfSome lake (IsOnlyLake (rings_of rings.now) (record { exterior = polygon.0; after = polygon.1 }) (record { exterior = land.0; after = land.1 })) }
+    requires lake { IfSome lake (IsOnlyLake (rings_of rings.now)
+        (record { exterior = polygon.0; after = polygon.1 })
+        (record { exterior = land.0; after = land.1 })) }
     ensures some { IsTrue result → IfNone lake ⊥ }
-    ensures island { IsTrue result → IsIslandOf (rings_of rings.now) (record { exterior = polygon.0; after = polygon.1 }) (record { exterior = land.0; after = land.1 }) }
+    ensures island { IsTrue result → IsIslandOf (rings_of rings.now)
+        (record { exterior = polygon.0; after = polygon.1 })
+        (record { exterior = land.0; after = land.1 }) }
 {
     let Some(hole) = lake else {
         return false;
@@ -129,7 +137,8 @@ fn is_island(ring: &[Point], around: &[Point], vertex: Point) -> bool
 fn of_failing(alloc: Global, cells: &[usize], failing: &[bool]) -> Result<Vec<bool>, AllocError>
     requires cells { AreCells (length cells.now) cells.now }
     requires failing { length failing.now ≡ length cells.now }
-    ensures { IfOk result (λ marks. AreOfFailing cells.now failing.now (length cells.now) marks.items) }
+    ensures { IfOk result (λ marks.
+        AreOfFailing cells.now failing.now (length cells.now) marks.items) }
 {
     let mut marks = Vec::with_capacity(alloc, cells.len())?;
     for polygon in 0..cells.len() {

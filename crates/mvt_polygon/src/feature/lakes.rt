@@ -1,9 +1,9 @@
 //! Lakes: the holes of lands in which other polygons may be islands.
 ghost use Rattle.std.specs.Prelude.{◌≡◌, ◌<◌, ◌≤◌, ◌⊎◌, ℕ, List, length, slice_index, IfOk, IfSome};
-ghost use Rattle.mvt_plane.specs.Polygon.{IsHoleOf};
+ghost use Rattle.mvt_plane.specs.Geometry.Polygon.{IsHoleOf};
 ghost use Rattle.mvt_plane.specs.Position.{Position};
-ghost use Rattle.mvt_polygon.specs.Cells.{AreCells};
-ghost use Rattle.mvt_polygon.specs.Lands.{AreFirstCells, AreHeld, AreLakes, AreLakesParted, AreLakesUnmarked, AreLands, Holds, IsHeld, IsLakeOf, IsSingleLakeOf};
+ghost use Rattle.mvt_polygon.specs.Calls.Cells.{AreCells};
+ghost use Rattle.mvt_polygon.specs.Calls.Lands.{AreFirstCells, AreHeld, AreLakes, AreLakesParted, AreLakesUnmarked, AreLands, Holds, IsHeld, IsLakeOf, IsSingleLakeOf};
 ghost use Rattle.mvt_polygon.specs.Polygons.{ArePolygons};
 ghost use Rattle.mvt_polygon.specs.Rings.{rings_of, AreProperRings};
 ghost use Rattle.mvt_polygon.specs.declared.feature.lakes.Held.TheVariants.{One};
@@ -36,8 +36,8 @@ impl Held {
     }
 }
 
-/// Of each polygon that isn't marked the one hole of its land in which it may be. Its bounds are apart from those of all other
-/// holes of the land.
+/// Of each polygon that isn't marked the one hole of its land in which it may be. Its bounds are
+/// apart from those of all other holes of the land.
 pub(super) fn lakes(
     alloc: Global,
     rings: &[Vec<Point>],
@@ -51,7 +51,9 @@ pub(super) fn lakes(
     requires cells { AreCells (length polygons.now) cells.now }
     requires lands { AreLands cells.now (length cells.now) lands.now }
     requires marks { length marks.now ≡ length polygons.now }
-    ensures only { IfOk result (λ lakes. AreLakes (rings_of rings.now) polygons.now cells.now lands.now (length polygons.now) lakes.items) }
+    ensures only { IfOk result (λ lakes.
+        AreLakes (rings_of rings.now) polygons.now cells.now lands.now (length polygons.now)
+        lakes.items) }
     ensures unmarked { IfOk result (λ lakes. AreLakesUnmarked marks.now lakes.items) }
 {
     if !have_several(polygons, lands) {
@@ -93,7 +95,9 @@ fn single_lakes(
     requires cells { AreCells (length polygons.now) cells.now }
     requires lands { AreLands cells.now (length cells.now) lands.now }
     requires marks { length marks.now ≡ length polygons.now }
-    ensures only { (rings : List (List Position)) → IfOk result (λ lakes. AreLakes rings polygons.now cells.now lands.now (length polygons.now) lakes.items) }
+    ensures only { (rings : List (List Position))
+        → IfOk result (λ lakes.
+        AreLakes rings polygons.now cells.now lands.now (length polygons.now) lakes.items) }
     ensures unmarked { IfOk result (λ lakes. AreLakesUnmarked marks.now lakes.items) }
 {
     let mut lakes = Vec::with_capacity(alloc, polygons.len())?;
@@ -127,7 +131,8 @@ fn lake_of(land: (usize, usize), held: Held, mark: bool) -> Option<usize>
     }
 }
 
-/// A cell for each ring. Where the exterior of a polygon and a hole of its land have different cells, their bounds are apart.
+/// A cell for each ring. Where the exterior of a polygon and a hole of its land have different
+/// cells, their bounds are apart.
 fn ring_cells(
     alloc: Global,
     rings: &[Vec<Point>],
@@ -140,7 +145,8 @@ fn ring_cells(
     requires cells { AreCells (length polygons.now) cells.now }
     requires lands { AreLands cells.now (length cells.now) lands.now }
     ensures known { IfOk result (λ its. AreCells (length rings.now) its.items) }
-    ensures parted { IfOk result (λ its. AreLakesParted (rings_of rings.now) polygons.now cells.now lands.now its.items) }
+    ensures parted { IfOk result (λ its.
+        AreLakesParted (rings_of rings.now) polygons.now cells.now lands.now its.items) }
 {
     let (across, upward) = ring_spans(alloc, rings)?;
     let mut its = first_cells(alloc, rings, polygons, cells, lands)?;
@@ -148,7 +154,8 @@ fn ring_cells(
     Ok(its)
 }
 
-/// Of each ring the cell of its polygon, but for exteriors of lands and for holes of the others: these have another one.
+/// Of each ring the cell of its polygon, but for exteriors of lands and for holes of the others:
+/// these have another one.
 fn first_cells(
     alloc: Global,
     rings: &[Vec<Point>],
@@ -159,7 +166,9 @@ fn first_cells(
     requires listed { ArePolygons (rings_of rings.now) polygons.now }
     requires cells { AreCells (length polygons.now) cells.now }
     requires lands { AreLands cells.now (length cells.now) lands.now }
-    ensures { IfOk result (λ first. AreFirstCells polygons.now cells.now lands.now (length polygons.now) (length rings.now) first.items) }
+    ensures { IfOk result (λ first.
+        AreFirstCells polygons.now cells.now lands.now (length polygons.now) (length rings.now)
+        first.items) }
 {
     let mut first = vec![in alloc; polygons.len(); rings.len()]?;
     for polygon in 0..polygons.len() {
@@ -179,7 +188,8 @@ fn write_cell(first: &mut [usize], from: usize, to: usize, cell: usize)
     requires { to ≤ length first.old }
     ensures size { length first.new ≡ length first.old }
     ensures written { (ring : ℕ) → from ≤ ring → ring < to → slice_index first.new ring ≡ cell }
-    ensures kept { (ring : ℕ) → (ring < from) ⊎ (to ≤ ring) → slice_index first.new ring ≡ slice_index first.old ring }
+    ensures kept { (ring : ℕ) → (ring < from) ⊎ (to ≤ ring)
+        → slice_index first.new ring ≡ slice_index first.old ring }
 {
     for ring in from..to {
         first[ring] = cell;
@@ -195,7 +205,8 @@ fn held_holes(
 ) -> Result<Vec<Held>, AllocError>
     requires listed { ArePolygons (rings_of rings.now) polygons.now }
     requires cells { AreCells (length rings.now) ring_cells.now }
-    ensures { IfOk result (λ held. AreHeld polygons.now ring_cells.now (length polygons.now) held.items) }
+    ensures { IfOk result (λ held.
+        AreHeld polygons.now ring_cells.now (length polygons.now) held.items) }
 {
     let mut held = vec![in alloc; Held::Empty; rings.len()]?;
     for polygon in 0..polygons.len() {
@@ -212,7 +223,8 @@ fn hold(held: &mut [Held], ring_cells: &[usize], from: usize, to: usize)
     requires within { to ≤ length ring_cells.now }
     ensures size { length held.new ≡ length held.old }
     ensures added { (hole : ℕ) → from ≤ hole → hole < to → IsHeld ring_cells.now held.new hole }
-    ensures kept { (hole : ℕ) → IsHeld ring_cells.now held.old hole → IsHeld ring_cells.now held.new hole }
+    ensures kept { (hole : ℕ) → IsHeld ring_cells.now held.old hole
+        → IsHeld ring_cells.now held.new hole }
 {
     for hole in from..to {
         let cell = ring_cells[hole];

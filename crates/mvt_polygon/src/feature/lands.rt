@@ -1,7 +1,7 @@
 //! The lands of cells: polygons of which the others of their cell may be islands.
 ghost use Rattle.std.specs.Prelude.{◌≡◌, length, IfOk};
-ghost use Rattle.mvt_polygon.specs.Cells.{AreCells};
-ghost use Rattle.mvt_polygon.specs.Lands.{AreApartFromNeighbours, AreLands, AreWithoutLands};
+ghost use Rattle.mvt_polygon.specs.Calls.Cells.{AreCells};
+ghost use Rattle.mvt_polygon.specs.Calls.Lands.{AreApartFromNeighbours, AreLands, AreWithoutLands};
 
 use super::crowded::{part_in_turn, shared_cells};
 use std::alloc::{AllocError, Global};
@@ -46,7 +46,8 @@ pub(super) fn have_lakes(polygons: &[(usize, usize)], lands: &[usize], marks: &[
     false
 }
 
-/// Of each polygon whether its bounds may overlap those of another one of its cell, where neither is the cell's land.
+/// Of each polygon whether its bounds may overlap those of another one of its cell, where neither
+/// is the cell's land.
 pub(super) fn beside(
     alloc: Global,
     across: &[(i32, i32)],
@@ -58,7 +59,8 @@ pub(super) fn beside(
     requires upward { length upward.now ≡ length cells.now }
     requires cells { AreCells (length cells.now) cells.now }
     requires lands { AreLands cells.now (length cells.now) lands.now }
-    ensures { IfOk result (λ marks. AreApartFromNeighbours across.now upward.now cells.now lands.now marks.items) }
+    ensures { IfOk result (λ marks.
+        AreApartFromNeighbours across.now upward.now cells.now lands.now marks.items) }
 {
     let mut others = without_lands(alloc, cells, lands)?;
     part_in_turn(alloc, across, upward, &mut others)?;
@@ -69,7 +71,8 @@ pub(super) fn beside(
 fn without_lands(alloc: Global, cells: &[usize], lands: &[usize]) -> Result<Vec<usize>, AllocError>
     requires cells { AreCells (length cells.now) cells.now }
     requires lands { AreLands cells.now (length cells.now) lands.now }
-    ensures { IfOk result (λ others. AreWithoutLands cells.now lands.now (length cells.now) others.items) }
+    ensures { IfOk result (λ others.
+        AreWithoutLands cells.now lands.now (length cells.now) others.items) }
 {
     let mut others = vec![in alloc; 0; cells.len()]?;
     for polygon in 0..cells.len() {

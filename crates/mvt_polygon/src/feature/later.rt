@@ -1,10 +1,10 @@
 //! Vertices of polygons that are inside later polygons, whose edges may meet.
 ghost use Rattle.std.specs.Prelude.{◌≡◌, ◌<◌, ◌≤◌, ℕ, IfNone, IfOk, IfSome, List, length, slice_get};
 ghost use Rattle.mvt_plane.specs.Position.{Position};
-ghost use Rattle.mvt_plane.specs.Ring.{ArePolygonRings};
+ghost use Rattle.mvt_plane.specs.Geometry.Ring.{ArePolygonRings};
 ghost use Rattle.mvt_polygon.specs.Apart.{IsApartFault};
-ghost use Rattle.mvt_polygon.specs.Bounds.{AreBoundsOf, AreNotIn, ComesFirst, IsFirstVertexIn, IsFirstWith, IsSpread};
-ghost use Rattle.mvt_polygon.specs.FeatureParts.{IsFirstInLater, IsFirstLater, IsInNoLater, listed_at};
+ghost use Rattle.mvt_polygon.specs.Calls.Bounds.{AreBoundsOf, AreNotIn, ComesFirst, IsFirstVertexIn, IsFirstWith, IsSpread};
+ghost use Rattle.mvt_polygon.specs.Calls.FeatureParts.{IsFirstInLater, IsFirstLater, IsInNoLater, listed_at};
 ghost use Rattle.mvt_polygon.specs.Polygons.{ArePolygons};
 ghost use Rattle.mvt_polygon.specs.Rings.{rings_of, AreProperRings};
 
@@ -17,9 +17,9 @@ use mvt_plane::Point;
 use spread::Spread;
 use std::alloc::{AllocError, Global};
 
-/// The first of the polygons before `until` of whose exterior a vertex is inside a polygon from `later` on. Polygons whose
-/// exteriors have bounds that are apart are passed over, most of them without a look at their bounds; each other pair is
-/// looked at, vertex by vertex.
+/// The first of the polygons before `until` of whose exterior a vertex is inside a polygon from
+/// `later` on. Polygons whose exteriors have bounds that are apart are passed over, most of them
+/// without a check of their bounds; each other pair is checked, vertex by vertex.
 pub(super) fn first_inside_later(
     alloc: Global,
     rings: &[Vec<Point>],
@@ -32,8 +32,10 @@ pub(super) fn first_inside_later(
     requires listed { ArePolygons (rings_of rings.now) polygons.now }
     requires until { until ≤ later }
     requires later { later ≤ length polygons.now }
-    ensures none { IfOk result (λ found. IfNone found ((polygon : ℕ) → polygon < until → IsInNoLater (rings_of rings.now) later polygon)) }
-    ensures first { IfOk result (λ found. IfSome found (IsFirstLater (rings_of rings.now) later until)) }
+    ensures none { IfOk result (λ found. IfNone found ((polygon : ℕ) → polygon < until
+        → IsInNoLater (rings_of rings.now) later polygon)) }
+    ensures first { IfOk result (λ found.
+        IfSome found (IsFirstLater (rings_of rings.now) later until)) }
 {
     if later == polygons.len() {
         return Ok(None);
@@ -53,7 +55,8 @@ pub(super) fn first_inside_later(
     Ok(None)
 }
 
-/// The first vertex of a polygon's exterior that is inside a polygon from `later` on, and the first such polygon.
+/// The first vertex of a polygon's exterior that is inside a polygon from `later` on, and the first
+/// such polygon.
 fn vertex_in_later(
     rings: &[Vec<Point>],
     polygons: &[(usize, usize)],
@@ -67,7 +70,8 @@ fn vertex_in_later(
     requires later { later ≤ length polygons.now }
     requires spread { IsSpread (rings_of rings.now) polygons.now later spread.now }
     ensures none { IfNone result (IsInNoLater (rings_of rings.now) later polygon) }
-    ensures first { IfSome result (λ fault. IsFirstInLater (rings_of rings.now) later polygon fault.vertex fault.other) }
+    ensures first { IfSome result (λ fault.
+        IsFirstInLater (rings_of rings.now) later polygon fault.vertex fault.other) }
 {
     let (exterior, _) = polygons[polygon];
     let own = Bounds::of(&rings[exterior]);
@@ -85,8 +89,8 @@ fn vertex_in_later(
     found
 }
 
-/// The first of the fault that was found, if there is one, and those of the polygon with one more polygon, of whose
-/// exterior these are the bounds.
+/// The first of the fault that was found, if there is one, and those of the polygon with one more
+/// polygon, of whose exterior these are the bounds.
 fn first_with(
     rings: &[Vec<Point>],
     polygons: &[(usize, usize)],
@@ -98,26 +102,31 @@ fn first_with(
     requires listed { ArePolygons (rings_of rings.now) polygons.now }
     requires earlier { polygon < other }
     requires other { other < length polygons.now }
-    requires bounds { (exterior : List Position) → slice_get (rings_of rings.now) (listed_at polygons.now other).exterior ≡ Some exterior → AreBoundsOf exterior bounds.now }
-    requires found { IfSome found (λ fault. IsApartFault (rings_of rings.now) polygon fault.vertex fault.other) }
+    requires bounds { (exterior : List Position)
+        → slice_get (rings_of rings.now) (listed_at polygons.now other).exterior ≡ Some exterior
+        → AreBoundsOf exterior bounds.now }
+    requires found { IfSome found (λ fault.
+        IsApartFault (rings_of rings.now) polygon fault.vertex fault.other) }
     ensures { IsFirstWith (rings_of rings.now) polygon other found result }
 {
     let (exterior, _) = polygons[polygon];
     let vertices = &rings[exterior];
-    let until = first_behind(found, other, vertices.len());
+    let until = first_after(found, other, vertices.len());
     match first_vertex_in(rings, &vertices[..until], polygons[other], bounds) {
         Some(vertex) => Some(ApartFault { vertex, other }),
         None => found,
     }
 }
 
-/// The vertex from which on a fault with this other polygon comes behind the one that was found.
-fn first_behind(found: Option<ApartFault>, other: usize, vertices: usize) -> usize
+/// The vertex from which on a fault with this other polygon comes after the one that was found.
+fn first_after(found: Option<ApartFault>, other: usize, vertices: usize) -> usize
     requires { IfSome found (λ fault. fault.vertex < vertices) }
     ensures within { result ≤ vertices }
     ensures none { IfNone found (result ≡ vertices) }
-    ensures behind { IfSome found (λ fault. (vertex : ℕ) → result ≤ vertex → ComesFirst fault vertex other) }
-    ensures before { IfSome found (λ fault. (vertex : ℕ) → vertex < result → ComesFirst (record { vertex = vertex; other = other }) fault.vertex fault.other) }
+    ensures following { IfSome found (λ fault. (vertex : ℕ) → result ≤ vertex
+        → ComesFirst fault vertex other) }
+    ensures before { IfSome found (λ fault. (vertex : ℕ) → vertex < result
+        → ComesFirst (record { vertex = vertex; other = other }) fault.vertex fault.other) }
 {
     match found {
         Some(fault) => {
@@ -140,9 +149,13 @@ fn first_vertex_in(
 ) -> Option<usize>
     requires further { polygon.0 < polygon.1 }
     requires within { polygon.1 ≤ length rings.now }
-    requires bounds { (exterior : List Position) → slice_get (rings_of rings.now) polygon.0 ≡ Some exterior → AreBoundsOf exterior bounds.now }
-    ensures none { IfNone result (AreNotIn (rings_of rings.now) (record { exterior = polygon.0; after = polygon.1 }) vertices.now (length vertices.now)) }
-    ensures first { IfSome result (IsFirstVertexIn (rings_of rings.now) (record { exterior = polygon.0; after = polygon.1 }) vertices.now) }
+    requires bounds { (exterior : List Position)
+        → slice_get (rings_of rings.now) polygon.0 ≡ Some exterior
+        → AreBoundsOf exterior bounds.now }
+    ensures none { IfNone result (AreNotIn (rings_of rings.now)
+        (record { exterior = polygon.0; after = polygon.1 }) vertices.now (length vertices.now)) }
+    ensures first { IfSome result (IsFirstVertexIn (rings_of rings.now)
+        (record { exterior = polygon.0; after = polygon.1 }) vertices.now) }
 {
     for vertex in 0..vertices.len() {
         let position = vertices[vertex];

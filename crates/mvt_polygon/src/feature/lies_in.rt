@@ -1,22 +1,23 @@
 //! Whether a ring lies in another one.
 ghost use Rattle.std.specs.Prelude.{◌≡◌, ◌<◌, length, pos, slice_get, IsTrue, Some};
 ghost use Rattle.std.specs.Ordering.{int_cmp};
-ghost use Rattle.mvt_plane.specs.Apart.{HaveNothingInCommon};
-ghost use Rattle.mvt_plane.specs.Measure.{orientation};
-ghost use Rattle.mvt_plane.specs.Ring.{edges};
-ghost use Rattle.mvt_polygon.specs.Bounds.{AreBoundsOf};
-ghost use Rattle.mvt_polygon.specs.Islands.{AreBeside, LiesIn};
+ghost use Rattle.mvt_plane.specs.Geometry.Apart.{HaveNothingInCommon};
+ghost use Rattle.mvt_plane.specs.Geometry.Measure.{orientation};
+ghost use Rattle.mvt_plane.specs.Geometry.Ring.{edges};
+ghost use Rattle.mvt_polygon.specs.Calls.Bounds.{AreBoundsOf};
+ghost use Rattle.mvt_polygon.specs.Calls.Islands.{AreBeside, LiesIn};
 
 use super::bounds::Bounds;
 use mvt_plane::{Edge, Point, inside, side};
 use std::cmp::Ordering;
 
-/// How many edges may come near a ring that lies within them. Each of these is held against all vertices of the ring.
+/// How many edges may come near a ring that lies within them. Each of these is held against all
+/// vertices of the ring.
 const MOST_NEAR: usize = 8;
 
-/// Whether a ring, of which these are bounds, lies in another one: they have no point in common, and all vertices of the
-/// one are inside the other. It says no, too, where many edges of the other one come near. It takes time in proportion to
-/// the vertices of both.
+/// Whether a ring, of which these are bounds, lies in another one: they have no point in common,
+/// and all vertices of the one are inside the other. It says no, too, where many edges of the other
+/// one come near. It takes time in proportion to the vertices of both.
 pub(super) fn lies_in(ring: &[Point], around: &[Point], bounds: &Bounds) -> bool
     requires some { 0 < length ring.now }
     requires bounds { AreBoundsOf ring.now bounds.now }
@@ -25,8 +26,9 @@ pub(super) fn lies_in(ring: &[Point], around: &[Point], bounds: &Bounds) -> bool
     inside(ring[0], around) && is_clear(ring, around, bounds)
 }
 
-/// Whether it is known at once that the two rings have no point in common: but for a few edges of the other one all have
-/// bounds that are apart from those of the ring, and these few have all of it on one side.
+/// Whether it is known at once that the two rings have no point in common: but for a few edges of
+/// the other one all have bounds that are apart from those of the ring, and these few have all of
+/// it on one side.
 fn is_clear(ring: &[Point], around: &[Point], bounds: &Bounds) -> bool
     requires some { 0 < length ring.now }
     requires bounds { AreBoundsOf ring.now bounds.now }
@@ -61,7 +63,8 @@ fn edge_at(ring: &[Point], number: usize) -> Edge
     }
 }
 
-/// Whether all vertices of a ring are on one side of the line through an edge, and none is on the line.
+/// Whether all vertices of a ring are on one side of the line through an edge, and none is on the
+/// line.
 fn is_beside(ring: &[Point], edge: &Edge) -> bool
     requires { 0 < length ring.now }
     ensures { IsTrue result → AreBeside ring.now edge.now }

@@ -1,33 +1,36 @@
 //! What the number of polygons around becomes within each ring of a feature.
 ghost use Rattle.std.specs.Prelude.{◌≡◌, ◌+◌, ◌*◌, ◌<◌, ◌≤◌, ℕ, IfOk, length, slice_get, Some};
-ghost use Rattle.mvt_plane.specs.Ring.{ArePolygonRings};
-ghost use Rattle.mvt_polygon.specs.CornerOrder.{AddsWork};
-ghost use Rattle.mvt_polygon.specs.Corners.{vertex_count};
+ghost use Rattle.mvt_plane.specs.Geometry.Ring.{ArePolygonRings};
+ghost use Rattle.mvt_polygon.specs.Work.{AddsWork};
+ghost use Rattle.mvt_polygon.specs.Work.{vertex_count};
 ghost use Rattle.mvt_polygon.specs.Meeting.{NoMeeting};
 ghost use Rattle.mvt_polygon.specs.Nesting.{one_polygon};
-ghost use Rattle.mvt_polygon.specs.Passings.{AreAdded, AreCounts, AreInwards, ArePassings, IsNextCount, IsPassing, passing_by};
+ghost use Rattle.mvt_polygon.specs.Calls.Passings.{AreAdded, AreCounts, AreInwards, ArePassings, IsNextCount, IsPassing, passing_by};
 ghost use Rattle.mvt_polygon.specs.Polygons.{ArePolygons};
 ghost use Rattle.mvt_polygon.specs.Rings.{rings_of, AreProperRings};
-ghost use Rattle.mvt_polygon.specs.RingsAround.{nearest_at};
+ghost use Rattle.mvt_polygon.specs.Calls.RingsAround.{nearest_at};
 ghost use Rattle.mvt_status.specs.Counts.{bits};
 
 use crate::sweep::{RingNotes, Swept, sweep_rings};
 use mvt_plane::{Count, Point};
 use std::alloc::{AllocError, Global};
 
-/// What the number of polygons around becomes where a ring is passed inwards, by the rings of its own polygon around it.
+/// What the number of polygons around becomes where a ring is passed inwards, by the rings of its
+/// own polygon around it.
 #[derive(Clone, Copy, PartialEq, Eq)]
 pub(super) enum Passing {
     /// One polygon more: the ring is an exterior, and no hole of its polygon is around it.
     Enters,
-    /// One polygon fewer: the ring is a hole, with the exterior and no other hole of its polygon around it.
+    /// One polygon fewer: the ring is a hole, with the exterior and no other hole of its polygon
+    /// around it.
     Leaves,
-    /// As many: a hole of its polygon is around the ring, or it is a hole without its exterior around it.
+    /// As many: a hole of its polygon is around the ring, or it is a hole without its exterior
+    /// around it.
     Neither,
 }
 
-/// What each ring of these polygons is. No edges of their rings meet. Each polygon of more than one ring is swept over by
-/// itself.
+/// What each ring of these polygons is. No edges of their rings meet. Each polygon of more than one
+/// ring is swept over by itself.
 pub(super) fn passings(
     alloc: Global,
     rings: &[Vec<Point>],
@@ -40,7 +43,9 @@ pub(super) fn passings(
     requires clear { NoMeeting (rings_of rings.now) }
     ensures size { IfOk result (λ passings. length passings.items ≡ length rings.now) }
     ensures each { IfOk result (λ passings. ArePassings (rings_of rings.now) passings.items) }
-    ensures counted { let vertices = vertex_count (rings_of rings.now) in AddsWork (3 * vertices) (vertices * (2 * bits vertices + 2)) (vertices * (20 * bits vertices)) count.old count.new }
+    ensures counted { let vertices = vertex_count (rings_of rings.now) in
+        AddsWork (3 * vertices) (vertices * (2 * bits vertices + 2))
+        (vertices * (20 * bits vertices)) count.old count.new }
 {
     let mut passings = Vec::new(alloc);
     for polygon in 0..polygons.len() {
@@ -60,8 +65,12 @@ fn add_passings(
     requires some { 0 < length rings.now }
     requires drawn { AreProperRings (rings_of rings.now) }
     requires clear { NoMeeting (rings_of rings.now) }
-    ensures added { IfOk result (λ _. AreAdded (length rings.now) (IsPassing (rings_of rings.now) (one_polygon (rings_of rings.now))) passings.old.items passings.new.items) }
-    ensures counted { let vertices = vertex_count (rings_of rings.now) in AddsWork (3 * vertices) (vertices * (2 * bits vertices + 2)) (vertices * (20 * bits vertices)) count.old count.new }
+    ensures added { IfOk result (λ _.
+        AreAdded (length rings.now) (IsPassing (rings_of rings.now)
+        (one_polygon (rings_of rings.now))) passings.old.items passings.new.items) }
+    ensures counted { let vertices = vertex_count (rings_of rings.now) in
+        AddsWork (3 * vertices) (vertices * (2 * bits vertices + 2))
+        (vertices * (20 * bits vertices)) count.old count.new }
 {
     if rings.len() == 1 {
         passings.push(Passing::Enters)?;
@@ -80,7 +89,10 @@ fn push_passings(
     passings: &mut Vec<Passing>,
 ) -> Result<(), AllocError>
     requires { rings ≤ length notes.now.around.items }
-    ensures { let notes = notes.now.around.items in IfOk result (λ _. AreAdded rings (λ ring passing. passing ≡ passing_by (nearest_at notes 0) ring (nearest_at notes ring)) passings.old.items passings.new.items) }
+    ensures { let notes = notes.now.around.items in IfOk result (λ _.
+        AreAdded rings (λ ring passing. passing
+        ≡ passing_by (nearest_at notes 0) ring (nearest_at notes ring)) passings.old.items
+        passings.new.items) }
 {
     for ring in 0..rings {
         passings.push(passing_of(notes, ring))?;
@@ -91,7 +103,8 @@ fn push_passings(
 /// What a ring of a polygon is, by what is around it and around the exterior.
 fn passing_of(notes: &RingNotes, ring: usize) -> Passing
     requires { ring < length notes.now.around.items }
-    ensures { let notes = notes.now.around.items in result ≡ passing_by (nearest_at notes 0) ring (nearest_at notes ring) }
+    ensures { let notes = notes.now.around.items in result
+        ≡ passing_by (nearest_at notes 0) ring (nearest_at notes ring) }
 {
     if notes.nearest(0).is_some() {
         Passing::Neither
@@ -110,16 +123,19 @@ pub(super) fn polygons_around(
     notes: &RingNotes,
     passings: &[Passing],
 ) -> Result<Vec<usize>, AllocError>
-    requires inwards { AreInwards (length passings.now) notes.now.around.items notes.now.come_to.items }
+    requires inwards { AreInwards (length passings.now) notes.now.around.items
+        notes.now.come_to.items }
     requires some { (count_of : ℕ → ℕ) × AreCounts notes.now.around.items passings.now count_of }
     ensures size { IfOk result (λ around. length around.items ≡ length passings.now) }
-    ensures counts { (count_of : ℕ → ℕ) → AreCounts notes.now.around.items passings.now count_of → IfOk result (λ around. (ring : ℕ) → ring < length passings.now → slice_get around.items ring ≡ Some (count_of ring)) }
+    ensures counts { (count_of : ℕ → ℕ) → AreCounts notes.now.around.items passings.now count_of
+        → IfOk result (λ around. (ring : ℕ) → ring < length passings.now
+        → slice_get around.items ring ≡ Some (count_of ring)) }
 {
     let mut around = Vec::with_capacity(alloc, passings.len())?;
     for _ring in 0..passings.len() {
         around.push(0_usize)?;
     }
-    // (each ring comes behind the one directly around it)
+    // (each ring comes after the one directly around it)
     let rings = notes.come_to();
     for at in 0..rings.len() {
         let ring = rings[at];

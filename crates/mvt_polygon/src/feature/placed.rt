@@ -1,15 +1,15 @@
 //! Polygons of a feature with a ring that isn't where it should be, where no edges meet.
 ghost use Rattle.std.specs.Prelude.{◌≡◌, ◌<◌, ◌≤◌, ◌↔◌, ℕ, IfNone, IfOk, IfSome, IsTrue, length, slice_get, Some};
-ghost use Rattle.mvt_plane.specs.Ring.{ArePolygonRings};
-ghost use Rattle.mvt_polygon.specs.CornerOrder.{AddsWork};
-ghost use Rattle.mvt_polygon.specs.Corners.{vertex_count};
+ghost use Rattle.mvt_plane.specs.Geometry.Ring.{ArePolygonRings};
+ghost use Rattle.mvt_polygon.specs.Work.{AddsWork};
+ghost use Rattle.mvt_polygon.specs.Work.{vertex_count};
 ghost use Rattle.mvt_polygon.specs.Feature.{AddsSweeps, IsPlaced};
-ghost use Rattle.mvt_polygon.specs.FeatureParts.{AreAllPlaced, IsFirstMisplaced, IsMisplacedBy, listed_at};
+ghost use Rattle.mvt_polygon.specs.Calls.FeatureParts.{AreAllPlaced, IsFirstMisplaced, IsMisplacedBy, listed_at};
 ghost use Rattle.mvt_polygon.specs.Meeting.{NoMeeting};
-ghost use Rattle.mvt_polygon.specs.Passings.{AreAroundExteriors, ArePassings, HasRightNotes, IsFirstWrongHole};
+ghost use Rattle.mvt_polygon.specs.Calls.Passings.{AreAroundExteriors, ArePassings, HasRightNotes, IsFirstWrongHole};
 ghost use Rattle.mvt_polygon.specs.Polygons.{ArePolygons};
 ghost use Rattle.mvt_polygon.specs.Rings.{rings_of, AreProperRings};
-ghost use Rattle.mvt_polygon.specs.Swept.{IsNotedClear};
+ghost use Rattle.mvt_polygon.specs.Calls.Swept.{IsNotedClear};
 ghost use Rattle.mvt_polygon.specs.declared.feature.passing.Passing.TheVariants.{Leaves};
 
 use super::{FeatureCause, FeatureFault};
@@ -20,8 +20,8 @@ use crate::sweep::RingNotes;
 use mvt_plane::{Count, Point};
 use std::alloc::{AllocError, Global};
 
-/// The first of these polygons with a hole that isn't where it should be, or a vertex inside another of them. No edges of
-/// their rings meet.
+/// The first of these polygons with a hole that isn't where it should be, or a vertex inside
+/// another of them. No edges of their rings meet.
 pub(super) fn first_misplaced(
     alloc: Global,
     rings: &[Vec<Point>],
@@ -36,7 +36,8 @@ pub(super) fn first_misplaced(
     ensures none { IfOk result (λ found. IfNone found (AreAllPlaced (rings_of rings.now))) }
     ensures first { IfOk result (λ found. IfSome found (IsFirstMisplaced (rings_of rings.now))) }
     ensures counted { AddsSweeps 1 (vertex_count (rings_of rings.now)) count.old count.new }
-    ensures unswept { IfOk result (λ found. IfNone found (AddsSweeps 0 (vertex_count (rings_of rings.now)) count.old count.new)) }
+    ensures unswept { IfOk result (λ found.
+        IfNone found (AddsSweeps 0 (vertex_count (rings_of rings.now)) count.old count.new)) }
 {
     if are_placed(polygons, notes) {
         return Ok(None);
@@ -59,8 +60,12 @@ pub(super) fn first_misplaced(
 
 /// Whether each ring of these polygons is where it should be.
 fn are_placed(polygons: &[(usize, usize)], notes: &RingNotes) -> bool
-    requires { (polygon : ℕ) → polygon < length polygons.now → ((listed_at polygons.now polygon).exterior < length notes.now.around.items) × ((listed_at polygons.now polygon).after ≤ length notes.now.around.items) }
-    ensures { IsTrue result ↔ ((polygon : ℕ) → polygon < length polygons.now → HasRightNotes notes.now.around.items (listed_at polygons.now polygon) (listed_at polygons.now polygon).after) }
+    requires { (polygon : ℕ) → polygon < length polygons.now
+        → ((listed_at polygons.now polygon).exterior < length notes.now.around.items)
+        × ((listed_at polygons.now polygon).after ≤ length notes.now.around.items) }
+    ensures { IsTrue result ↔ ((polygon : ℕ) → polygon < length polygons.now
+        → HasRightNotes notes.now.around.items (listed_at polygons.now polygon)
+        (listed_at polygons.now polygon).after) }
 {
     for polygon in 0..polygons.len() {
         let (exterior, after) = polygons[polygon];
@@ -71,11 +76,13 @@ fn are_placed(polygons: &[(usize, usize)], notes: &RingNotes) -> bool
     true
 }
 
-/// Whether an even number of rings are around the exterior of a polygon, and the exterior is directly around each hole.
+/// Whether an even number of rings are around the exterior of a polygon, and the exterior is
+/// directly around each hole.
 fn is_placed(notes: &RingNotes, exterior: usize, after: usize) -> bool
     requires there { exterior < length notes.now.around.items }
     requires within { after ≤ length notes.now.around.items }
-    ensures { IsTrue result ↔ HasRightNotes notes.now.around.items (record { exterior = exterior; after = after }) after }
+    ensures { IsTrue result ↔ HasRightNotes notes.now.around.items
+        (record { exterior = exterior; after = after }) after }
 {
     if notes.is_odd(exterior) {
         return false;
@@ -104,8 +111,10 @@ fn cause_of(
     requires size { length passings.now ≡ length rings.now }
     requires passed { ArePassings (rings_of rings.now) passings.now }
     requires counted { AreAroundExteriors (rings_of rings.now) around.now }
-    ensures none { IfNone result (IsPlaced (rings_of rings.now) polygon (listed_at polygons.now polygon)) }
-    ensures some { IfSome result (IsMisplacedBy (rings_of rings.now) polygon (listed_at polygons.now polygon)) }
+    ensures none { IfNone result (IsPlaced (rings_of rings.now) polygon
+        (listed_at polygons.now polygon)) }
+    ensures some { IfSome result (IsMisplacedBy (rings_of rings.now) polygon
+        (listed_at polygons.now polygon)) }
     ensures counted { AddsWork 0 (vertex_count (rings_of rings.now)) 0 count.old count.new }
     ensures uncounted { IfNone result (count.new ≡ count.old) }
 {
@@ -126,7 +135,8 @@ fn cause_of(
 fn first_wrong_hole(passings: &[Passing], exterior: usize, after: usize) -> Option<usize>
     requires further { exterior < after }
     requires within { after ≤ length passings.now }
-    ensures none { IfNone result ((hole : ℕ) → exterior < hole → hole < after → slice_get passings.now hole ≡ Some Leaves) }
+    ensures none { IfNone result ((hole : ℕ) → exterior < hole → hole < after
+        → slice_get passings.now hole ≡ Some Leaves) }
     ensures some { IfSome result (IsFirstWrongHole passings.now exterior after) }
 {
     for hole in exterior + 1..after {

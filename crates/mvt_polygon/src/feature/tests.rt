@@ -10,8 +10,9 @@ use mvt_plane::{Count, Point};
 use std::alloc::Global;
 use std::process::Abort;
 
-/// The first fault of a feature, looked for plainly: of one polygon after another a meeting among all rings up to its own,
-/// then its holes, then all vertices of its exterior in all other polygons.
+/// The first fault of a feature, searched for plainly: of one polygon after another a meeting among
+/// all rings up to its own, then its holes, then all vertices of its exterior in all other
+/// polygons.
 fn plain_fault(rt: &impl Abort, alloc: Global, rings: &[Vec<Point>]) -> Option<FeatureFault> {
     assert!(rt; check_rings(rings).is_none());
     let polygons = groups(alloc, rings).expect(rt, "memory");
@@ -37,7 +38,7 @@ fn plain_fault(rt: &impl Abort, alloc: Global, rings: &[Vec<Point>]) -> Option<F
     None
 }
 
-/// Whether two causes are the same, but for which of several meetings of one polygon is told.
+/// Whether two causes are the same, but for which of several meetings of one polygon is reported.
 fn are_causes_alike(one: &FeatureCause, other: &FeatureCause) -> bool {
     match (one, other) {
         (FeatureCause::Meeting(_), FeatureCause::Meeting(_)) => true,
@@ -82,8 +83,8 @@ impl Dice {
     }
 }
 
-/// A box, the one of this number in its feature, as an exterior or a hole. No two boxes of one feature have a coordinate of
-/// their sides in common.
+/// A box, the one of this number in its feature, as an exterior or a hole. No two boxes of one
+/// feature have a coordinate of their sides in common.
 fn thrown_box(
     rt: &impl Abort,
     alloc: Global,
@@ -165,7 +166,8 @@ fn push_land(rt: &impl Abort, alloc: Global, rings: &mut Vec<Vec<Point>>) {
     rings.push(ring_at(rt, alloc, &bay)).expect(rt, "memory");
 }
 
-/// A small box, mostly in a lake: some are on the land, some touch a shore, and some have a lake of their own.
+/// A small box, mostly in a lake: some are on the land, some touch a shore, and some have a lake of
+/// their own.
 fn push_island(
     rt: &impl Abort,
     alloc: Global,
@@ -194,7 +196,7 @@ fn push_island(
     }
 }
 
-/// A land with lakes and up to four such islands, before it and behind it.
+/// A land with lakes and up to four such islands, before it and after it.
 fn thrown_islands(rt: &impl Abort, alloc: Global, dice: &mut Dice) -> Vec<Vec<Point>> {
     let mut rings = Vec::new(alloc);
     let before = dice.throw() % 3;
@@ -209,8 +211,8 @@ fn thrown_islands(rt: &impl Abort, alloc: Global, dice: &mut Dice) -> Vec<Vec<Po
     rings
 }
 
-/// Of generated features, how many have no fault, a meeting, a hole that isn't where it should be, and a vertex in another
-/// polygon.
+/// Of generated features, how many have no fault, a meeting, a hole that isn't where it should be,
+/// and a vertex in another polygon.
 fn kinds_found(rt: &impl Abort, alloc: Global) -> [u32; 4] {
     let mut dice = Dice { state: 1 };
     let mut kinds = [0_u32; 4];

@@ -1,9 +1,9 @@
 //! The first fault of a feature whose polygons may all meet or lie in each other.
 ghost use Rattle.std.specs.Prelude.{◌≡◌, ℕ, ◌+◌, ◌<◌, ◌≤◌, IfNone, IfOk, IfSome, length, option_map};
-ghost use Rattle.mvt_plane.specs.Ring.{ArePolygonRings};
-ghost use Rattle.mvt_polygon.specs.Corners.{vertex_count};
+ghost use Rattle.mvt_plane.specs.Geometry.Ring.{ArePolygonRings};
+ghost use Rattle.mvt_polygon.specs.Work.{vertex_count};
 ghost use Rattle.mvt_polygon.specs.Feature.{AddsSweeps, AreAtMost, IsFeatureAnswer};
-ghost use Rattle.mvt_polygon.specs.FeatureParts.{fault_behind, until_of};
+ghost use Rattle.mvt_polygon.specs.Calls.FeatureParts.{fault_after, until_of};
 ghost use Rattle.mvt_polygon.specs.Meeting.{NoMeeting};
 ghost use Rattle.mvt_polygon.specs.Rings.{rings_of, AreProperRings};
 ghost use Rattle.mvt_status.specs.Counts.{bits, raised};
@@ -25,10 +25,15 @@ pub(super) fn check_together(
     requires sound { ArePolygonRings (rings_of rings.now) }
     requires drawn { AreProperRings (rings_of rings.now) }
     ensures answer { IfOk result (IsFeatureAnswer (rings_of rings.now)) }
-    ensures counted { (polygons : ℕ) → AreAtMost (rings_of rings.now) polygons → AddsSweeps (bits polygons + 2) (vertex_count (rings_of rings.now)) count.old count.new }
-    ensures apart { NoMeeting (rings_of rings.now) → AddsSweeps 2 (vertex_count (rings_of rings.now)) count.old count.new }
-    ensures valid { IfOk result (λ found. IfNone found (AddsSweeps 1 (vertex_count (rings_of rings.now)) count.old count.new)) }
-    ensures least { IfOk result (λ found. IfNone found (raised (vertex_count (rings_of rings.now)) count.old.probes ≤ count.new.probes)) }
+    ensures counted { (polygons : ℕ) → AreAtMost (rings_of rings.now) polygons
+        → AddsSweeps (bits polygons + 2) (vertex_count (rings_of rings.now)) count.old count.new }
+    ensures apart { NoMeeting (rings_of rings.now)
+        → AddsSweeps 2 (vertex_count (rings_of rings.now)) count.old count.new }
+    ensures valid { IfOk result (λ found.
+        IfNone found (AddsSweeps 1 (vertex_count (rings_of rings.now)) count.old count.new)) }
+    ensures least { IfOk result (λ found.
+        IfNone found (raised (vertex_count (rings_of rings.now)) count.old.probes
+        ≤ count.new.probes)) }
 {
     let polygons = groups(alloc, rings)?;
     let front = clear_front(alloc, rings, &polygons, count)?;
@@ -50,10 +55,10 @@ fn placed_up_to(misplaced: &Option<FeatureFault>, polygons: usize) -> usize
     }
 }
 
-/// The fault of the polygon behind the front, where its edges meet.
+/// The fault of the polygon after the front, where its edges meet.
 fn fault_of_meeting(polygons: &[(usize, usize)], front: &Front) -> Option<FeatureFault>
     requires { IfSome front.now.meeting (λ _. front.now.polygons < length polygons.now) }
-    ensures { result ≡ option_map (fault_behind polygons.now front.now.polygons) front.now.meeting }
+    ensures { result ≡ option_map (fault_after polygons.now front.now.polygons) front.now.meeting }
 {
     let meeting = front.meeting?;
     let (exterior, after) = polygons[front.polygons];

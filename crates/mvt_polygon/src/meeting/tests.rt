@@ -1,6 +1,7 @@
+//! Meetings in drawn rings, found by each way there is, and the work that was counted.
 ghost use Rattle.std.specs.Prelude.{◌≡◌, ◌≢◌, ◌<◌, ◌≤◌, ℕ, IsTrue, length, slice_get, Some};
 ghost use Rattle.mvt_plane.specs.Position.{Position};
-ghost use Rattle.mvt_plane.specs.Ring.{edges, next_round};
+ghost use Rattle.mvt_plane.specs.Geometry.Ring.{edges, next_round};
 ghost use Rattle.mvt_polygon.specs.Rings.{rings_of, AreProperRings};
 
 use super::{Meeting, find_meeting, find_meeting_with};
@@ -16,7 +17,7 @@ use std::process::Abort;
 mod generated;
 mod large;
 
-/// The number behind this one, going round: behind the last one comes 0.
+/// The number after this one, going round: after the last one comes 0.
 fn next_round(count: usize, number: usize) -> usize
     requires { number < count }
     ensures value { result ≡ next_round count number }
@@ -25,7 +26,8 @@ fn next_round(count: usize, number: usize) -> usize
     if number + 1 == count { 0 } else { number + 1 }
 }
 
-/// The edge of a ring that goes from the vertex of this number to the next one, the last to the first vertex.
+/// The edge of a ring that goes from the vertex of this number to the next one, the last to the
+/// first vertex.
 fn edge_of(ring: &[Point], number: usize) -> Edge
     requires { number < length ring.now }
     ensures { slice_get (edges ring.now) number ≡ Some result }
@@ -39,7 +41,8 @@ fn edge_of(ring: &[Point], number: usize) -> Edge
 /// Whether a ring has three vertices or more, none at the position of the next one.
 fn is_drawn(ring: &[Point]) -> bool
     ensures several { IsTrue result → 3 ≤ length ring.now }
-    ensures apart { IsTrue result → (vertex : ℕ) (position next : Position) → slice_get ring.now vertex ≡ Some position
+    ensures apart { IsTrue result → (vertex : ℕ) (position next : Position)
+        → slice_get ring.now vertex ≡ Some position
         → slice_get ring.now (next_round (length ring.now) vertex) ≡ Some next → position ≢ next }
 {
     if ring.len() < 3 {
@@ -69,7 +72,7 @@ pub(crate) fn are_drawn(rings: &[Vec<Point>]) -> bool
 /// Two edges, each by ring and edge.
 pub(crate) type Edges = ((usize, usize), (usize, usize));
 
-/// A way to look for a meeting.
+/// A way to search for a meeting.
 #[derive(Clone, Copy)]
 enum Way {
     Whole,
@@ -113,7 +116,8 @@ fn found_at(
     found_in(rt, alloc, &rings, way)
 }
 
-/// Whether a meeting is found in rings through these coordinates in each way, or where `is_clear` in none.
+/// Whether a meeting is found in rings through these coordinates in each way, or where `is_clear`
+/// in none.
 fn agree(rt: &impl Abort, alloc: Global, coordinates: &[&[(i32, i32)]], is_clear: bool) -> bool {
     for way in WAYS {
         if found_at(rt, alloc, coordinates, way).0.is_none() != is_clear {
@@ -123,8 +127,8 @@ fn agree(rt: &impl Abort, alloc: Global, coordinates: &[&[(i32, i32)]], is_clear
     true
 }
 
-/// Whether each way finds a meeting of one of these pairs of edges, with this point, in rings through these
-/// coordinates.
+/// Whether each way finds a meeting of one of these pairs of edges, with this point, in rings
+/// through these coordinates.
 fn meets(
     rt: &impl Abort,
     alloc: Global,
@@ -157,8 +161,8 @@ pub(crate) fn is_one_of(
     }
 }
 
-/// The polygons of Mapbox Vector Tile Specification 2.1, section 4.3.5.5 and 4.3.5.6, holes where they shouldn't be, and
-/// no rings.
+/// The polygons of Mapbox Vector Tile Specification 2.1, section 4.3.5.5 and 4.3.5.6, holes where
+/// they shouldn't be, and no rings.
 const CLEAR: &[&[Coordinates]] = &[
     &[&[(3, 6), (8, 12), (20, 34)]],
     &[SQUARE],
@@ -196,7 +200,7 @@ pub(crate) const MEETINGS: &[(&[Coordinates], &[Edges], (i128, i128, i128))] = &
             9_223_372_026_117_357_571,
         ),
     ),
-    // Edges that become neighbours behind a hole.
+    // Edges that become neighbours after a hole.
     (
         &[
             &[(0, 80), (100, 0), (100, 100), (20, 10)],
@@ -252,8 +256,8 @@ fn named_meetings(rt: HostRuntime) {
     }
 }
 
-/// A ring like two combs, one above the other, with so many vertices each and this vertex at the end of the upper
-/// comb's 21st tooth. 40 teeth make 158 vertices.
+/// A ring like two combs, one above the other, with so many vertices each and this vertex at the
+/// end of the upper comb's 21st tooth. 40 teeth make 158 vertices.
 fn combs(rt: &impl Abort, alloc: Global, vertices: u32, moved: (i32, i32)) -> Vec<(i32, i32)>
     requires { vertices ≤ 800000 }
 {
@@ -272,7 +276,8 @@ fn combs(rt: &impl Abort, alloc: Global, vertices: u32, moved: (i32, i32)) -> Ve
     ring
 }
 
-/// A vertex of a comb, counted from left to right: of each tooth two at its end, and then two of the gap behind it.
+/// A vertex of a comb, counted from left to right: of each tooth two at its end, and then two of
+/// the gap after it.
 fn of_comb(number: u32, end: i32, gap: i32) -> (i32, i32)
     requires { number < 800000 }
 {
@@ -285,8 +290,8 @@ pub(crate) fn is_some_work(ticks: u64, most: u64) -> bool {
     0 < ticks && ticks <= most
 }
 
-/// Whether the work of each way in the ring is at most 3 tests, 20 probes and 180 visits for each of 316 vertices; a
-/// status in a vector has no nodes.
+/// Whether the work of each way in the ring is at most 3 tests, 20 probes and 180 visits for each
+/// of 316 vertices; a status in a vector has no nodes.
 fn is_work_of_combs(rt: &impl Abort, alloc: Global, ring: &[(i32, i32)]) -> bool {
     for way in WAYS {
         let (_, count) = found_at(rt, alloc, &[ring], way);
@@ -316,7 +321,8 @@ fn two_combs(rt: HostRuntime) {
     assert!(rt; agree(&rt, alloc, &[&crossed], false));
 }
 
-// Each of a square's edges begins or ends in a corner, where it is compared with another one or with a neighbour.
+// Each of a square's edges begins or ends in a vertex, where it is compared with another one or
+// with a neighbour.
 #[test]
 fn work_of_a_square(rt: HostRuntime) {
     for way in WAYS {

@@ -1,11 +1,11 @@
 //! Holes that aren't where they should be, by what a sweep noted of each ring.
 ghost use Rattle.std.specs.Prelude.{◌≡◌, ◌↔◌, ◌<◌, IsTrue, IfNone, IfSome, length};
-ghost use Rattle.mvt_polygon.specs.CornerOrder.{AddsWork};
-ghost use Rattle.mvt_polygon.specs.Corners.{vertex_count};
+ghost use Rattle.mvt_polygon.specs.Work.{AddsWork};
+ghost use Rattle.mvt_polygon.specs.Work.{vertex_count};
 ghost use Rattle.mvt_polygon.specs.Nesting.{IsNestFault, IsFirstNestFault};
-ghost use Rattle.mvt_polygon.specs.RingsAround.{nearest_at};
+ghost use Rattle.mvt_polygon.specs.Calls.RingsAround.{nearest_at};
 ghost use Rattle.mvt_polygon.specs.Rings.{rings_of, AreProperRings};
-ghost use Rattle.mvt_polygon.specs.Swept.{IsNotedClear};
+ghost use Rattle.mvt_polygon.specs.Calls.Swept.{IsNotedClear};
 ghost use Rattle.mvt_polygon.specs.declared.nesting.NestFault.{NestFault};
 
 use crate::nesting::NestFault;
@@ -13,10 +13,11 @@ use crate::nesting::once::fault_of_first_vertex;
 use crate::sweep::RingNotes;
 use mvt_plane::{Count, Point};
 
-/// What `check_nesting` answers of the rings of a polygon, where no two of their edges meet wrongly and it is noted of
-/// each ring which other rings are around it. Of the hole that it answers, and of no other, the first vertex is
-/// tested against the edges of the exterior and, where it is inside, of the other holes up to the first that is around
-/// it. Each of these edges counts as a probe. It takes no memory.
+/// What `check_nesting` answers of the rings of a polygon, where no two of their edges meet wrongly
+/// and it is noted of each ring which other rings are around it. Of the hole that it answers, and
+/// of no other, the first vertex is tested against the edges of the exterior and, where it is
+/// inside, of the other holes up to the first that is around it. Each of these edges counts as a
+/// probe. It takes no memory.
 pub(crate) fn fault_of_holes(
     rings: &[Vec<Point>],
     notes: &RingNotes,
@@ -39,7 +40,8 @@ pub(crate) fn fault_of_holes(
 /// Whether the exterior, which is the first ring, and no other ring is around a hole.
 fn is_right(notes: &RingNotes, hole: usize) -> bool
     requires { hole < length notes.now.around.items }
-    ensures { IsTrue result ↔ ((nearest_at notes.now.around.items hole ≡ Some 0) × (nearest_at notes.now.around.items 0 ≡ None)) }
+    ensures { IsTrue result ↔ ((nearest_at notes.now.around.items hole ≡ Some 0)
+        × (nearest_at notes.now.around.items 0 ≡ None)) }
 {
     notes.nearest(hole) == Some(0) && notes.nearest(0).is_none()
 }

@@ -1,11 +1,12 @@
 //! Holes that aren't where they should be, by one vertex of each.
 ghost use Rattle.std.specs.Prelude.{ℕ, ◌↔◌, ◌*◌, ◌-◌, ◌<◌, IsTrue, IfNone, IfSome, length, take};
-ghost use Rattle.mvt_plane.specs.Inside.{IsInside};
-ghost use Rattle.mvt_plane.specs.Nesting.{IsVertexOf};
-ghost use Rattle.mvt_polygon.specs.CornerOrder.{AddsWork};
-ghost use Rattle.mvt_polygon.specs.Corners.{vertex_count};
+ghost use Rattle.mvt_plane.specs.Geometry.Inside.{IsInside};
+ghost use Rattle.mvt_plane.specs.Geometry.Nesting.{IsVertexOf};
+ghost use Rattle.mvt_polygon.specs.Work.{AddsWork};
+ghost use Rattle.mvt_polygon.specs.Work.{vertex_count};
 ghost use Rattle.mvt_polygon.specs.Meeting.{NoMeeting};
-ghost use Rattle.mvt_polygon.specs.Nesting.{IsNestFault, IsFirstNestFault, IsFirstOf, IsOfVertex, IsHoleAround, IsFirstHoleAround};
+ghost use Rattle.mvt_polygon.specs.Nesting.{IsNestFault, IsFirstNestFault};
+ghost use Rattle.mvt_polygon.specs.Calls.Nesting.{IsFirstOf, IsOfVertex, IsHoleAround, IsFirstHoleAround};
 ghost use Rattle.mvt_polygon.specs.Rings.{rings_of, AreProperRings};
 ghost use Rattle.mvt_polygon.specs.declared.nesting.NestFault.{NestFault};
 
@@ -15,16 +16,18 @@ mod tests;
 use super::NestFault;
 use mvt_plane::{Count, Point, inside};
 
-/// What `check_nesting` answers of the rings of a polygon, where no two of their edges meet wrongly. Each ring is to
-/// have three vertices or more, none at the position of the next one. All vertices of a hole are then inside another
-/// ring, or none is, so the first vertex of each hole alone is tested against the edges of the other rings. `count`
-/// counts a probe for each of these edges: for r rings of n vertices at most r * n. It takes no memory.
+/// What `check_nesting` answers of the rings of a polygon, where no two of their edges meet
+/// wrongly. Each ring is to have three vertices or more, none at the position of the next one. All
+/// vertices of a hole are then inside another ring, or none is, so the first vertex of each hole
+/// alone is tested against the edges of the other rings. `count` counts a probe for each of these
+/// edges: for r rings of n vertices at most r * n. It takes no memory.
 pub fn check_nesting_once(rings: &[Vec<Point>], count: &mut Count) -> Option<NestFault>
     requires proper { AreProperRings (rings_of rings.now) }
     requires none_meet { NoMeeting (rings_of rings.now) }
     ensures none { IfNone result ((fault : NestFault) → ¬ IsNestFault (rings_of rings.now) fault) }
     ensures least { IfSome result (IsFirstNestFault (rings_of rings.now)) }
-    ensures counted { AddsWork 0 (length rings.now * vertex_count (rings_of rings.now)) 0 count.old count.new }
+    ensures counted { AddsWork 0 (length rings.now * vertex_count (rings_of rings.now)) 0 count.old
+        count.new }
 {
     for ring in 1..rings.len() {
         let position = rings[ring][0];
@@ -35,8 +38,8 @@ pub fn check_nesting_once(rings: &[Vec<Point>], count: &mut Count) -> Option<Nes
     None
 }
 
-/// Why the first vertex of a hole isn't where it should be: it isn't inside the exterior, or else it is inside another
-/// hole, of which the first is returned.
+/// Why the first vertex of a hole isn't where it should be: it isn't inside the exterior, or else
+/// it is inside another hole, of which the first is returned.
 pub(crate) fn fault_of_first_vertex(
     rings: &[Vec<Point>],
     ring: usize,
@@ -46,7 +49,8 @@ pub(crate) fn fault_of_first_vertex(
     requires hole { 0 < ring }
     requires there { ring < length rings.now }
     requires here { IsVertexOf (rings_of rings.now) ring 0 position }
-    ensures none { IfNone result ((fault : NestFault) → IsOfVertex ring 0 fault → ¬ IsNestFault (rings_of rings.now) fault) }
+    ensures none { IfNone result ((fault : NestFault) → IsOfVertex ring 0 fault
+        → ¬ IsNestFault (rings_of rings.now) fault) }
     ensures least { IfSome result (IsFirstOf (rings_of rings.now) (IsOfVertex ring 0)) }
     ensures counted { AddsWork 0 (vertex_count (rings_of rings.now)) 0 count.old count.new }
 {
@@ -68,9 +72,11 @@ fn hole_around(
     position: Point,
     count: &mut Count,
 ) -> Option<usize>
-    ensures none { IfNone result ((other : ℕ) → ¬ IsHoleAround (rings_of rings.now) ring position other) }
+    ensures none { IfNone result ((other : ℕ)
+        → ¬ IsHoleAround (rings_of rings.now) ring position other) }
     ensures first { IfSome result (IsFirstHoleAround (rings_of rings.now) ring position) }
-    ensures counted { let rings = rings_of rings.now in AddsWork 0 (vertex_count rings - vertex_count (take 1 rings)) 0 count.old count.new }
+    ensures counted { let rings = rings_of rings.now in
+        AddsWork 0 (vertex_count rings - vertex_count (take 1 rings)) 0 count.old count.new }
 {
     for other in 1..rings.len() {
         if other != ring && inside_counted(position, &rings[other], count) {
@@ -80,8 +86,8 @@ fn hole_around(
     None
 }
 
-/// Whether the position is inside the ring, with a probe for each edge of it: `inside` holds the position against each
-/// of them once.
+/// Whether the position is inside the ring, with a probe for each edge of it: `inside` holds the
+/// position against each of them once.
 fn inside_counted(position: Point, ring: &[Point], count: &mut Count) -> bool
     ensures inside { IsTrue result ↔ IsInside position ring.now }
     ensures counted { AddsWork 0 (length ring.now) 0 count.old count.new }

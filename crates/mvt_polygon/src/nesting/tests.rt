@@ -6,8 +6,8 @@ use crate::rings::tests::{
 use std::alloc::Global;
 use std::process::Abort;
 
-/// Rings of which no edges meet wrongly, their fault, and the probes of `check_nesting_once`: a hole is held against its
-/// exterior, and two against the exterior and each other.
+/// Rings of which no edges meet wrongly, their fault, and the probes of `check_nesting_once`: a
+/// hole is held against its exterior, and two against the exterior and each other.
 pub(crate) const PLACES: &[(&[Coordinates], Option<NestFault>, u64)] = &[
     (&[SQUARE], None, 0),
     (&[FRAME, HOLE_OF_FRAME], None, 4),

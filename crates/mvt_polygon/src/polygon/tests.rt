@@ -37,16 +37,16 @@ fn meetings(rt: HostRuntime) {
     }
 }
 
-/// Rings of few edges, and how many pairs of edges need a test up to the first that meets. Of a square none does: edges
-/// that follow each other make a turn, and others have boxes that are apart. Of the other two one does, which crosses or
-/// goes back.
+/// Rings of few edges, and how many pairs of edges need a test up to the first that meets. Of a
+/// square none does: edges that follow each other make a turn, and others have boxes that are
+/// apart. Of the other two one does, which crosses or goes back.
 const FEW_EDGES: [(Coordinates, u64, u64); 3] = [
     (SQUARE, 6, 0),
     (&[(0, 8), (10, 0), (10, 10), (0, 0)], 6, 1),
     (&[(0, 0), (10, 0), (5, 0)], 3, 1),
 ];
 
-// All pairs of edges are looked at, and no status is needed.
+// All pairs of edges are checked, and no status is needed.
 #[test]
 fn all_pairs_of_few_edges(rt: HostRuntime) {
     for (ring, pairs, tests) in FEW_EDGES {
@@ -89,8 +89,8 @@ fn many_holes(rt: &impl Abort, alloc: Global) -> Vec<Vec<Point>> {
     rings
 }
 
-// The last of as many holes is outside. Of 300,007 vertices, a number of 19 binary digits, at most 3 tests, 41
-// comparisons and 380 visits each.
+// The last of as many holes is outside. Of 300,007 vertices, a number of 19 binary digits, at most
+// 3 tests, 41 comparisons and 380 visits each.
 #[test]
 fn last_of_many_holes(rt: HostRuntime) {
     let rings = many_holes(&rt, rt.alloc());

@@ -3,7 +3,7 @@ use crate::rings::check_rings;
 use crate::rings::tests::{TWO_POLYGONS, rings_at};
 
 #[test]
-fn a_polygon_with_a_hole_behind_another(rt: HostRuntime) {
+fn a_polygon_with_a_hole_after_another(rt: HostRuntime) {
     let rings = rings_at(&rt, rt.alloc(), TWO_POLYGONS);
     assert!(rt; check_rings(&rings).is_none());
     let polygons = groups(rt.alloc(), &rings).expect(&rt, "memory");

@@ -20,7 +20,8 @@ pub(crate) const HOLE_IN_HOLE: &[Coordinates] = &[
     &[(20, 20), (20, 30), (30, 30), (30, 20)],
 ];
 
-/// An exterior like a U, and a hole from one of its arms to the other, whose vertices are all inside.
+/// An exterior like a U, and a hole from one of its arms to the other, whose vertices are all
+/// inside.
 pub(crate) const NOTCHED: Coordinates = &[
     (0, 0),
     (30, 0),
@@ -61,8 +62,8 @@ pub(crate) fn rings_at(
     rings
 }
 
-/// Rings, and the code of their first ring's fault: those of polygons, one that ends where it begins, one along a line,
-/// and a hole that comes first.
+/// Rings, and the code of their first ring's fault: those of polygons, one that ends where it
+/// begins, one along a line, and a hole that comes first.
 const RINGS: &[(&[Coordinates], Option<RingCode>)] = &[
     (TWO_POLYGONS, None),
     (

@@ -1,12 +1,13 @@
-//! The chains of edges that the line of a sweep meets: where an edge ends and the next one of its ring begins, the chain
-//! goes on with that one. A chain has the number of the edge that it began with.
+//! The chains of edges that the line of a sweep meets: where an edge ends and the next one of its
+//! ring begins, the chain goes on with that one. A chain has the number of the edge that it began
+//! with.
 ghost use Rattle.std.specs.Prelude.{◌<◌, ◌≤◌, ◌^◌, length};
 
-use crate::sweep::corners::Corners;
+use crate::sweep::vertices::SweepVertices;
 use std::alloc::{AllocError, Global};
 
-/// The chains beside a chain. The number of all edges stands for what is outside: below the lowest chain and above the
-/// highest one.
+/// The chains beside a chain. The number of all edges stands for what is outside: below the lowest
+/// chain and above the highest one.
 #[derive(Clone, Copy)]
 pub(crate) struct Link {
     /// The chain directly below.
@@ -20,7 +21,8 @@ pub(crate) struct Link {
 pub(crate) struct Chains {
     /// By the number of a chain its edge, and by the number of that edge the chain.
     twins: Vec<u32>,
-    /// By the number of a chain its neighbours, and by the number of what is outside the highest chain and the lowest one.
+    /// By the number of a chain its neighbours, and by the number of what is outside the highest
+    /// chain and the lowest one.
     links: Vec<Link>,
     ghost few: { length twins.items < 2 ^ 32 },
     ghost few_links: { length links.items ≤ 2 ^ 32 },
@@ -28,24 +30,24 @@ pub(crate) struct Chains {
 
 impl Chains {
     ghost use Rattle.std.specs.Prelude.{◌≡◌, ◌<◌, ◌≤◌, ◌==◌, ℕ, [], IfOk, cond, length, slice_set};
-    ghost use Rattle.mvt_polygon.specs.Chains.{AreChains, above_of, below_of, edge_beside, edge_of, outside_of};
-    ghost use Rattle.mvt_polygon.specs.Corners.{corner_count};
+    ghost use Rattle.mvt_polygon.specs.Calls.Chains.{AreChains, above_of, below_of, edge_beside, edge_of, outside_of};
+    ghost use Rattle.mvt_polygon.specs.Calls.SweepVertices.{sweep_count};
 
-    /// No chains, of the edges of these corners. The only error is that memory was refused.
-    pub(crate) fn new(alloc: Global, corners: &Corners) -> Result<Chains, AllocError>
-        ensures { IfOk result (λ chains. AreChains corners.now chains []) }
+    /// No chains, of the edges of these vertices. The only error is that memory was refused.
+    pub(crate) fn new(alloc: Global, vertices: &SweepVertices) -> Result<Chains, AllocError>
+        ensures { IfOk result (λ chains. AreChains vertices.now chains []) }
     {
-        let outside = corners.len() as u32;
+        let outside = vertices.len() as u32;
         let none = Link {
             below: outside,
             above: outside,
         };
-        let mut links = Vec::with_capacity(alloc, corners.len() + 1)?;
-        for _number in 0..corners.len() + 1 {
+        let mut links = Vec::with_capacity(alloc, vertices.len() + 1)?;
+        for _number in 0..vertices.len() + 1 {
             links.push(none)?;
         }
         Ok(Chains {
-            twins: vec![in alloc; 0_u32; corners.len()]?,
+            twins: vec![in alloc; 0_u32; vertices.len()]?,
             links,
         })
     }
@@ -105,24 +107,31 @@ impl Chains {
     pub(crate) fn go_on(&mut self, chain: usize, edge: usize)
         requires chain { chain < length self.old.twins.items }
         requires edge { edge < length self.old.twins.items }
-        ensures twins { self.new.twins.items ≡ slice_set (slice_set self.old.twins.items chain edge) edge chain }
+        ensures twins { self.new.twins.items
+            ≡ slice_set (slice_set self.old.twins.items chain edge) edge chain }
         ensures links { self.new.links.items ≡ self.old.links.items }
     {
         self.twins[chain] = edge as u32;
         self.twins[edge] = chain as u32;
     }
 
-    /// Begins two chains, the lower one first, above a chain or above what is outside. Each has its own number for its edge.
+    /// Begins two chains, the lower one first, above a chain or above what is outside. Each has its
+    /// own number for its edge.
     pub(crate) fn begin_two(&mut self, below: usize, lower: usize, upper: usize)
         requires below { below ≤ outside_of self.old }
         requires lower { lower < outside_of self.old }
         requires upper { upper < outside_of self.old }
         requires above { above_of self.old below ≤ outside_of self.old }
         requires links { outside_of self.old < length self.old.links.items }
-        ensures twins { self.new.twins.items ≡ slice_set (slice_set self.old.twins.items lower lower) upper upper }
+        ensures twins { self.new.twins.items
+            ≡ slice_set (slice_set self.old.twins.items lower lower) upper upper }
         ensures size { length self.new.links.items ≡ length self.old.links.items }
-        ensures above { (chain : ℕ) → above_of self.new chain ≡ cond (chain == upper) (above_of self.old below) (cond (chain == lower) upper (cond (chain == below) lower (above_of self.old chain))) }
-        ensures below { (chain : ℕ) → below_of self.new chain ≡ cond (chain == above_of self.old below) upper (cond (chain == upper) lower (cond (chain == lower) below (below_of self.old chain))) }
+        ensures above { (chain : ℕ) → above_of self.new chain
+            ≡ cond (chain == upper) (above_of self.old below)
+            (cond (chain == lower) upper (cond (chain == below) lower (above_of self.old chain))) }
+        ensures below { (chain : ℕ) → below_of self.new chain
+            ≡ cond (chain == above_of self.old below) upper
+            (cond (chain == upper) lower (cond (chain == lower) below (below_of self.old chain))) }
     {
         let above = self.links[below].above as usize;
         self.twins[lower] = lower as u32;
@@ -140,8 +149,12 @@ impl Chains {
         requires above { above_of self.old upper < length self.old.links.items }
         ensures twins { self.new.twins.items ≡ self.old.twins.items }
         ensures size { length self.new.links.items ≡ length self.old.links.items }
-        ensures above { (chain : ℕ) → above_of self.new chain ≡ cond (chain == below_of self.old lower) (above_of self.old upper) (above_of self.old chain) }
-        ensures below { (chain : ℕ) → below_of self.new chain ≡ cond (chain == above_of self.old upper) (below_of self.old lower) (below_of self.old chain) }
+        ensures above { (chain : ℕ) → above_of self.new chain
+            ≡ cond (chain == below_of self.old lower) (above_of self.old upper)
+            (above_of self.old chain) }
+        ensures below { (chain : ℕ) → below_of self.new chain
+            ≡ cond (chain == above_of self.old upper) (below_of self.old lower)
+            (below_of self.old chain) }
     {
         let below = self.links[lower].below as usize;
         let above = self.links[upper].above as usize;
@@ -155,8 +168,10 @@ impl Chains {
         requires upper { upper < length self.old.links.items }
         ensures twins { self.new.twins.items ≡ self.old.twins.items }
         ensures size { length self.new.links.items ≡ length self.old.links.items }
-        ensures above { (chain : ℕ) → above_of self.new chain ≡ cond (chain == lower) upper (above_of self.old chain) }
-        ensures below { (chain : ℕ) → below_of self.new chain ≡ cond (chain == upper) lower (below_of self.old chain) }
+        ensures above { (chain : ℕ) → above_of self.new chain
+            ≡ cond (chain == lower) upper (above_of self.old chain) }
+        ensures below { (chain : ℕ) → below_of self.new chain
+            ≡ cond (chain == upper) lower (below_of self.old chain) }
     {
         self.links[lower].above = upper as u32;
         self.links[upper].below = lower as u32;

@@ -1,6 +1,6 @@
 //! Edges that have no height in common.
 ghost use Rattle.std.specs.Prelude.{IsTrue};
-ghost use Rattle.mvt_polygon.specs.Pairs.{AreBoxesApart, AreLess};
+ghost use Rattle.mvt_polygon.specs.Calls.Pairs.{AreBoxesApart, AreLess};
 
 use mvt_plane::Edge;
 

@@ -1,22 +1,23 @@
-//! The list of the corners of rings.
+//! The list of the vertices of rings.
 ghost use Rattle.std.specs.Prelude.{◌≡◌, ◌<◌, ◌^◌, IfOk, IfSome, OnOk, suc, length, take};
-ghost use Rattle.mvt_polygon.specs.Corners.{IsListOf, far_end_of, vertex_count};
+ghost use Rattle.mvt_polygon.specs.Calls.SweepVertices.{IsListOf, far_end_of};
+ghost use Rattle.mvt_polygon.specs.Work.{vertex_count};
 ghost use Rattle.mvt_polygon.specs.Rings.{rings_of};
 
-use crate::sweep::corner::Corner;
+use crate::sweep::vertex::SweepVertex;
 use mvt_plane::{GREATEST_COORDINATE, Point};
 use std::alloc::{AllocError, Global};
 
-/// All corners of rings, ring by ring. The only error is that memory was refused, or that a `u32` is too small for
-/// their number.
-pub(crate) fn list_of(alloc: Global, rings: &[Vec<Point>]) -> Result<Vec<Corner>, AllocError>
+/// All vertices of rings, ring by ring. The only error is that memory was refused, or that a `u32`
+/// is too small for their number.
+pub(crate) fn list_of(alloc: Global, rings: &[Vec<Point>]) -> Result<Vec<SweepVertex>, AllocError>
     ensures list { IfOk result (λ list. IsListOf (rings_of rings.now) list.items) }
     ensures few { IfOk result (λ list. length list.items < 2 ^ 32) }
 {
     let count = count_of(rings).ok_or(AllocError)?;
     let mut list = Vec::with_capacity(alloc, count)?;
     for ring in 0..rings.len() {
-        add_corners(&mut list, rings, ring)?;
+        add_vertices(&mut list, rings, ring)?;
     }
     Ok(list)
 }
@@ -36,8 +37,12 @@ fn count_of(rings: &[Vec<Point>]) -> Option<usize>
     Some(count)
 }
 
-/// Adds the corners of the ring of this number behind those of the rings before it.
-fn add_corners(list: &mut Vec<Corner>, rings: &[Vec<Point>], ring: usize) -> Result<(), AllocError>
+/// Adds the vertices of the ring of this number after those of the rings before it.
+fn add_vertices(
+    list: &mut Vec<SweepVertex>,
+    rings: &[Vec<Point>],
+    ring: usize,
+) -> Result<(), AllocError>
     requires ring { ring < length rings.now }
     requires before { IsListOf (take ring (rings_of rings.now)) list.old.items }
     requires count { vertex_count (rings_of rings.now) < 2 ^ 32 }
@@ -49,7 +54,7 @@ fn add_corners(list: &mut Vec<Corner>, rings: &[Vec<Point>], ring: usize) -> Res
         let position = vertices[edge];
         // (all positions are in range)
         prove!(position.x() <= GREATEST_COORDINATE);
-        list.push(Corner {
+        list.push(SweepVertex {
             position,
             far_end: (before + far_end_of(vertices.len(), edge)) as u32,
         })?;
@@ -57,8 +62,8 @@ fn add_corners(list: &mut Vec<Corner>, rings: &[Vec<Point>], ring: usize) -> Res
     Ok(())
 }
 
-/// In a ring of so many corners: the number of the last corner for the first one, that of the first for the last one,
-/// and its own for every other corner.
+/// In a ring of so many vertices: the number of the last vertex for the first one, that of the
+/// first for the last one, and its own for every other vertex.
 fn far_end_of(count: usize, number: usize) -> usize
     requires { number < count }
     ensures value { result ≡ far_end_of count number }

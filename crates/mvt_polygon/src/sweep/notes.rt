@@ -1,33 +1,41 @@
 //! What a sweep notes of the rings that its line comes to.
 ghost use Rattle.std.specs.Prelude.{◌≡◌, ℕ, ℤ, ◌<◌, ◌++◌, List, IfOk, OnOk, Some, length, replicate, slice_get};
 ghost use Rattle.mvt_plane.specs.Position.{Position};
-ghost use Rattle.mvt_polygon.specs.Corners.{AreCorners, position_at};
-ghost use Rattle.mvt_polygon.specs.RingNotes.{AreNotedTo, IsNew, IsNoteAbove};
+ghost use Rattle.mvt_polygon.specs.Calls.SweepVertices.{AreSweepVertices, position_at};
+ghost use Rattle.mvt_polygon.specs.Calls.RingNotes.{AreNotedTo, IsNew, IsNoteAbove};
 ghost use Rattle.mvt_polygon.specs.Rings.{rings_of, AreProperRings};
-ghost use Rattle.mvt_polygon.specs.RingsAround.{nearest_at, odd_at};
-ghost use Rattle.mvt_polygon.specs.Steps.{AtFirst, IsPassed};
-ghost use Rattle.mvt_polygon.specs.declared.sweep.corners.Corners.{Corners};
+ghost use Rattle.mvt_polygon.specs.Calls.RingsAround.{nearest_at, odd_at};
+ghost use Rattle.mvt_polygon.specs.Calls.Steps.{AtFirst, IsPassed};
+ghost use Rattle.mvt_polygon.specs.declared.sweep.vertices.SweepVertices.{SweepVertices};
 ghost use Rattle.mvt_polygon.specs.declared.sweep.notes.Around.{Around};
-ghost use Rattle.mvt_plane.specs.Measure.{key_of};
+ghost use Rattle.mvt_plane.specs.Geometry.Measure.{key_of};
 
 use mvt_plane::Point;
 use mvt_status::Split;
 use std::alloc::{AllocError, Global};
 
-/// What is noted while a line goes over all corners of rings.
+/// What is noted while a line goes over all vertices of rings.
 pub(crate) trait Notes: Drop {
-    /// What is noted of rings, which have these corners, is right of all corners up to a key.
-    ghost are_noted: { List (List Position) → Corners → ℤ → Self → Type 0 };
+    /// What is noted of rings, which have these vertices, is right of all vertices up to a key.
+    ghost are_noted: { List (List Position) → SweepVertices → ℤ → Self → Type 0 };
 
     /// With nothing noted. The only error is that memory was refused.
     fn new(alloc: Global, rings: &[Vec<Point>]) -> Result<Self, AllocError>
-        ensures { IfOk result (λ notes. (corners : Corners) → AreProperRings (rings_of rings.now) → AreCorners (rings_of rings.now) corners → AtFirst corners (λ key. are_noted (rings_of rings.now) corners key notes)) };
+        ensures { IfOk result (λ notes. (vertices : SweepVertices)
+            → AreProperRings (rings_of rings.now) → AreSweepVertices (rings_of rings.now) vertices
+            → AtFirst vertices (λ key. are_noted (rings_of rings.now) vertices key notes)) };
 
-    /// The line went over the corner of this number: both edges of it began there, in this place among those that the line
-    /// met; or an edge ended. The only error is that memory was refused.
+    /// The line went over the vertex of this number: both edges of it began there, in this place
+    /// among those that the line met; or an edge ended. The only error is that memory was refused.
     fn pass(&mut self, number: usize, begun: Option<Split>) -> Result<(), AllocError>
-        requires { (rings : List (List Position)) × (corners : Corners) × (key : ℤ) × (edges : List ℕ) × are_noted rings corners key self.old × IsPassed corners key number begun edges }
-        ensures { (rings : List (List Position)) (corners : Corners) (key : ℤ) (edges : List ℕ) → are_noted rings corners key self.old → IsPassed corners key number begun edges → OnOk result (are_noted rings corners (key_of (position_at corners number)) self.new) };
+        requires { (rings : List (List Position)) × (vertices : SweepVertices) × (key : ℤ)
+            × (edges : List ℕ) × are_noted rings vertices key self.old
+            × IsPassed vertices key number begun edges }
+        ensures { (rings : List (List Position)) (vertices : SweepVertices) (key : ℤ)
+            (edges : List ℕ) → are_noted rings vertices key self.old
+            → IsPassed vertices key number begun edges
+            → OnOk result (are_noted rings vertices (key_of (position_at vertices number))
+            self.new) };
 }
 
 /// Nothing is noted.
@@ -58,16 +66,17 @@ pub(crate) struct Around {
 /// Of each ring which rings are around it.
 #[derive(Drop)]
 pub(crate) struct RingNotes {
-    /// By the number of each corner, its ring.
+    /// By the number of each vertex, its ring.
     ring_of: Vec<u32>,
     /// By the number of each ring, what is around it, if the line came to it.
     around: Vec<Option<Around>>,
-    /// The rings that the line came to, in this order: each behind those around it.
+    /// The rings that the line came to, in this order: each after those around it.
     come_to: Vec<usize>,
 }
 
 impl RingNotes {
-    /// With nothing noted. The only error is that memory was refused, or that a `u32` is too small for the number of rings.
+    /// With nothing noted. The only error is that memory was refused, or that a `u32` is too small
+    /// for the number of rings.
     pub(crate) fn new(alloc: Global, rings: &[Vec<Point>]) -> Result<RingNotes, AllocError>
         ensures { IfOk result (IsNew (rings_of rings.now)) }
     {
@@ -77,7 +86,7 @@ impl RingNotes {
         let mut ring_of = Vec::new(alloc);
         let mut around = Vec::with_capacity(alloc, rings.len())?;
         for ring in 0..rings.len() {
-            add_corners(&mut ring_of, ring as u32, rings[ring].len())?;
+            add_vertices(&mut ring_of, ring as u32, rings[ring].len())?;
             around.push(None)?;
         }
         Ok(RingNotes {
@@ -106,18 +115,20 @@ impl RingNotes {
         }
     }
 
-    /// All rings, each behind the one directly around it.
+    /// All rings, each after the one directly around it.
     pub(crate) fn come_to(&self) -> &[usize]
         ensures { result.now ≡ self.now.come_to.items }
     {
         &self.come_to
     }
 
-    /// What is around a ring that the line comes to directly above an edge of another one, above an odd number of edges or
-    /// an even one: what is around the other one; and that one too, where this makes the rings an odd or an even number.
+    /// What is around a ring that the line comes to directly above an edge of another one, above an
+    /// odd number of edges or an even one: what is around the other one; and that one too, where
+    /// this makes the rings an odd or an even number.
     fn around_above(&self, below: usize, odd: bool) -> Around
         requires { below < length self.now.around.items }
-        ensures { (around : Around) → slice_get self.now.around.items below ≡ Some (Some around) → IsNoteAbove around below odd result }
+        ensures { (around : Around) → slice_get self.now.around.items below ≡ Some (Some around)
+            → IsNoteAbove around below odd result }
     {
         match self.around[below] {
             Some(around) if around.odd == odd => around,
@@ -157,11 +168,11 @@ impl Notes for RingNotes {
     }
 }
 
-/// Adds the ring of so many corners.
-fn add_corners(ring_of: &mut Vec<u32>, ring: u32, corners: usize) -> Result<(), AllocError>
-    ensures { OnOk result (ring_of.new.items ≡ ring_of.old.items ++ replicate corners ring) }
+/// Adds the ring of so many vertices.
+fn add_vertices(ring_of: &mut Vec<u32>, ring: u32, vertices: usize) -> Result<(), AllocError>
+    ensures { OnOk result (ring_of.new.items ≡ ring_of.old.items ++ replicate vertices ring) }
 {
-    for _corner in 0..corners {
+    for _vertex in 0..vertices {
         ring_of.push(ring)?;
     }
     Ok(())

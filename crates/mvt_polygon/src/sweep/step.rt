@@ -1,14 +1,15 @@
-//! One step of a sweep: its line goes over the next corner.
+//! One step of a sweep: its line goes over the next vertex.
 ghost use Rattle.std.specs.Prelude.{◌≡◌, ◌<◌, IfNone, IfOk};
-ghost use Rattle.mvt_polygon.specs.Chains.{AreChains, edges_of};
-ghost use Rattle.mvt_polygon.specs.CornerOrder.{AddsStep, IsCounted, IsNextCorner};
-ghost use Rattle.mvt_polygon.specs.Corners.{corner_count, previous_at};
-ghost use Rattle.mvt_polygon.specs.Steps.{after_an_end, IsStep, met_by};
+ghost use Rattle.mvt_polygon.specs.Calls.Chains.{AreChains, edges_of};
+ghost use Rattle.mvt_polygon.specs.Calls.VertexOrder.{AddsStep, IsNextVertex, turns_here};
+ghost use Rattle.mvt_polygon.specs.Work.{IsCounted};
+ghost use Rattle.mvt_polygon.specs.Calls.SweepVertices.{sweep_count, previous_at};
+ghost use Rattle.mvt_polygon.specs.Calls.Steps.{after_an_end, IsStep, met_by};
 
 use crate::sweep::begin::begin;
 use crate::sweep::chains::Chains;
-use crate::sweep::corners::{Corners, Pair};
 use crate::sweep::event::{end, pass};
+use crate::sweep::vertices::{Pair, SweepVertices};
 use mvt_plane::{Count, sweep_key};
 use mvt_status::{Split, Status};
 use std::alloc::AllocError;
@@ -18,48 +19,53 @@ use std::alloc::AllocError;
 pub(crate) enum Step {
     /// These two edges meet wrongly.
     Meets(Pair),
-    /// Both edges of the corner began in it, in this place among the edges of the status.
+    /// Both edges of the vertex began in it, in this place among the edges of the status.
     Begins(Split),
-    /// An edge of the corner ended in it.
+    /// An edge of the vertex ended in it.
     Ends,
 }
 
-/// Goes over a corner, which is the next one that the line comes to.
+/// Goes over a vertex, which is the next one that the line comes to.
+#[inline(always)]
 pub(crate) fn go_over<S: Status>(
-    corners: &Corners,
+    vertices: &SweepVertices,
     number: usize,
     chains: &mut Chains,
     status: &mut S,
     count: &mut Count,
 ) -> Result<Step, AllocError>
-    requires number { number < corner_count corners.now }
-    requires chains { AreChains corners.now chains.old (S.edges status.old) }
-    requires next { IsNextCorner corners.now number (previous_at corners.now number) number (edges_of chains.old (S.edges status.old)) }
-    ensures step { IfOk result (IsStep corners.now number (edges_of chains.old (S.edges status.old)) (edges_of chains.new (S.edges status.new))) }
-    ensures chains { IfOk result (λ step. IfNone (met_by step) (AreChains corners.now chains.new (S.edges status.new))) }
-    ensures counted { AddsStep 3 (corner_count corners.now) count.old count.new }
+    requires number { number < sweep_count vertices.now }
+    requires chains { AreChains vertices.now chains.old (S.edges status.old) }
+    requires next { IsNextVertex vertices.now number (previous_at vertices.now number) number
+        (edges_of chains.old (S.edges status.old)) }
+    ensures step { IfOk result (IsStep vertices.now number
+        (edges_of chains.old (S.edges status.old)) (edges_of chains.new (S.edges status.new))) }
+    ensures chains { IfOk result (λ step.
+        IfNone (met_by step) (AreChains vertices.now chains.new (S.edges status.new))) }
+    ensures counted { AddsStep 3 (turns_here vertices.now number) (sweep_count vertices.now)
+        count.old count.new }
     ensures least { IfOk result (λ step. IsCounted 1 count.old count.new (met_by step)) }
 {
-    let previous = corners.previous(number);
-    let before = *corners.position(previous);
-    let behind = *corners.position(corners.next(number));
-    let key = sweep_key(*corners.position(number));
+    let previous = vertices.previous(number);
+    let before = *vertices.position(previous);
+    let following = *vertices.position(vertices.next(number));
+    let key = sweep_key(*vertices.position(number));
     let comes_from_before = sweep_key(before) < key;
-    let goes_on = key < sweep_key(behind);
+    let goes_on = key < sweep_key(following);
     if comes_from_before {
         if goes_on {
-            Ok(after_an_end(pass(corners, number, previous, number, chains, status, count)))
+            Ok(after_an_end(pass(vertices, number, previous, number, chains, status, count)))
         } else {
-            Ok(after_an_end(end(corners, number, chains, status, count)))
+            Ok(after_an_end(end(vertices, number, chains, status, count)))
         }
     } else if goes_on {
-        begin(corners, number, chains, status, count)
+        begin(vertices, number, chains, status, count)
     } else {
-        Ok(after_an_end(pass(corners, number, number, previous, chains, status, count)))
+        Ok(after_an_end(pass(vertices, number, number, previous, chains, status, count)))
     }
 }
 
-/// The step over a corner in which an edge ended.
+/// The step over a vertex in which an edge ended.
 fn after_an_end(found: Option<Pair>) -> Step
     ensures { result ≡ after_an_end found }
 {

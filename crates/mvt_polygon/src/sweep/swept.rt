@@ -1,16 +1,18 @@
 //! What comes of a sweep over rings.
 ghost use Rattle.std.specs.Prelude.{◌≡◌, ◌+◌, ◌*◌, [], IfOk};
-ghost use Rattle.mvt_polygon.specs.CornerOrder.{AddsWork, IsCounted};
-ghost use Rattle.mvt_polygon.specs.Corners.{AreCorners, vertex_count};
+ghost use Rattle.mvt_polygon.specs.Work.{AddsWork, IsCounted};
+ghost use Rattle.mvt_polygon.specs.Calls.SweepVertices.{AreSweepVertices};
+ghost use Rattle.mvt_polygon.specs.Work.{vertex_count};
 ghost use Rattle.mvt_polygon.specs.Rings.{rings_of, AreProperRings};
-ghost use Rattle.mvt_polygon.specs.Swept.{IsSweptAnswer, IsSweptWith, met_in};
+ghost use Rattle.mvt_polygon.specs.Calls.Swept.{IsSweptAnswer, IsSweptWith, met_in};
+ghost use Rattle.mvt_polygon.specs.TurnVertices.{turn_count};
 ghost use Rattle.mvt_status.specs.Counts.{bits};
 
 use crate::meeting::{Meeting, named_meeting};
-use crate::sweep::corners::Corners;
 use crate::sweep::notes::{Notes, RingNotes};
 use crate::sweep::order::{numbers_of, one_position, order_of};
 use crate::sweep::sweep;
+use crate::sweep::vertices::SweepVertices;
 use mvt_plane::{Count, Point};
 use mvt_status::{Status, TreeStatus};
 use std::alloc::{AllocError, Global};
@@ -24,33 +26,39 @@ pub(crate) enum Swept<N> {
     Clear(N),
 }
 
-/// Sweeps over rings, whose corners are given, over a status that is empty at the call. The only error is that memory was
-/// refused.
+/// Sweeps over rings, whose vertices are given, over a status that is empty at the call. The only
+/// error is that memory was refused.
 pub(crate) fn sweep_over<S: Status, N: Notes>(
     alloc: Global,
     rings: &[Vec<Point>],
-    corners: &Corners,
+    vertices: &SweepVertices,
     status: &mut S,
     count: &mut Count,
 ) -> Result<Swept<N>, AllocError>
     requires rings { AreProperRings (rings_of rings.now) }
-    requires corners { AreCorners (rings_of rings.now) corners.now }
+    requires vertices { AreSweepVertices (rings_of rings.now) vertices.now }
     requires empty { S.edges status.old ≡ [] }
-    ensures swept { IfOk result (IsSweptWith (rings_of rings.now) corners.now (N.are_noted (rings_of rings.now) corners.now)) }
-    ensures counted { let vertices = vertex_count (rings_of rings.now) in AddsWork (3 * vertices) (vertices * (2 * bits vertices + 2)) (vertices * (20 * bits vertices)) count.old count.new }
-    ensures least { IfOk result (λ swept. IsCounted (vertex_count (rings_of rings.now)) count.old count.new (met_in swept)) }
+    ensures swept { IfOk result (IsSweptWith (rings_of rings.now) vertices.now
+        (N.are_noted (rings_of rings.now) vertices.now)) }
+    ensures counted { let n = vertex_count (rings_of rings.now) in
+        AddsWork (3 * n) (n * (2 * bits n + 2)) (n * (20 * bits n)) count.old count.new }
+    ensures turns { let n = vertex_count (rings_of rings.now) in
+        let turns = turn_count (rings_of rings.now) in
+        AddsWork (3 * n) (n + turns * (2 * bits n)) (turns * (12 * bits n)) count.old count.new }
+    ensures least { IfOk result (λ swept.
+        IsCounted (vertex_count (rings_of rings.now)) count.old count.new (met_in swept)) }
 {
-    let order = order_of(alloc, corners)?;
-    let found = match one_position(corners, &order) {
-        Some((first, second)) => corners.meeting(first, second, count),
+    let order = order_of(alloc, vertices)?;
+    let found = match one_position(vertices, &order) {
+        Some((first, second)) => vertices.meeting(first, second, count),
         None => None,
     };
     if let Some(meeting) = named_meeting(rings, found) {
         return Ok(Swept::Meets(meeting));
     }
-    let order = numbers_of(alloc, corners, order)?;
+    let order = numbers_of(alloc, vertices, order)?;
     let mut notes = N::new(alloc, rings)?;
-    let found = sweep(alloc, corners, &order, &mut notes, status, count)?;
+    let found = sweep(alloc, vertices, &order, &mut notes, status, count)?;
     Ok(match named_meeting(rings, found) {
         Some(meeting) => Swept::Meets(meeting),
         None => Swept::Clear(notes),
@@ -65,9 +73,14 @@ pub(crate) fn sweep_rings(
 ) -> Result<Swept<RingNotes>, AllocError>
     requires { AreProperRings (rings_of rings.now) }
     ensures answer { IfOk result (IsSweptAnswer (rings_of rings.now)) }
-    ensures counted { let vertices = vertex_count (rings_of rings.now) in AddsWork (3 * vertices) (vertices * (2 * bits vertices + 2)) (vertices * (20 * bits vertices)) count.old count.new }
-    ensures least { IfOk result (λ swept. IsCounted (vertex_count (rings_of rings.now)) count.old count.new (met_in swept)) }
+    ensures counted { let n = vertex_count (rings_of rings.now) in
+        AddsWork (3 * n) (n * (2 * bits n + 2)) (n * (20 * bits n)) count.old count.new }
+    ensures turns { let n = vertex_count (rings_of rings.now) in
+        let turns = turn_count (rings_of rings.now) in
+        AddsWork (3 * n) (n + turns * (2 * bits n)) (turns * (12 * bits n)) count.old count.new }
+    ensures least { IfOk result (λ swept.
+        IsCounted (vertex_count (rings_of rings.now)) count.old count.new (met_in swept)) }
 {
-    let corners = Corners::of_rings(alloc, rings)?;
-    sweep_over(alloc, rings, &corners, &mut TreeStatus::new(alloc), count)
+    let vertices = SweepVertices::of_rings(alloc, rings)?;
+    sweep_over(alloc, rings, &vertices, &mut TreeStatus::new(alloc), count)
 }

@@ -2,7 +2,7 @@
 ghost use Rattle.std.specs.Prelude.{◌≡◌, ◌+◌, ◌^◌, ◌<◌, ◌≤◌, suc, IfSome, None, ◌++◌, drop, length, take};
 ghost use Rattle.mvt_plane.specs.Counted.{ticked};
 ghost use Rattle.mvt_status.specs.Counts.{AddsAtMost};
-ghost use Rattle.mvt_status.specs.Tree.{edges_of, fewest, height_of};
+ghost use Rattle.mvt_status.specs.Calls.Tree.{edges_of, fewest, height_of};
 
 use super::{
     Node, Own, ROOM, Side, append, height, is_filled, join_over, refilled, settle, size, visit,
@@ -13,8 +13,8 @@ use mvt_plane::Count;
 /// How many edges stay in a node that is split.
 const HALF: usize = ROOM / 2;
 
-/// Inserts up to four edges in front of the one at a place. Where the nodes there have no room, the spare node is used;
-/// it is None then. Ticks a visit for each node on the way there.
+/// Inserts up to four edges in front of the one at a place. Where the nodes there have no room, the
+/// spare node is used; it is None then. Ticks a visit for each node on the way there.
 pub(crate) fn insert_into(
     side: &mut Side,
     at: usize,
@@ -27,7 +27,8 @@ pub(crate) fn insert_into(
     requires few { length new.now ≤ 4 }
     requires spare { height_of spare.old ≡ 1 }
     requires room { length (edges_of side.old) + length new.now < 2 ^ 64 }
-    ensures edges { edges_of side.new ≡ take at (edges_of side.old) ++ (new.now ++ drop at (edges_of side.old)) }
+    ensures edges { edges_of side.new ≡ take at (edges_of side.old) ++
+        (new.now ++ drop at (edges_of side.old)) }
     ensures not_lower { height_of side.old ≤ height_of side.new }
     ensures at_most_one_higher { height_of side.new ≤ height_of side.old + 1 }
     ensures spare { height_of spare.new ≤ 1 }
@@ -42,10 +43,10 @@ pub(crate) fn insert_into(
     visit(count);
     let top: &mut Node = node;
     let before = size(&top.left);
-    let behind = before + top.own.len();
+    let following = before + top.own.len();
     let fits = top.own.len() + new.len() <= ROOM;
     top.size += new.len();
-    if fits && before <= at && at <= behind {
+    if fits && before <= at && at <= following {
         put_in(&mut top.own, at - before, new);
         return;
     }
@@ -57,11 +58,11 @@ pub(crate) fn insert_into(
         }
     } else {
         let level = height(&top.right);
-        if at < behind {
+        if at < following {
             let upper = halved(&mut top.own, at - before, new, spare);
             put_first(&mut top.right, upper, count);
         } else {
-            insert_into(&mut top.right, at - behind, new, spare, count);
+            insert_into(&mut top.right, at - following, new, spare, count);
         }
         if height(&top.right) == level {
             return;
@@ -116,14 +117,15 @@ fn put_in_alone(mut node: Box<Node>, at: usize, new: &[usize]) -> Box<Node>
     node
 }
 
-/// Puts edges among those of a node that has no room for them. It keeps the lower ones, and the others go into the
-/// spare node, which is the answer.
+/// Puts edges among those of a node that has no room for them. It keeps the lower ones, and the
+/// others go into the spare node, which is the answer.
 fn halved(own: &mut Own, at: usize, new: &[usize], spare: &mut Side) -> Box<Node>
     requires within { at ≤ length own.old.items }
     requires many { 8 < length own.old.items }
     requires few { length new.now ≤ 4 }
     requires spare { height_of spare.old ≡ 1 }
-    ensures edges { own.new.items ++ result.value.0 ≡ take at own.old.items ++ (new.now ++ drop at own.old.items) }
+    ensures edges { own.new.items ++ result.value.0
+        ≡ take at own.old.items ++ (new.now ++ drop at own.old.items) }
     ensures some { 0 < length own.new.items }
     ensures low { result.value.1 ≡ 1 }
     ensures used { spare.new ≡ None }

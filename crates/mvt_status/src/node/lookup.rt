@@ -3,7 +3,7 @@ ghost use Rattle.std.specs.Prelude.{◌≡◌, ℕ, ◌+◌, ◌-◌, ◌*◌, �
 ghost use Rattle.mvt_plane.specs.Counted.{ticked};
 ghost use Rattle.mvt_status.specs.Counts.{AddsAtMost, bits, raised};
 ghost use Rattle.mvt_status.specs.Split.{AreBeside, IsSplit};
-ghost use Rattle.mvt_status.specs.Tree.{edges_of, fewest, height_of};
+ghost use Rattle.mvt_status.specs.Calls.Tree.{edges_of, fewest, height_of};
 
 use super::{Node, Side, is_filled, size, visit};
 use crate::Split;
@@ -33,16 +33,18 @@ pub(crate) fn edge_at(side: &Side, at: usize, count: &mut Count) -> usize
     }
 }
 
-/// How many edges of which `below` is true are at the front, with the edges in front of the split and behind it. It
-/// goes down by the first edge of each node, and then looks into the last node whose first edge is below. Ticks a visit
-/// and a probe for each node on the way down, and a probe for each edge that it looks at there.
+/// How many edges of which `below` is true are at the front, with the edges in front of the split
+/// and after it. It goes down by the first edge of each node, and then searches the last node whose
+/// first edge is below. Ticks a visit and a probe for each node on the way down, and a probe for
+/// each edge that it checks there.
 #[inline]
 pub(crate) fn split_of<F: Fn(usize) -> bool>(side: &Side, below: &F, count: &mut Count) -> Split
     requires callable { All (F.pre below.now) (edges_of side.now) }
     requires splits { (point : ℕ) × IsSplit (F.post below.now) (edges_of side.now) point }
     ensures split { IsSplit (F.post below.now) (edges_of side.now) result.point }
     ensures beside { AreBeside (edges_of side.now) result }
-    ensures counted { AddsAtMost (2 * bits (length (edges_of side.now))) (height_of side.now) count.old count.new }
+    ensures counted { AddsAtMost (2 * bits (length (edges_of side.now))) (height_of side.now)
+        count.old count.new }
     ensures visited { IfSome side.now (λ _. ticked count.old.visits ≤ count.new.visits) }
     ensures probed { IfSome side.now (λ _. ticked count.old.probes ≤ count.new.probes) }
     ensures filled { fewest (height_of side.now) ≤ suc (length (edges_of side.now)) }
@@ -53,7 +55,7 @@ pub(crate) fn split_of<F: Fn(usize) -> bool>(side: &Side, below: &F, count: &mut
     let mut part: &Side = side;
     let mut passed: usize = 0;
     let mut last: Option<&[usize]> = None;
-    let mut behind = None;
+    let mut following = None;
     'levels: while let Some(node) = part {
         let node: &Node = node;
         is_filled(&node.left);
@@ -66,7 +68,7 @@ pub(crate) fn split_of<F: Fn(usize) -> bool>(side: &Side, below: &F, count: &mut
             last = Some(node.own.as_slice());
             part = &node.right;
         } else {
-            behind = Some(first);
+            following = Some(first);
             part = &node.left;
         }
     }
@@ -74,34 +76,34 @@ pub(crate) fn split_of<F: Fn(usize) -> bool>(side: &Side, below: &F, count: &mut
         return Split {
             point: 0,
             front: None,
-            behind,
+            following,
         };
     };
-    let point = split_behind_first(own, below, count);
+    let point = split_after_first(own, below, count);
     Split {
         point: passed - (own.len() - point),
         front: Some(own[point - 1]),
-        behind: edge_or(own, point, behind),
+        following: edge_or(own, point, following),
     }
 }
 
-/// The edge at a place in a node, or another one behind them all.
+/// The edge at a place in a node, or another one after them all.
 #[inline(always)]
-fn edge_or(own: &[usize], at: usize, behind: Option<usize>) -> Option<usize>
+fn edge_or(own: &[usize], at: usize, following: Option<usize>) -> Option<usize>
     ensures there { at < length own.now → result ≡ Some (slice_index own.now at) }
-    ensures further { length own.now ≤ at → result ≡ behind }
+    ensures further { length own.now ≤ at → result ≡ following }
 {
     if at < own.len() {
         Some(own[at])
     } else {
-        behind
+        following
     }
 }
 
-/// How many edges are at the front of a list of which `below` is true, where it is true of the first and false of all
-/// others. Ticks a probe for each edge that it looks at.
+/// How many edges are at the front of a list of which `below` is true, where it is true of the
+/// first and false of all others. Ticks a probe for each edge that it checks.
 #[inline]
-fn split_behind_first<F: Fn(usize) -> bool>(edges: &[usize], below: &F, count: &mut Count) -> usize
+fn split_after_first<F: Fn(usize) -> bool>(edges: &[usize], below: &F, count: &mut Count) -> usize
     requires callable { All (F.pre below.now) edges.now }
     requires splits { (point : ℕ) × (0 < point) × IsSplit (F.post below.now) edges.now point }
     ensures split { IsSplit (F.post below.now) edges.now result }

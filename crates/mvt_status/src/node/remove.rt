@@ -2,16 +2,17 @@
 ghost use Rattle.std.specs.Prelude.{◌≡◌, ◌+◌, ◌<◌, ◌≤◌, suc, ◌++◌, insert, length, remove, slice_index};
 ghost use Rattle.mvt_plane.specs.Counted.{ticked};
 ghost use Rattle.mvt_status.specs.Counts.{AddsAtMost};
-ghost use Rattle.mvt_status.specs.Tree.{edges_of, fewest, height_of};
+ghost use Rattle.mvt_status.specs.Calls.Tree.{edges_of, fewest, height_of};
 
 use super::{Node, Own, Side, append, height, is_filled, join_over, lift, settle, size, visit};
 use arrayvec::ArrayVec;
 use mvt_plane::Count;
 use std::mem::swap;
 
-/// Takes the edge at a place out. A node that has no more edges takes those of the first node on its right, and that
-/// node is the spare one then; with nothing on its right it is the spare one itself. Ticks a visit for each node on
-/// the way to the place and to the node whose edges are taken.
+/// Takes the edge at a place out. A node that has no more edges takes those of the first node on
+/// its right, and that node is the spare one then; with nothing on its right it is the spare one
+/// itself. Ticks a visit for each node on the way to the place and to the node whose edges are
+/// taken.
 pub(crate) fn remove_from(side: &mut Side, at: usize, spare: &mut Side, count: &mut Count) -> usize
     requires within { at < length (edges_of side.old) }
     requires spare { height_of spare.old ≤ 1 }
@@ -30,7 +31,7 @@ pub(crate) fn remove_from(side: &mut Side, at: usize, spare: &mut Side, count: &
     is_filled(&top.left);
     is_filled(&top.right);
     let before = size(&top.left);
-    let behind = before + top.own.len();
+    let following = before + top.own.len();
     let out;
     top.size -= 1;
     if at < before {
@@ -39,7 +40,7 @@ pub(crate) fn remove_from(side: &mut Side, at: usize, spare: &mut Side, count: &
         if height(&top.left) == level {
             return out;
         }
-    } else if at < behind && 1 < top.own.len() {
+    } else if at < following && 1 < top.own.len() {
         return take_out(&mut top.own, at - before);
     } else if top.size == before {
         let left = top.left.take();
@@ -48,10 +49,10 @@ pub(crate) fn remove_from(side: &mut Side, at: usize, spare: &mut Side, count: &
         return lift_edge(side, left, spare);
     } else {
         let level = height(&top.right);
-        out = if at < behind {
+        out = if at < following {
             own_from(&mut top.right, &mut top.own, spare, count)
         } else {
-            remove_from(&mut top.right, at - behind, spare, count)
+            remove_from(&mut top.right, at - following, spare, count)
         };
         if height(&top.right) == level {
             return out;
@@ -78,8 +79,8 @@ fn take_out(own: &mut Own, at: usize) -> usize
     out
 }
 
-/// Puts a side in the place of a node that has one edge and nothing on either side. The node is the spare one then, and
-/// the edge is the answer.
+/// Puts a side in the place of a node that has one edge and nothing on either side. The node is the
+/// spare one then, and the edge is the answer.
 fn lift_edge(side: &mut Side, left: Side, spare: &mut Side) -> usize
     requires low { height_of side.old ≡ 1 }
     requires some { 0 < length (edges_of side.old) }
@@ -96,8 +97,8 @@ fn lift_edge(side: &mut Side, left: Side, spare: &mut Side) -> usize
     out
 }
 
-/// Takes the first node of a side out, and its edges in the place of others. The node is the spare one then, and the
-/// first of the others is the answer.
+/// Takes the first node of a side out, and its edges in the place of others. The node is the spare
+/// one then, and the first of the others is the answer.
 fn own_from(side: &mut Side, own: &mut Own, spare: &mut Side, count: &mut Count) -> usize
     requires within { 0 < length (edges_of side.old) }
     requires some { 0 < length own.old.items }
@@ -171,7 +172,8 @@ fn exchanged(mut node: Box<Node>, own: &mut Own) -> Box<Node>
     node
 }
 
-/// Puts an edge in the place of the one that is there. Ticks a visit for each node on the way there.
+/// Puts an edge in the place of the one that is there. Ticks a visit for each node on the way
+/// there.
 pub(crate) fn replace_in(side: &mut Side, at: usize, edge: usize, count: &mut Count)
     requires { at < length (edges_of side.old) }
     ensures edges { edges_of side.new ≡ insert (remove (edges_of side.old) at) at edge }
@@ -184,12 +186,12 @@ pub(crate) fn replace_in(side: &mut Side, at: usize, edge: usize, count: &mut Co
     visit(count);
     let top: &mut Node = node;
     let before = size(&top.left);
-    let behind = before + top.own.len();
+    let following = before + top.own.len();
     if at < before {
         replace_in(&mut top.left, at, edge, count);
-    } else if at < behind {
+    } else if at < following {
         top.own[at - before] = edge;
     } else {
-        replace_in(&mut top.right, at - behind, edge, count);
+        replace_in(&mut top.right, at - following, edge, count);
     }
 }

@@ -3,8 +3,8 @@ use crate::tests::{edges_come_and_go, split_of_many, visits_at_ends};
 use std::process::Abort;
 use std::test::Fail;
 
-// Edges that come and go in one node: each call but the first visits it. Among the edges 4, 9, 7 a split takes three
-// probes, the first edge and two by halves.
+// Edges that come and go in one node: each call but the first visits it. Among the edges 4, 9, 7 a
+// split takes three probes, the first edge and two by halves.
 #[test]
 fn few_edges(rt: HostRuntime) -> Result<(), Fail> {
     let count = edges_come_and_go(&rt, rt.alloc(), &mut TreeStatus::new(rt.alloc()))?;
@@ -12,9 +12,10 @@ fn few_edges(rt: HostRuntime) -> Result<(), Fail> {
     Ok(())
 }
 
-// Many edges, each put in at the end, which leaves full nodes behind: 63 of them. A balanced tree has these on six to
-// eight levels, and none of its nodes without a left or a right side is above the third. So a call visits three to eight
-// nodes, and a split makes at most four probes more, among the edges of one of them.
+// Many edges, each put in at the end, which leaves full nodes: 63 of them. A balanced tree has
+// these on six to eight levels, and none of its nodes without a left or a right side is above the
+// third. So a call visits three to eight nodes, and a split makes at most four probes more, among
+// the edges of one of them.
 #[test]
 fn many_edges(rt: HostRuntime) -> Result<(), Fail> {
     let many = split_of_many(&mut TreeStatus::new(rt.alloc()), 700)?;
@@ -25,10 +26,11 @@ fn many_edges(rt: HostRuntime) -> Result<(), Fail> {
     Ok(())
 }
 
-// So many edges, and the fewest and the most visits of a call that goes to one end of the tree. Counted up, they fill
-// nodes of 16: 7, 63 and 6,250 of them. So many nodes have at least 3, 6 and 13 levels, and a balanced tree of them at
-// most 4, 8 and 17. The first node has nothing on its left and the last one nothing on its right, so each is
-// two levels high at most. On the way there each step goes down by at most two levels' height.
+// So many edges, and the fewest and the most visits of a call that goes to one end of the tree.
+// Counted up, they fill nodes of 16: 7, 63 and 6,250 of them. So many nodes have at least 3, 6 and
+// 13 levels, and a balanced tree of them at most 4, 8 and 17. The first node has nothing on its
+// left and the last one nothing on its right, so each is two levels high at most. On the way there
+// each step goes down by at most two levels' height.
 const ENDS: [(usize, u64, u64); 3] = [(100, 2, 4), (1_000, 3, 8), (100_000, 7, 17)];
 
 #[test]

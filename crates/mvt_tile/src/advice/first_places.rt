@@ -1,11 +1,12 @@
 //! The places of a list that hold the same.
 ghost use Rattle.std.specs.Prelude.{IfOk};
-ghost use Rattle.mvt_tile.specs.Equal.{AreFirstPlaces, HavePlaces, HeldAt};
+ghost use Rattle.mvt_tile.specs.Calls.Equal.{AreFirstPlaces, HavePlaces, HeldAt};
 
 use std::alloc::{AllocError, Global};
 
-/// What a place of a list holds: a text, with a number that it determines; or a number alone, and no text. The number
-/// comes first, so that a sort reads the texts of two places only where their numbers are the same.
+/// What a place of a list holds: a text, with a number that it determines; or a number alone, and
+/// no text. The number comes first, so that a sort reads the texts of two places only where their
+/// numbers are the same.
 #[derive(Clone, Copy, PartialEq, Eq, PartialOrd, Ord)]
 pub(crate) struct Held<'a> {
     pub(crate) number: u64,
@@ -13,8 +14,9 @@ pub(crate) struct Held<'a> {
     pub(crate) place: usize,
 }
 
-/// For each place up to the bound the first one that holds the same, where that comes before it. It sorts what the
-/// places hold, so that those that hold the same are neighbours. The only error is that memory was refused.
+/// For each place up to the bound the first one that holds the same, where that comes before it. It
+/// sorts what the places hold, so that those that hold the same are neighbours. The only error is
+/// that memory was refused.
 pub(crate) fn first_places(
     alloc: Global,
     mut held: Vec<Held<'_>>,

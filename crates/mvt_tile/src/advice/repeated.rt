@@ -1,7 +1,7 @@
 //! The equal keys of a layer, and the equal ids of its features.
 ghost use Rattle.std.specs.Prelude.{IfOk};
 ghost use Rattle.mvt_tile.specs.Advice.{KeyAt, IdAt};
-ghost use Rattle.mvt_tile.specs.Equal.{AreFirstPlaces};
+ghost use Rattle.mvt_tile.specs.Calls.Equal.{AreFirstPlaces};
 ghost use Rattle.mvt_tile.specs.View.{layer_of};
 
 use super::first_places::{Held, first_places};
@@ -9,8 +9,9 @@ use crate::record::Layer;
 use crate::rules::names::key_of;
 use std::alloc::{AllocError, Global};
 
-/// For each key of a layer the first one that is the same, where that comes before it. A list that is shorter than
-/// the keys says nothing of those behind its end. The only error is that memory was refused.
+/// For each key of a layer the first one that is the same, where that comes before it. A list that
+/// is shorter than the keys says nothing of those after its end. The only error is that memory was
+/// refused.
 pub(crate) fn first_equal_keys(
     alloc: Global,
     layer: &Layer<'_>,

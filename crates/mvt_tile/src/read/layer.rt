@@ -1,35 +1,32 @@
-ghost use Rattle.std.specs.Prelude.{◌≡◌, ◌≤◌, List, ◌∷◌, [], ◌++◌, length, IfOk, OnOk};
+ghost use Rattle.std.specs.Prelude.{List, ◌∷◌, [], ◌++◌, IfOk, OnOk};
 ghost use Rattle.mvt_wire.specs.Field.{Entry, entry_of};
-ghost use Rattle.mvt_wire.specs.Tile.{FeatureRecord, IsFeature, ValueRecord, IsValue, LayerRecord, IsLayer, FitsRule};
+ghost use Rattle.mvt_wire.specs.Tile.{FeatureRecord, IsFeature, ValueRecord, IsValue, LayerRecord, IsLayer};
+ghost use Rattle.mvt_wire.specs.Calls.Tile.{FitsRule};
 ghost use Rattle.mvt_wire.specs.declared.schema.Message.TheVariants as messages;
-ghost use Rattle.mvt_wire.specs.Scope.{Embeds};
-ghost use Rattle.mvt_tile.specs.Reading.{LiesIn, TellsLayer};
+ghost use Rattle.mvt_wire.specs.Calls.Scope.{Embeds};
+ghost use Rattle.mvt_tile.specs.Calls.Part.{Holds};
+ghost use Rattle.mvt_tile.specs.Calls.Reading.{LiesIn, GivesLayer};
 ghost use Rattle.mvt_tile.specs.View.{layer_of};
 
 use super::feature::read_feature;
-use super::payload::{number_in, stretch_of, text_in};
+use super::payload::{number_in, payload_span, text_in};
 use super::value::read_value;
 use super::walk::WholeFields;
 use crate::lists::push_item;
+use crate::part::Part;
 use crate::record::Layer;
 use mvt_wire::Field;
 use mvt_wire::field_number::{EXTENT, FEATURES, KEYS, LAYER_NAME, VALUES, VERSION};
 use std::alloc::{AllocError, Global};
 
-/// The extent of a layer that has no field for it (Mapbox Vector Tile Specification 2.1, `vector_tile.proto`).
+/// The extent of a layer that has no field for it (Mapbox Vector Tile Specification 2.1,
+/// `vector_tile.proto`).
 const DEFAULT_EXTENT: u32 = 4096;
 
-/// The layer that the bytes hold from one offset up to another (section 4.1).
-pub(crate) fn read_layer(
-    alloc: Global,
-    bytes: &[u8],
-    from: usize,
-    to: usize,
-) -> Result<Layer<'_>, AllocError>
-    requires forward { from ≤ to }
-    requires within { to ≤ length bytes.now }
-    requires stands { (layer : LayerRecord) × IsLayer bytes.now (record { from = from; to = to }) layer }
-    ensures { IfOk result (λ layer. IsLayer bytes.now (record { from = from; to = to }) (layer_of layer)) }
+/// The layer that a part of the bytes holds (section 4.1).
+pub(crate) fn read_layer(alloc: Global, part: Part<'_>) -> Result<Layer<'_>, AllocError>
+    requires { (layer : LayerRecord) × Holds IsLayer part layer }
+    ensures { IfOk result (λ layer. Holds IsLayer part.entry (layer_of layer)) }
 {
     let mut layer = Layer {
         version: 0,
@@ -39,9 +36,9 @@ pub(crate) fn read_layer(
         values: Vec::new(alloc),
         extent: DEFAULT_EXTENT,
     };
-    let mut fields = WholeFields::new(bytes, from, to);
+    let mut fields = WholeFields::new(part.bytes, part.from, part.to);
     'walk: while let Some(field) = fields.next_field() {
-        add_field(alloc, bytes, &mut layer, field)?;
+        add_field(alloc, part.bytes, &mut layer, field)?;
     }
     Ok(layer)
 }
@@ -55,21 +52,25 @@ fn add_field<'a>(
 ) -> Result<(), AllocError>
     requires fits { FitsRule messages.Layer (entry_of field) }
     requires inside { LiesIn bytes.now (entry_of field) }
-    requires feature { Embeds 2 (λ span. (feature : FeatureRecord) × IsFeature bytes.now span feature) (entry_of field) }
-    requires value { Embeds 4 (λ span. (value : ValueRecord) × IsValue bytes.now span value) (entry_of field) }
-    ensures { OnOk result ((entries : List Entry) → TellsLayer bytes.entry.now entries (layer_of layer.old)
-        → TellsLayer bytes.entry.now (entries ++ entry_of field.entry ∷ []) (layer_of layer.new)) }
+    requires feature { Embeds 2 (λ span. (feature : FeatureRecord)
+        × IsFeature bytes.now span feature) (entry_of field) }
+    requires value { Embeds 4 (λ span. (value : ValueRecord)
+        × IsValue bytes.now span value) (entry_of field) }
+    ensures { OnOk result ((entries : List Entry)
+        → GivesLayer bytes.entry.now entries (layer_of layer.old)
+        → GivesLayer bytes.entry.now (entries ++ entry_of field.entry ∷ []) (layer_of layer.new)) }
 {
     match field.number {
         LAYER_NAME => layer.name = text_in(field.body),
         FEATURES => {
-            let (from, to) = stretch_of(field.body);
-            return push_item(&mut layer.features, read_feature(alloc, bytes, from, to)?);
+            let (from, to) = payload_span(field.body);
+            let feature = read_feature(alloc, Part { bytes, from, to })?;
+            return push_item(&mut layer.features, feature);
         }
         KEYS => return push_item(&mut layer.keys, text_in(field.body)),
         VALUES => {
-            let (from, to) = stretch_of(field.body);
-            return push_item(&mut layer.values, read_value(bytes, from, to));
+            let (from, to) = payload_span(field.body);
+            return push_item(&mut layer.values, read_value(Part { bytes, from, to }));
         }
         EXTENT => layer.extent = number_in(field.body) as u32,
         VERSION => layer.version = number_in(field.body) as u32,

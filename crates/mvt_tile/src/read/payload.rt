@@ -44,10 +44,11 @@ pub(crate) fn truth_in(body: Body) -> bool
     number_in(body) != 0
 }
 
-/// The text behind a length.
+/// The text after a length.
 pub(crate) fn text_in(body: Body<'_>) -> &str
     requires own { wire_type_of (content_of body) ≡ 2 }
-    requires utf8 { (from : ℕ) (part : List ℕ) → content_of body ≡ delimited from part → IsUtf8 part }
+    requires utf8 { (from : ℕ) (part : List ℕ) → content_of body ≡ delimited from part
+        → IsUtf8 part }
     ensures { bytes_in (content_of body.entry) ≡ Some result.now }
 {
     match body {
@@ -56,7 +57,7 @@ pub(crate) fn text_in(body: Body<'_>) -> &str
     }
 }
 
-/// The bytes behind a length.
+/// The bytes after a length.
 pub(crate) fn bytes_in(body: Body<'_>) -> &[u8]
     requires { wire_type_of (content_of body) ≡ 2 }
     ensures { bytes_in (content_of body.entry) ≡ Some result.now }
@@ -100,8 +101,8 @@ pub(crate) fn four_bytes_in(body: Body<'_>) -> &[u8]
     }
 }
 
-/// Where the bytes behind a length lie: the offset of the first, and that behind the last.
-pub(crate) fn stretch_of(body: Body) -> (usize, usize)
+/// Where the bytes after a length lie: the offset of the first, and that after the last.
+pub(crate) fn payload_span(body: Body) -> (usize, usize)
     requires own { wire_type_of (content_of body) ≡ 2 }
     requires below { (span : Span) → span_of (content_of body) ≡ Some span → span.to < 2 ^ 64 }
     ensures { span_of (content_of body.entry) ≡ Some (record { from = result.0; to = result.1 }) }

@@ -12,8 +12,8 @@ fn is_read_as(alloc: Global, bytes: &[u8], text: &str) -> Result<bool, AllocErro
 #[test]
 fn points(rt: HostRuntime) -> Result<(), Fail> {
     for (bytes, text) in [
-        // tags of two packed, then one single, then one single of two bytes; the type and the geometry between
-        // them; an id of seven
+        // tags of two packed, then one single, then one single of two bytes; the type and the
+        // geometry between them; an id of seven
         (
             b"\x1a\x19\x12\x12\x08\x07\x12\x02\x03\x05\x18\x01\x10\x07\x22\x03\x09\x32\x22\x10\x81\x01\x78\x02\x0a\x01\x61".as_slice(),
             r#"Ok(Tile { layers: [Layer { version: 2, name: "a", features: [Feature { id: Some(7), tags: [3, 5, 7, 129], kind: Point, geometry: [9, 50, 34] }], keys: [], values: [], extent: 4096 }] })"#,

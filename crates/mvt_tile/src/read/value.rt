@@ -1,29 +1,30 @@
-ghost use Rattle.std.specs.Prelude.{◌≡◌, ◌≤◌, true, false, length, is_some, IfSome, IfNone};
+ghost use Rattle.std.specs.Prelude.{◌≡◌, true, false, is_some, IfSome, IfNone};
 ghost use Rattle.mvt_wire.specs.Field.{content_of, entry_of};
 ghost use Rattle.mvt_wire.specs.Schema.{rule_of};
-ghost use Rattle.mvt_wire.specs.Tile.{ValueRecord, IsValue, Says, FitsRule};
+ghost use Rattle.mvt_wire.specs.Tile.{ValueRecord, IsValue, Says};
+ghost use Rattle.mvt_wire.specs.Calls.Tile.{FitsRule};
 ghost use Rattle.mvt_wire.specs.declared.schema.Message.TheVariants as messages;
+ghost use Rattle.mvt_tile.specs.Calls.Part.{Holds};
 ghost use Rattle.mvt_tile.specs.View.{value_of};
 
 use super::payload::{
     eight_bytes_in, four_bytes_in, int_in, number_in, sint_in, text_in, truth_in,
 };
 use super::walk::WholeFields;
+use crate::part::Part;
 use crate::record::Value;
 use mvt_wire::Field;
 use mvt_wire::field_number::{
     BOOL_VALUE, DOUBLE_VALUE, FLOAT_VALUE, INT_VALUE, SINT_VALUE, STRING_VALUE, UINT_VALUE,
 };
 
-/// The value that the bytes hold from one offset up to another: what its one known field says
-/// (Mapbox Vector Tile Specification 2.1, section 4.4).
-pub(crate) fn read_value(bytes: &[u8], from: usize, to: usize) -> Value<'_>
-    requires forward { from ≤ to }
-    requires within { to ≤ length bytes.now }
-    requires stands { (value : ValueRecord) × IsValue bytes.now (record { from = from; to = to }) value }
-    ensures { IsValue bytes.now (record { from = from; to = to }) (value_of result) }
+/// The value that a part of the bytes holds: what its one known field says (Mapbox Vector Tile
+/// Specification 2.1, section 4.4).
+pub(crate) fn read_value(part: Part<'_>) -> Value<'_>
+    requires { (value : ValueRecord) × Holds IsValue part value }
+    ensures { Holds IsValue part.entry (value_of result) }
 {
-    let mut fields = WholeFields::new(bytes, from, to);
+    let mut fields = WholeFields::new(part.bytes, part.from, part.to);
     'walk: while let Some(field) = fields.next_field() {
         if let Some(value) = value_in(field) {
             return value;
@@ -35,8 +36,10 @@ pub(crate) fn read_value(bytes: &[u8], from: usize, to: usize) -> Value<'_>
 /// What a field of a value says, or None where a value doesn't know its number.
 fn value_in(field: Field<'_>) -> Option<Value<'_>>
     requires { FitsRule messages.Value (entry_of field) }
-    ensures known { IfSome result (λ _. is_some (rule_of messages.Value field.entry.number) ≡ true) }
-    ensures says { IfSome result (λ value. Says field.entry.number (content_of field.entry.body) (value_of value)) }
+    ensures known { IfSome result (λ _. is_some (rule_of messages.Value field.entry.number)
+        ≡ true) }
+    ensures says { IfSome result (λ value.
+        Says field.entry.number (content_of field.entry.body) (value_of value)) }
     ensures unknown { IfNone result (is_some (rule_of messages.Value field.entry.number) ≡ false) }
 {
     match field.number {

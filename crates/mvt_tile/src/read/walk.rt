@@ -8,8 +8,8 @@ ghost use Rattle.mvt_wire.specs.declared.cause.WireCause.{WireCause};
 use mvt_wire::{Body, Field, read_varint};
 use std::marker::Model;
 
-/// A cursor over the fields of one message in which the look for wire faults found none. What it knows by that it
-/// doesn't test again.
+/// A cursor over the fields of one message in which the search for wire faults found none. What it
+/// knows by that it doesn't test again.
 #[derive(Drop)]
 pub(crate) struct WholeFields<'a> {
     bytes: &'a [u8],
@@ -37,7 +37,7 @@ impl<'a> WholeFields<'a> {
         }
     }
 
-    /// The offset behind the fields that were given.
+    /// The offset after the fields that were given.
     #[inline(always)]
     pub(crate) fn at(&self) -> usize
         ensures { result ≡ self.now.at }
@@ -48,7 +48,8 @@ impl<'a> WholeFields<'a> {
     /// The next field, or None at the message's end.
     #[inline(always)]
     pub(crate) fn next_field(&mut self) -> Option<Field<'a>>
-        requires { (cause : WireCause) → self.old.at < length self.old.bytes → ¬ FieldDefect self.old.bytes self.old.at cause }
+        requires { (cause : WireCause) → self.old.at < length self.old.bytes
+            → ¬ FieldDefect self.old.bytes self.old.at cause }
         ensures over { IfNone result (IsOver self.old self.new) }
         ensures field { IfSome result (λ field. GivesField self.old self.new (entry_of field)) }
     {
@@ -61,11 +62,12 @@ impl<'a> WholeFields<'a> {
     }
 }
 
-/// The field that stands at an offset, and the offset behind it.
+/// The field that stands at an offset, and the offset after it.
 #[inline(always)]
-fn whole_field(bytes: &[u8], at: usize) -> (Field<'_>, usize)
+pub(crate) fn whole_field(bytes: &[u8], at: usize) -> (Field<'_>, usize)
     requires { (entry : Entry) × (next : ℕ) × (entry.at ≡ at) × IsField bytes.now next entry }
-    ensures { GivesField (record { bytes = bytes.now; at = at }) (record { bytes = bytes.now; at = result.1 }) (entry_of result.0) }
+    ensures { GivesField (record { bytes = bytes.now; at = at })
+        (record { bytes = bytes.now; at = result.1 }) (entry_of result.0) }
 {
     let (key, from) = whole_varint(bytes, at);
     let (body, next) = whole_body(bytes, from, key % 8);
@@ -73,10 +75,11 @@ fn whole_field(bytes: &[u8], at: usize) -> (Field<'_>, usize)
     (Field { number, at, body }, next)
 }
 
-/// The payload of a wire type that stands at an offset, and the offset behind it.
+/// The payload of a wire type that stands at an offset, and the offset after it.
 #[inline(always)]
 fn whole_body(bytes: &[u8], from: usize, wire_type: u64) -> (Body<'_>, usize)
-    requires { (content : Content) × (next : ℕ) × (wire_type_of content ≡ wire_type) × IsPayload bytes.now from next content }
+    requires { (content : Content) × (next : ℕ) × (wire_type_of content ≡ wire_type)
+        × IsPayload bytes.now from next content }
     ensures wire_type { wire_type_of (content_of result.0) ≡ wire_type }
     ensures payload { IsPayload bytes.now from result.1 (content_of result.0) }
 {
@@ -97,7 +100,8 @@ fn whole_body(bytes: &[u8], from: usize, wire_type: u64) -> (Body<'_>, usize)
     }
 }
 
-/// The varint that stands at an offset, and the offset behind it. Nearly all have one byte or two in a tile.
+/// The varint that stands at an offset, and the offset after it. Nearly all have one byte or two in
+/// a tile.
 #[inline(always)]
 pub(crate) fn whole_varint(bytes: &[u8], at: usize) -> (u64, usize)
     requires { (n next : ℕ) × SpellsVarint bytes.now at next n }

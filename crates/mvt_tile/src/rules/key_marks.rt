@@ -3,8 +3,8 @@ ghost use Rattle.std.specs.Prelude.{◌≡◌, ◌<◌, ◌≤◌, ℕ, length, 
 
 use std::alloc::{AllocError, Global};
 
-/// A set of indices of keys: a mark for each key up to the greatest index that was added. One list of marks serves
-/// all features of a tile: to clear it, only the mark that counts is changed.
+/// A set of indices of keys: a mark for each key up to the greatest index that was added. One list
+/// of marks serves all features of a tile: to clear it, only the mark that counts is changed.
 #[derive(Drop)]
 pub(crate) struct KeyMarks {
     /// The mark of each key, which is in the set where it is the current one.
@@ -18,7 +18,7 @@ pub(crate) struct KeyMarks {
 
 impl KeyMarks {
     ghost use Rattle.std.specs.Prelude.{◌==◌, ◌||◌, false, not, IfOk, OnErr};
-    ghost use Rattle.mvt_tile.specs.KeyMarks.{has_key};
+    ghost use Rattle.mvt_tile.specs.Calls.KeyMarks.{has_key};
 
     /// No keys. It takes no memory.
     pub(crate) fn new(alloc: Global) -> Self
@@ -43,13 +43,15 @@ impl KeyMarks {
         }
     }
 
-    /// Adds a key, and returns whether it wasn't there. It takes memory for a mark of each key of a lesser index. The
-    /// only error is that memory was refused, and then the set is as it was.
+    /// Adds a key, and returns whether it wasn't there. It takes memory for a mark of each key of a
+    /// lesser index. The only error is that memory was refused, and then the set is as it was.
     #[inline(always)]
     pub(crate) fn insert(&mut self, key: u32) -> Result<bool, AllocError>
         ensures added { IfOk result (λ added. added ≡ not (has_key self.old key)) }
-        ensures holds { OnOk result ((other : ℕ) → has_key self.new other ≡ (other == key || has_key self.old other)) }
-        ensures unchanged { OnErr result ((other : ℕ) → has_key self.new other ≡ has_key self.old other) }
+        ensures holds { OnOk result ((other : ℕ)
+            → has_key self.new other ≡ (other == key || has_key self.old other)) }
+        ensures unchanged { OnErr result ((other : ℕ)
+            → has_key self.new other ≡ has_key self.old other) }
     {
         let index = key as usize;
         if index >= self.marks.len() {
@@ -61,14 +63,15 @@ impl KeyMarks {
     }
 }
 
-/// Lengthens a list of marks, so that so many keys have theirs. Its room doubles where it has to grow. The only error
-/// is that memory was refused.
+/// Lengthens a list of marks, so that so many keys have theirs. Its room doubles where it has to
+/// grow. The only error is that memory was refused.
 #[cold]
 #[inline(never)]
 fn lengthen(marks: &mut Vec<u32>, count: usize) -> Result<(), AllocError>
     requires { length marks.old.items ≤ count }
     ensures reaches { OnOk result (length marks.new.items ≡ count) }
-    ensures same { (key : ℕ) → slice_index_or marks.new.items key 0 ≡ slice_index_or marks.old.items key 0 }
+    ensures same { (key : ℕ) → slice_index_or marks.new.items key 0
+        ≡ slice_index_or marks.old.items key 0 }
 {
     marks.resize(count, 0)
 }

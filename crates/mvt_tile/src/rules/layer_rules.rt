@@ -1,22 +1,23 @@
-//! The rules on the versions and names of layers, kept layer by layer (Mapbox Vector Tile Specification
-//! 2.1, section 4.1).
+//! The rules on the versions and names of layers, kept layer by layer (Mapbox Vector Tile
+//! Specification 2.1, section 4.1).
 ghost use Rattle.std.specs.Prelude.{◌≡◌, ◌+◌, IfOk, IfNone, IfSome, IsFalse, IsTrue, true};
 ghost use Rattle.mvt_fault.specs.Place.{IsLeast};
 ghost use Rattle.mvt_fault.specs.TrueFaults.{IsFaultOfLayers};
 ghost use Rattle.mvt_fault.specs.declared.fault.Fault.{Fault};
 ghost use Rattle.mvt_wire.specs.Tile.{TileRecord};
-ghost use Rattle.mvt_tile.specs.PassedLayers.{passed, EndsLayers, PassesLayers, IsNextLayer};
+ghost use Rattle.mvt_tile.specs.Calls.PassedLayers.{passed, EndsLayers, PassesLayers, IsNextLayer};
 
 use super::names::LayerNames;
 use mvt_fault::Fault;
 use std::alloc::{AllocError, Global};
 
-/// What is kept of a tile's layers, which are passed in their order up to the first that has another version than 2.
+/// What is kept of a tile's layers, which are passed in their order up to the first that has
+/// another version than 2.
 #[derive(Drop)]
 pub(crate) struct LayerRules<'a> {
     /// The names of the layers that have version 2.
     names: LayerNames<'a>,
-    /// Whether a layer of another version comes behind them.
+    /// Whether a layer of another version comes after them.
     other_version: bool,
 }
 
@@ -32,12 +33,17 @@ impl<'a> LayerRules<'a> {
         }
     }
 
-    /// Passes the next layer, and returns whether it has version 2: another version ends the walk over the layers. The
-    /// only error is that memory was refused.
+    /// Passes the next layer, and returns whether it has version 2: another version ends the walk
+    /// over the layers. The only error is that memory was refused.
     pub(crate) fn note(&mut self, version: u32, name: &'a [u8]) -> Result<bool, AllocError>
-        ensures count { IfOk result (λ goes_on. IsTrue goes_on → passed self.new ≡ passed self.old + 1) }
-        ensures passes { IfOk result (λ goes_on. IsTrue goes_on → (tile : TileRecord) → PassesLayers self.old tile → IsNextLayer self.old tile version name.now → PassesLayers self.new tile) }
-        ensures ends { IfOk result (λ goes_on. IsFalse goes_on → (tile : TileRecord) → PassesLayers self.old tile → IsNextLayer self.old tile version name.now → EndsLayers self.new tile) }
+        ensures count { IfOk result (λ goes_on. IsTrue goes_on
+            → passed self.new ≡ passed self.old + 1) }
+        ensures passes { IfOk result (λ goes_on. IsTrue goes_on → (tile : TileRecord)
+            → PassesLayers self.old tile → IsNextLayer self.old tile version name.now
+            → PassesLayers self.new tile) }
+        ensures ends { IfOk result (λ goes_on. IsFalse goes_on → (tile : TileRecord)
+            → PassesLayers self.old tile → IsNextLayer self.old tile version name.now
+            → EndsLayers self.new tile) }
         ensures other { IfOk result (λ goes_on. IsFalse goes_on → self.new.other_version ≡ true) }
     {
         if version != 2 {
@@ -48,10 +54,13 @@ impl<'a> LayerRules<'a> {
         Ok(true)
     }
 
-    /// The first fault of the layers, all of which were passed, or all up to the first of another version.
+    /// The first fault of the layers, all of which were passed, or all up to the first of another
+    /// version.
     pub(crate) fn fault(self) -> Option<Fault>
-        ensures none { IfNone result ((tile : TileRecord) → EndsLayers self.entry tile → (fault : Fault) → ¬ IsFaultOfLayers tile fault) }
-        ensures least { IfSome result (λ fault. (tile : TileRecord) → EndsLayers self.entry tile → IsLeast (IsFaultOfLayers tile) fault) }
+        ensures none { IfNone result ((tile : TileRecord) → EndsLayers self.entry tile
+            → (fault : Fault) → ¬ IsFaultOfLayers tile fault) }
+        ensures least { IfSome result (λ fault. (tile : TileRecord) → EndsLayers self.entry tile
+            → IsLeast (IsFaultOfLayers tile) fault) }
     {
         let count = self.names.len();
         match self.names.first_repeated() {

@@ -1,123 +1,109 @@
-//! One walk over a layer: its summary, and the first fault of its features as far as that is known before all its
-//! keys and values are counted.
-ghost use Rattle.std.specs.Prelude.{◌≡◌, ◌≤◌, ℕ, length, None, IfOk, IfNone, IfSome};
-ghost use Rattle.mvt_fault.specs.Place.{IsLeast, place_of};
-ghost use Rattle.mvt_fault.specs.declared.fault.Fault.{Fault};
-ghost use Rattle.mvt_wire.specs.Tile.{FeatureRecord, LayerRecord, IsLayer};
-ghost use Rattle.mvt_tile.specs.FeatureRules.{IsFaultOfFeature, IsFaultInLayer, IsSound, AllSoundInLayer};
-ghost use Rattle.mvt_tile.specs.FeatureBytes.{Shows};
-ghost use Rattle.mvt_tile.specs.RuleFaults.{HasEnough, IsBehindTags, IsSummary};
+//! The features of a layer, and its summary, by one walk over it, or by a second one where a tag
+//! names a key or a value that the layer doesn't have.
+ghost use Rattle.std.specs.Prelude.{◌≡◌, true, false, is_some, IfOk};
+ghost use Rattle.mvt_wire.specs.Tile.{LayerRecord, IsLayer};
+ghost use Rattle.mvt_tile.specs.Calls.FeatureRules.{FindsInLayer};
+ghost use Rattle.mvt_tile.specs.Calls.Part.{Holds};
+ghost use Rattle.mvt_tile.specs.Calls.RuleFaults.{AreAfterTags, IsLike, IsSummary};
 
 use super::features::{FeatureRoom, FeatureRule, find_in_feature};
 use super::summary::{LayerSummary, add_field, empty_summary};
-use super::tags::{TagNeeds, scan_tags};
+use super::tags::TagNeeds;
 use crate::feature_bytes::FeatureBytes;
-use crate::read::payload::stretch_of;
+use crate::part::Part;
+use crate::read::payload::payload_span;
 use crate::read::walk::WholeFields;
 use mvt_fault::Fault;
 use mvt_wire::field_number::FEATURES;
 use std::alloc::AllocError;
 
 /// What one walk over a layer finds.
-#[derive(Drop)]
-pub(crate) struct LayerScan<'a> {
-    pub(crate) summary: LayerSummary<'a>,
-    /// How many keys and values the tags need of the features that were looked at.
-    pub(crate) needs: TagNeeds,
-    /// The first fault of the features, where the layer has what their tags need. The features behind it were not
-    /// looked at.
-    pub(crate) found: Option<Fault>,
+#[derive(Clone, Copy)]
+struct LayerScan<'a> {
+    summary: LayerSummary<'a>,
+    /// How many keys and values the tags need of the features that were checked.
+    needs: TagNeeds,
 }
 
-/// Walks over the layer with an ordinal, which the bytes hold from one offset up to another. Its keys and values may
-/// come behind its features, so tags are checked as if the layer had every key and value that they name. Once these
-/// are more keys than the layer has bytes, the walk looks at no further features. The only error is that memory was
-/// refused.
-pub(crate) fn scan_layer<'a, R: FeatureRule>(
-    bytes: &'a [u8],
+/// The summary of the layer with an ordinal, which a part of the bytes holds.
+/// Stores the first fault of its features in `found`, unless a fault is there, and then checks
+/// none. The only error is that memory was refused.
+///
+/// Its keys and values may come after its features, so tags are checked as if the layer had as many
+/// of both as it has bytes. Where they need more than it has, it is walked again.
+pub(crate) fn check_layer<'a, R: FeatureRule>(
+    part: Part<'a>,
     rule: &mut R,
     layer_index: usize,
-    from: usize,
-    to: usize,
     room: &mut FeatureRoom,
+    found: &mut Option<Fault>,
+) -> Result<LayerSummary<'a>, AllocError>
+    requires stands { (layer_record : LayerRecord) × Holds IsLayer part layer_record }
+    requires after_tags { AreAfterTags R.IsBroken }
+    ensures summary { IfOk result (λ summary. (layer_record : LayerRecord)
+        → Holds IsLayer part.entry layer_record → IsSummary summary layer_record) }
+    ensures kept { IfOk result (λ _. is_some found.old ≡ true → found.new ≡ found.old) }
+    ensures finds { IfOk result (λ _. is_some found.old ≡ false → (layer_record : LayerRecord)
+        → Holds IsLayer part.entry layer_record
+        → FindsInLayer R.IsBroken R.IsKept layer_record layer_index found.new) }
+{
+    let before = found.is_some();
+    let most = part.to - part.from;
+    let scan = scan_layer(part, rule, layer_index, most, most, room, found)?;
+    if before {
+        return Ok(scan.summary);
+    }
+    let LayerSummary { keys, values, .. } = scan.summary;
+    if scan.needs.keys <= keys && scan.needs.values <= values {
+        return Ok(scan.summary);
+    }
+    *found = None;
+    scan_layer(part, rule, layer_index, keys, values, room, found)?;
+    Ok(scan.summary)
+}
+
+/// The same by one walk, as the tags' faults are in a layer of so many keys and values.
+fn scan_layer<'a, R: FeatureRule>(
+    part: Part<'a>,
+    rule: &mut R,
+    layer_index: usize,
+    keys: usize,
+    values: usize,
+    room: &mut FeatureRoom,
+    found: &mut Option<Fault>,
 ) -> Result<LayerScan<'a>, AllocError>
-    requires forward { from ≤ to }
-    requires within { to ≤ length bytes.now }
-    requires stands { (layer_record : LayerRecord) × IsLayer bytes.now (record { from = from; to = to }) layer_record }
-    requires behind_tags { (feature_record : FeatureRecord) (in_layer feature_index : ℕ) (fault : Fault)
-        → R.IsBroken feature_record in_layer feature_index fault → IsBehindTags in_layer feature_index (place_of fault) }
-    ensures summary { IfOk result (λ scan. (layer_record : LayerRecord) → IsLayer bytes.now (record { from = from; to = to }) layer_record → IsSummary scan.summary layer_record) }
-    ensures none { IfOk result (λ scan. IfNone scan.found ((layer_record : LayerRecord) → IsLayer bytes.now (record { from = from; to = to }) layer_record → HasEnough scan.needs layer_record
-        → AllSoundInLayer R.IsBroken R.IsKept layer_record layer_index)) }
-    ensures least { IfOk result (λ scan. IfSome scan.found (λ fault. (layer_record : LayerRecord) → IsLayer bytes.now (record { from = from; to = to }) layer_record → HasEnough scan.needs layer_record
-        → IsLeast (IsFaultInLayer R.IsBroken layer_record layer_index) fault)) }
+    requires stands { (layer_record : LayerRecord) × Holds IsLayer part layer_record }
+    requires after_tags { AreAfterTags R.IsBroken }
+    ensures summary { IfOk result (λ scan. (layer_record : LayerRecord)
+        → Holds IsLayer part.entry layer_record → IsSummary scan.summary layer_record) }
+    ensures kept { IfOk result (λ _. is_some found.old ≡ true → found.new ≡ found.old) }
+    ensures finds { IfOk result (λ scan. is_some found.old ≡ false → (layer_record : LayerRecord)
+        → Holds IsLayer part.entry layer_record → IsLike keys values scan.needs layer_record
+        → FindsInLayer R.IsBroken R.IsKept layer_record layer_index found.new) }
 {
     let mut summary = empty_summary();
     let mut needs = TagNeeds::none();
-    let mut found = None;
     let mut feature_index = 0;
-    let mut fields = WholeFields::new(bytes, from, to);
+    let mut fields = WholeFields::new(part.bytes, part.from, part.to);
     'walk: while let Some(field) = fields.next_field() {
         add_field(&mut summary, field);
-        if field.number == FEATURES && found.is_none() && needs.keys <= to - from {
-            let (start, end) = stretch_of(field.body);
-            let feature = FeatureBytes::new(bytes, start, end);
-            find_so_far(
+        if field.number == FEATURES && found.is_none() {
+            let (from, to) = payload_span(field.body);
+            let bytes = part.bytes;
+            let feature = FeatureBytes::new(Part { bytes, from, to });
+            find_in_feature(
                 rule,
-                &mut needs,
-                to - from,
                 room,
+                &mut needs,
+                keys,
+                values,
                 &feature,
                 layer_index,
                 feature_index,
-                &mut found,
+                found,
             )?;
             feature_index += 1;
         }
     }
-    Ok(LayerScan {
-        summary,
-        needs,
-        found,
-    })
-}
-
-/// Stores the first fault of a feature in `found`, which is None before, in a layer that has every key and value that
-/// tags named so far. Where these are more than `most` keys, nothing is said of the feature.
-fn find_so_far<R: FeatureRule>(
-    rule: &mut R,
-    needs: &mut TagNeeds,
-    most: usize,
-    room: &mut FeatureRoom,
-    feature: &FeatureBytes<'_>,
-    layer_index: usize,
-    feature_index: usize,
-    found: &mut Option<Fault>,
-) -> Result<(), AllocError>
-    requires nothing { found.old ≡ None }
-    requires behind_tags { (feature_record : FeatureRecord) (fault : Fault) → R.IsBroken feature_record layer_index feature_index fault → IsBehindTags layer_index feature_index (place_of fault) }
-    ensures no_fewer_keys { needs.old.keys ≤ needs.new.keys }
-    ensures no_fewer_values { needs.old.values ≤ needs.new.values }
-    ensures none { IfOk result (λ _. IfNone found.new ((layer_record : LayerRecord) (feature_record : FeatureRecord) → Shows feature.now feature_record → HasEnough needs.new layer_record → length layer_record.keys ≤ most
-        → IsSound R.IsBroken R.IsKept layer_record feature_record layer_index feature_index)) }
-    ensures least { IfOk result (λ _. IfSome found.new (λ fault. (layer_record : LayerRecord) (feature_record : FeatureRecord) → Shows feature.now feature_record → HasEnough needs.new layer_record
-        → IsLeast (IsFaultOfFeature R.IsBroken layer_record feature_record layer_index feature_index) fault)) }
-{
-    if feature.has_no_tag() {
-        return rule.find_fault(room.alloc, feature, layer_index, feature_index, found);
-    }
-    let scan = scan_tags(&mut room.marks, feature.tags(), most, usize::MAX)?;
-    needs.add(scan.needs);
-    if needs.keys > most {
-        return Ok(());
-    }
-    find_in_feature(
-        rule,
-        scan.found,
-        room.alloc,
-        feature,
-        layer_index,
-        feature_index,
-        found,
-    )
+    Ok(LayerScan { summary, needs })
 }

@@ -15,11 +15,13 @@ use mvt_fault::Fault;
 use std::alloc::{AllocError, Global};
 
 /// The first fault of the layers' versions and names, or None where there is none: a layer with
-/// another version than 2, or two layers that have one name, the same byte for byte (section 4.1). The
-/// only error is that memory was refused.
+/// another version than 2, or two layers that have one name, the same byte for byte (section 4.1).
+/// The only error is that memory was refused.
 pub fn check_layers(alloc: Global, tile: &Tile<'_>) -> Result<Option<Fault>, AllocError>
-    ensures none { IfOk result (λ found. IfNone found ((fault : Fault) → ¬ IsFaultOfLayers (tile_of tile.now) fault)) }
-    ensures least { IfOk result (λ found. IfSome found (IsLeast (IsFaultOfLayers (tile_of tile.now)))) }
+    ensures none { IfOk result (λ found. IfNone found ((fault : Fault)
+        → ¬ IsFaultOfLayers (tile_of tile.now) fault)) }
+    ensures least { IfOk result (λ found.
+        IfSome found (IsLeast (IsFaultOfLayers (tile_of tile.now)))) }
 {
     let mut rules = LayerRules::new(alloc);
     for layer in &tile.layers {

@@ -1,6 +1,6 @@
 //! The names of layers (Mapbox Vector Tile Specification 2.1, section 4.1).
 ghost use Rattle.std.specs.Prelude.{◌≡◌, ◌<◌, ◌≤◌, ◌++◌, ◌∷◌, [], IfNone, IfSome, IsFalse, IsTrue, Some, OnOk, ℕ, length};
-ghost use Rattle.mvt_tile.specs.Names.{IsFirstRepeated, IsRepeated, key_of};
+ghost use Rattle.mvt_tile.specs.Calls.Names.{IsFirstRepeated, IsRepeated, key_of};
 
 use std::alloc::{AllocError, Global};
 use std::marker::Model;
@@ -11,8 +11,8 @@ pub(crate) struct LayerNames<'a> {
     names: Vec<NamedLayer<'a>>,
 }
 
-/// A layer's name and ordinal. The key of the name comes first, so that a sort reads the texts of two names only where
-/// their keys are the same.
+/// A layer's name and ordinal. The key of the name comes first, so that a sort reads the texts of
+/// two names only where their keys are the same.
 #[derive(Clone, Copy, PartialEq, Eq, PartialOrd, Ord)]
 struct NamedLayer<'a> {
     key: u64,
@@ -22,13 +22,14 @@ struct NamedLayer<'a> {
 
 impl<'a> Model for LayerNames<'a> {
     ghost use Rattle.std.specs.Prelude.{◌≡◌, ℕ, List, map, All};
-    ghost use Rattle.mvt_tile.specs.Names.{AreNumbered, key_of};
+    ghost use Rattle.mvt_tile.specs.Calls.Names.{AreNumbered, key_of};
 
     ghost Value = { List (List ℕ) };
 
     ghost view = { λ names. map (λ named. named.name.now) names.names.items };
 
-    ghost invariant = { λ names. AreNumbered (map (λ named. named.ordinal) names.names.items) × All (λ named. named.key ≡ key_of named.name.now) names.names.items };
+    ghost invariant = { λ names. AreNumbered (map (λ named. named.ordinal) names.names.items)
+        × All (λ named. named.key ≡ key_of named.name.now) names.names.items };
 }
 
 impl<'a> LayerNames<'a> {
@@ -58,8 +59,8 @@ impl<'a> LayerNames<'a> {
         Ok(())
     }
 
-    /// The ordinals of two layers that have one name: of all such pairs the one with the earliest second layer. It
-    /// sorts the names, so that those that are the same are neighbours.
+    /// The ordinals of two layers that have one name: of all such pairs the one with the earliest
+    /// second layer. It sorts the names, so that those that are the same are neighbours.
     pub(crate) fn first_repeated(self) -> Option<(usize, usize)>
         ensures none { IfNone result ((first second : ℕ) → ¬ IsRepeated self.entry first second) }
         ensures first { IfSome result (λ found. IsFirstRepeated self.entry found.0 found.1) }
@@ -81,7 +82,8 @@ impl<'a> LayerNames<'a> {
     }
 }
 
-/// The first eight bytes of a name as one number, the first of them highest. A shorter name has zeros behind it.
+/// The first eight bytes of a name as one number, the first of them highest. A shorter name has
+/// zeros after it.
 pub(crate) fn key_of(name: &[u8]) -> u64
     ensures { result ≡ key_of name.now }
 {

@@ -1,17 +1,16 @@
 //! What the rules need to know of a layer (Mapbox Vector Tile Specification 2.1, section 4.1).
-ghost use Rattle.std.specs.Prelude.{◌+◌, ◌<◌, ◌≤◌, ◌^◌, List, ◌∷◌, [], ◌++◌, length};
+ghost use Rattle.std.specs.Prelude.{◌+◌, ◌<◌, ◌^◌, List, ◌∷◌, [], ◌++◌};
 ghost use Rattle.mvt_wire.specs.Field.{Entry, entry_of};
-ghost use Rattle.mvt_wire.specs.Tile.{LayerRecord, IsLayer, FitsRule};
+ghost use Rattle.mvt_wire.specs.Calls.Tile.{FitsRule};
 ghost use Rattle.mvt_wire.specs.declared.schema.Message.TheVariants as messages;
-ghost use Rattle.mvt_tile.specs.Reading.{TellsSummary};
-ghost use Rattle.mvt_tile.specs.RuleFaults.{IsSummary};
+ghost use Rattle.mvt_tile.specs.Calls.Reading.{GivesSummary};
 
 use crate::read::payload::{bytes_in, number_in};
-use crate::read::walk::WholeFields;
 use mvt_wire::Field;
 use mvt_wire::field_number::{KEYS, LAYER_NAME, VALUES, VERSION};
 
-/// What the rules need to know of a layer: its version, its name, and how many keys and values it has.
+/// What the rules need to know of a layer: its version, its name, and how many keys and values it
+/// has.
 #[derive(Clone, Copy)]
 pub(crate) struct LayerSummary<'a> {
     pub(crate) version: u32,
@@ -20,25 +19,9 @@ pub(crate) struct LayerSummary<'a> {
     pub(crate) values: usize,
 }
 
-/// The summary of the layer that the bytes hold from one offset up to another (Mapbox Vector Tile
-/// Specification 2.1, section 4.1).
-pub(crate) fn summarize(bytes: &[u8], from: usize, to: usize) -> LayerSummary<'_>
-    requires forward { from ≤ to }
-    requires within { to ≤ length bytes.now }
-    requires stands { (layer : LayerRecord) × IsLayer bytes.now (record { from = from; to = to }) layer }
-    ensures { (layer : LayerRecord) → IsLayer bytes.now (record { from = from; to = to }) layer → IsSummary result layer }
-{
-    let mut summary = empty_summary();
-    let mut fields = WholeFields::new(bytes, from, to);
-    'walk: while let Some(field) = fields.next_field() {
-        add_field(&mut summary, field);
-    }
-    summary
-}
-
 /// The summary of a layer of which no field was passed.
 pub(crate) fn empty_summary<'a>() -> LayerSummary<'a>
-    ensures { TellsSummary [] result }
+    ensures { GivesSummary [] result }
 {
     LayerSummary {
         version: 0,
@@ -53,8 +36,8 @@ pub(crate) fn add_field<'a>(summary: &mut LayerSummary<'a>, field: Field<'a>)
     requires fits { FitsRule messages.Layer (entry_of field) }
     requires keys { summary.old.keys + 1 < 2 ^ 64 }
     requires values { summary.old.values + 1 < 2 ^ 64 }
-    ensures { (entries : List Entry) → TellsSummary entries summary.old
-        → TellsSummary (entries ++ entry_of field.entry ∷ []) summary.new }
+    ensures { (entries : List Entry) → GivesSummary entries summary.old
+        → GivesSummary (entries ++ entry_of field.entry ∷ []) summary.new }
 {
     match field.number {
         LAYER_NAME => summary.name = bytes_in(field.body),

@@ -1,15 +1,14 @@
 //! The tags of a feature (Mapbox Vector Tile Specification 2.1, section 4.4).
-ghost use Rattle.std.specs.Prelude.{◌≡◌, ◌+◌, ◌<◌, ◌≤◌, ◌^◌, ℕ, List, length, drop, IfOk, IfNone, IfSome, Some, slice_get};
+ghost use Rattle.std.specs.Prelude.{◌≡◌, ◌+◌, ◌<◌, ◌≤◌, ◌^◌, ℕ, List, length, drop, IfOk, IfNone, IfSome, Some, None, slice_get};
 ghost use Rattle.mvt_fault.specs.Place.{IsLeast};
 ghost use Rattle.mvt_fault.specs.TrueFaults.{IsFaultOfTags};
 ghost use Rattle.mvt_fault.specs.declared.fault.Fault.{Fault};
 ghost use Rattle.mvt_wire.specs.Tile.{FeatureRecord};
-ghost use Rattle.mvt_tile.specs.RuleFaults.{FindsFirstTagFault, IsFirstTagFault};
-ghost use Rattle.mvt_tile.specs.PassedTags.{ArePassed, IsPairAt, IsScanned};
-ghost use Rattle.mvt_tile.specs.TagNeeds.{AreMetBy};
+ghost use Rattle.mvt_tile.specs.Calls.RuleFaults.{FindsFirstTagFault};
+ghost use Rattle.mvt_tile.specs.Calls.PassedTags.{ArePassed, HasFoundBefore, IsPairAt, IsScanned};
+ghost use Rattle.mvt_tile.specs.Calls.TagNeeds.{AreMetBy};
 ghost use Rattle.mvt_tile.specs.View.{layer_of};
 ghost use Rattle.mvt_tile.specs.declared.rules.key_marks.KeyMarks.{KeyMarks};
-ghost use Rattle.mvt_fault.specs.declared.tag.TagCode.{TagCode};
 
 #[cfg(test)]
 mod tests;
@@ -20,9 +19,10 @@ use crate::record::Layer;
 use mvt_fault::{Fault, TagCode};
 use std::alloc::{AllocError, Global};
 
-/// The first fault of the tags of a layer's feature, or None where there is none (section 4.4). `layer_index`
-/// is the ordinal of the layer in its tile, for the fault to name; `feature_index` is that of the feature in the
-/// layer, and below the number of its features; both count from 0. The only error is that memory was refused.
+/// The first fault of the tags of a layer's feature, or None where there is none (section 4.4).
+/// `layer_index` is the ordinal of the layer in its tile, for the fault to name; `feature_index` is
+/// that of the feature in the layer, and below the number of its features; both count from 0. The
+/// only error is that memory was refused.
 pub fn check_tags(
     alloc: Global,
     layer: &Layer<'_>,
@@ -30,15 +30,21 @@ pub fn check_tags(
     feature_index: usize,
 ) -> Result<Option<Fault>, AllocError>
     requires { feature_index < length layer.now.features.items }
-    ensures none { IfOk result (λ found. IfNone found ((feature_record : FeatureRecord) → slice_get (layer_of layer.now).features feature_index ≡ Some feature_record
-        → (fault : Fault) → ¬ IsFaultOfTags (layer_of layer.now) feature_record layer_index feature_index fault)) }
-    ensures least { IfOk result (λ found. IfSome found (λ fault. (feature_record : FeatureRecord) → slice_get (layer_of layer.now).features feature_index ≡ Some feature_record
-        → IsLeast (IsFaultOfTags (layer_of layer.now) feature_record layer_index feature_index) fault)) }
+    ensures none { IfOk result (λ found. IfNone found ((feature_record : FeatureRecord)
+        → slice_get (layer_of layer.now).features feature_index ≡ Some feature_record
+        → (fault : Fault) → ¬ IsFaultOfTags (layer_of layer.now) feature_record layer_index
+        feature_index fault)) }
+    ensures least { IfOk result (λ found. IfSome found (λ fault. (feature_record : FeatureRecord)
+        → slice_get (layer_of layer.now).features feature_index ≡ Some feature_record
+        → IsLeast (IsFaultOfTags (layer_of layer.now) feature_record layer_index feature_index)
+        fault)) }
 {
     let tags = ListedNumbers::new(&layer.features[feature_index].tags);
     let mut marks = KeyMarks::new(alloc);
-    let scan = scan_tags(&mut marks, tags, layer.keys.len(), layer.values.len())?;
-    let Some((code, index)) = scan.found else {
+    let mut found = None;
+    let (keys, values) = (layer.keys.len(), layer.values.len());
+    scan_tags(&mut marks, tags, keys, values, &mut found)?;
+    let Some((code, index)) = found else {
         return Ok(None);
     };
     Ok(Some(Fault::Tag {
@@ -80,7 +86,6 @@ impl TagNeeds {
     pub(crate) fn add(&mut self, other: TagNeeds)
         ensures keys { (self.old.keys ≤ self.new.keys) × (other.keys ≤ self.new.keys) }
         ensures values { (self.old.values ≤ self.new.values) × (other.values ≤ self.new.values) }
-        ensures fits { self.new.values < 2 ^ 64 }
     {
         *self = TagNeeds {
             keys: self.keys.max(other.keys),
@@ -89,83 +94,73 @@ impl TagNeeds {
     }
 }
 
-/// What one pass over the tags of a feature finds.
-#[derive(Clone, Copy)]
-pub(crate) struct TagScan {
-    /// The first fault and its place in the list, in a layer of so many keys and values.
-    pub(crate) found: Option<(TagCode, usize)>,
-    /// What the pairs need. A number left over at the end needs nothing: a list of odd length has no fault but its
-    /// length, in whatever layer.
-    pub(crate) needs: TagNeeds,
-}
-
-/// One pass over tags, in a layer of so many keys and values. `marks` keeps marks of keys, and is used again for each
-/// feature. The only error is that memory was refused.
+/// What tags need of their layer, by one pass over them. Stores their first fault in a layer of so
+/// many keys and values, and its place in the list, in `found`, which is None before. A number left
+/// over at the end needs nothing: a list of odd length has no fault but its length, in whatever
+/// layer. `marks` keeps marks of keys, and is used again for each feature. The only error is that
+/// memory was refused.
+#[inline(never)]
 pub(crate) fn scan_tags<N: NumberSource + Drop>(
     marks: &mut KeyMarks,
     mut tags: N,
     keys: usize,
     values: usize,
-) -> Result<TagScan, AllocError>
+    found: &mut Option<(TagCode, usize)>,
+) -> Result<TagNeeds, AllocError>
+    requires nothing { found.old ≡ None }
     requires few { N.most tags < 2 ^ 63 }
-    ensures first { IfOk result (λ scan. (given : List ℕ) → N.Leaves tags given → FindsFirstTagFault keys values given scan.found) }
-    ensures met { IfOk result (λ scan. (given : List ℕ) → N.Leaves tags given → AreMetBy scan.needs given) }
-    ensures fits { IfOk result (λ scan. scan.needs.values < 2 ^ 64) }
+    ensures { IfOk result (λ needs. (given : List ℕ) → N.Leaves tags given
+        → FindsFirstTagFault keys values given found.new × AreMetBy needs given) }
 {
     marks.clear();
     let mut needs = TagNeeds::none();
     let mut at = 0;
     'pairs: while let Some(key) = tags.next_number() {
         let Some(value) = tags.next_number() else {
-            return Ok(odd(at + 1, needs));
+            *found = Some((TagCode::OddLength, at + 1));
+            return Ok(needs);
         };
         needs.add(TagNeeds::of(key, value));
         if let Some(fault) = fault_of_pair(marks, key, value, at, keys, values)? {
-            return Ok(scan_rest(tags, at + 2, needs, fault));
+            return Ok(scan_rest(tags, at + 2, needs, fault, found));
         }
         at += 2;
     }
-    Ok(TagScan { found: None, needs })
+    Ok(needs)
 }
 
-/// The rest of that pass, from a place behind the first pair that has a fault: the list may still be of odd length.
+/// The rest of that pass, from a place after the first pair that has a fault: the list may still be
+/// of odd length.
 #[inline(always)]
 fn scan_rest<N: NumberSource + Drop>(
     mut tags: N,
     from: usize,
-    needs: TagNeeds,
+    before: TagNeeds,
     fault: (TagCode, usize),
-) -> TagScan
+    found: &mut Option<(TagCode, usize)>,
+) -> TagNeeds
     requires few { from + N.most tags < 2 ^ 63 }
-    ensures first { (given : List ℕ) → N.Leaves tags (drop from given) → (set : KeyMarks) (keys values : ℕ) → IsScanned set keys values given from needs (Some fault) → FindsFirstTagFault keys values given result.found }
-    ensures met { (given : List ℕ) → N.Leaves tags (drop from given) → (set : KeyMarks) (keys values : ℕ) → IsScanned set keys values given from needs (Some fault) → AreMetBy result.needs given }
-    ensures fits { result.needs.values < 2 ^ 64 }
+    ensures { (given : List ℕ) → N.Leaves tags (drop from given)
+        → (set : KeyMarks) (keys values : ℕ)
+        → IsScanned set keys values given from before (Some fault)
+        → FindsFirstTagFault keys values given found.new × AreMetBy result given }
 {
-    let mut needs = needs;
+    let mut needs = before;
     let mut at = from;
     'pairs: while let Some(key) = tags.next_number() {
         let Some(value) = tags.next_number() else {
-            return odd(at + 1, needs);
+            *found = Some((TagCode::OddLength, at + 1));
+            return needs;
         };
         needs.add(TagNeeds::of(key, value));
         at += 2;
     }
-    TagScan {
-        found: Some(fault),
-        needs,
-    }
+    *found = Some(fault);
+    needs
 }
 
-/// What is found of a list of odd length.
-fn odd(length: usize, needs: TagNeeds) -> TagScan
-    ensures { result ≡ record { found = Some (TagCode.OddLength, length); needs = needs } }
-{
-    let found = Some((TagCode::OddLength, length));
-    TagScan { found, needs }
-}
-
-/// The first fault of the pair of tags at a place, where those before it have none, and its place. The only error is
-/// that memory was refused.
+/// The first fault of the pair of tags at a place, where those before it have none, and its place.
+/// The only error is that memory was refused.
 #[inline(always)]
 fn fault_of_pair(
     marks: &mut KeyMarks,
@@ -176,8 +171,9 @@ fn fault_of_pair(
     values: usize,
 ) -> Result<Option<(TagCode, usize)>, AllocError>
     requires { at + 1 < 2 ^ 64 }
-    ensures none { IfOk result (λ found. IfNone found ((tags : List ℕ) → IsPairAt tags at key value → ArePassed marks.old keys values tags at → ArePassed marks.new keys values tags (at + 2))) }
-    ensures first { IfOk result (λ found. IfSome found (λ fault. (tags : List ℕ) → IsPairAt tags at key value → ArePassed marks.old keys values tags at → IsFirstTagFault keys values tags fault.0 fault.1)) }
+    ensures { IfOk result (λ found. (tags : List ℕ) → IsPairAt tags at key value
+        → ArePassed marks.old keys values tags at
+        → HasFoundBefore marks.new keys values tags (at + 2) found) }
 {
     if key as usize >= keys {
         return Ok(Some((TagCode::NoKey, at)));

@@ -9,15 +9,16 @@ use crate::{rule_fault, wire_fault};
 use mvt_fault::{CommandCode, Fault, TagCode};
 use std::alloc::{AllocError, Global};
 
-/// A rule that is broken by a feature of unknown type, at the first number of its geometry. It counts the
-/// features that it is called for.
+/// A rule that is broken by a feature of unknown type, at the first number of its geometry. It
+/// counts the features that it is called for.
 #[derive(Drop)]
 struct TypesAreKnown {
     asked: usize,
 }
 
 impl FeatureRule for TypesAreKnown {
-    ghost IsBroken = { λ it layer feature fault. (it.kind ≡ 0) × (fault ≡ Fault.Command CommandCode.OtherCommand layer feature 0) };
+    ghost IsBroken = { λ it layer feature fault. (it.kind ≡ 0)
+        × (fault ≡ Fault.Command CommandCode.OtherCommand layer feature 0) };
 
     ghost IsKept = { λ it. it.kind ≢ 0 };
 
@@ -91,8 +92,8 @@ fn tags_of_several_features(rt: HostRuntime) {
     }
 }
 
-// One rule serves the features of all layers, and keeps what it noted: two layers, the first with one point and
-// the second with two.
+// One rule serves the features of all layers, and keeps what it noted: two layers, the first with
+// one point and the second with two.
 #[test]
 fn one_rule_for_all_features(rt: HostRuntime) {
     let bytes =

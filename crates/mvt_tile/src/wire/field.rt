@@ -3,8 +3,8 @@ ghost use Rattle.std.specs.Prelude.{◌≡◌, ℕ, ◌<◌, ◌^◌, Bool, true
 ghost use Rattle.mvt_wire.specs.Field.{entry_of, content_of, wire_type_of, cause_at};
 ghost use Rattle.mvt_wire.specs.Schema.{is_own, is_singular};
 ghost use Rattle.mvt_wire.specs.WireFault.{EntryFault};
-ghost use Rattle.mvt_tile.specs.Least.{FindsLeastCause};
-ghost use Rattle.mvt_tile.specs.FieldPlace.{IsPlaced};
+ghost use Rattle.mvt_tile.specs.Calls.Least.{FindsLeastCause};
+ghost use Rattle.mvt_tile.specs.Calls.FieldPlace.{IsPlaced};
 
 use crate::wire::packed::packed_fault;
 use mvt_wire::{Body, Field, FieldRule, Shape, WireCause, WireCode, text};
@@ -49,12 +49,12 @@ fn payload_fault(rule: FieldRule, field: &Field<'_>) -> Option<WireCause>
     }
 }
 
-/// Whether the bytes are UTF-8.
+/// Whether the bytes are UTF-8. Most texts are ASCII, which is quicker to see.
 #[inline(never)]
 fn is_text(part: &[u8]) -> bool
     ensures { IsTrue result ↔ IsUtf8 part.now }
 {
-    text(part).is_some()
+    part.is_ascii() || text(part).is_some()
 }
 
 /// The cause with a code at the key of a field.

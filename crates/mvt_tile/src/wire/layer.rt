@@ -1,42 +1,40 @@
 //! The faults of a layer and of the messages in it.
-ghost use Rattle.std.specs.Prelude.{◌≤◌, length};
-ghost use Rattle.mvt_wire.specs.Scope.{stretch};
-ghost use Rattle.mvt_tile.specs.LayerFault.{IsLayerFault};
-ghost use Rattle.mvt_tile.specs.Least.{FindsLeastFault};
+ghost use Rattle.mvt_tile.specs.Calls.LayerFault.{IsLayerFault};
+ghost use Rattle.mvt_tile.specs.Calls.Least.{FindsLeastFault};
+ghost use Rattle.mvt_tile.specs.Calls.Part.{span_in};
 
+use crate::part::Part;
 use crate::wire::embedded::EmbeddedScan;
 use crate::wire::scan::FieldScan;
 use mvt_fault::{Fault, wire_fault_in};
 use mvt_wire::field_number::{FEATURES, VALUES};
 use mvt_wire::{Message, Scope};
 
-/// The first fault of the layer with an ordinal, which the bytes hold from one offset up to
-/// another: that of its own fields, or else of its values, or else of its features (Mapbox Vector
-/// Tile Specification 2.1, section 4.1). The layer is walked once.
-pub(crate) fn layer_fault(bytes: &[u8], layer: usize, from: usize, to: usize) -> Option<Fault>
-    requires forward { from ≤ to }
-    requires within { to ≤ length bytes.now }
-    ensures { FindsLeastFault (IsLayerFault bytes.now (stretch from to) layer) result }
+/// The first fault of the layer with an ordinal, which a part of the bytes holds: that of its own
+/// fields, or else of its values, or else of its features (Mapbox Vector Tile Specification 2.1,
+/// section 4.1). The layer is walked once.
+pub(crate) fn layer_fault(part: Part<'_>, layer: usize) -> Option<Fault>
+    ensures { FindsLeastFault (IsLayerFault part.entry.bytes.now (span_in part.entry) layer) result }
 {
-    let front = &bytes[..to];
+    let front = &part.bytes[..part.to];
     let mut own = FieldScan::new();
     let mut values = EmbeddedScan::new(Message::Value, VALUES);
     let mut features = EmbeddedScan::new(Message::Feature, FEATURES);
-    let mut at = from;
+    let mut at = part.from;
     'walk: loop {
         let (field, next) = match own.pass_usual::<1>(Message::Layer, front, at) {
             Some(read) => read,
-            None if at == to => break,
+            None if at == part.to => break,
             None => match own.pass_any(Message::Layer, front, at) {
                 Ok(read) => read,
                 Err(cause) => return Some(wire_fault_in(Scope::Layer(layer), cause)),
             },
         };
-        values.note(bytes, &field);
-        features.note(bytes, &field);
+        values.pass(part.bytes, &field);
+        features.pass(part.bytes, &field);
         at = next;
     }
-    if let Some(cause) = own.end_fault(Message::Layer, to) {
+    if let Some(cause) = own.end_fault(Message::Layer, part.to) {
         return Some(wire_fault_in(Scope::Layer(layer), cause));
     }
     if let Some((value, cause)) = values.first {

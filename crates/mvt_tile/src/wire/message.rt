@@ -1,33 +1,30 @@
 //! The first fault of one message.
-ghost use Rattle.std.specs.Prelude.{◌≤◌, length, take};
-ghost use Rattle.mvt_wire.specs.WireFault.{MessageFault};
-ghost use Rattle.mvt_tile.specs.Least.{FindsLeastCause};
-ghost use Rattle.mvt_tile.specs.FieldsLeft.{IsDefectOr};
+ghost use Rattle.mvt_tile.specs.Calls.Embedded.{HasFault};
+ghost use Rattle.mvt_tile.specs.Calls.FieldsLeft.{IsDefectOr};
+ghost use Rattle.mvt_tile.specs.Calls.Least.{FindsLeastCause};
+ghost use Rattle.mvt_tile.specs.Calls.Part.{span_in};
 
+use crate::part::Part;
 use crate::wire::scan::FieldScan;
 use mvt_wire::{Fields, Message, WireCause};
 
-/// The first fault of the message that the bytes hold from one offset up to another, without
-/// those of the messages in it. The message is walked once. Each message has a COPY of its own, so
-/// that its rules are constants there.
+/// The first fault of the message that a part of the bytes holds, without those of the messages in
+/// it. The message is walked once. Each message has a COPY of its own, so that its rules are
+/// constants there.
 #[inline(always)]
 pub(crate) fn message_fault<const COPY: usize>(
     message: Message,
-    bytes: &[u8],
-    from: usize,
-    to: usize,
+    part: Part<'_>,
 ) -> Option<WireCause>
-    requires forward { from ≤ to }
-    requires within { to ≤ length bytes.now }
-    ensures { FindsLeastCause (MessageFault message (take to bytes.now) from) result }
+    ensures { FindsLeastCause (HasFault message part.entry.bytes.now (span_in part.entry)) result }
 {
-    let front = &bytes[..to];
+    let front = &part.bytes[..part.to];
     let mut scan = FieldScan::new();
-    let mut at = from;
+    let mut at = part.from;
     'walk: loop {
         let (_, next) = match scan.pass_usual::<COPY>(message, front, at) {
             Some(read) => read,
-            None if at == to => return scan.end_fault(message, to),
+            None if at == part.to => return scan.end_fault(message, part.to),
             None => match scan.pass_any(message, front, at) {
                 Ok(read) => read,
                 Err(cause) => return Some(cause),

@@ -1,8 +1,8 @@
 //! Packed lists of numbers (Protocol Buffers encoding, "Packed Repeated Fields").
 ghost use Rattle.std.specs.Prelude.{◌≡◌, ◌+◌, ◌<◌, ◌≤◌, ◌^◌, length, IfNone, IfSome, IsFalse, IsTrue, MatchOption};
 ghost use Rattle.mvt_wire.specs.Number.{PackedFault};
-ghost use Rattle.mvt_tile.specs.Least.{FindsLeastCause};
-ghost use Rattle.mvt_tile.specs.Packed.{NumberFault, IsSmallNumber, AreSmallBefore, HasNoRun, IsFirstBad};
+ghost use Rattle.mvt_tile.specs.Calls.Least.{FindsLeastCause};
+ghost use Rattle.mvt_tile.specs.Calls.Packed.{NumberFault, IsSmallNumber, AreSmallBefore, HasNoRun, IsFirstBad};
 
 use mvt_wire::{WireCause, WireCode, read_varint};
 use std::simd::prelude::*;
@@ -50,8 +50,8 @@ fn first_bad(part: &[u8]) -> Option<(usize, WireCode)>
     Some((start, WireCode::Ends))
 }
 
-/// What is wrong with the number that begins at `start` and continues behind `i`. It is read in full at its fourth
-/// byte; None at every other byte.
+/// What is wrong with the number that begins at `start` and continues after `i`. It is read in full
+/// at its fourth byte; None at every other byte.
 #[inline(always)]
 fn long_fault(part: &[u8], start: usize, i: usize) -> Option<WireCode>
     requires forward { start ≤ i }
@@ -90,7 +90,7 @@ fn are_short(part: &[u8]) -> bool
     }
 }
 
-/// Whether four bytes in a row may be 128 or more, as in a number that goes on behind its fourth
+/// Whether four bytes in a row may be 128 or more, as in a number that goes on after its fourth
 /// byte.
 #[inline(always)]
 fn has_run(part: &[u8]) -> bool
@@ -99,7 +99,7 @@ fn has_run(part: &[u8]) -> bool
     part.len() >= 4 && has_run_among(part)
 }
 
-/// The same among four bytes or more. A look takes as many places at once as fit.
+/// The same among four bytes or more. One step takes as many places at once as fit.
 #[inline(never)]
 fn has_run_among(part: &[u8]) -> bool
     requires { 4 ≤ length part.now }
@@ -113,7 +113,7 @@ fn has_run_among(part: &[u8]) -> bool
     }
 }
 
-/// The same by looks at WIDTH places. The last of them goes back to the last WIDTH places, so that
+/// The same by checks of WIDTH places. The last of them goes back to the last WIDTH places, so that
 /// none are left over.
 #[inline(always)]
 fn has_run_by<const WIDTH: usize>(part: &[u8]) -> bool
@@ -124,7 +124,7 @@ fn has_run_by<const WIDTH: usize>(part: &[u8]) -> bool
 {
     let last = part.len() - WIDTH - 3;
     let mut at = 0;
-    'looks: while at < last {
+    'checks: while at < last {
         if has_run_at::<WIDTH>(part, at) {
             return true;
         }
@@ -133,7 +133,7 @@ fn has_run_by<const WIDTH: usize>(part: &[u8]) -> bool
     has_run_at::<WIDTH>(part, last)
 }
 
-/// Whether four bytes in a row are 128 or more from one of the WIDTH places behind an offset on.
+/// Whether four bytes in a row are 128 or more from one of the WIDTH places after an offset on.
 #[inline(always)]
 fn has_run_at<const WIDTH: usize>(part: &[u8], at: usize) -> bool
     requires within { at + WIDTH + 3 ≤ length part.now }

@@ -3,14 +3,14 @@ ghost use Rattle.std.specs.Prelude.{◌≡◌, ℕ, ◌<◌, ◌≤◌, ◌^◌,
 ghost use Rattle.mvt_wire.specs.Field.{Entry, entry_of};
 ghost use Rattle.mvt_wire.specs.Schema.{is_required};
 ghost use Rattle.mvt_wire.specs.WireFault.{EndFault};
-ghost use Rattle.mvt_tile.specs.Least.{FindsLeastCause};
-ghost use Rattle.mvt_tile.specs.FieldPlace.{IsPlaced};
+ghost use Rattle.mvt_tile.specs.Calls.Least.{FindsLeastCause};
+ghost use Rattle.mvt_tile.specs.Calls.FieldPlace.{IsPlaced};
 
 use crate::wire::field::field_fault;
 use mvt_wire::{Field, FieldRule, Message, WireCause, WireCode};
 
-/// What is kept of the fields of a message that were passed, none of which has a fault: no more than
-/// the message's rules need.
+/// What is kept of the fields of a message that were passed, none of which has a fault: no more
+/// than the message's rules need.
 #[derive(Drop)]
 pub(crate) struct FieldScan {
     /// Which of the numbers that the message knows have occurred. They are all below 16.
@@ -22,7 +22,7 @@ pub(crate) struct FieldScan {
 }
 
 impl FieldScan {
-    ghost use Rattle.mvt_tile.specs.FieldScan.{Passes, IsFirstFault, IsMissing, was_seen};
+    ghost use Rattle.mvt_tile.specs.Calls.FieldScan.{Passes, IsFirstFault, IsMissing, was_seen};
 
     pub(crate) fn new() -> Self
         ensures { (message : Message) → Passes message result [] }
@@ -39,9 +39,12 @@ impl FieldScan {
     pub(crate) fn pass(&mut self, message: Message, field: &Field<'_>) -> Option<WireCause>
         requires { (next : ℕ) × IsPlaced (entry_of field.now) next × (next < 2 ^ 64) }
         ensures passed { IfNone result ((entries : List Entry)
-            → Passes message self.old entries → Passes message self.new (entries ++ entry_of field.now ∷ [])) }
-        ensures fault { IfSome result (λ cause. (entries : List Entry) (next : ℕ) → IsPlaced (entry_of field.now) next
-            → Passes message self.old entries → IsFirstFault message (entries ++ entry_of field.now ∷ []) next cause) }
+            → Passes message self.old entries
+            → Passes message self.new (entries ++ entry_of field.now ∷ [])) }
+        ensures fault { IfSome result (λ cause. (entries : List Entry) (next : ℕ)
+            → IsPlaced (entry_of field.now) next
+            → Passes message self.old entries
+            → IsFirstFault message (entries ++ entry_of field.now ∷ []) next cause) }
         ensures unchanged { IfSome result (λ cause. self.new ≡ self.old) }
     {
         let Some(rule) = message.rule(field.number) else {
@@ -87,7 +90,8 @@ impl FieldScan {
     fn first_missing(&self, message: Message) -> Option<u32>
         ensures none { IfNone result ((number : ℕ) → ¬ IsMissing message self.now number) }
         ensures missing { IfSome result (IsMissing message self.now) }
-        ensures least { IfSome result (λ least. (number : ℕ) → IsMissing message self.now number → least ≤ number) }
+        ensures least { IfSome result (λ least. (number : ℕ) → IsMissing message self.now number
+            → least ≤ number) }
     {
         for &rule in message.rules() {
             if self.lacks(rule) {

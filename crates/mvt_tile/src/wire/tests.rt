@@ -7,7 +7,8 @@ use mvt_wire::WireCode;
 #[test]
 fn no_fault(rt: HostRuntime) {
     for bytes in [
-        // varints in fields of numbers that the message doesn't know: 6 in a layer, 8 in a value and 5 in a feature
+        // varints in fields of numbers that the message doesn't know: 6 in a layer, 8 in a value
+        // and 5 in a feature
         b"\x1a\x07\x78\x02\x0a\x01\x61\x30\x05".as_slice(),
         b"\x1a\x0b\x78\x02\x0a\x01\x61\x22\x04\x38\x01\x40\x05",
         b"\x1a\x10\x78\x02\x0a\x01\x61\x12\x09\x18\x01\x22\x03\x09\x32\x22\x28\x05",
@@ -70,7 +71,8 @@ fn one_fault(rt: HostRuntime) {
             12,
             4,
         ),
-        // packed numbers: 2^32 behind another number; a tenth byte above 1; an end at the fifth byte of a number
+        // packed numbers: 2^32 after another number; a tenth byte above 1; an end at the fifth byte
+        // of a number
         (
             b"\x1a\x11\x78\x02\x0a\x01\x61\x12\x0a\x18\x01\x22\x06\x09\x80\x80\x80\x80\x10",
             WireCode::OutOfRange,
@@ -97,7 +99,8 @@ fn one_fault(rt: HostRuntime) {
     }
 }
 
-// The tile's own faults come first, then layer by layer the layer's own, its values', its features'.
+// The tile's own faults come first, then layer by layer the layer's own, its values', its
+// features'.
 #[test]
 fn first_of_several(rt: HostRuntime) {
     for (bytes, code, scope, at, field) in [
@@ -109,7 +112,7 @@ fn first_of_several(rt: HostRuntime) {
             6,
             1,
         ),
-        // type 4 in a feature, and behind the layer a layer that is a number
+        // type 4 in a feature, and after the layer a layer that is a number
         (
             b"\x1a\x0e\x78\x02\x0a\x01\x61\x12\x07\x18\x04\x22\x03\x09\x32\x22\x18\x05",
             WireCode::OtherType,
@@ -125,7 +128,7 @@ fn first_of_several(rt: HostRuntime) {
             13,
             1,
         ),
-        // type 4 in a feature, and behind it an empty value
+        // type 4 in a feature, and after it an empty value
         (
             b"\x1a\x10\x78\x02\x0a\x01\x61\x12\x07\x18\x04\x22\x03\x09\x32\x22\x22\x00",
             WireCode::OneField,

@@ -4,20 +4,22 @@ ghost use Rattle.mvt_wire.specs.Field.{entry_of, content_of, wire_type_of, IsFie
 ghost use Rattle.mvt_wire.specs.Schema.{rule_of};
 ghost use Rattle.mvt_wire.specs.Varint.{SpellsVarint};
 ghost use Rattle.mvt_wire.specs.Walk.{GivesField};
-ghost use Rattle.mvt_tile.specs.FieldScan.{PassesNext, IsFirstFrom};
+ghost use Rattle.mvt_tile.specs.Calls.FieldScan.{PassesNext, IsFirstFrom};
 
+use crate::read::walk::whole_field;
 use crate::wire::message::defect_or;
 use crate::wire::scan::FieldScan;
 use mvt_wire::{Body, Field, Fields, Message, WireCause, read_varint};
 
 impl FieldScan {
-    /// Passes the field at an offset if its key has one byte, it has no fault, and a varint is behind
-    /// its key, as is with nearly all fields. Returns the field and the offset behind it; where it
-    /// returns None, nothing is passed.
+    /// Passes the field at an offset if its key has one byte, it has no fault, and a varint is
+    /// after its key, as is with nearly all fields. Returns the field and the offset after it;
+    /// where it returns None, nothing is passed.
     ///
-    /// A key is eight times the field's number, and the wire type. Each key that is usual in some message
-    /// has an arm of its own, in which both are constants, and so is the rule for the number. This is
-    /// too long to be inlined at several places, so each message has a COPY of its own.
+    /// A key is eight times the field's number, and the wire type. Each key that is usual in some
+    /// message has an arm of its own, in which both are constants, and so is the rule for the
+    /// number. This is too long to be inlined at several places, so each message has a COPY of its
+    /// own.
     #[inline]
     pub(crate) fn pass_usual<'a, const COPY: usize>(
         &mut self,
@@ -71,7 +73,7 @@ impl FieldScan {
         ensures passed { IfSome result (PassesNext message bytes.now at self.old self.new) }
         ensures unchanged { IfNone result (self.new ≡ self.old) }
     {
-        let (field, next) = field_behind(bytes, at, key, value, start)?;
+        let (field, next) = field_after(bytes, at, key, value, start)?;
         if self.pass(message, &field).is_some() {
             return None;
         }
@@ -100,11 +102,11 @@ impl FieldScan {
         }
         match message.rule(u32::from(key / 8)) {
             Some(_) => None,
-            None => field_behind(bytes, at, key, value, start),
+            None => field_after(bytes, at, key, value, start),
         }
     }
 
-    /// Passes the field at an offset, whatever it is. Returns the field and the offset behind it.
+    /// Passes the field at an offset, whatever it is. Returns the field and the offset after it.
     ///
     /// Errors: the message's first fault.
     #[cold]
@@ -120,24 +122,23 @@ impl FieldScan {
         ensures fault { IfErr result (IsFirstFrom message bytes.now at self.old) }
     {
         let mut fields = Fields::new(bytes, at, bytes.len());
-        let field = match fields.next_field() {
-            Some(Ok(field)) => field,
+        let (field, next) = match fields.next_field() {
+            Some(Ok(_)) => whole_field(bytes, at),
             Some(Err(cause)) => return Err(cause),
             None => unreachable!(),
         };
         if let Some(cause) = self.pass(message, &field) {
-            return Err(defect_or(fields, cause));
+            return Err(defect_or(Fields::new(bytes, next, bytes.len()), cause));
         }
-        let next = field_end(bytes, &field);
         Ok((field, next))
     }
 }
 
-/// The field at an offset whose key has one byte, and the offset behind it; None where it has a defect.
-/// Behind the key is a varint, a value up to an offset `start`: the field's own or its length, but for
-/// wire types 1 and 5, of which it says nothing.
+/// The field at an offset whose key has one byte, and the offset after it; None where it has a
+/// defect. After the key is a varint, a value up to an offset `start`: the field's own or its
+/// length, but for wire types 1 and 5, of which it says nothing.
 #[inline(always)]
-fn field_behind(
+fn field_after(
     bytes: &[u8],
     at: usize,
     key: u8,
@@ -149,7 +150,9 @@ fn field_behind(
     requires leading { SpellsVarint bytes.now (at + 1) start value }
     requires numbered { 8 ≤ key }
     requires short { key < 128 }
-    ensures { IfSome result (λ read. GivesField (record { bytes = bytes.now; at = at }) (record { bytes = bytes.now; at = read.1 }) (entry_of read.0)
+    ensures { IfSome result (λ read.
+        GivesField (record { bytes = bytes.now; at = at })
+        (record { bytes = bytes.now; at = read.1 }) (entry_of read.0)
         × (read.0.number ≡ key / 8)) }
 {
     let number = u32::from(key / 8);
@@ -179,47 +182,30 @@ fn field_behind(
     }
 }
 
-/// The varint at an offset, and the offset behind it; None where none is there.
+/// The varint at an offset, and the offset after it; None where none is there.
 #[inline(always)]
 fn leading(bytes: &[u8], at: usize) -> Option<(u64, usize)>
     requires { at < length bytes.now }
     ensures { IfSome result (λ read. SpellsVarint bytes.now at read.1 read.0) }
 {
-    match bytes[at] {
-        byte @ 0..128 => Some((u64::from(byte), at + 1)),
+    let first = bytes[at];
+    if first < 128 {
+        return Some((u64::from(first), at + 1));
+    }
+    match bytes.get(at + 1) {
+        Some(&second) if second < 128 => {
+            let value = u64::from(first % 128) + u64::from(second) * 128;
+            Some((value, at + 2))
+        }
         _ => long_leading(bytes, at),
     }
 }
 
-/// The same for one of several bytes.
+/// The same for one of more bytes.
 #[inline(never)]
 fn long_leading(bytes: &[u8], at: usize) -> Option<(u64, usize)>
     requires { at < length bytes.now }
     ensures { IfSome result (λ read. SpellsVarint bytes.now at read.1 read.0) }
 {
     read_varint(bytes, at).ok()
-}
-
-/// The offset behind a field.
-pub(crate) fn field_end(bytes: &[u8], field: &Field<'_>) -> usize
-    requires { (next : ℕ) × IsField bytes.now next (entry_of field.now) }
-    ensures { (next : ℕ) → IsField bytes.now next (entry_of field.now) → result ≡ next }
-{
-    match field.body {
-        Body::Varint { at, .. } => varint_end(bytes, at),
-        Body::Fixed64(_) => varint_end(bytes, field.at) + 8,
-        Body::Bytes { from, slice } => from + slice.len(),
-        Body::Fixed32(_) => varint_end(bytes, field.at) + 4,
-    }
-}
-
-/// The offset behind a varint.
-fn varint_end(bytes: &[u8], at: usize) -> usize
-    requires { (n next : ℕ) × SpellsVarint bytes.now at next n }
-    ensures { (n next : ℕ) → SpellsVarint bytes.now at next n → result ≡ next }
-{
-    match read_varint(bytes, at) {
-        Ok((_, next)) => next,
-        Err(_) => unreachable!(),
-    }
 }

@@ -138,8 +138,8 @@ fn exits_by_the_file(rt: HostRuntime) -> Result<(), Fail> {
     Ok(())
 }
 
-/// Texts of fault files: one that is true of the cut tile, one that isn't, one that is no JSON, one that holds no
-/// fault, and one with a number out of range.
+/// Texts of fault files: one that is true of the cut tile, one that isn't, one that is no JSON, one
+/// that holds no fault, and one with a number out of range.
 const FAULTS: [&str; 5] = [
     r#"{"at":0,"code":105,"field":3,"scope":"tile"}"#,
     r#"{"at":1,"code":105,"field":3,"scope":"tile"}"#,

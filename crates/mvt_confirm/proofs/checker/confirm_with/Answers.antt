@@ -1,7 +1,7 @@
 use Rattle.mvt_fault.specs.declared.fault.Fault.TheVariants.{Wire}
 use Rattle.mvt_wire.specs.Tile.{TileRecord, IsTile}
-use Rattle.mvt_confirm.proofs.TrueFaults.{shown_is_invalid}
-use Rattle.mvt_confirm.proofs.ShownByCases.{no_tile}
+use Rattle.mvt_confirm.proofs.Validity.TrueFaults.{shown_is_invalid}
+use Rattle.mvt_confirm.proofs.Validity.ShownByCases.{no_tile}
 use Rattle.mvt_confirm.proofs.checker.confirm_with.Goals as goal
 
 pub returns-in-Wire-clause-invalid : goal.returns-in-Wire-clause-invalid
@@ -11,8 +11,8 @@ returns-in-Wire-clause-invalid c = λ holds.
 pub returns-then-is_tile : goal.returns-then-is_tile
 returns-then-is_tile c =
     let found = c.is_tile.ensures.0 (cc) in
-    let tells = c.has_fault_of_tile.ensures found.0 found.1 in
-    record { shown = tells; invalid = λ holds. shown_is_invalid c.args.profile c.args.bytes.now c.args.fault.now (tells.0 holds) }
+    let decides = c.has_fault_of_tile.ensures found.0 found.1 in
+    record { shown = decides; invalid = λ holds. shown_is_invalid c.args.profile c.args.bytes.now c.args.fault.now (decides.0 holds) }
 
 pub returns-else-is_tile : goal.returns-else-is_tile
 returns-else-is_tile c =

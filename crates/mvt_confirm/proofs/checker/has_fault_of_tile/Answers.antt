@@ -1,7 +1,5 @@
-use Rattle.std.proofs.Common.{length}
-use Rattle.mvt_fault.specs.TrueFaults.{TagsBreak}
 use Rattle.mvt_wire.specs.Rules.{OtherVersion, SameName}
-use Rattle.mvt_confirm.proofs.ShownByCases.{of_tile, of_feature, no_wire, of_polygon, any_of_polygon}
+use Rattle.mvt_confirm.proofs.Validity.ShownByCases.{of_tile, no_wire, of_polygon, any_of_polygon}
 use Rattle.mvt_confirm.proofs.checker.has_fault_of_tile.Goals as goal
 
 pub returns-in-Wire : goal.returns-in-Wire
@@ -16,9 +14,7 @@ returns-in-Name c = λ tile is.
     rw c.in-Name.is (of_tile c.args.bytes.now tile is c.has_same_name.result (λ its. SameName its c.in-Name.first c.in-Name.second) (c.has_same_name.ensures tile is))
 
 pub returns-in-Tag : goal.returns-in-Tag
-returns-in-Tag c = λ tile is.
-    rw c.in-Tag.is (of_feature c.args.bytes.now tile is c.breaks_tags.result c.in-Tag.layer c.in-Tag.feature
-    (λ layer_record it. TagsBreak c.in-Tag.code (length layer_record.keys) (length layer_record.values) it.tags c.in-Tag.index) (c.breaks_tags.ensures tile is))
+returns-in-Tag c = λ tile is. rw c.in-Tag.is (c.breaks_tags.ensures tile is)
 
 pub returns-in-Command : goal.returns-in-Command
 returns-in-Command c = λ tile is. rw c.in-Command.is (c.has_command_fault.ensures tile is)

@@ -1,9 +1,9 @@
 use Rattle.std.proofs.Common.{◌+◌, sym, true≢false}
 use Rattle.std.proofs.lemmas.Result.{IfOk-at_ok, IfErr-at_err}
-use Rattle.mvt_confirm.specs.Commands.{plane_state}
-use Rattle.mvt_confirm.proofs.CommandWalks.{amid_start, amid_more, amid_whole_message, amid_fault, faulty_rings, rings_where_ended}
+use Rattle.mvt_confirm.specs.Calls.Commands.{plane_state}
+use Rattle.mvt_confirm.proofs.Drawing.CommandWalks.{amid_start, amid_more, amid_whole_message, amid_fault, faulty_rings, rings_where_ended}
 use Rattle.mvt_fault.specs.Code.{command_code}
-use Rattle.mvt_plane.specs.Figure.{polygon}
+use Rattle.mvt_plane.specs.Commands.Figure.{polygon}
 use Rattle.mvt_confirm.proofs.commands.draws_rings.Goals as goal
 
 pub numbers-init : goal.numbers-init

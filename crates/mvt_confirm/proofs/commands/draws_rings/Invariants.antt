@@ -1,7 +1,7 @@
 use Rattle.std.proofs.Common.{ℕ, List, None}
-use Rattle.mvt_confirm.specs.Commands.{plane_state}
-use Rattle.mvt_confirm.proofs.CommandWalks.{IsAmid}
-use Rattle.mvt_plane.specs.Figure.{polygon}
+use Rattle.mvt_confirm.specs.Calls.Commands.{plane_state}
+use Rattle.mvt_confirm.proofs.Drawing.CommandWalks.{IsAmid}
+use Rattle.mvt_plane.specs.Commands.Figure.{polygon}
 use Rattle.mvt_wire.specs.Numbers.{NumbersLeft, most_left}
 use Rattle.mvt_confirm.proofs.commands.draws_rings.Given as goal
 

@@ -1,7 +1,7 @@
 use Rattle.std.proofs.Common.{◌+◌, refl, sym, true≢false, zero-add}
 use Rattle.std.proofs.lemmas.Result.{IfOk-at_ok, IfErr-at_err}
-use Rattle.mvt_confirm.specs.Commands.{plane_state, plane_type}
-use Rattle.mvt_confirm.proofs.CommandWalks.{amid_start, amid_more, amid_whole_message, amid_fault, amid_unfinished, amid_figure, is_asked}
+use Rattle.mvt_confirm.specs.Calls.Commands.{plane_state, plane_type}
+use Rattle.mvt_confirm.proofs.Drawing.CommandWalks.{amid_start, amid_more, amid_whole_message, amid_fault, amid_unfinished, amid_figure, is_asked}
 use Rattle.mvt_fault.specs.Code.{command_code}
 use Rattle.mvt_confirm.proofs.commands.has_fault.Goals as goal
 
@@ -35,8 +35,8 @@ pub returns-then-not-may_end : goal.returns-then-not-may_end
 returns-then-not-may_end c = λ geometry left.
     let kind = plane_type c.args.geometry_type in
     let amid = c.numbers.invariant geometry left in
-    let told = amid_unfinished kind geometry _ _ (plane_state c.numbers.state) amid.0 amid.1 c.in_default.ensures.end (λ end. true≢false (sym (c.if-not-may_end.ensures.1 end))) in
-    is_asked kind geometry c.numbers.before amid.0 c.args.index 403 (command_code c.args.code) c.is_this-then-not-may_end.result amid.2 told c.is_this-then-not-may_end.ensures
+    let decided = amid_unfinished kind geometry _ _ (plane_state c.numbers.state) amid.0 amid.1 c.in_default.ensures.end (λ end. true≢false (sym (c.if-not-may_end.ensures.1 end))) in
+    is_asked kind geometry c.numbers.before amid.0 c.args.index 403 (command_code c.args.code) c.is_this-then-not-may_end.result amid.2 decided c.is_this-then-not-may_end.ensures
 
 pub returns-else-not-may_end : goal.returns-else-not-may_end
 returns-else-not-may_end c = λ geometry left.

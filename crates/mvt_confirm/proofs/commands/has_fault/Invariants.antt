@@ -1,6 +1,6 @@
 use Rattle.std.proofs.Common.{ℕ, List, None}
-use Rattle.mvt_confirm.specs.Commands.{IsAhead, plane_state, plane_type}
-use Rattle.mvt_confirm.proofs.CommandWalks.{IsAmid}
+use Rattle.mvt_confirm.specs.Calls.Commands.{IsAhead, plane_state, plane_type}
+use Rattle.mvt_confirm.proofs.Drawing.CommandWalks.{IsAmid}
 use Rattle.mvt_wire.specs.Numbers.{NumbersLeft, most_left}
 use Rattle.mvt_confirm.proofs.commands.has_fault.Given as goal
 

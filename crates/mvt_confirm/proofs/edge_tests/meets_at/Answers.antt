@@ -1,4 +1,4 @@
-use Rattle.mvt_confirm.proofs.EdgeMeetings.{found_same, meeting_by_tests}
+use Rattle.mvt_confirm.proofs.Shapes.EdgeMeetings.{found_same, meeting_by_tests}
 use Rattle.mvt_confirm.proofs.edge_tests.meets_at.Goals as goal
 
 pub returns-then-eq : goal.returns-then-eq
@@ -19,8 +19,8 @@ returns c rings are =
         different = λ same. let both = (found_same c.eq.result _ _ c.eq.ensures).1 same in absurd (cc (both, c.if-eq.false));
         on_first = lies.0;
         on_second = lies.1;
-        behind_first = apart.0;
-        behind_second = apart.1;
+        after_first = apart.0;
+        after_second = apart.1;
       },
-      λ tests. c.is_apart_from_shared.ensures.1 (tests.behind_first, tests.behind_second),
+      λ tests. c.is_apart_from_shared.ensures.1 (tests.after_first, tests.after_second),
     )

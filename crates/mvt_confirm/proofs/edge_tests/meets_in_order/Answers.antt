@@ -1,7 +1,7 @@
 use Rattle.std.proofs.lemmas.Int.{to_z-of_z}
 use mir.Syntax.{w128}
 use Rattle.mvt_confirm.specs.PolygonFault.{number_of}
-use Rattle.mvt_confirm.proofs.EdgeMeetings.{meeting_in_order}
+use Rattle.mvt_confirm.proofs.Shapes.EdgeMeetings.{meeting_in_order}
 use Rattle.mvt_confirm.proofs.edge_tests.meets_in_order.Goals as goal
 
 pub returns-in-Some : goal.returns-in-Some

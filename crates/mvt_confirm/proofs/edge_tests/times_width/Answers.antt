@@ -1,7 +1,7 @@
 use Rattle.std.proofs.Common.{◌≡◌, ◌^◌, ◌*ℤ◌, ap, ◌∙◌, arith}
 use Rattle.std.proofs.lemmas.Int.{to_z-of_z}
 use mir.Syntax.{w32, w128}
-use Rattle.mvt_plane.proofs.Bounds.{fitting, IsMultiplied, multiplied}
+use Rattle.mvt_plane.proofs.Points.Bounds.{fitting, IsMultiplied, multiplied}
 use Rattle.mvt_confirm.proofs.edge_tests.times_width.Goals as goal
 
 -- the product, as it is computed

@@ -1,12 +1,12 @@
 use Rattle.mvt_confirm.specs.PolygonFault.{IsVertexInHole}
-use Rattle.mvt_confirm.proofs.DrawnFeatures.{no_rings_told, rings_tell}
+use Rattle.mvt_confirm.proofs.Features.DrawnFeatures.{no_rings_decided, rings_decide}
 use Rattle.mvt_confirm.proofs.geometry.has_vertex_in_hole.Goals as goal
 
 pub returns-in-Some : goal.returns-in-Some
 returns-in-Some c = λ tile is.
-    rings_tell c.args.bytes.now c.args.layer c.args.feature tile c.in-Some.place c.is_vertex_in_hole.result
+    rings_decide c.args.bytes.now c.args.layer c.args.feature tile c.in-Some.place c.is_vertex_in_hole.result
     (λ rings. IsVertexInHole rings c.args.polygon c.args.ring c.args.vertex c.args.other) is c.in-Some.ensures.there c.is_vertex_in_hole.ensures
 
 pub returns-in-None : goal.returns-in-None
 returns-in-None c = λ tile is.
-    no_rings_told c.args.bytes.now c.args.layer c.args.feature tile (λ rings. IsVertexInHole rings c.args.polygon c.args.ring c.args.vertex c.args.other) is c.in-None.ensures.none
+    no_rings_decided c.args.bytes.now c.args.layer c.args.feature tile (λ rings. IsVertexInHole rings c.args.polygon c.args.ring c.args.vertex c.args.other) is c.in-None.ensures.none

@@ -1,6 +1,6 @@
 use Rattle.mvt_fault.specs.declared.profile.Profile.TheVariants.{Feature}
 use Rattle.mvt_confirm.specs.PolygonFault.{number_of}
-use Rattle.mvt_confirm.proofs.UnshownMeetings.{all_apart, none_meets}
+use Rattle.mvt_confirm.proofs.Validity.UnshownMeetings.{all_apart, none_meets}
 use Rattle.mvt_confirm.proofs.laws.all_pairs_of_a_feature.Goals as goal
 
 pub returns-clause-polygons : goal.returns-clause-polygons

@@ -1,4 +1,4 @@
-use Rattle.mvt_confirm.proofs.TrueFaults.{another_polygon}
+use Rattle.mvt_confirm.proofs.Validity.TrueFaults.{another_polygon}
 use Rattle.mvt_confirm.proofs.laws.another_polygon.Goals as goal
 
 pub returns : goal.returns

@@ -1,4 +1,4 @@
-use Rattle.mvt_confirm.proofs.StricterProfile.{shown_in_feature, valid_by_itself}
+use Rattle.mvt_confirm.proofs.Validity.StricterProfile.{shown_in_feature, valid_by_itself}
 use Rattle.mvt_confirm.proofs.laws.feature_is_stricter.Goals as goal
 
 pub returns-clause-shown : goal.returns-clause-shown

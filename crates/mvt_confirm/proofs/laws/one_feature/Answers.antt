@@ -1,4 +1,4 @@
-use Rattle.mvt_confirm.proofs.TileFeatures.{one_feature, one_list_of_rings}
+use Rattle.mvt_confirm.proofs.Features.TileFeatures.{one_feature, one_list_of_rings}
 use Rattle.mvt_confirm.proofs.laws.one_feature.Goals as goal
 
 pub returns-clause-feature : goal.returns-clause-feature

@@ -1,4 +1,4 @@
-use Rattle.mvt_confirm.proofs.TrueFaults.{one_polygon_of_ring}
+use Rattle.mvt_confirm.proofs.Validity.TrueFaults.{one_polygon_of_ring}
 use Rattle.mvt_fault.specs.declared.profile.Profile.TheVariants.{Polygon}
 use Rattle.mvt_confirm.proofs.laws.one_polygon_of_meeting.Goals as goal
 

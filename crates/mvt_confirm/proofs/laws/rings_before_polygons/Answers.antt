@@ -1,6 +1,6 @@
 use Rattle.std.proofs.Common.{List}
 use Rattle.mvt_plane.specs.Position.{Position}
-use Rattle.mvt_confirm.proofs.TrueFaults.{rings_before_polygons}
+use Rattle.mvt_confirm.proofs.Validity.TrueFaults.{rings_before_polygons}
 use Rattle.mvt_confirm.proofs.laws.rings_before_polygons.Goals as goal
 use Rattle.mvt_confirm.specs.PolygonFault.{IsMeetingBy, IsVertexOutside, IsVertexInHole, IsVertexInPolygonBy}
 

@@ -1,4 +1,4 @@
-use Rattle.mvt_confirm.proofs.TrueFaults.{shown_is_invalid}
+use Rattle.mvt_confirm.proofs.Validity.TrueFaults.{shown_is_invalid}
 use Rattle.mvt_confirm.proofs.laws.shown_is_invalid.Goals as goal
 
 pub returns : goal.returns

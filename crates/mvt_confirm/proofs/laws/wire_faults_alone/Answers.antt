@@ -1,4 +1,4 @@
-use Rattle.mvt_confirm.proofs.TrueFaults.{wire_faults_alone}
+use Rattle.mvt_confirm.proofs.Validity.TrueFaults.{wire_faults_alone}
 use Rattle.mvt_confirm.proofs.laws.wire_faults_alone.Goals as goal
 
 pub returns : goal.returns

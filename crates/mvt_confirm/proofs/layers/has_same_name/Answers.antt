@@ -10,9 +10,9 @@ abbrev HasName : TileRecord → ℕ → List ℕ → Type 0
 HasName tile layer name = (layer_record : LayerRecord) × (slice_get tile.layers layer ≡ Some layer_record) × (layer_record.name ≡ name)
 
 -- a test of two names
-names_tell : (tile : TileRecord) (first second : ℕ) (name other : List ℕ) (test : Bool) → first < second → HasName tile first name → HasName tile second other
+names_decide : (tile : TileRecord) (first second : ℕ) (name other : List ℕ) (test : Bool) → first < second → HasName tile first name → HasName tile second other
     → Decides test (name ≡ other) → IsTrue test ↔ SameName tile first second
-names_tell tile first second name other test below one two decides = (
+names_decide tile first second name other test below one two decides = (
   λ holds. record {
     earlier = below;
     layer_record = one.0;
@@ -29,5 +29,5 @@ names_tell tile first second name other test below one two decides = (
 
 pub returns : goal.returns
 returns c = λ tile is.
-    names_tell tile c.args.first c.args.second c.in-Some.name.now c.in-Some-name_of.other.now c.eq.result c.if-first-second.false (c.in-Some.ensures.there tile is) (c.in-Some-name_of.ensures.there tile is)
+    names_decide tile c.args.first c.args.second c.in-Some.name.now c.in-Some-name_of.other.now c.eq.result c.if-first-second.false (c.in-Some.ensures.there tile is) (c.in-Some-name_of.ensures.there tile is)
     (slice_eq-Decides Decides-eqb c.in-Some.name.now c.in-Some-name_of.other.now c.eq.result c.eq.ensures)

@@ -1,8 +1,8 @@
 use Rattle.std.proofs.Common.{false, SFits, refl, rules}
 use mir.Syntax.{w128}
 use Rattle.std.proofs.lemmas.Int.{to_z-of_z}
-use Rattle.mvt_confirm.proofs.NumberedEdges.{told_by_numbers}
-use Rattle.mvt_confirm.proofs.PolygonMembers.{test_fails}
+use Rattle.mvt_confirm.proofs.Shapes.NumberedEdges.{decided_by_numbers}
+use Rattle.mvt_confirm.proofs.Shapes.PolygonMembers.{test_fails}
 use Rattle.mvt_confirm.proofs.meeting.do_meet.Goals as goal
 
 pub returns-in_default : goal.returns-in_default
@@ -23,6 +23,6 @@ returns c =
     let one = c.in-Some.ensures in
     let other = c.in-Some-edge_of_number.ensures in
     λ rings draws.
-    let told = rw (x, y, w) at c.meets_in_order.ensures rings in
-    told_by_numbers rings c.in-Some.one.numbered c.in-Some-edge_of_number.other.numbered c.in-Some.one.vertex_count _ c.args.meeting.first c.args.meeting.second one.number other.number told
+    let decided = rw (x, y, w) at c.meets_in_order.ensures rings in
+    decided_by_numbers rings c.in-Some.one.numbered c.in-Some-edge_of_number.other.numbered c.in-Some.one.vertex_count _ c.args.meeting.first c.args.meeting.second one.number other.number decided
     (one.there rings draws) (other.there rings draws) (λ ring there. one.count rings ring draws there)

@@ -1,8 +1,8 @@
 use Rattle.std.proofs.Common.{true≢false, sym, ◌∙◌}
 use Rattle.std.proofs.lemmas.Bool.Decides.{not_from_Decides}
 use Rattle.mvt_confirm.specs.PolygonFault.{number_of, IsMeetingBy}
-use Rattle.mvt_confirm.proofs.PolygonMembers.{meeting_by_parts, second_member, test_fails}
-use Rattle.mvt_confirm.proofs.UnshownMeetings.{rings_in_order}
+use Rattle.mvt_confirm.proofs.Shapes.PolygonMembers.{meeting_by_parts, second_member, test_fails}
+use Rattle.mvt_confirm.proofs.Validity.UnshownMeetings.{rings_in_order}
 use Rattle.mvt_confirm.proofs.meeting.is_meeting.Goals as goal
 use Rattle.mvt_confirm.proofs.meeting.is_meeting.Goals.{then-are_polygon_rings, else-are_polygon_rings, then-is_ring_of_polygon, else-is_ring_of_polygon}
 
@@ -12,7 +12,7 @@ returns-then-is_kept_apart c = λ rings draws. elim c.if-is_ring_of_polygon.bran
     | then-are_polygon_rings v ↦
         let first = number_of c.args.meeting.first in
         let second = number_of c.args.meeting.second in
-        let sound = (c.are_polygon_rings.ensures rings (c.corners.ensures rings draws)).0 v.if-are_polygon_rings.true in
+        let sound = (c.are_polygon_rings.ensures rings (c.vertices.ensures rings draws)).0 v.if-are_polygon_rings.true in
         let member = (v.is_ring_of_polygon.ensures rings draws sound).0 (sym v.value-is ∙ w.if-is_ring_of_polygon.true) in
         let kept = w.is_kept_apart.ensures rings member.0 second.ring draws sound member.1 member.2 in
         meeting_by_parts c.args.profile rings c.args.polygon c.args.meeting.first c.args.meeting.second _ sound member
@@ -34,6 +34,6 @@ returns-else-is_kept_apart c = λ rings draws. test_fails c.if-is_ring_of_polygo
         | then-are_polygon_rings v ↦
             not_from_Decides v.is_ring_of_polygon.result (v.is_ring_of_polygon.ensures rings draws meeting.of.sound) (sym v.value-is ∙ w.if-is_ring_of_polygon.false)
             (second_member c.args.profile rings c.args.polygon c.args.meeting.first c.args.meeting.second _ meeting)
-        | else-are_polygon_rings v ↦ not_from_Decides c.are_polygon_rings.result (c.are_polygon_rings.ensures rings (c.corners.ensures rings draws)) v.if-are_polygon_rings.false meeting.of.sound
+        | else-are_polygon_rings v ↦ not_from_Decides c.are_polygon_rings.result (c.are_polygon_rings.ensures rings (c.vertices.ensures rings draws)) v.if-are_polygon_rings.false meeting.of.sound
       ]
     ])

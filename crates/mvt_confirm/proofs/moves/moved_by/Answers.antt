@@ -1,5 +1,5 @@
 use Rattle.std.proofs.Common.{◌≡◌, Some, ◌∙◌}
-use Rattle.mvt_confirm.proofs.MovedPositions.{moved_from_beside, moved_there}
+use Rattle.mvt_confirm.proofs.Drawing.MovedPositions.{moved_from_beside, moved_there}
 use Rattle.mvt_confirm.proofs.moves.moved_by.Goals as goal
 
 pub returns : goal.returns

@@ -1,7 +1,7 @@
 use Rattle.std.proofs.Common.{◌≤◌, List}
-use Rattle.mvt_confirm.specs.Corners.{RingsLeft}
-use Rattle.mvt_confirm.proofs.RingCounts.{HavePassed}
-use Rattle.mvt_confirm.proofs.RingPlaces.{IsCounted}
+use Rattle.mvt_confirm.specs.Calls.Vertices.{RingsLeft}
+use Rattle.mvt_confirm.proofs.Shapes.RingCounts.{HavePassed}
+use Rattle.mvt_confirm.proofs.Shapes.RingPlaces.{IsCounted}
 use Rattle.mvt_plane.specs.Position.{Position}
 use Rattle.mvt_confirm.proofs.polygons.place_of_ring.Given as goal
 
@@ -9,6 +9,6 @@ use Rattle.mvt_confirm.proofs.polygons.place_of_ring.Given as goal
 abbrev pub invariant-rings : goal.invariant-rings
 invariant-rings l = record {
   few : l.exteriors ≤ l.number;
-  passed : (rings : List (List Position)) → RingsLeft l.fn.corners rings → HavePassed rings l.corners l.number;
-  counted : (rings : List (List Position)) → RingsLeft l.fn.corners rings → IsCounted rings l.number l.exteriors l.last;
+  passed : (rings : List (List Position)) → RingsLeft l.fn.vertices rings → HavePassed rings l.vertices l.number;
+  counted : (rings : List (List Position)) → RingsLeft l.fn.vertices rings → IsCounted rings l.number l.exteriors l.last;
 }

@@ -1,5 +1,5 @@
 use Rattle.std.proofs.Common.{◌≡◌, subst, arith}
-use Rattle.mvt_confirm.proofs.EdgeWalks.{HasPassedEdges, edge_found, none_at, none_found, one_passed}
+use Rattle.mvt_confirm.proofs.Shapes.EdgeWalks.{HasPassedEdges, edge_found, none_at, none_found, one_passed}
 use Rattle.mvt_confirm.proofs.ring_edges.edge_at.Goals as goal
 
 pub edges-init : goal.edges-init

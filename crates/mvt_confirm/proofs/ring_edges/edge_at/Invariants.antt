@@ -1,4 +1,4 @@
-use Rattle.mvt_confirm.proofs.EdgeWalks.{HasPassedEdges}
+use Rattle.mvt_confirm.proofs.Shapes.EdgeWalks.{HasPassedEdges}
 use Rattle.mvt_confirm.proofs.ring_edges.edge_at.Given as goal
 
 -- as many edges were passed as there were steps

@@ -1,5 +1,5 @@
 use Rattle.std.proofs.Common.{true≢false, drop, refl, sym, arith}
-use Rattle.mvt_confirm.proofs.EdgeWalks.{edges_begun, none_at}
+use Rattle.mvt_confirm.proofs.Shapes.EdgeWalks.{edges_begun, none_at}
 use Rattle.mvt_confirm.proofs.ring_edges.edges_of_ring.Goals as goal
 
 pub returns-then-not-pass_rings-clause-none : goal.returns-then-not-pass_rings-clause-none
@@ -16,4 +16,4 @@ returns-in_err-first-clause-none c =
 pub returns-clause-there : goal.returns-clause-there
 returns-clause-there c = λ rings left.
     let there = c.if-not-pass_rings.ensures.passed refl rings left in
-    edges_begun rings c.args.ring c.pass_rings.new.corners c.next_corner.new.self c.in_ok-first.field-0 c.in_ok-first.ensures.corner there.1
+    edges_begun rings c.args.ring c.pass_rings.new.vertices c.next_vertex.new.self c.in_ok-first.field-0 c.in_ok-first.ensures.vertex there.1

@@ -1,5 +1,5 @@
-use Rattle.mvt_confirm.specs.RingEdges.{count_ahead}
-use Rattle.mvt_confirm.proofs.EdgeWalks.{IsParityPassed}
+use Rattle.mvt_confirm.specs.Calls.RingEdges.{count_ahead}
+use Rattle.mvt_confirm.proofs.Shapes.EdgeWalks.{IsParityPassed}
 use Rattle.mvt_confirm.proofs.ring_edges.odd_number_over.Given as goal
 
 -- the parity is that of the edges that were passed, and the others are left

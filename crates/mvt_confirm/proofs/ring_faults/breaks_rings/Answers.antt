@@ -1,7 +1,7 @@
 use Rattle.std.proofs.Common.{rules, FitsSigned, ap, arith}
 use Rattle.std.specs.Int.{w128}
-use Rattle.mvt_confirm.proofs.RingCounts.{ends_told, area_told, hole_told, broken_within, of_501, of_502, of_503, flat_by_bits, negative_by_bits}
-use Rattle.mvt_confirm.proofs.FieldWalks.{one_with}
+use Rattle.mvt_confirm.proofs.Shapes.RingCounts.{ends_decided, area_decided, hole_decided, broken_within, of_501, of_502, of_503, flat_by_bits, negative_by_bits}
+use Rattle.mvt_confirm.proofs.Wire.FieldWalks.{one_with}
 use Rattle.mvt_fault.specs.Code.{ring_code}
 use Rattle.mvt_confirm.proofs.ring_faults.breaks_rings.Goals as goal
 
@@ -17,7 +17,7 @@ returns-in_default c = λ rings left. (
 pub returns-in-EndsAtItsBeginning : goal.returns-in-EndsAtItsBeginning
 returns-in-EndsAtItsBeginning c = λ rings left.
     let there = c.in-Some.ensures.there rings left in
-    one_with (ends_told rings c.args.ring c.in-Some.measure (record { ring = there.0; there = there.1; told = there.2 }))
+    one_with (ends_decided rings c.args.ring c.in-Some.measure (record { ring = there.0; there = there.1; decided = there.2 }))
     (of_501 rings (ring_code c.args.code) c.args.ring (ap ring_code c.in-EndsAtItsBeginning.is))
 
 pub returns-in-NoArea : goal.returns-in-NoArea
@@ -25,7 +25,7 @@ returns-in-NoArea c = λ rings left.
     let there = c.in-Some.ensures.there rings left in
     let fits : FitsSigned w128 c.in-Some.measure.twice_area = search rules in
     one_with (one_with (flat_by_bits c.in-Some.measure.twice_area fits)
-    (area_told rings c.args.ring c.in-Some.measure (record { ring = there.0; there = there.1; told = there.2 })))
+    (area_decided rings c.args.ring c.in-Some.measure (record { ring = there.0; there = there.1; decided = there.2 })))
     (of_502 rings (ring_code c.args.code) c.args.ring (ap ring_code c.in-NoArea.is))
 
 pub returns-then-ring-eq0 : goal.returns-then-ring-eq0
@@ -33,5 +33,5 @@ returns-then-ring-eq0 c = λ rings left.
     let there = c.in-Some.ensures.there rings left in
     let fits : FitsSigned w128 c.in-Some.measure.twice_area = search rules in
     one_with (one_with (negative_by_bits c.in-Some.measure.twice_area fits)
-    (hole_told rings c.args.ring c.in-Some.measure (record { ring = there.0; there = there.1; told = there.2 }) c.if-ring-eq0.true))
+    (hole_decided rings c.args.ring c.in-Some.measure (record { ring = there.0; there = there.1; decided = there.2 }) c.if-ring-eq0.true))
     (of_503 rings (ring_code c.args.code) c.args.ring (ap ring_code c.in-BeginsWithHole.is))

@@ -1,14 +1,14 @@
 use Rattle.std.proofs.Common.{ℕ}
 use Rattle.mvt_wire.specs.Numbers.{most_left}
-use Rattle.mvt_wire.specs.Tile.{FeatureRecord, IsFeature}
-use Rattle.mvt_confirm.specs.Stretch.{as_span}
-use Rattle.mvt_confirm.specs.Tags.{HasPassed}
-use Rattle.mvt_confirm.proofs.TagWalks.{IsParity}
+use Rattle.mvt_wire.specs.Tile.{FeatureRecord}
+use Rattle.mvt_confirm.specs.Calls.FeatureBytes.{IsFeatureAt}
+use Rattle.mvt_confirm.specs.Calls.Tags.{HasPassed}
+use Rattle.mvt_confirm.proofs.Features.TagWalks.{IsParity}
 use Rattle.mvt_confirm.proofs.tags.are_pairs.Given as goal
 
 -- the tags that were passed are pairs, or pairs and one more
 abbrev pub invariant-walk : goal.invariant-walk
-invariant-walk l = (feature_record : FeatureRecord) → IsFeature l.bytes (as_span l.fn.feature) feature_record
+invariant-walk l = (feature_record : FeatureRecord) → IsFeatureAt l.feature feature_record
     → (passed : ℕ) × HasPassed feature_record.tags l.numbers passed × IsParity l.pairs passed
 
 abbrev pub decreases-walk : goal.decreases-walk

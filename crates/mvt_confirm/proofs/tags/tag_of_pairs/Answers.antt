@@ -1,6 +1,6 @@
 use Rattle.std.proofs.Common.{◌∙◌, sym, refl, arith}
 use Rattle.std.proofs.lemmas.Option.{slice_get_within}
-use Rattle.mvt_confirm.proofs.TagWalks.{next_is}
+use Rattle.mvt_confirm.proofs.Features.TagWalks.{next_is}
 use Rattle.mvt_confirm.proofs.tags.tag_of_pairs.Goals as goal
 
 pub returns-then-not-are_pairs : goal.returns-then-not-are_pairs
@@ -18,7 +18,7 @@ returns-in_err-numbers c = λ feature_record number is. (
 
 pub returns : goal.returns
 returns c = λ feature_record number is.
-    let found = next_is feature_record.tags c.in_ok-numbers.numbers c.next_tag.new.numbers c.args.index c.next_tag.result (c.in_ok-numbers.ensures.there feature_record is)
-    c.next_tag.ensures.number c.next_tag.ensures.none in
+    let found = next_is feature_record.tags c.in_ok-numbers.numbers c.next_number.new.numbers c.args.index c.next_number.result (c.in_ok-numbers.ensures.there feature_record is)
+    c.next_number.ensures.there in
     let pairs = (c.if-not-are_pairs.ensures feature_record is).0 refl in
     (λ some. (pairs, sym found ∙ some), λ there. found ∙ there.1)

@@ -1,4 +1,4 @@
-use Rattle.mvt_confirm.proofs.WholeTiles.{is_tile, layers_hold}
+use Rattle.mvt_confirm.proofs.Wire.WholeTiles.{is_tile, layers_hold}
 use Rattle.mvt_confirm.proofs.tile.is_tile.Goals as goal
 
 pub returns-then-keeps_schema : goal.returns-then-keeps_schema

@@ -19,7 +19,8 @@ const ON_SQUARE: &[u8] =
     b"\x1a\x25\x78\x02\x0a\x01a\x12\x1e\x18\x03\x22\x1a\x09\x00\x00\x1a\xc8\x01\x00\x00\xc8\
     \x01\xc7\x01\x00\x0f\x09\x28\x9f\x01\x1a\x14\x00\x00\x14\x13\x00\x0f";
 
-/// A square of 100 with a hole from (10,10) to (90,90), and in the hole a square of 10 from (20,20).
+/// A square of 100 with a hole from (10,10) to (90,90), and in the hole a square of 10 from
+/// (20,20).
 const ISLAND: &[u8] =
     b"\x1a\x34\x78\x02\x0a\x01a\x12\x2d\x18\x03\x22\x29\x09\x00\x00\x1a\xc8\x01\x00\x00\xc8\
     \x01\xc7\x01\x00\x0f\x09\x14\xb3\x01\x1a\x00\xa0\x01\xa0\x01\x00\x00\x9f\x01\x0f\x09\x8b\x01\x14\x1a\x14\x00\x00\x14\x13\x00\x0f";
@@ -39,7 +40,8 @@ const FLAT: &[u8] =
     b"\x1a\x2d\x78\x02\x0a\x01a\x12\x26\x18\x03\x22\x22\x09\x00\x00\x1a\xc8\x01\x00\x00\xc8\
     \x01\xc7\x01\x00\x0f\x09\x28\x9f\x01\x12\x78\x00\x3b\x78\x0f\x09\x63\x9f\x01\x12\x14\x14\x14\x14\x0f";
 
-/// The fault of the one layer's one feature that a vertex of a polygon's exterior is inside another polygon.
+/// The fault of the one layer's one feature that a vertex of a polygon's exterior is inside another
+/// polygon.
 fn in_polygon(polygon: usize, vertex: usize, other: usize) -> Fault {
     Fault::InPolygon {
         layer: 0,
@@ -50,7 +52,8 @@ fn in_polygon(polygon: usize, vertex: usize, other: usize) -> Fault {
     }
 }
 
-/// Whether the fault is true of the bytes where a feature's polygons are kept apart, and there alone.
+/// Whether the fault is true of the bytes where a feature's polygons are kept apart, and there
+/// alone.
 fn is_in_feature_alone(bytes: &[u8], fault: &Fault) -> bool {
     confirm_with(Profile::Feature, bytes, fault)
         && !confirm_with(Profile::Polygon, bytes, fault)
@@ -71,7 +74,7 @@ fn polygons_in_others(rt: HostRuntime) {
     assert!(rt; is_in_feature_alone(HOLLOW, &in_polygon(1, 2, 0)));
 }
 
-// The crossing of two polygons is told for the second one alone, and in the order of the edges.
+// The crossing of two polygons is reported for the second one alone, and in the order of the edges.
 #[test]
 fn two_bars(rt: HostRuntime) {
     let point = (18000, 9000, 900);
@@ -97,7 +100,8 @@ fn a_polygon_in_itself(rt: HostRuntime) {
     assert!(rt; !is_anywhere(OVERLAP, &in_polygon(1, 0, 1)));
 }
 
-// Vertices that aren't there, or that a hole alone has, and one where a ring has a fault of its own.
+// Vertices that aren't there, or that a hole alone has, and one where a ring has a fault of its
+// own.
 #[test]
 fn other_vertices(rt: HostRuntime) {
     assert!(rt; !is_anywhere(OVERLAP, &in_polygon(0, 1, 1)));

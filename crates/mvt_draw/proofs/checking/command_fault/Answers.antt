@@ -1,9 +1,9 @@
 use Rattle.std.proofs.Common.{subst}
 use Rattle.mvt_fault.specs.Code.{command_code}
-use Rattle.mvt_plane.proofs.CommandFaults.{has_command_fault}
-use Rattle.mvt_plane.proofs.Geometries.{figure_faultless}
+use Rattle.mvt_plane.proofs.Spelling.CommandFaults.{has_command_fault}
+use Rattle.mvt_plane.proofs.Spelling.Geometries.{figure_faultless}
 use Rattle.mvt_tile.specs.View.{kind_number}
-use Rattle.mvt_draw.specs.Geometry.{IsFaultAhead}
+use Rattle.mvt_draw.specs.Calls.Geometry.{IsFaultAhead}
 use Rattle.mvt_draw.proofs.checking.command_fault.Goals as goal
 
 pub returns-in-Err-Command-clause-fault : goal.returns-in-Err-Command-clause-fault

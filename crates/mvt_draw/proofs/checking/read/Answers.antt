@@ -1,7 +1,7 @@
 use Rattle.std.proofs.Common.{ap}
 use Rattle.std.proofs.lemmas.Result.{IfOk-weaker}
-use Rattle.mvt_plane.proofs.Geometries.{whole_figure}
-use Rattle.mvt_plane.specs.Figure.{point, line_string, polygon}
+use Rattle.mvt_plane.proofs.Spelling.Geometries.{whole_figure}
+use Rattle.mvt_plane.specs.Commands.Figure.{point, line_string, polygon}
 use Rattle.mvt_tile.specs.View.{kind_number}
 use Rattle.mvt_draw.proofs.checking.read.Goals as goal
 

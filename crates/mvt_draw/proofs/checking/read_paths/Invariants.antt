@@ -1,15 +1,16 @@
 use Rattle.std.proofs.Common.{◌≤◌, ◌+◌, Bool, List, ℕ}
-use Rattle.mvt_plane.specs.Drawing.{path_command}
-use Rattle.mvt_plane.specs.Reading.{StandsAt, path_type}
-use Rattle.mvt_draw.specs.Cursor.{position_of}
-use Rattle.mvt_draw.specs.Given.{IsGivenAt}
+use Rattle.mvt_plane.specs.Commands.Drawing.{path_command}
+use Rattle.mvt_plane.specs.Calls.Reading.{StandsAt}
+use Rattle.mvt_plane.specs.Commands.Reading.{path_type}
+use Rattle.mvt_draw.specs.Calls.Cursor.{position_of}
+use Rattle.mvt_draw.specs.Calls.Given.{IsGivenAt}
 use Rattle.mvt_draw.proofs.checking.read_paths.Given as goal
 
 abbrev pub invariant-paths : goal.invariant-paths
 invariant-paths g l = record {
-  fewer : l.at + 1 + g.N.NumberSource.most l.source ≤ g.N.NumberSource.most l.fn.source;
+  fewer : l.cursor.at + 1 + g.N.NumberSource.most l.source ≤ g.N.NumberSource.most l.fn.source;
   there : (given : List ℕ) → g.N.NumberSource.Leaves l.fn.source given
-      → IsGivenAt (g.N.NumberSource.Leaves l.source) given l.at l.first × ((drawn : Bool) × StandsAt (path_type l.closed) given l.at (path_command drawn (position_of l.cursor)));
+      → IsGivenAt (g.N.NumberSource.Leaves l.source) given l.cursor.at l.first × ((drawn : Bool) × StandsAt (path_type l.closed) given l.cursor.at (path_command drawn (position_of l.cursor)));
 }
 
 abbrev pub decreases-paths : goal.decreases-paths

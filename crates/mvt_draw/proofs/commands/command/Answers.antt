@@ -1,6 +1,6 @@
 use Rattle.std.proofs.Common.{arith}
-use Rattle.mvt_plane.specs.Drawing.{start}
-use Rattle.mvt_plane.proofs.Readers.{unfinished_there, other_command_there, other_count_there, command_leads}
+use Rattle.mvt_plane.specs.Commands.Drawing.{start}
+use Rattle.mvt_plane.proofs.Spelling.Readers.{unfinished_there, other_command_there, other_count_there, command_leads}
 use Rattle.mvt_draw.proofs.commands.command.Goals as goal
 use Rattle.mvt_draw.proofs.commands.command.Goals.{then-count-fewest-via-then-count-fewest, then-count-fewest-via-else-count-fewest+then-count-most}
 

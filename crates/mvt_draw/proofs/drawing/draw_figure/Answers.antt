@@ -1,9 +1,9 @@
 use Rattle.std.proofs.Common.{List, ap, sym, ◌∙◌, Some}
-use Rattle.mvt_plane.specs.Figure.{point, line_string, polygon, points, lines, rings}
+use Rattle.mvt_plane.specs.Commands.Figure.{point, line_string, polygon, points, lines, rings}
 use Rattle.mvt_plane.specs.Position.{Position}
 use Rattle.mvt_tile.specs.View.{kind_number}
 use Rattle.mvt_draw.specs.Geometry.{drawn}
-use Rattle.mvt_plane.proofs.FigurePaths.{points_run, lines_ahead, rings_ahead}
+use Rattle.mvt_plane.proofs.Spelling.FigurePaths.{points_run, lines_ahead, rings_ahead}
 use Rattle.mvt_draw.proofs.drawing.draw_figure.Goals as goal
 
 pub returns-in_ok-draw_points-in-Point : goal.returns-in_ok-draw_points-in-Point

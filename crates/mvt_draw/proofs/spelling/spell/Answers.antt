@@ -1,5 +1,5 @@
 use Rattle.std.proofs.Common.{map}
-use Rattle.mvt_plane.specs.Figure.{points, lines, rings}
+use Rattle.mvt_plane.specs.Commands.Figure.{points, lines, rings}
 use Rattle.mvt_draw.proofs.SpellingFigures.{spelled_alone}
 use Rattle.mvt_draw.proofs.spelling.spell.Goals as goal
 use Rattle.mvt_draw.proofs.spelling.spell.Goals.{in-Points+in_ok-spell_points-in-Points, in-Lines+in_ok-spell_lines-in-Lines, in-Rings+in_ok-spell_rings-in-Rings}

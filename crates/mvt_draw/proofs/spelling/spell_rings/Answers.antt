@@ -1,5 +1,5 @@
 use Rattle.std.proofs.Common.{ℕ, List, [], ◌∷◌, ◌++◌, map, ap, ◌∙◌}
-use Rattle.mvt_plane.specs.Figure.{close_path, command_integer}
+use Rattle.mvt_plane.specs.Commands.Figure.{close_path, command_integer}
 use Rattle.mvt_plane.specs.Position.{origin}
 use Rattle.mvt_draw.proofs.SpellingFaults.{fault_passed}
 use Rattle.mvt_draw.proofs.SpellingPaths.{ArePathsTo-begun, ArePathsTo-at, ArePathsTo-on, ArePathsTo-whole, some_parts}

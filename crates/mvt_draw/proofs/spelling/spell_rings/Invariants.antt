@@ -1,5 +1,5 @@
 use Rattle.std.proofs.Common.{[], ◌∷◌, drop, map}
-use Rattle.mvt_plane.specs.Figure.{close_path, command_integer}
+use Rattle.mvt_plane.specs.Commands.Figure.{close_path, command_integer}
 use Rattle.mvt_plane.specs.Position.{origin}
 use Rattle.mvt_draw.proofs.SpellingPaths.{ArePathsTo}
 use Rattle.mvt_draw.proofs.spelling.spell_rings.Given as goal

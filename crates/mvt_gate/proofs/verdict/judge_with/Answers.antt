@@ -1,5 +1,5 @@
 use Rattle.std.proofs.lemmas.Option.{MatchOption-at_none, MatchOption-at_some}
-use Rattle.mvt_tile.proofs.Tiles.{is_tile}
+use Rattle.mvt_tile.proofs.WireFaults.Tiles.{is_tile}
 use Rattle.mvt_gate.proofs.Verdicts.{valid_without_fault, least_of_wire, least_of_tile, fault_of_invalid}
 use Rattle.mvt_gate.specs.declared.verdict.Verdict.TheVariants.{Yes, No}
 use Rattle.mvt_gate.proofs.verdict.judge_with.Goals as goal

@@ -6,7 +6,8 @@ use mvt_tile::{Feature, Layer, ReadFault, check_layers, check_tags, read_tile};
 use std::alloc::Global;
 use std::test::Fail;
 
-/// Tiles in hexadecimal, and the text of the first fault that the calls find in them, one after the other.
+/// Tiles in hexadecimal, and the text of the first fault that the calls find in them, one after the
+/// other.
 const FAULTS: &str = r#"
 # none: a point with a tag
 1a 1f 0a 01 61 12 0d 08 07 12 02 00 00 18 01 22 03 09 32 22 1a 01 6b 22 03 0a 01 76 28 80 20 78 02 => none

@@ -37,8 +37,8 @@ fn is_soon_valid(rt: &HostRuntime, comb: &[(&str, u32)]) -> Result<bool, Fail> {
     Ok(verdict == Verdict::Yes && taken <= Duration::from_secs(120))
 }
 
-// (`rt ci` and `rt test` end a test after one minute, which fails it too, but `rt test` can be set to wait longer. `rt
-// try --test` needs minutes for this, so it fails there.)
+// (`rt ci` and `rt test` end a test after one minute, which fails it too, but `rt test` can be set
+// to wait longer. `rt try --test` needs minutes for this, so it fails there.)
 #[test]
 fn judges_combs_of_many_teeth(rt: HostRuntime) -> Result<(), Fail> {
     assert!(rt; is_soon_valid(&rt, &COMBS)?);

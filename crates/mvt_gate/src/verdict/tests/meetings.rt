@@ -1,5 +1,5 @@
-//! Where edges meet: the line of `check` is read back, the checker accepts its fault, and arithmetic of these tests'
-//! own finds the point on both edges.
+//! Where edges meet: the line of `check` is read back, the checker accepts its fault, and
+//! arithmetic of these tests' own finds the point on both edges.
 use super::{MOVED_TOOTH, TOOTH_ABOVE, comb_tile};
 use crate::device::{CALM, bytes_of};
 use crate::engine::Outcome;
@@ -8,8 +8,8 @@ use mvt_confirm::confirm;
 use mvt_fault::{Fault, RingEdge, fault_from_text};
 use std::test::Fail;
 
-/// Tiles in hexadecimal, the vertices of their rings, and how the line of their meeting ends. Edges that touch do so at
-/// one point, and the line ends with it.
+/// Tiles in hexadecimal, the vertices of their rings, and how the line of their meeting ends. Edges
+/// that touch do so at one point, and the line ends with it.
 const MEETINGS: &str = r#"
 # a ring that goes back along an edge of its own: its last vertex is on that edge
 1a 16 78 02 0a 01 61 12 0f 18 03 22 0b 09 00 00 1a 14 00 00 14 00 09 0f => 0,0 10,0 10,10 10,5 => "w":"1","x":"10","y":"5"}
@@ -44,7 +44,7 @@ fn rings_of(rt: &HostRuntime, text: &str) -> Result<Vec<Vec<Vertex>>, Fail> {
     Ok(rings)
 }
 
-/// An edge, and which one comes behind it in its ring.
+/// An edge, and which one comes after it in its ring.
 #[derive(Clone, Copy)]
 struct Edge {
     begin: Vertex,
@@ -52,11 +52,15 @@ struct Edge {
     next: RingEdge,
 }
 
-/// An edge of these rings. Behind the last edge of a ring comes edge 0.
+/// An edge of these rings. After the last edge of a ring comes edge 0.
 fn edge_of(rings: &[Vec<Vertex>], edge: RingEdge) -> Option<Edge> {
     let ring = rings.get(edge.ring)?;
-    let behind = edge.edge.wrapping_add(1);
-    let next = if behind == ring.len() { 0 } else { behind };
+    let following = edge.edge.wrapping_add(1);
+    let next = if following == ring.len() {
+        0
+    } else {
+        following
+    };
     Some(Edge {
         begin: *ring.get(edge.edge)?,
         end: *ring.get(next)?,
@@ -75,7 +79,8 @@ fn step(vertex: Vertex, (x, y, w): (i128, i128, i128)) -> (i128, i128) {
     )
 }
 
-/// Whether the point lies on an edge: the steps from its ends to the point have opposite directions.
+/// Whether the point lies on an edge: the steps from its ends to the point have opposite
+/// directions.
 fn lies_on(point: (i128, i128, i128), edge: &Edge) -> bool {
     let (x, y) = step(edge.begin, point);
     let (end_x, end_y) = step(edge.end, point);
@@ -84,7 +89,7 @@ fn lies_on(point: (i128, i128, i128), edge: &Edge) -> bool {
         && y.wrapping_mul(end_y) <= 0
 }
 
-/// Whether the point is the vertex between an edge and the one behind it.
+/// Whether the point is the vertex between an edge and the one after it.
 fn is_between(point: (i128, i128, i128), edge: &Edge, next: RingEdge) -> bool {
     edge.next == next && step(edge.end, point) == (0, 0)
 }
@@ -94,7 +99,8 @@ fn is_small(number: i128) -> bool {
     -1_000_000_000 < number && number < 1_000_000_000
 }
 
-/// Whether a fault names two edges of these rings, and a point on both that isn't the vertex between them.
+/// Whether a fault names two edges of these rings, and a point on both that isn't the vertex
+/// between them.
 fn is_wrong_meeting(fault: &Fault, rings: &[Vec<Vertex>]) -> bool {
     let Fault::Meeting {
         layer: 0,
@@ -118,8 +124,9 @@ fn is_wrong_meeting(fault: &Fault, rings: &[Vec<Vertex>]) -> bool {
     is_point && first != second && is_apart && lies_on(point, &edge) && lies_on(point, &other)
 }
 
-/// Whether the line of `check` tells a wrong meeting of these rings that the checker accepts, and ends so.
-fn tells_meeting(
+/// Whether the line of `check` reports a wrong meeting of these rings that the checker accepts, and
+/// ends so.
+fn reports_meeting(
     rt: &HostRuntime,
     tile: &[u8],
     rings: &[Vec<Vertex>],
@@ -136,7 +143,7 @@ fn tells_meeting(
 /// The same of a row of the table.
 fn holds(rt: &HostRuntime, text: &str, meeting: &str) -> Result<bool, Fail> {
     let (rings, end) = meeting.split_once(" => ").ok_or("no end")?;
-    tells_meeting(rt, &bytes_of(rt, text)?, &rings_of(rt, rings)?, end)
+    reports_meeting(rt, &bytes_of(rt, text)?, &rings_of(rt, rings)?, end)
 }
 
 /// How many rows of the table hold before the first that does not, if any.
@@ -154,13 +161,14 @@ fn rows_held(rt: &HostRuntime, rows: &str) -> Result<u32, Fail> {
 }
 
 #[test]
-fn tells_where_edges_meet(rt: HostRuntime) -> Result<(), Fail> {
+fn reports_where_edges_meet(rt: HostRuntime) -> Result<(), Fail> {
     assert_eq!(rt; rows_held(&rt, MEETINGS)?, 5);
     Ok(())
 }
 
-/// A vertex of the two combs with a moved tooth, by its ordinal. The comb below goes to the right and the one above comes
-/// back, with 158 vertices each. The vertex that was moved is from (80, 20).
+/// A vertex of the two combs with a moved tooth, by its ordinal. The comb below goes to the right
+/// and the one above comes back, with 158 vertices each. The vertex that was moved is from (80,
+/// 20).
 fn comb_vertex(number: u32) -> Vertex {
     if number == 235 {
         return (77, 15);
@@ -184,12 +192,12 @@ fn comb_ring(rt: &HostRuntime) -> Result<Vec<Vertex>, Fail> {
 }
 
 #[test]
-fn tells_where_combs_meet(rt: HostRuntime) -> Result<(), Fail> {
+fn reports_where_combs_meet(rt: HostRuntime) -> Result<(), Fail> {
     let combs = comb_tile(&rt, TOOTH_ABOVE)?;
     assert!(rt; writes(&rt, Engine::Check, &combs, r#"{"ok":true}"#));
     let mut rings = Vec::new(rt.alloc());
     rings.push(comb_ring(&rt)?)?;
     let moved = comb_tile(&rt, MOVED_TOOTH)?;
-    assert!(rt; tells_meeting(&rt, &moved, &rings, "}")?);
+    assert!(rt; reports_meeting(&rt, &moved, &rings, "}")?);
     Ok(())
 }

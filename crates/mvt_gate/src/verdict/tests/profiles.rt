@@ -7,12 +7,12 @@ use crate::verdict::{Verdict, judge_with};
 use mvt_fault::{Fault, Profile, fault_from_text};
 use std::test::Fail;
 
-/// Tiles in hexadecimal; the lines of `check` where the polygons of a feature are kept apart, of which any is right; and
-/// the line where each polygon is looked at by itself.
+/// Tiles in hexadecimal; the lines of `check` where the polygons of a feature are kept apart, of
+/// which any is right; and the line where each polygon is checked by itself.
 const FEATURES: &str = r#"
-# squares that overlap: told for the first one, before the edges that cross
+# squares that overlap: reported for the first one, before the edges that cross
 1a 21 78 02 0a 01 61 12 1a 18 03 22 16 09 00 00 1a 14 00 00 14 13 00 0f 09 0a 09 1a 14 00 00 14 13 00 0f => {"code":507,"feature":0,"layer":0,"other":1,"polygon":0,"vertex":2} => {"ok":true}
-# two bars that cross: told for the second one
+# two bars that cross: reported for the second one
 1a 21 78 02 0a 01 61 12 1a 18 03 22 16 09 00 14 1a 3c 00 00 14 3b 00 0f 09 14 27 1a 14 00 00 3c 13 00 0f => {"code":504,"feature":0,"first":{"edge":0,"ring":0},"layer":0,"polygon":1,"second":{"edge":1,"ring":1},"w":"900","x":"18000","y":"9000"} or {"code":504,"feature":0,"first":{"edge":0,"ring":0},"layer":0,"polygon":1,"second":{"edge":3,"ring":1},"w":"900","x":"9000","y":"9000"} or {"code":504,"feature":0,"first":{"edge":2,"ring":0},"layer":0,"polygon":1,"second":{"edge":1,"ring":1},"w":"900","x":"18000","y":"18000"} or {"code":504,"feature":0,"first":{"edge":2,"ring":0},"layer":0,"polygon":1,"second":{"edge":3,"ring":1},"w":"900","x":"9000","y":"18000"} => {"ok":true}
 # a square on a square
 1a 25 78 02 0a 01 61 12 1e 18 03 22 1a 09 00 00 1a c8 01 00 00 c8 01 c7 01 00 0f 09 28 9f 01 1a 14 00 00 14 13 00 0f => {"code":507,"feature":0,"layer":0,"other":0,"polygon":1,"vertex":0} => {"ok":true}
@@ -59,7 +59,8 @@ const FEATURES: &str = r#"
 
 const YES: &str = r#"{"ok":true}"#;
 
-/// The text that an engine writes of a tile and a claim, without the LF at its end, and its outcome.
+/// The text that an engine writes of a tile and a claim, without the LF at its end, and its
+/// outcome.
 fn answer_of<'t>(
     rt: &HostRuntime,
     engine: Engine,
@@ -107,8 +108,9 @@ fn is_judged(rt: &HostRuntime, profile: Profile, bytes: &[u8], line: &str) -> Re
     Ok(said == verdict && promised == agreement)
 }
 
-/// Whether one of the lines is what the engine of `check` writes of the bytes by the profile; `judge_with` says the same,
-/// and the engine of `confirm` confirms a fault: by this profile, and by the other one only if it is a line there too.
+/// Whether one of the lines is what the engine of `check` writes of the bytes by the profile;
+/// `judge_with` says the same, and the engine of `confirm` confirms a fault: by this profile, and
+/// by the other one only if it is a line there too.
 fn is_answered(
     rt: &HostRuntime,
     profile: Profile,

@@ -1,4 +1,4 @@
-use Rattle.mvt_polygon.proofs.ApartFaults.{AreApartBefore}
+use Rattle.mvt_polygon.proofs.Holes.ApartFaults.{AreApartBefore}
 use Rattle.mvt_polygon.specs.Rings.{rings_of}
 use Rattle.mvt_polygon.proofs.apart.check_apart.Given as goal
 

@@ -1,12 +1,12 @@
 use Rattle.std.proofs.Common.{◌≡◌, ℕ, ◌+◌, ◌≤◌, false, [], ◌∷◌, length, Option, IfNone, IfOk, sym, subst, arith}
-use Rattle.mvt_polygon.specs.Alone.{IsAloneAnswer}
-use Rattle.mvt_polygon.specs.Corners.{vertex_count}
+use Rattle.mvt_polygon.specs.Calls.Alone.{IsAloneAnswer}
+use Rattle.mvt_polygon.specs.Work.{vertex_count}
 use Rattle.mvt_polygon.specs.Feature.{AddsSweeps, IsFeatureAnswer}
 use Rattle.mvt_polygon.specs.Polygons.{ArePolygons}
 use Rattle.mvt_polygon.specs.Rings.{rings_of}
 use Rattle.mvt_polygon.specs.declared.feature.FeatureFault.{FeatureFault}
 use Rattle.mvt_status.specs.Counts.{bits, raised}
-use Rattle.mvt_polygon.proofs.PartedAnswers.{alone_sweeps, one_answer, one_vertices, if_ok, if_ok_none}
+use Rattle.mvt_polygon.proofs.Features.PartedAnswers.{alone_sweeps, one_answer, one_vertices, if_ok, if_ok_none}
 use Rattle.mvt_polygon.proofs.feature.check_feature.Goals as goal
 
 pub returns-then-len-eq1-clause-answer : goal.returns-then-len-eq1-clause-answer

@@ -1,11 +1,11 @@
 use Rattle.std.proofs.Common.{◌≡◌, ◌+◌, ◌≤◌, length, ◌∙◌, ap, arith}
-use Rattle.mvt_polygon.specs.Alone.{earlier_of, vertices_alone}
-use Rattle.mvt_polygon.specs.Corners.{vertex_count}
+use Rattle.mvt_polygon.specs.Calls.Alone.{earlier_of, vertices_alone}
+use Rattle.mvt_polygon.specs.Work.{vertex_count}
 use Rattle.mvt_polygon.specs.Feature.{AddsSweeps}
-use Rattle.mvt_polygon.specs.Gathered.{gathered_rings, fault_moved}
+use Rattle.mvt_polygon.specs.Calls.Gathered.{gathered_rings, fault_moved}
 use Rattle.mvt_polygon.specs.Rings.{rings_of}
 use Rattle.mvt_status.specs.Counts.{bits, raised}
-use Rattle.mvt_polygon.proofs.PartedAnswers.{both_none, if_none, alone_sweeps, all_able, all_drawn, both_sweeps, both_counted, both_apart, both_least, all_within, both_answer}
+use Rattle.mvt_polygon.proofs.Features.PartedAnswers.{both_none, if_none, alone_sweeps, all_able, all_drawn, both_sweeps, both_counted, both_apart, both_least, all_within, both_answer}
 use Rattle.mvt_polygon.proofs.feature.check_parted.Goals as goal
 
 pub returns-in_err-alone-clause-counted : goal.returns-in_err-alone-clause-counted

@@ -1,17 +1,17 @@
 use Rattle.std.proofs.Common.{◌≡◌, ℕ, ◌+◌, ◌≤◌, true, false, length, sym, ◌∙◌, subst, arith}
 use Rattle.mvt_plane.specs.Counted.{Counted}
-use Rattle.mvt_plane.specs.Part.{part_of}
-use Rattle.mvt_polygon.specs.Alone.{vertices_alone}
-use Rattle.mvt_polygon.specs.Corners.{vertex_count}
+use Rattle.mvt_plane.specs.Geometry.Part.{part_of}
+use Rattle.mvt_polygon.specs.Calls.Alone.{vertices_alone}
+use Rattle.mvt_polygon.specs.Work.{vertex_count}
 use Rattle.mvt_polygon.specs.Feature.{AddsSweeps}
-use Rattle.mvt_polygon.specs.FeatureParts.{listed_at}
+use Rattle.mvt_polygon.specs.Calls.FeatureParts.{listed_at}
 use Rattle.mvt_polygon.specs.Rings.{rings_of}
 use Rattle.mvt_status.specs.Counts.{raised}
-use Rattle.mvt_polygon.proofs.ApartFaults.{rings_listed, ends_within}
-use Rattle.mvt_polygon.proofs.GatheredLists.{IsMarked}
-use Rattle.mvt_polygon.proofs.OwnFaults.{fine_more, none_found, where_none}
-use Rattle.mvt_polygon.proofs.RingReads.{count_of_rings}
-use Rattle.mvt_polygon.proofs.SweepShares.{alone_more, alone_same, alone_up, sweeps_then, raised_then}
+use Rattle.mvt_polygon.proofs.Holes.ApartFaults.{rings_listed, ends_within}
+use Rattle.mvt_polygon.proofs.Features.GatheredLists.{IsMarked}
+use Rattle.mvt_polygon.proofs.Holes.OwnFaults.{fine_more, none_found, where_none}
+use Rattle.mvt_polygon.proofs.Vertices.RingReads.{count_of_rings}
+use Rattle.mvt_polygon.proofs.Features.SweepShares.{alone_more, alone_same, alone_up, sweeps_then, raised_then}
 use Rattle.mvt_polygon.proofs.feature.fault_alone.Goals as goal
 use Rattle.mvt_polygon.proofs.feature.fault_alone.Goals.{then-not-crowded-polygon+in_ok-found+else-is_some, else-not-crowded-polygon}
 

@@ -1,5 +1,5 @@
 use Rattle.std.proofs.Common.{◌≤◌}
-use Rattle.mvt_polygon.specs.Alone.{AreFineBefore, vertices_alone}
+use Rattle.mvt_polygon.specs.Calls.Alone.{AreFineBefore, vertices_alone}
 use Rattle.mvt_polygon.specs.Feature.{AddsSweeps}
 use Rattle.mvt_polygon.specs.Rings.{rings_of}
 use Rattle.mvt_status.specs.Counts.{raised}

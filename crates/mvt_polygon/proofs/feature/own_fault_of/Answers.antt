@@ -1,24 +1,25 @@
 use Rattle.std.proofs.Common.{◌≤◌, IfNone, Option, List, slice_range, sym, subst, arith}
-use Rattle.mvt_plane.specs.Polygon.{PolygonRings}
+use Rattle.mvt_plane.specs.Geometry.Polygon.{PolygonRings}
 use Rattle.mvt_plane.specs.Position.{Position}
-use Rattle.mvt_polygon.specs.Alone.{IsOwnAnswer, own_fault}
-use Rattle.mvt_polygon.specs.CornerOrder.{IsCounted}
-use Rattle.mvt_polygon.specs.Corners.{vertex_count}
+use Rattle.mvt_polygon.specs.Calls.Alone.{IsOwnAnswer, own_fault}
+use Rattle.mvt_polygon.specs.Work.{IsCounted}
+use Rattle.mvt_polygon.specs.Work.{vertex_count}
 use Rattle.mvt_polygon.specs.Feature.{AddsSweeps}
 use Rattle.mvt_polygon.specs.PolygonFault.{IsPolygonAnswer, meeting_in}
 use Rattle.mvt_polygon.specs.Rings.{rings_of, AreProperRings}
 use Rattle.mvt_polygon.specs.declared.feature.FeatureFault.{FeatureFault}
 use Rattle.mvt_status.specs.Counts.{raised}
-use Rattle.mvt_polygon.proofs.OwnFaults.{part_drawn, own_within, own_answer, own_least}
-use Rattle.mvt_polygon.proofs.RingReads.{count_of_rings}
-use Rattle.mvt_polygon.proofs.SweepShares.{one_sweep, rings_of_part}
+use Rattle.mvt_polygon.proofs.Holes.OwnFaults.{own_within, own_answer, own_least}
+use Rattle.mvt_polygon.proofs.Placed.OwnPassings.{proper_part}
+use Rattle.mvt_polygon.proofs.Vertices.RingReads.{count_of_rings}
+use Rattle.mvt_polygon.proofs.Features.SweepShares.{one_sweep, rings_of_part}
 use Rattle.mvt_polygon.proofs.feature.own_fault_of.Goals as goal
 
 pub check_polygon-requires : goal.check_polygon-requires
 check_polygon-requires c =
     let it : PolygonRings = record { exterior = c.args.exterior; after = c.args.after } in
     let count = count_of_rings c.args.rings.now in
-    subst AreProperRings (sym (rings_of_part c.args.rings.now it.exterior it.after)) (part_drawn (rings_of c.args.rings.now) it (omega arith) c.requires.drawn)
+    subst AreProperRings (sym (rings_of_part c.args.rings.now it.exterior it.after)) (proper_part (rings_of c.args.rings.now) it (omega arith) c.requires.drawn)
 
 pub returns-in_err-found-clause-counted : goal.returns-in_err-found-clause-counted
 returns-in_err-found-clause-counted c =

@@ -1,5 +1,5 @@
 use Rattle.std.proofs.Common.{ℕ, ◌<◌}
-use Rattle.mvt_polygon.specs.Nesting.{IsHoleAround}
+use Rattle.mvt_polygon.specs.Calls.Nesting.{IsHoleAround}
 use Rattle.mvt_polygon.specs.Rings.{rings_of}
 use Rattle.mvt_polygon.proofs.nesting.hole_around.Given as goal
 

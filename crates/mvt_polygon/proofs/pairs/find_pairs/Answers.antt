@@ -1,20 +1,20 @@
 use Rattle.std.proofs.Common.{◌≤◌, ℕ, ◌+◌, ◌*◌, List, refl, sym, subst, arith}
-use Rattle.mvt_polygon.specs.Pairs.{AreEnough, pairs_of}
-use Rattle.mvt_polygon.proofs.LeastWork.{few_pairs, pairs_of_more}
-use Rattle.mvt_polygon.proofs.PairsEnough.{enough_of_none, enough_to_next}
-use Rattle.mvt_polygon.proofs.StatusCounts.{no_work, work_then, work_within}
+use Rattle.mvt_polygon.specs.Calls.Pairs.{AreEnough, pairs_of}
+use Rattle.mvt_polygon.proofs.Sweeps.LeastWork.{few_pairs, pairs_of_more}
+use Rattle.mvt_polygon.proofs.Vertices.PairsEnough.{enough_of_none, enough_to_next}
+use Rattle.mvt_polygon.proofs.Sweeps.StatusCounts.{no_work, work_then, work_within}
 use Rattle.mvt_polygon.proofs.pairs.find_pairs.Goals as goal
 
 pub loop-second-init : goal.loop-second-init
 unfolding pairs_of
-loop-second-init c = record { enough = subst (λ (pairs : List (ℕ × ℕ)). AreEnough c.args.corners.now pairs 0 0) (sym c.requires.empty) (enough_of_none c.args.corners.now); counted = no_work c.args.count.now; probed = omega arith }
+loop-second-init c = record { enough = subst (λ (pairs : List (ℕ × ℕ)). AreEnough c.args.vertices.now pairs 0 0) (sym c.requires.empty) (enough_of_none c.args.vertices.now); counted = no_work c.args.count.now; probed = omega arith }
 
 pub loop-second-preserved : goal.loop-second-preserved
 loop-second-preserved c =
     let so_far = c.loop-second.invariant in
     let more = pairs_of_more c.loop-second.second in
     record {
-      enough = enough_to_next c.args.corners.now c.add_pairs.new.pairs.items c.loop-second.second (c.if-not-add_pairs.ensures.enough refl);
+      enough = enough_to_next c.args.vertices.now c.add_pairs.new.pairs.items c.loop-second.second (c.if-not-add_pairs.ensures.enough refl);
       counted = work_within (omega arith) (omega (arith, more)) (omega arith) (work_then so_far.counted c.add_pairs.ensures.counted);
       probed = omega (arith, so_far.probed, c.if-not-add_pairs.ensures.probed refl, more);
     }

@@ -1,34 +1,35 @@
 use Rattle.std.proofs.Common.{◌≡◌, ap, refl, arith}
-use Rattle.mvt_polygon.specs.Corners.{IsNamedMeeting, corner_count, vertex_count}
+use Rattle.mvt_polygon.specs.Calls.SweepVertices.{IsNamedMeeting, sweep_count}
+use Rattle.mvt_polygon.specs.Work.{vertex_count}
 use Rattle.mvt_polygon.specs.Meeting.{NoMeeting}
-use Rattle.mvt_polygon.specs.Pairs.{pairs_of}
+use Rattle.mvt_polygon.specs.Calls.Pairs.{pairs_of}
 use Rattle.mvt_polygon.specs.Rings.{rings_of}
-use Rattle.mvt_polygon.proofs.CornerPlans.{none_of_rings}
-use Rattle.mvt_polygon.proofs.LeastWork.{counted_by, counted_named, pairs_of_rings, tested_there}
-use Rattle.mvt_polygon.proofs.MeetingsFound.{none_named, some_named}
-use Rattle.mvt_polygon.proofs.NoMeetings.{none_map}
+use Rattle.mvt_polygon.proofs.Vertices.VertexPlans.{none_of_rings}
+use Rattle.mvt_polygon.proofs.Sweeps.LeastWork.{counted_by, counted_named, pairs_of_rings, tested_there}
+use Rattle.mvt_polygon.proofs.Sweeps.MeetingsFound.{none_named, some_named}
+use Rattle.mvt_polygon.proofs.Sweeps.NoMeetings.{none_map}
 use Rattle.mvt_polygon.proofs.polygon.meeting_in_ring.Goals as goal
 
 pub returns-then-find_pairs-clause-none : goal.returns-then-find_pairs-clause-none
 returns-then-find_pairs-clause-none c =
     let rings = rings_of c.args.rings.now in
-    let corners = c.in_ok-corners.corners in
-    let are = c.in_ok-corners.ensures in
+    let vertices = c.in_ok-vertices.vertices in
+    let are = c.in_ok-vertices.ensures in
     none_named c.meeting_among.result c.named_meeting.result (NoMeeting rings) c.named_meeting.ensures.none
-    (none_map c.meeting_among.result (none_of_rings rings corners c.requires are) c.meeting_among.ensures.none)
+    (none_map c.meeting_among.result (none_of_rings rings vertices c.requires are) c.meeting_among.ensures.none)
 
 pub returns-then-find_pairs-clause-some : goal.returns-then-find_pairs-clause-some
 returns-then-find_pairs-clause-some c =
     let rings = rings_of c.args.rings.now in
-    some_named rings c.in_ok-corners.corners c.meeting_among.result c.named_meeting.result c.requires
-    c.in_ok-corners.ensures c.meeting_among.ensures.some c.named_meeting.ensures.some
+    some_named rings c.in_ok-vertices.vertices c.meeting_among.result c.named_meeting.result c.requires
+    c.in_ok-vertices.ensures c.meeting_among.ensures.some c.named_meeting.ensures.some
 
 pub returns-then-find_pairs-clause-least : goal.returns-then-find_pairs-clause-least
 returns-then-find_pairs-clause-least c =
     let rings = rings_of c.args.rings.now in
-    let corners = c.in_ok-corners.corners in
-    let size : corner_count corners ≡ vertex_count rings = c.in_ok-corners.ensures.count in
-    let pairs : pairs_of (corner_count corners) ≡ pairs_of (vertex_count rings) = ap pairs_of size in
+    let vertices = c.in_ok-vertices.vertices in
+    let size : sweep_count vertices ≡ vertex_count rings = c.in_ok-vertices.ensures.count in
+    let pairs : pairs_of (sweep_count vertices) ≡ pairs_of (vertex_count rings) = ap pairs_of size in
     counted_named (λ meeting pair. IsNamedMeeting rings pair meeting) (vertex_count rings) c.args.count.now c.meeting_among.new.count c.meeting_among.result c.named_meeting.result
     c.named_meeting.ensures.none c.named_meeting.ensures.some
     (counted_by (vertex_count rings) c.args.count.now c.find_pairs.new.count c.meeting_among.new.count c.meeting_among.result (omega (arith, c.find_pairs.ensures.counted.no_fewer_tests))

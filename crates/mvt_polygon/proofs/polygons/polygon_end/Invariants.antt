@@ -1,5 +1,5 @@
 use Rattle.std.proofs.Common.{suc}
-use Rattle.mvt_plane.specs.Polygon.{NoExterior}
+use Rattle.mvt_plane.specs.Geometry.Polygon.{NoExterior}
 use Rattle.mvt_polygon.specs.Rings.{rings_of}
 use Rattle.mvt_polygon.proofs.polygons.polygon_end.Given as goal
 

@@ -1,6 +1,6 @@
 //! The bounds of later polygons, by where they begin along the x axis.
 ghost use Rattle.std.specs.Prelude.{◌≡◌, ◌≤◌, ◌<ℤ◌, ℕ, ℤ, IfOk, length, slice_get};
-ghost use Rattle.mvt_polygon.specs.Bounds.{AreInOrder, AreLaterBounds, AreReaches, IsSpread};
+ghost use Rattle.mvt_polygon.specs.Calls.Bounds.{AreInOrder, AreLaterBounds, AreReaches, IsSpread};
 ghost use Rattle.mvt_polygon.specs.Polygons.{ArePolygons};
 ghost use Rattle.mvt_polygon.specs.Rings.{rings_of, AreProperRings};
 
@@ -42,11 +42,13 @@ impl Spread {
         })
     }
 
-    /// How many of them, in their order, there are before those that begin further to the right than this.
+    /// How many of them, in their order, there are before those that begin further to the right
+    /// than this.
     pub(super) fn begun(&self, right: i32) -> usize
         requires { AreInOrder self.now.bounds.items self.now.order.items }
         ensures within { result ≤ length self.now.order.items }
-        ensures behind { (at : ℕ) (left : ℤ) (number : ℕ) → result ≤ at → slice_get self.now.order.items at ≡ Some (left, number) → right <ℤ left }
+        ensures following { (at : ℕ) (left : ℤ) (number : ℕ) → result ≤ at
+            → slice_get self.now.order.items at ≡ Some (left, number) → right <ℤ left }
     {
         let mut from = 0;
         let mut to = self.order.len();
@@ -72,7 +74,8 @@ fn bounds_of(
     requires drawn { AreProperRings (rings_of rings.now) }
     requires listed { ArePolygons (rings_of rings.now) polygons.now }
     requires later { later ≤ length polygons.now }
-    ensures { IfOk result (λ bounds. AreLaterBounds (rings_of rings.now) polygons.now later (length polygons.now) bounds.items) }
+    ensures { IfOk result (λ bounds.
+        AreLaterBounds (rings_of rings.now) polygons.now later (length polygons.now) bounds.items) }
 {
     let mut bounds = Vec::with_capacity(alloc, polygons.len() - later)?;
     for other in later..polygons.len() {
@@ -101,7 +104,8 @@ fn reaches_of(
     order: &[(i32, usize)],
 ) -> Result<Vec<i32>, AllocError>
     requires { AreInOrder bounds.now order.now }
-    ensures { IfOk result (λ reaches. AreReaches bounds.now order.now (length order.now) reaches.items) }
+    ensures { IfOk result (λ reaches.
+        AreReaches bounds.now order.now (length order.now) reaches.items) }
 {
     let mut reaches = Vec::with_capacity(alloc, order.len())?;
     let mut reach = i32::MIN;

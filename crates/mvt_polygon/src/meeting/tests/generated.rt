@@ -1,4 +1,5 @@
-//! Generated rings: in each way a meeting is found exactly where a look at all pairs of edges finds one.
+//! Generated rings: in each way a meeting is found exactly where a check of all pairs of edges finds
+//! one.
 ghost use Rattle.std.specs.Prelude.{◌<◌, length};
 
 use super::{WAYS, are_drawn, edge_of, found_in, next_round};
@@ -47,8 +48,8 @@ fn meets_plainly(ring: &[Point]) -> bool {
     false
 }
 
-/// A vertex at this step from left to right, above the others of its side or below them; where `reach` is 1 it is right of
-/// the one before it.
+/// A vertex at this step from left to right, above the others of its side or below them; where
+/// `reach` is 1 it is right of the one before it.
 fn thrown_vertex(dice: &mut Dice, step: i32, side: i32, reach: i32) -> (i32, i32) {
     let x = step
         .wrapping_mul(8)
@@ -74,7 +75,8 @@ fn thrown_ring(rt: &impl Abort, alloc: Global, dice: &mut Dice) -> Vec<Point> {
     ring_at(rt, alloc, &vertices)
 }
 
-/// In how many of 200 generated rings edges meet. Those of which two neighbours are at one position are left out.
+/// In how many of 200 generated rings edges meet. Those of which two neighbours are at one position
+/// are left out.
 fn meeting_rings(rt: &impl Abort, alloc: Global) -> u32 {
     let mut dice = Dice { state: 1 };
     let mut meeting = 0_u32;

@@ -1,12 +1,13 @@
-//! A ring of a million vertices: few pairs of its edges are tested, and the answer comes within two minutes.
+//! A ring of a million vertices: few pairs of its edges are tested, and the answer comes within two
+//! minutes.
 use super::{Way, combs, found_at, is_some_work};
 use std::alloc::Global;
 use std::process::Abort;
 use std::time::{Clock, Duration, Instant};
 
-/// Whether no edges meet in the ring through these coordinates, and the search takes one to three tests of two edges a
-/// vertex, and no more than two minutes by the clock.
-/// (`rt ci` and `rt test` end a test after one minute, which fails it too, but `rt test` has a flag to wait longer.)
+/// Whether no edges meet in the ring through these coordinates, and the search takes one to three
+/// tests of two edges a vertex, and no more than two minutes by the clock. (`rt ci` and `rt test`
+/// end a test after one minute, which fails it too, but `rt test` has a flag to wait longer.)
 fn is_soon_clear(rt: &(impl Abort + Clock), alloc: Global, ring: &[(i32, i32)]) -> bool {
     let start = Instant::now(rt).expect(rt, "a clock");
     let (found, count) = found_at(rt, alloc, &[ring], Way::Whole);
@@ -24,8 +25,9 @@ fn turned(rt: &impl Abort, alloc: Global, ring: &[(i32, i32)]) -> Vec<(i32, i32)
     other
 }
 
-// There are 499,995,500,010 pairs of edges. In the ring that is turned, half of all edges are above each other.
-// (80, 20) is where that vertex is, so none is moved. `rt try --test` needs minutes for this, so it fails there.
+// There are 499,995,500,010 pairs of edges. In the ring that is turned, half of all edges are above
+// each other. (80, 20) is where that vertex is, so none is moved. `rt try --test` needs minutes for
+// this, so it fails there.
 #[test]
 fn combs_of_many_teeth(rt: HostRuntime) {
     let alloc = rt.alloc();

@@ -10,7 +10,8 @@ use mvt_plane::{Count, Point};
 use std::alloc::Global;
 use std::process::Abort;
 
-/// Whether no two edges of drawn rings meet wrongly, and this is the fault of their polygon, after so many probes.
+/// Whether no two edges of drawn rings meet wrongly, and this is the fault of their polygon, after
+/// so many probes.
 fn finds(
     rt: &impl Abort,
     alloc: Global,

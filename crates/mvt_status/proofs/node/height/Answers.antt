@@ -1,5 +1,5 @@
 use Rattle.std.proofs.Common.{rules}
-use Rattle.mvt_status.specs.Tree.{fewest}
+use Rattle.mvt_status.specs.Calls.Tree.{fewest}
 use Rattle.mvt_status.proofs.node.height.Goals as goal
 
 pub returns-in-None-clause-filled : goal.returns-in-None-clause-filled

@@ -1,5 +1,5 @@
 use Rattle.std.proofs.Common.{◌≡◌, ◌+◌, suc, max, arith}
-use Rattle.mvt_status.specs.Tree.{DifferByAtMost, height_of}
+use Rattle.mvt_status.specs.Calls.Tree.{DifferByAtMost, height_of}
 use Rattle.mvt_status.proofs.Heights.{filled_over_both, height_of_a_word}
 use Rattle.mvt_status.proofs.node.level_over.Goals as goal
 

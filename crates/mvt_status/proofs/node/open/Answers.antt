@@ -1,5 +1,5 @@
 use Rattle.std.proofs.Common.{rules}
-use Rattle.mvt_status.specs.Tree.{fewest}
+use Rattle.mvt_status.specs.Calls.Tree.{fewest}
 use Rattle.mvt_status.proofs.node.open.Goals as goal
 
 pub invariant_of-top : goal.invariant_of-top

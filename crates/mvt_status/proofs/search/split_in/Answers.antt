@@ -1,5 +1,5 @@
 use Rattle.std.proofs.Common.{ℕ, ◌+◌, ◌-◌, ◌/◌, ◌<◌, length, refl, of_calls, arith}
-use Rattle.mvt_status.proofs.Halves.{whole_part, none_yet, split_behind, split_before, split_found, probes_half, added, added_at_least}
+use Rattle.mvt_status.proofs.Halves.{whole_part, none_yet, split_after, split_before, split_found, probes_half, added, added_at_least}
 use Rattle.mvt_status.proofs.search.split_in.Goals as goal
 
 pub halves-init : goal.halves-init
@@ -18,7 +18,7 @@ halves-preserved-then-below g c =
     let middle : ℕ = c.halves.from + (c.halves.to - c.halves.from) / 2 in
     let before : middle < c.halves.to = omega (arith, c.halves-test.true) in
     record {
-      part = split_behind (goal.F-post g c.args.below.now) c.args.edges.now c.halves.from c.halves.to middle c.halves.invariant.part before
+      part = split_after (goal.F-post g c.args.below.now) c.args.edges.now c.halves.from c.halves.to middle c.halves.invariant.part before
           _ c.below.result refl c.below.ensures c.if-below.true;
       probes = probes_half (c.halves.to - c.halves.from) (c.halves.to - (middle + 1)) (length c.args.edges.now) c.args.count.now c.halves.count c.probe.new.count
           c.halves.invariant.probes c.probe.ensures.counted c.probe.ensures.probed (omega (arith, c.halves-test.true)) (omega (arith, c.halves-test.true)) (omega (arith, c.halves-test.true));

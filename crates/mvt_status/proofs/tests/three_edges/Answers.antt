@@ -14,14 +14,14 @@ others_in_front zero below answer is = is
 others_in_front (suc zero) below answer is = is
 others_in_front (suc (suc i)) below answer is = absurd (omega arith)
 
-seven_behind : (i : ℕ) → 2 ≤ i → i < 3 → (answer : Bool) → is_other (slice_index three i) answer → answer ≡ false
-seven_behind zero from below answer is = absurd (omega arith)
-seven_behind (suc zero) from below answer is = absurd (omega arith)
-seven_behind (suc (suc zero)) from below answer is = is
-seven_behind (suc (suc (suc i))) from below answer is = absurd (omega arith)
+seven_after : (i : ℕ) → 2 ≤ i → i < 3 → (answer : Bool) → is_other (slice_index three i) answer → answer ≡ false
+seven_after zero from below answer is = absurd (omega arith)
+seven_after (suc zero) from below answer is = absurd (omega arith)
+seven_after (suc (suc zero)) from below answer is = is
+seven_after (suc (suc (suc i))) from below answer is = absurd (omega arith)
 
 splits_at_two : IsSplit is_other three 2
-splits_at_two = record { within = omega arith; front = others_in_front; rest = seven_behind }
+splits_at_two = record { within = omega arith; front = others_in_front; rest = seven_after }
 
 inserted : (empty first second third : List ℕ) → empty ≡ [] → first ≡ insert empty 0 7 → second ≡ insert first 0 4 → third ≡ insert second 1 9 → three ≡ third
 inserted empty first second third none one two all = cc

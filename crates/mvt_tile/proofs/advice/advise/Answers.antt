@@ -1,7 +1,7 @@
 use Rattle.std.proofs.Common.{◌+◌, sym, map, subst, take}
 use Rattle.mvt_tile.specs.Advice.{AreLayersAdvice}
 use Rattle.mvt_tile.specs.View.{layer_of}
-use Rattle.mvt_tile.proofs.Advised.{next_layer}
+use Rattle.mvt_tile.proofs.RuleFaults.Advised.{next_layer}
 use Rattle.mvt_tile.proofs.advice.advise.Goals as goal
 
 pub loop-number-preserved : goal.loop-number-preserved

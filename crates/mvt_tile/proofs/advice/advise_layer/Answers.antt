@@ -2,10 +2,10 @@ use Rattle.std.proofs.Common.{◌≡◌, ◌∙◌, sym, ap, subst, List, ◌++�
 use Rattle.std.proofs.lemmas.List.{append-nil, length-map}
 use Rattle.std.proofs.lemmas.Result.{on_ok_weaker}
 use Rattle.mvt_tile.specs.Advice.{KeyAt, IdAt, no_feature}
-use Rattle.mvt_tile.specs.Equal.{AreFirstPlaces}
+use Rattle.mvt_tile.specs.Calls.Equal.{AreFirstPlaces}
 use Rattle.mvt_tile.specs.View.{feature_of, layer_of}
 use Rattle.mvt_tile.specs.declared.advice.Advice.{Advice}
-use Rattle.mvt_tile.proofs.Advised.{layer_advice, of_none, of_some}
+use Rattle.mvt_tile.proofs.RuleFaults.Advised.{layer_advice, of_none, of_some}
 use Rattle.mvt_tile.proofs.advice.advise_layer.Goals.{then-is_empty+in_ok-push, else-is_empty}
 use Rattle.mvt_tile.proofs.advice.advise_layer.Goals as goal
 

@@ -1,8 +1,8 @@
 use Rattle.std.proofs.Common.{◌≡◌, ◌∙◌, sym, ap, List, [], ◌∷◌, ◌++◌, Vec, Global, get_or, Some, None, arith}
 use Rattle.std.proofs.lemmas.List.{append_assoc, get_or_default}
-use Rattle.mvt_tile.specs.Equal.{equal_advice}
+use Rattle.mvt_tile.specs.Calls.Equal.{equal_advice}
 use Rattle.mvt_tile.specs.declared.advice.Advice.{Advice}
-use Rattle.mvt_tile.proofs.Advised.{pairs_kept, pair_pushed, equal_more, all_pairs}
+use Rattle.mvt_tile.proofs.RuleFaults.Advised.{pairs_kept, pair_pushed, equal_more, all_pairs}
 use Rattle.mvt_tile.proofs.advice.push_equal.Goals.{in-Some+in_ok-push, in_default}
 use Rattle.mvt_tile.proofs.advice.push_equal.Goals as goal
 

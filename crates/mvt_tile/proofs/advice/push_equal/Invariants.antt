@@ -1,7 +1,7 @@
 use Rattle.std.proofs.Common.{◌≡◌, ◌++◌, ℕ, List}
 use Rattle.mvt_tile.specs.Advice.{ArePairs}
-use Rattle.mvt_tile.specs.Equal.{equal_advice}
-use Rattle.mvt_tile.proofs.Advised.{StandsBefore}
+use Rattle.mvt_tile.specs.Calls.Equal.{equal_advice}
+use Rattle.mvt_tile.proofs.RuleFaults.Advised.{StandsBefore}
 use Rattle.mvt_tile.proofs.advice.push_equal.Given as goal
 
 -- the advice on the pairs that were passed was added

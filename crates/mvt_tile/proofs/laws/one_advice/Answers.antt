@@ -1,4 +1,4 @@
-use Rattle.mvt_tile.proofs.OneAdvice.{one_advice}
+use Rattle.mvt_tile.proofs.RuleFaults.OneAdvice.{one_advice}
 use Rattle.mvt_tile.proofs.laws.one_advice.Goals as goal
 
 pub returns : goal.returns

@@ -1,5 +1,5 @@
 use Rattle.std.proofs.Common.{ℕ, ◌<◌, ◌^◌, take, subst}
-use Rattle.mvt_wire.proofs.Varints.{one_value}
+use Rattle.mvt_wire.proofs.Encoding.Varints.{one_value}
 use Rattle.mvt_tile.proofs.numbers.next_varint.Goals as goal
 use Rattle.mvt_tile.proofs.numbers.next_varint.Goals.{After-whole_varint-value}
 

@@ -2,10 +2,10 @@ use Rattle.std.proofs.Common.{◌≡◌, ◌<◌, ℕ, List, [], length, Option,
 use Rattle.mvt_wire.specs.Field.{FieldDefect, entry_of}
 use Rattle.mvt_wire.specs.Numbers.{NumbersEnd}
 use Rattle.mvt_wire.specs.declared.cause.WireCause.{WireCause}
-use Rattle.mvt_wire.proofs.NumberEnds.{ends_whole, ends-skip}
-use Rattle.mvt_wire.proofs.NumberWalks.{left_from_field, same_behind, LeavesVarints-at}
-use Rattle.mvt_tile.specs.Varints.{HasNoNumberFault}
-use Rattle.mvt_tile.proofs.FaultlessNumbers.{begins_within, given_in, left_in_field, no_defect_at, own_at}
+use Rattle.mvt_wire.proofs.FieldNumbers.NumberEnds.{ends_at_defect, ends_whole, ends-skip}
+use Rattle.mvt_wire.proofs.FieldNumbers.NumberWalks.{left_from_field, same_after, LeavesVarints-at}
+use Rattle.mvt_tile.specs.Calls.Varints.{HasNoNumberFault}
+use Rattle.mvt_tile.proofs.Reading.FaultlessNumbers.{begins_within, given_in, left_in_field, own_at}
 use Rattle.mvt_tile.proofs.numbers.next_varints.Goals as goal
 
 -- no fault ends the numbers from a place on from which what is left was left from the start
@@ -15,8 +15,8 @@ still_faultless bytes from at k faultless same given cause end = faultless given
 pub next_field-requires : goal.next_field-requires
 next_field-requires c = λ cause left defect.
     let so_far = c.walk.invariant in
-    no_defect_at c.args.bytes.now c.walk.fields.at c.args.number cause (still_faultless _ _ _ _ c.requires.faultless so_far.same)
-    (subst (λ (message : List ℕ). c.walk.fields.at < length message) so_far.same_bytes left) (subst (λ (message : List ℕ). FieldDefect message c.walk.fields.at cause) so_far.same_bytes defect)
+    still_faultless _ _ _ _ c.requires.faultless so_far.same [] cause (ends_at_defect c.args.bytes.now c.walk.fields.at c.args.number cause
+    (subst (λ (message : List ℕ). c.walk.fields.at < length message) so_far.same_bytes left) (subst (λ (message : List ℕ). FieldDefect message c.walk.fields.at cause) so_far.same_bytes defect))
 
 pub varints_in-at-requires : goal.varints_in-at-requires
 varints_in-at-requires c =
@@ -45,7 +45,7 @@ walk-preserved-else-at-end c =
     record {
       same_bytes = given.same_bytes ∙ so_far.same_bytes;
       further = omega (arith, so_far.further, given.further);
-      same = same_behind c.args.bytes.now c.args.number c.args.from c.walk.fields.at c.varints_in-at.result _ (omega (arith, c.if-at-end.false, c.at-end.ensures)) begins.1 so_far.same
+      same = same_after c.args.bytes.now c.args.number c.args.from c.walk.fields.at c.varints_in-at.result _ (omega (arith, c.if-at-end.false, c.at-end.ensures)) begins.1 so_far.same
           (left_in_field c.args.bytes.now c.walk.fields.at _ c.args.number c.varints_in-at.result entry given.here field c.if-field-number.true c.varints_in-at.ensures);
     }
 

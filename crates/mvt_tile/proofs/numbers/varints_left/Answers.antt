@@ -1,7 +1,8 @@
 use Rattle.std.proofs.Common.{◌≡◌, ℕ, [], None, sym, subst, arith}
-use Rattle.mvt_wire.specs.Numbers.{LeavesVarints, NumbersLeft, walk_at}
+use Rattle.mvt_wire.specs.Calls.Numbers.{LeavesVarints}
+use Rattle.mvt_wire.specs.Numbers.{NumbersLeft, walk_at}
 use Rattle.mvt_tile.specs.Varints.{HasNoNumber, IsFaultless}
-use Rattle.mvt_tile.proofs.FaultlessNumbers.{HasNoNumberFault-at, none_left}
+use Rattle.mvt_tile.proofs.Reading.FaultlessNumbers.{HasNoNumberFault-at, none_left}
 use Rattle.mvt_tile.proofs.numbers.varints_left.Goals as goal
 
 pub next_varints-requires-clause-faultless : goal.next_varints-requires-clause-faultless

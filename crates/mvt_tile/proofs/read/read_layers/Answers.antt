@@ -1,11 +1,12 @@
 use Rattle.std.proofs.Common.{List, map, subst}
 use Rattle.mvt_wire.specs.Field.{Entry}
-use Rattle.mvt_wire.specs.Tile.{IsLayer, FitsRule}
+use Rattle.mvt_wire.specs.Tile.{IsLayer}
+use Rattle.mvt_wire.specs.Calls.Tile.{FitsRule}
 use Rattle.mvt_wire.specs.declared.schema.Message.TheVariants as messages
-use Rattle.mvt_tile.specs.Reading.{TellsTile}
+use Rattle.mvt_tile.specs.Calls.Reading.{GivesTile}
 use Rattle.mvt_tile.specs.View.{layer_of}
-use Rattle.mvt_tile.proofs.Stretches.{Embeds-given, LiesIn-given}
-use Rattle.mvt_tile.proofs.ReadingWalk.{IsWalking-defectless, IsWalking-over, All-given}
+use Rattle.mvt_tile.proofs.WireFaults.EmbeddedSpans.{Embeds-given, LiesIn-given}
+use Rattle.mvt_tile.proofs.Reading.ReadingWalk.{IsWalking-defectless, IsWalking-over, All-given}
 use Rattle.mvt_tile.proofs.read.read_layers.Goals as goal
 use Rattle.mvt_wire.proofs.Walking.{IsWalking-more}
 
@@ -39,6 +40,6 @@ returns c =
       whole = there.whole;
       keeps = there.keeps;
       layers =
-          subst (λ (entries : List Entry). TellsTile c.args.bytes.now entries (record { layers = map layer_of c.walk.layers.items }))
+          subst (λ (entries : List Entry). GivesTile c.args.bytes.now entries (record { layers = map layer_of c.walk.layers.items }))
           (IsWalking-over there.entries so_far.1 there.whole c.in_default.ensures.over) so_far.2;
     }

@@ -1,4 +1,4 @@
-use Rattle.mvt_tile.proofs.Tiles.{is_tile}
+use Rattle.mvt_tile.proofs.WireFaults.Tiles.{is_tile}
 use Rattle.mvt_tile.proofs.read.read_tile.Goals as goal
 
 pub read_layers-requires : goal.read_layers-requires

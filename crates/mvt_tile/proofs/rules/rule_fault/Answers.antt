@@ -1,16 +1,16 @@
-use Rattle.mvt_tile.proofs.RuleOrder.{least_of_layers, no_rule_broken, features_fault}
+use Rattle.mvt_tile.proofs.RuleFaults.RuleOrder.{least_of_layers, no_rule_broken, features_fault}
 use Rattle.mvt_tile.proofs.rules.rule_fault.Goals as goal
 
 pub returns-in-Some-clause-least : goal.returns-in-Some-clause-least
 returns-in-Some-clause-least over c = λ tile is.
-    least_of_layers over.R.FeatureRule.IsBroken c.requires.behind_tags tile c.in-Some.fault (c.in-Some.ensures.least tile (c.in_ok-found.ensures.ends tile is))
+    least_of_layers over.R.FeatureRule.IsBroken c.requires.after_tags tile c.in-Some.fault (c.in-Some.ensures.least tile (c.in_ok-walk_layers.ensures.ends tile is))
 
 pub returns-in-None-clause-none : goal.returns-in-None-clause-none
 returns-in-None-clause-none over c =
-    no_rule_broken over.R.FeatureRule.IsBroken c.requires.behind_tags c.args.bytes.now c.walk_layers.new.layers c.in_ok-found.ensures.ends c.in-None.ensures.none
-    over.R.FeatureRule.IsKept c.in_ok-found.found c.in_ok-found.ensures.none
+    no_rule_broken over.R.FeatureRule.IsBroken c.requires.after_tags c.args.bytes.now c.walk_layers.new.layers c.in_ok-walk_layers.ensures.ends c.in-None.ensures.none
+    over.R.FeatureRule.IsKept c.walk_layers.new.found c.in_ok-walk_layers.ensures.finds
 
 pub returns-in-None-clause-least : goal.returns-in-None-clause-least
 returns-in-None-clause-least over c =
-    features_fault over.R.FeatureRule.IsBroken c.requires.behind_tags c.args.bytes.now c.walk_layers.new.layers c.in_ok-found.ensures.ends c.in-None.ensures.none
-    c.in_ok-found.found c.in_ok-found.ensures.least
+    features_fault over.R.FeatureRule.IsBroken c.requires.after_tags c.args.bytes.now c.walk_layers.new.layers c.in_ok-walk_layers.ensures.ends c.in-None.ensures.none
+    over.R.FeatureRule.IsKept c.walk_layers.new.found c.in_ok-walk_layers.ensures.finds

@@ -1,5 +1,5 @@
 use Rattle.std.proofs.Common.{◌-◌, length}
-use Rattle.mvt_tile.proofs.TileScan.{IsTileScan}
+use Rattle.mvt_tile.proofs.RuleFaults.TileScan.{IsTileScan}
 use Rattle.mvt_tile.proofs.rules.walk_layers.Given as goal
 
 -- the names of the layers that were passed, and what was found of their features

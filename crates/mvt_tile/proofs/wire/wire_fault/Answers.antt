@@ -2,9 +2,9 @@ use Rattle.std.proofs.Common.{[], refl, sym, subst, arith}
 use Rattle.mvt_fault.specs.Place.{IsLeast}
 use Rattle.mvt_fault.specs.TrueFaults.{IsWireFault}
 use Rattle.mvt_wire.specs.declared.schema.Message.TheVariants.{Tile}
-use Rattle.mvt_tile.specs.FieldScan.{PassesNext}
-use Rattle.mvt_tile.proofs.TileWalk.{TileWalk-unchanged, TileWalk-more, TileWalk-fault, TileWalk-own, TileWalk-layers}
-use Rattle.mvt_tile.proofs.Walking.{PassesNext-as, IsPlaced-field}
+use Rattle.mvt_tile.specs.Calls.FieldScan.{PassesNext}
+use Rattle.mvt_tile.proofs.WireFaults.TileWalk.{TileWalk-unchanged, TileWalk-more, TileWalk-fault, TileWalk-own, TileWalk-layers}
+use Rattle.mvt_tile.proofs.WireFaults.Walking.{PassesNext-as, IsPlaced-field}
 use Rattle.mvt_tile.proofs.wire.wire_fault.Goals as goal
 use Rattle.mvt_tile.proofs.wire.wire_fault.Goals.{in-Some, in-None-2+in-Ok}
 
@@ -18,8 +18,8 @@ walk-init c = record {
   few = omega arith;
 }
 
-pub note-requires-clause-placed : goal.note-requires-clause-placed
-note-requires-clause-placed c =
+pub pass-requires-clause-placed : goal.pass-requires-clause-placed
+pass-requires-clause-placed c =
     let passed : PassesNext Tile c.args.bytes.now c.walk.at c.walk.own c.match-pass_usual.own c.match-pass_usual.next = elim c.match-pass_usual.branch [
       | in-Some w ↦ PassesNext-as w.in-Some.ensures.passed refl w.own-is w.next-is
       | in-None-2+in-Ok w ↦ PassesNext-as w.in-Ok.ensures.passed w.in-None-2.ensures.unchanged w.own-is w.next-is
@@ -32,8 +32,8 @@ walk-preserved c =
       | in-Some w ↦ PassesNext-as w.in-Some.ensures.passed refl w.own-is w.next-is
       | in-None-2+in-Ok w ↦ PassesNext-as w.in-Ok.ensures.passed w.in-None-2.ensures.unchanged w.own-is w.next-is
     ] in
-    TileWalk-more c.args.bytes.now c.walk.at c.walk.own c.walk.layers c.walk.invariant c.match-pass_usual.next c.match-pass_usual.own c.note.new.self passed
-    c.note.ensures.number c.note.ensures.count c.note.ensures.noted
+    TileWalk-more c.args.bytes.now c.walk.at c.walk.own c.walk.layers c.walk.invariant c.match-pass_usual.next c.match-pass_usual.own c.pass.new.self passed
+    c.pass.ensures.number c.pass.ensures.count c.pass.ensures.noted
 
 pub returns-in-Err-clause-least : goal.returns-in-Err-clause-least
 returns-in-Err-clause-least c =

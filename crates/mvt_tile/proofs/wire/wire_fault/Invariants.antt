@@ -1,5 +1,5 @@
 use Rattle.std.proofs.Common.{◌-◌, length}
-use Rattle.mvt_tile.proofs.TileWalk.{TileWalk}
+use Rattle.mvt_tile.proofs.WireFaults.TileWalk.{TileWalk}
 use Rattle.mvt_tile.proofs.wire.wire_fault.Given as goal
 
 abbrev pub invariant-walk : goal.invariant-walk

@@ -26,7 +26,8 @@ fn versions_and_names(rt: HostRuntime) {
             b"\x1a\x06\x78\x02\x0a\x02ab\x1a\x06\x78\x02\x0a\x02ac\x1a\x05\x78\x02\x0a\x01a\x1a\x04\x78\x02\x0a\x00".as_slice(),
             None,
         ),
-        // of several pairs the one with the earliest second layer, however far apart its layers are: c a b d a c
+        // of several pairs the one with the earliest second layer, however far apart its layers
+        // are: c a b d a c
         (
             b"\x1a\x05\x78\x02\x0a\x01c\x1a\x05\x78\x02\x0a\x01a\x1a\x05\x78\x02\x0a\x01b\x1a\x05\x78\x02\x0a\x01d\x1a\x05\x78\x02\x0a\x01a\x1a\x05\x78\x02\x0a\x01c",
             name(1, 4),

@@ -11,7 +11,8 @@ fn is_fault(alloc: Global, layer: &Layer<'_>, feature: usize, fault: Option<Faul
     feature < layer.features.len() && check_tags(alloc, layer, 4, feature) == Ok(fault)
 }
 
-/// Whether the bytes are a tile, and the first two features of its first layer have no fault of tags, and this one.
+/// Whether the bytes are a tile, and the first two features of its first layer have no fault of
+/// tags, and this one.
 fn has_second_fault(alloc: Global, bytes: &[u8], fault: Fault) -> bool {
     match read_tile(alloc, bytes) {
         Ok(tile) => match tile.layers.first() {
@@ -24,8 +25,8 @@ fn has_second_fault(alloc: Global, bytes: &[u8], fault: Fault) -> bool {
     }
 }
 
-// A layer of one key and two values, with a pair that is right in its first feature, and a value out of range in its
-// second.
+// A layer of one key and two values, with a pair that is right in its first feature, and a value
+// out of range in its second.
 #[test]
 fn tags_of_the_second_feature(rt: HostRuntime) {
     let bytes =
@@ -52,8 +53,9 @@ fn lists_of_tags(rt: HostRuntime) {
         // a key that comes again far away
         (&[999, 0, 0, 0, 5, 0, 999, 0], 1000, 1, TagCode::Repeated, 6),
     ] {
-        let scan = scan_tags(marks, ListedNumbers::new(tags), keys, values);
-        assert!(rt; scan.is_ok_and(|scan| scan.found == Some((code, place))));
+        let mut found = None;
+        let needs = scan_tags(marks, ListedNumbers::new(tags), keys, values, &mut found);
+        assert!(rt; needs.is_ok() && found == Some((code, place)));
     }
 }
 
@@ -62,6 +64,7 @@ fn lists_of_tags(rt: HostRuntime) {
 fn needs_of_tags(rt: HostRuntime) {
     let marks = &mut KeyMarks::new(rt.alloc());
     let tags = [0, 3, 4, 1, 2, u32::MAX];
-    let scan = scan_tags(marks, ListedNumbers::new(&tags), 9, usize::MAX);
-    assert!(rt; scan.is_ok_and(|scan| (scan.needs.keys, scan.needs.values) == (5, 0x1_0000_0000)));
+    let mut found = None;
+    let needs = scan_tags(marks, ListedNumbers::new(&tags), 9, usize::MAX, &mut found);
+    assert!(rt; needs.is_ok_and(|needs| (needs.keys, needs.values) == (5, 0x1_0000_0000)));
 }

@@ -1,6 +1,6 @@
 use Rattle.std.proofs.Common.{refl, arith}
 use Rattle.mvt_wire.specs.Field.{key}
-use Rattle.mvt_wire.proofs.Defects.{BadNumber-at, BadWireType-at}
+use Rattle.mvt_wire.proofs.Encoding.Defects.{BadNumber-at, BadWireType-at}
 use Rattle.mvt_wire.proofs.key.read_key.Goals as goal
 
 pub returns-in-Err-clause-defect : goal.returns-in-Err-clause-defect

@@ -1,4 +1,4 @@
-use Rattle.mvt_wire.proofs.SmallNumbers.{tags_end, geometry_end}
+use Rattle.mvt_wire.proofs.FieldNumbers.SmallNumbers.{tags_end, geometry_end}
 use Rattle.mvt_wire.proofs.laws.feature_numbers_end.Goals as goal
 
 pub returns-clause-tags : goal.returns-clause-tags

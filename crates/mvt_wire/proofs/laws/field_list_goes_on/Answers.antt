@@ -1,4 +1,4 @@
-use Rattle.mvt_wire.proofs.Messages.{FieldList-push}
+use Rattle.mvt_wire.proofs.Encoding.Messages.{FieldList-push}
 use Rattle.mvt_wire.proofs.laws.field_list_goes_on.Goals as goal
 
 pub returns : goal.returns

@@ -1,4 +1,4 @@
-use Rattle.mvt_wire.proofs.Messages.{longest_whole, longest_before_defect}
+use Rattle.mvt_wire.proofs.Encoding.Messages.{longest_whole, longest_before_defect}
 use Rattle.mvt_wire.proofs.laws.longest_field_list.Goals as goal
 
 pub returns-clause-whole : goal.returns-clause-whole

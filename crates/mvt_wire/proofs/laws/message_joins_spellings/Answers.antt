@@ -1,4 +1,4 @@
-use Rattle.mvt_wire.proofs.FieldSpellings.{joined, parted}
+use Rattle.mvt_wire.proofs.Encoding.FieldSpellings.{joined, parted}
 use Rattle.mvt_wire.proofs.laws.message_joins_spellings.Goals as goal
 
 pub returns-clause-joined : goal.returns-clause-joined

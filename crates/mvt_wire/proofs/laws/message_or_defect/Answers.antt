@@ -1,4 +1,4 @@
-use Rattle.mvt_wire.proofs.Messages.{whole_or_defect, message_or_defect, one_defect}
+use Rattle.mvt_wire.proofs.Encoding.Messages.{whole_or_defect, message_or_defect, one_defect}
 use Rattle.mvt_wire.proofs.laws.message_or_defect.Goals as goal
 
 pub returns-clause-some : goal.returns-clause-some

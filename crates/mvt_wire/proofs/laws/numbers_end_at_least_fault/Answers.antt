@@ -1,5 +1,5 @@
 use Rattle.std.proofs.Common.{None}
-use Rattle.mvt_wire.proofs.NumberStops.{ends_at_fault, ends_at_least, ends_at_only, ends_before}
+use Rattle.mvt_wire.proofs.FieldNumbers.NumberStops.{ends_at_fault, ends_at_least, ends_at_only, ends_before}
 use Rattle.mvt_wire.proofs.laws.numbers_end_at_least_fault.Goals as goal
 
 pub returns-clause-fault : goal.returns-clause-fault

@@ -1,4 +1,4 @@
-use Rattle.mvt_wire.proofs.NumberPlaces.{numbers_between}
+use Rattle.mvt_wire.proofs.FieldNumbers.NumberPlaces.{numbers_between}
 use Rattle.mvt_wire.proofs.laws.numbers_stand_before_end.Goals as goal
 
 pub returns : goal.returns

@@ -1,4 +1,4 @@
-use Rattle.mvt_wire.proofs.Messages.{one_list}
+use Rattle.mvt_wire.proofs.Encoding.Messages.{one_list}
 use Rattle.mvt_wire.proofs.laws.one_field_list.Goals as goal
 
 pub returns : goal.returns

@@ -1,4 +1,4 @@
-use Rattle.mvt_wire.proofs.NumberLaws.{numbers_end, one_numbers_end}
+use Rattle.mvt_wire.proofs.FieldNumbers.NumberLaws.{numbers_end, one_numbers_end}
 use Rattle.mvt_wire.proofs.laws.one_numbers_end.Goals as goal
 
 pub returns-clause-some : goal.returns-clause-some

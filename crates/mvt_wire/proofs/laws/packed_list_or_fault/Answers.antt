@@ -1,4 +1,4 @@
-use Rattle.mvt_wire.proofs.PackedLists.{numbers_or_fault, packed_or_fault}
+use Rattle.mvt_wire.proofs.Encoding.PackedLists.{numbers_or_fault, packed_or_fault}
 use Rattle.mvt_wire.proofs.laws.packed_list_or_fault.Goals as goal
 
 pub returns-clause-some : goal.returns-clause-some

@@ -1,4 +1,4 @@
-use Rattle.mvt_wire.proofs.Tiles.{tile_or_fault, tile_faultless}
+use Rattle.mvt_wire.proofs.Parts.Tiles.{tile_or_fault, tile_faultless}
 use Rattle.mvt_wire.proofs.laws.tile_or_wire_fault.Goals as goal
 
 pub returns-clause-some : goal.returns-clause-some

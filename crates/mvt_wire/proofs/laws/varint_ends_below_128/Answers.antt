@@ -1,4 +1,4 @@
-use Rattle.mvt_wire.proofs.Varints.{last_byte, earlier_byte, IsVarint-take, sum_of_groups-take-below}
+use Rattle.mvt_wire.proofs.Encoding.Varints.{last_byte, earlier_byte, IsVarint-take, sum_of_groups-take-below}
 use Rattle.mvt_wire.proofs.laws.varint_ends_below_128.Goals as goal
 
 pub returns-clause-last : goal.returns-clause-last

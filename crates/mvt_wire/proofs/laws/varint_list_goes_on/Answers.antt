@@ -1,4 +1,4 @@
-use Rattle.mvt_wire.proofs.PackedLists.{one_goes_on}
+use Rattle.mvt_wire.proofs.Encoding.PackedLists.{one_goes_on}
 use Rattle.mvt_wire.proofs.laws.varint_list_goes_on.Goals as goal
 
 pub returns : goal.returns

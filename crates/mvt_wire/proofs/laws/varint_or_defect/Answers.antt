@@ -1,5 +1,5 @@
-use Rattle.mvt_wire.proofs.Defects.{varint_begins}
-use Rattle.mvt_wire.proofs.Varints.{one_end, one_value, varint_or_defect, one_defect_of_varint}
+use Rattle.mvt_wire.proofs.Encoding.Defects.{varint_begins}
+use Rattle.mvt_wire.proofs.Encoding.Varints.{one_end, one_value, varint_or_defect, one_defect_of_varint}
 use Rattle.mvt_wire.proofs.laws.varint_or_defect.Goals as goal
 
 pub returns-clause-some : goal.returns-clause-some

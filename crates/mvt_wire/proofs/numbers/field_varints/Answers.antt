@@ -1,8 +1,8 @@
 use Rattle.std.proofs.Common.{ap}
 use Rattle.std.proofs.lemmas.Result.{err_from_is_err_and}
 use Rattle.mvt_wire.specs.Field.{content_of}
-use Rattle.mvt_wire.proofs.NumberEnds.{ends_at_defect}
-use Rattle.mvt_wire.proofs.NumberFields.{left_behind_other, left_in_single, left_in_list, ends_at_other_type, is_other_type}
+use Rattle.mvt_wire.proofs.FieldNumbers.NumberEnds.{ends_at_defect}
+use Rattle.mvt_wire.proofs.FieldNumbers.NumberFields.{left_after_other, left_in_single, left_in_list, ends_at_other_type, is_other_type}
 use Rattle.mvt_wire.proofs.numbers.field_varints.Goals as goal
 
 pub returns-in_err-field-clause-fault : goal.returns-in_err-field-clause-fault
@@ -12,7 +12,7 @@ returns-in_err-field-clause-fault c =
 
 pub returns-then-field-field_number-clause-same : goal.returns-then-field-field_number-clause-same
 returns-then-field-field_number-clause-same c =
-    rw c.no_varints.ensures (λ numbers ending. left_behind_other _ _ _ _ _ numbers ending c.in_ok-field.ensures.here c.in_ok-field.ensures.field c.if-field-field_number.true)
+    rw c.no_varints.ensures (λ numbers ending. left_after_other _ _ _ _ _ numbers ending c.in_ok-field.ensures.here c.in_ok-field.ensures.field c.if-field-field_number.true)
 
 pub returns-in-Varint-clause-same : goal.returns-in-Varint-clause-same
 returns-in-Varint-clause-same c = λ numbers ending. left_in_single _ _ _ _ _ _ _ numbers ending c.in_ok-field.ensures.here c.in_ok-field.ensures.field c.if-field-field_number.false (ap content_of c.in-Varint.is)

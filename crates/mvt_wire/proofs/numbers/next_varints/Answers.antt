@@ -1,6 +1,6 @@
 use Rattle.std.proofs.Common.{[], Some, None, arith}
-use Rattle.mvt_wire.proofs.NumberEnds.{ends_whole}
-use Rattle.mvt_wire.proofs.NumberWalks.{left_from_field, same_behind, LeavesVarints-at}
+use Rattle.mvt_wire.proofs.FieldNumbers.NumberEnds.{ends_whole}
+use Rattle.mvt_wire.proofs.FieldNumbers.NumberWalks.{left_from_field, same_after, LeavesVarints-at}
 use Rattle.mvt_wire.proofs.numbers.next_varints.Goals as goal
 
 pub returns-in-Err-clause-fault : goal.returns-in-Err-clause-fault
@@ -14,7 +14,7 @@ pub loop-at-preserved : goal.loop-at-preserved
 loop-at-preserved c = record {
   further = omega (arith, c.loop-at.invariant.further, c.in-Ok.ensures.further, c.in-Ok.ensures.forward);
   within = c.in-Ok.ensures.within;
-  same = same_behind _ _ _ _ _ _ c.if-varints.false c.in-Ok.ensures.forward c.loop-at.invariant.same c.in-Ok.ensures.same;
+  same = same_after _ _ _ _ _ _ c.if-varints.false c.in-Ok.ensures.forward c.loop-at.invariant.same c.in-Ok.ensures.same;
 }
 
 pub returns-clause-end : goal.returns-clause-end

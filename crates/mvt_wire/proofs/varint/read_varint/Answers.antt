@@ -1,7 +1,7 @@
 -- What the bytes begin with leaves one answer: a place has one varint or one defect.
 use Rattle.std.proofs.Common.{◌+◌, ap, Ok, Err}
 use Rattle.std.proofs.lemmas.List.{take_rest}
-use Rattle.mvt_wire.proofs.Varints.{one_read, place_spells, varint_or_defect, one_defect_of_varint}
+use Rattle.mvt_wire.proofs.Encoding.Varints.{one_read, place_spells, varint_or_defect, one_defect_of_varint}
 use Rattle.mvt_wire.specs.Varint.{SpellsVarint}
 use Rattle.mvt_wire.proofs.varint.read_varint.Goals as goal
 

@@ -1,5 +1,5 @@
 use Rattle.std.proofs.Common.{◌+◌, refl, arith}
-use Rattle.mvt_wire.proofs.Varints.{sum_of_groups-take-below, weight-le, IsVarint-take}
+use Rattle.mvt_wire.proofs.Encoding.Varints.{sum_of_groups-take-below, weight-le, IsVarint-take}
 use Rattle.mvt_wire.proofs.varint.varint_size.Goals as goal
 
 pub returns-then-byte-lt128-clause-found : goal.returns-then-byte-lt128-clause-found

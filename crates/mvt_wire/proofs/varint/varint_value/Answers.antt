@@ -1,5 +1,5 @@
 use Rattle.std.proofs.Common.{arith}
-use Rattle.mvt_wire.proofs.Groups.{group_before-below}
+use Rattle.mvt_wire.proofs.Encoding.Groups.{group_before-below}
 use Rattle.mvt_wire.proofs.varint.varint_value.Goals as goal
 
 pub overflow_mul-value : goal.overflow_mul-value

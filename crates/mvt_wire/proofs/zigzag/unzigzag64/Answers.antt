@@ -1,4 +1,4 @@
-use Rattle.mvt_wire.proofs.Zigzags.{zigzag_back64}
+use Rattle.mvt_wire.proofs.Encoding.Zigzags.{zigzag_back64}
 use Rattle.mvt_wire.proofs.zigzag.unzigzag64.Goals as goal
 
 pub returns : goal.returns

@@ -1,4 +1,4 @@
-use Rattle.mvt_confirm.proofs.ExampleFaults.{crossing_shown, crossing_reduced}
+use Rattle.mvt_confirm.proofs.Examples.ExampleFaults.{crossing_shown, crossing_reduced}
 use Rattle.mvt_confirm.proofs.laws.examples.a_crossing.Goals as goal
 
 pub returns-clause-shown : goal.returns-clause-shown

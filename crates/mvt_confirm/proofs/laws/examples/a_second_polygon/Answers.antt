@@ -1,4 +1,4 @@
-use Rattle.mvt_confirm.proofs.ExampleFaults.{crossing_second, vertex_outside_second, none_of_own_number, vertex_in_hole_second}
+use Rattle.mvt_confirm.proofs.Examples.ExampleFaults.{crossing_second, vertex_outside_second, none_of_own_number, vertex_in_hole_second}
 use Rattle.mvt_confirm.proofs.laws.examples.a_second_polygon.Goals as goal
 
 pub returns-clause-crossing : goal.returns-clause-crossing

@@ -1,4 +1,4 @@
-use Rattle.mvt_confirm.proofs.ExampleFaults.{touching_shown}
+use Rattle.mvt_confirm.proofs.Examples.ExampleFaults.{touching_shown}
 use Rattle.mvt_confirm.proofs.laws.examples.edges_of_two_rings.Goals as goal
 
 pub returns-clause-touching : goal.returns-clause-touching

@@ -1,4 +1,4 @@
-use Rattle.mvt_confirm.proofs.ExampleFeatures.{squares_meet, squares_invalid, stone_on_frame, island_in_hole, island_in_no_polygon, square_alone}
+use Rattle.mvt_confirm.proofs.Examples.ExampleFeatures.{squares_meet, squares_invalid, stone_on_frame, island_in_hole, island_in_no_polygon, square_alone}
 use Rattle.mvt_confirm.proofs.laws.examples.polygons_of_a_feature.Goals as goal
 
 pub returns-clause-twice : goal.returns-clause-twice

@@ -1,5 +1,5 @@
-use Rattle.mvt_confirm.proofs.ExampleSquares.{two_polygons_valid, squares_valid}
-use Rattle.mvt_confirm.proofs.ExampleValid.{triangle_valid, crossed_invalid, beside_invalid, in_hole_invalid, flat_invalid}
+use Rattle.mvt_confirm.proofs.Examples.ExampleSquares.{two_polygons_valid, squares_valid}
+use Rattle.mvt_confirm.proofs.Examples.ExampleValid.{triangle_valid, crossed_invalid, beside_invalid, in_hole_invalid, flat_invalid}
 use Rattle.mvt_confirm.proofs.laws.examples.valid_rings.Goals as goal
 
 pub returns-clause-standard : goal.returns-clause-standard

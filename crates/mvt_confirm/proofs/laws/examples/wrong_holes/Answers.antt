@@ -1,4 +1,4 @@
-use Rattle.mvt_confirm.proofs.ExampleFaults.{vertex_outside, vertex_in_hole, none_of_other_polygon, none_outside}
+use Rattle.mvt_confirm.proofs.Examples.ExampleFaults.{vertex_outside, vertex_in_hole, none_of_other_polygon, none_outside}
 use Rattle.mvt_confirm.proofs.laws.examples.wrong_holes.Goals as goal
 
 pub returns-clause-beside : goal.returns-clause-beside

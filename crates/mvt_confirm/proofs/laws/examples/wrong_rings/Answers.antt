@@ -1,7 +1,7 @@
 use Rattle.std.proofs.Common.{refl}
-use Rattle.mvt_plane.proofs.ExampleRings as rings
-use Rattle.mvt_plane.specs.Ring.{ends_at_its_beginning, no_area, begins_with_hole}
-use Rattle.mvt_confirm.proofs.ExampleFaults.{flat_ring}
+use Rattle.mvt_plane.proofs.Examples.ExampleRings as rings
+use Rattle.mvt_plane.specs.Geometry.Ring.{ends_at_its_beginning, no_area, begins_with_hole}
+use Rattle.mvt_confirm.proofs.Examples.ExampleFaults.{flat_ring}
 use Rattle.mvt_confirm.proofs.laws.examples.wrong_rings.Goals as goal
 
 pub returns-clause-closed_twice : goal.returns-clause-closed_twice

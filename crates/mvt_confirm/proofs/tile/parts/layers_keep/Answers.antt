@@ -3,9 +3,9 @@ use Rattle.std.proofs.lemmas.Bool.{both_ways}
 use Rattle.std.proofs.lemmas.Result.{IfOk-at_ok, IfErr-at_err}
 use Rattle.mvt_wire.specs.Field.{Entry, entry_of}
 use Rattle.mvt_wire.specs.Scope.{spans_of}
-use Rattle.mvt_confirm.specs.Walking.{HoldsLayer}
-use Rattle.mvt_confirm.proofs.FieldWalks.{passed, refused, defective, answered_no, one_with}
-use Rattle.mvt_confirm.proofs.EmbeddedMessages.{part_passed, part_refused, lies_within}
+use Rattle.mvt_confirm.specs.Calls.Walking.{HoldsLayer}
+use Rattle.mvt_confirm.proofs.Wire.FieldWalks.{passed, refused, defective, answered_no, one_with}
+use Rattle.mvt_confirm.proofs.Wire.EmbeddedMessages.{part_passed, part_refused, lies_within}
 use Rattle.mvt_confirm.proofs.tile.parts.layers_keep.Goals as goal
 
 pub returns-in_default-item : goal.returns-in_default-item

@@ -1,5 +1,5 @@
 use Rattle.std.proofs.Common.{length, ◌-◌, ◌≤◌, ◌↔◌}
-use Rattle.mvt_confirm.specs.Walking.{AreSmallFrom}
+use Rattle.mvt_confirm.specs.Calls.Walking.{AreSmallFrom}
 use Rattle.mvt_confirm.proofs.tile.payload.are_small.Given as goal
 
 -- what is left decides

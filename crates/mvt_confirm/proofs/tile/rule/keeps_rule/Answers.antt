@@ -1,13 +1,13 @@
 use Rattle.std.proofs.Common.{false}
 use Rattle.std.proofs.lemmas.Result.{IfOk-at_ok, IfErr-at_err}
 use Rattle.mvt_wire.specs.Field.{entry_of}
-use Rattle.mvt_confirm.specs.Walking.{KeepsRule, KeepsRuleAfter}
-use Rattle.mvt_confirm.proofs.FieldWalks.{all_left, passed, refused, defective, none_left, answered_no, one_with, other_way}
-use Rattle.mvt_confirm.proofs.RuleWalks.{kept_at_end, kept_from_none}
+use Rattle.mvt_confirm.specs.Calls.Walking.{KeepsRule, KeepsRuleAfter}
+use Rattle.mvt_confirm.proofs.Wire.FieldWalks.{all_left, passed, refused, defective, none_left, answered_no, one_with, other_way}
+use Rattle.mvt_confirm.proofs.Features.RuleWalks.{kept_at_end, kept_from_none}
 use Rattle.mvt_confirm.proofs.tile.rule.keeps_rule.Goals as goal
 
 pub walk-init : goal.walk-init
-walk-init c = all_left c.new-fields.result _ c.args.from (KeepsRuleAfter c.args.rule false) (KeepsRule c.args.rule) c.new-fields.ensures (kept_from_none c.args.rule)
+walk-init c = all_left c.new-fields.result _ c.args.place.now.span.from (KeepsRuleAfter c.args.rule false) (KeepsRule c.args.rule) c.new-fields.ensures (kept_from_none c.args.rule)
 
 pub returns-in_default-item : goal.returns-in_default-item
 returns-in_default-item c =

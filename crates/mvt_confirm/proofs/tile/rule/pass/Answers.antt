@@ -1,6 +1,6 @@
 use Rattle.mvt_wire.specs.Field.{entry_of}
 use Rattle.std.proofs.lemmas.Bool.{both_ways}
-use Rattle.mvt_confirm.proofs.RuleWalks.{other_passed, own_passed, own_refused}
+use Rattle.mvt_confirm.proofs.Features.RuleWalks.{other_passed, own_passed, own_refused}
 use Rattle.mvt_confirm.proofs.tile.rule.pass.Goals as goal
 
 pub returns-then-field-rule-clause-kept : goal.returns-then-field-rule-clause-kept

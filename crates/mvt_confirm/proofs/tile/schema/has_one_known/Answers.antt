@@ -1,8 +1,8 @@
 use Rattle.std.proofs.Common.{◌≡◌, ◌↔◌, ◌+◌, true, false, Bool, IsTrue, arith}
 use Rattle.std.proofs.lemmas.Result.{IfOk-at_ok, IfErr-at_err}
 use Rattle.mvt_wire.specs.Field.{entry_of}
-use Rattle.mvt_confirm.specs.Walking.{HasOneKnownAfter, count_before}
-use Rattle.mvt_confirm.proofs.FieldWalks.{passed, refused, defective, none_left, answered_no, one_with, other_way}
+use Rattle.mvt_confirm.specs.Calls.Walking.{HasOneKnownAfter, count_before}
+use Rattle.mvt_confirm.proofs.Wire.FieldWalks.{passed, refused, defective, none_left, answered_no, one_with, other_way}
 use Rattle.mvt_confirm.proofs.tile.schema.has_one_known.Goals as goal
 
 pub returns-in_default-item : goal.returns-in_default-item

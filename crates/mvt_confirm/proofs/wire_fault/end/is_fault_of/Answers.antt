@@ -1,5 +1,5 @@
 use Rattle.std.proofs.Common.{◌≡◌, arith}
-use Rattle.mvt_confirm.proofs.MessageFaults.{missing_there}
+use Rattle.mvt_confirm.proofs.Wire.MessageFaults.{missing_there}
 use Rattle.mvt_confirm.proofs.wire_fault.end.is_fault_of.Goals as goal
 
 pub returns-then-counts-eq0 : goal.returns-then-counts-eq0

@@ -1,6 +1,6 @@
 use Rattle.std.proofs.Common.{false, rules, ap}
 use Rattle.mvt_wire.specs.Field.{content_of, entry_of}
-use Rattle.mvt_confirm.proofs.FieldForms.{packed_there}
+use Rattle.mvt_confirm.proofs.Wire.FieldForms.{packed_there}
 use Rattle.mvt_confirm.proofs.wire_fault.field.is_in_packed_list.Goals as goal
 
 pub returns-in-Bytes : goal.returns-in-Bytes

@@ -1,6 +1,6 @@
 use Rattle.std.proofs.Common.{false, rules, ap, not}
 use Rattle.mvt_wire.specs.Field.{content_of, entry_of}
-use Rattle.mvt_confirm.proofs.FieldForms.{no_text_there}
+use Rattle.mvt_confirm.proofs.Wire.FieldForms.{no_text_there}
 use Rattle.mvt_confirm.proofs.wire_fault.field.is_no_text.Goals as goal
 
 pub returns-then-eq-2 : goal.returns-then-eq-2

@@ -1,6 +1,6 @@
 use Rattle.std.proofs.Common.{◌≡◌, ◌≢◌, ◌-◌, ◌<◌, ◌≤◌, length, eqb, false, refl, arith}
 use Rattle.std.proofs.lemmas.Bool.{ne_eqb}
-use Rattle.mvt_confirm.proofs.PackedWalk.{IsPassing-more, IsPassing-defect, IsPassing-past, nothing_ahead, decided_there}
+use Rattle.mvt_confirm.proofs.Wire.PackedWalk.{IsPassing-more, IsPassing-defect, IsPassing-past, nothing_ahead, decided_there}
 use Rattle.mvt_confirm.proofs.wire_fault.packed.has_packed_fault.Goals as goal
 use Rattle.mvt_confirm.proofs.wire_fault.packed.has_packed_fault.Goals.{then-walk-test+else-at-part, else-walk-test}
 
@@ -19,8 +19,8 @@ pub returns-then-at-place : goal.returns-then-at-place
 returns-then-at-place c =
     let here : c.walk.at ≡ c.args.cause.at - c.args.from = omega arith in
     let number : c.args.cause.field ≡ c.args.number = omega arith in
-    let behind : c.args.from ≤ c.args.cause.at = omega arith in
-    decided_there c.args.from c.args.part.now c.args.number c.args.cause c.walk.at c.is_bad_at.result c.walk.invariant here number behind c.is_bad_at.ensures
+    let following : c.args.from ≤ c.args.cause.at = omega arith in
+    decided_there c.args.from c.args.part.now c.args.number c.args.cause c.walk.at c.is_bad_at.result c.walk.invariant here number following c.is_bad_at.ensures
 
 pub returns-else-at-place : goal.returns-else-at-place
 returns-else-at-place c =

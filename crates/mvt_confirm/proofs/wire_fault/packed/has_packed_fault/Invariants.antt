@@ -1,5 +1,5 @@
 use Rattle.std.proofs.Common.{◌-◌, length}
-use Rattle.mvt_confirm.proofs.PackedWalk.{IsPassing}
+use Rattle.mvt_confirm.proofs.Wire.PackedWalk.{IsPassing}
 use Rattle.mvt_confirm.proofs.wire_fault.packed.has_packed_fault.Given as goal
 
 abbrev pub invariant-walk : goal.invariant-walk

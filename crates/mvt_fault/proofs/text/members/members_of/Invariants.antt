@@ -1,7 +1,7 @@
 use Rattle.std.proofs.Common.{◌≡◌, drop}
 use Rattle.serde_json.specs.Data.{no_members}
 use Rattle.serde_json.specs.View.{members_view}
-use Rattle.mvt_fault.specs.Members.{with_numbers}
+use Rattle.mvt_fault.specs.Calls.Members.{with_numbers}
 use Rattle.mvt_fault.proofs.text.members.members_of.Given as goal
 
 -- the numbers that are left make what all of them make

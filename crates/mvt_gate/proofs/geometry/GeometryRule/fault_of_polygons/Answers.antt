@@ -1,5 +1,6 @@
 use Rattle.std.proofs.Common.{List, subst, sym}
-use Rattle.mvt_plane.specs.Geometry.{HasRings}
+use Rattle.mvt_plane.specs.Commands.Figure.{polygon}
+use Rattle.mvt_plane.specs.FeatureGeometry.{HasRings, type_number}
 use Rattle.mvt_plane.specs.Position.{Position}
 use Rattle.mvt_polygon.specs.Rings.{rings_of}
 use Rattle.mvt_tile.specs.FeatureBytes.{Shows}
@@ -9,7 +10,7 @@ use Rattle.mvt_gate.proofs.geometry.GeometryRule.fault_of_polygons.Goals as goal
 pub rings_fault-requires : goal.rings_fault-requires
 rings_fault-requires c =
     let it = c.geometry.ensures.shows.0 in
-    (it.geometry, subst (λ (rings : List (List Position)). HasRings 3 it.geometry rings) (sym c.rings.ensures) (c.in-Ok.ensures.rings it.geometry (c.geometry.ensures.all it c.geometry.ensures.shows.1)))
+    (it.geometry, subst (λ (rings : List (List Position)). HasRings (type_number polygon) it.geometry rings) (sym c.rings.ensures) (c.in-Ok.ensures.rings it.geometry (c.geometry.ensures.all it c.geometry.ensures.shows.1)))
 
 pub returns-in-Ok-clause-least : goal.returns-in-Ok-clause-least
 returns-in-Ok-clause-least c =
@@ -25,5 +26,5 @@ pub returns-in-Err-Command-clause-least : goal.returns-in-Err-Command-clause-lea
 returns-in-Err-Command-clause-least c =
     rw (c.in-Err-Command.code-is, c.in-Err-Command.index-is)
     (λ it shows.
-    least_by_commands c.args.profile it 3 c.in-Err-Command.code c.in-Err-Command.index c.args.layer c.args.ordinal (c.requires it shows)
+    least_by_commands c.args.profile it (type_number polygon) c.in-Err-Command.code c.in-Err-Command.index c.args.layer c.args.ordinal (c.requires it shows)
     ((rw c.in-Err-Command.field-0-is at c.in-Err-Command.ensures.fault) it.geometry (c.geometry.ensures.all it shows)))

@@ -1,7 +1,7 @@
 use Rattle.std.proofs.Common.{ℕ, sym, subst}
-use Rattle.mvt_confirm.proofs.ValidParts.{geometry_kept}
+use Rattle.mvt_confirm.proofs.Validity.ValidParts.{geometry_kept}
 use Rattle.mvt_confirm.specs.Valid.{IsValidGeometryBy}
-use Rattle.mvt_plane.specs.Geometry.{HasFigure}
+use Rattle.mvt_plane.specs.FeatureGeometry.{HasFigure}
 use Rattle.mvt_tile.specs.FeatureBytes.{Shows}
 use Rattle.mvt_tile.specs.View.{kind_number}
 use Rattle.mvt_wire.proofs.NothingFound.{IfNone-any}

@@ -2,8 +2,8 @@ use Rattle.std.proofs.Common.{sym, subst}
 use Rattle.mvt_fault.specs.declared.profile.Profile.TheVariants.{Feature}
 use Rattle.mvt_polygon.specs.Feature.{IsFeatureAnswer}
 use Rattle.mvt_polygon.specs.Rings.{rings_of}
-use Rattle.mvt_gate.proofs.FeatureFaults.{least_of_found, tellable_of_found, valid_of_none}
-use Rattle.mvt_gate.specs.Polygons.{IsFirstOfRings}
+use Rattle.mvt_gate.proofs.FeatureFaults.{least_of_found, reportable_of_found, valid_of_none}
+use Rattle.mvt_gate.specs.Calls.Polygons.{IsFirstOfRings}
 use Rattle.mvt_gate.proofs.polygons.apart.feature_fault.Goals as goal
 
 pub returns-in_default-clause-valid : goal.returns-in_default-clause-valid
@@ -11,13 +11,13 @@ returns-in_default-clause-valid c =
     let answer = subst (IsFeatureAnswer (rings_of c.args.rings.now)) c.in_default.is c.in_ok-found.ensures.answer in
     valid_of_none (rings_of c.args.rings.now) c.requires.sound answer
 
-pub tell_cause-requires : goal.tell_cause-requires
-tell_cause-requires c =
+pub cause_fault-requires : goal.cause_fault-requires
+cause_fault-requires c =
     let answer = subst (IsFeatureAnswer (rings_of c.args.rings.now)) c.in-Some.is c.in_ok-found.ensures.answer in
-    tellable_of_found (rings_of c.args.rings.now) c.args.layer c.args.feature c.in-Some.found answer
+    reportable_of_found (rings_of c.args.rings.now) c.args.layer c.args.feature c.in-Some.found answer
 
 pub returns-clause-least : goal.returns-clause-least
 returns-clause-least c =
     let answer = subst (IsFeatureAnswer (rings_of c.args.rings.now)) c.in-Some.is c.in_ok-found.ensures.answer in
-    subst (IsFirstOfRings Feature (rings_of c.args.rings.now) c.args.layer c.args.feature) (sym c.tell_cause.ensures)
+    subst (IsFirstOfRings Feature (rings_of c.args.rings.now) c.args.layer c.args.feature) (sym c.cause_fault.ensures)
     (least_of_found (rings_of c.args.rings.now) c.args.layer c.args.feature c.in-Some.found c.requires.sound answer)

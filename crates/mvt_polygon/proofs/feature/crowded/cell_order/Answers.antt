@@ -1,8 +1,8 @@
-use Rattle.std.proofs.Common.{ℕ, ◌≡◌, length, subst, arith, rules, Vec, sym, ◌+◌, ℤ, SFits, w32}
+use Rattle.std.proofs.Common.{ℕ, ◌≡◌, length, subst, arith, rules, Vec, sym, ◌+◌, ℤ}
 use Rattle.std.specs.declared.alloc.Global.{Global}
-use Rattle.std.proofs.lemmas.Int.{to_z-of_z}
 use Rattle.std.proofs.lemmas.List.Sorted.{answers_always}
-use Rattle.mvt_polygon.proofs.CellOrders.{AreNumbered, cells_sorted, key_of, none_numbered, number_added, number_passed}
+use Rattle.mvt_polygon.specs.Calls.Cells.{AreNumbered}
+use Rattle.mvt_polygon.proofs.Cells.CellOrders.{cells_sorted, key_of, number_added, number_passed}
 use Rattle.mvt_polygon.proofs.feature.crowded.cell_order.Goals as goal
 use Rattle.mvt_polygon.proofs.feature.crowded.cell_order.Goals.{then-marks-number+in_ok-push, else-marks-number}
 

@@ -1,4 +1,4 @@
-use Rattle.mvt_polygon.proofs.CellOrders.{AreNumbered}
+use Rattle.mvt_polygon.specs.Calls.Cells.{AreNumbered}
 use Rattle.mvt_polygon.proofs.feature.crowded.cell_order.Given as goal
 
 -- the marked ones of the numbers so far

@@ -1,7 +1,7 @@
 use Rattle.std.proofs.Common.{sym, subst}
-use Rattle.mvt_polygon.specs.Lands.{AreCellsApart}
+use Rattle.mvt_polygon.specs.Calls.Lands.{AreCellsApart}
 use Rattle.mvt_polygon.specs.Rings.{rings_of}
-use Rattle.mvt_polygon.proofs.PolygonSpans.{far_beside, far_cells, marked_of_cells}
+use Rattle.mvt_polygon.proofs.Cells.PolygonSpans.{far_beside, far_cells, marked_of_cells}
 use Rattle.mvt_polygon.proofs.feature.crowded.crowded.Goals as goal
 
 pub returns-then-not-have_lakes : goal.returns-then-not-have_lakes

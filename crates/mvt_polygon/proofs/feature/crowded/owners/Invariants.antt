@@ -1,5 +1,5 @@
 use Rattle.std.proofs.Common.{length}
-use Rattle.mvt_polygon.specs.Cells.{AreCells}
+use Rattle.mvt_polygon.specs.Calls.Cells.{AreCells}
 use Rattle.mvt_polygon.proofs.feature.crowded.owners.Given as goal
 
 -- what is kept are numbers

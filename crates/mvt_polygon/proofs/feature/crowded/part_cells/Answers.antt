@@ -1,7 +1,7 @@
 use Rattle.std.proofs.Common.{◌≡◌, ◌<◌, ◌≢◌, ℕ, pos, arith, rules, get_or, length, refl, subst, SFits, w32, true≢false, sym}
 use Rattle.std.proofs.lemmas.Int.{to_z-of_z}
-use Rattle.mvt_plane.proofs.Order.{zs}
-use Rattle.mvt_polygon.proofs.PartedCells.{ArePartedTo, none_parted, read_within, read_begins, read_lasts, cells_of_all, cells_of_marked, parted_of_parts}
+use Rattle.mvt_plane.proofs.Orders.Order.{zs}
+use Rattle.mvt_polygon.proofs.Cells.PartedCells.{ArePartedTo, none_parted, read_within, read_begins, read_lasts, cells_of_all, cells_of_marked, parted_of_parts}
 use Rattle.mvt_polygon.proofs.feature.crowded.part_cells.Goals as goal
 use Rattle.mvt_polygon.proofs.feature.crowded.part_cells.Goals.{then-begins_cell, else-begins_cell}
 

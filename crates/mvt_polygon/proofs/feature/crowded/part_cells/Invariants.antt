@@ -1,4 +1,4 @@
-use Rattle.mvt_polygon.proofs.PartedCells.{ArePartedTo}
+use Rattle.mvt_polygon.proofs.Cells.PartedCells.{ArePartedTo}
 use Rattle.mvt_polygon.proofs.feature.crowded.part_cells.Given as goal
 
 -- the numbers before this place of the order have their new cells

@@ -1,5 +1,5 @@
 use Rattle.std.proofs.Common.{length, rules}
-use Rattle.mvt_polygon.proofs.PartedCells.{marked_by_all, parted_in_turn}
+use Rattle.mvt_polygon.proofs.Cells.PartedCells.{marked_by_all, parted_in_turn}
 use Rattle.mvt_polygon.proofs.feature.crowded.part_in_turn.Goals as goal
 
 pub returns-clause-parted : goal.returns-clause-parted

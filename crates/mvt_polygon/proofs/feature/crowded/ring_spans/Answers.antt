@@ -2,10 +2,10 @@ use Rattle.std.proofs.Common.{◌∙◌, List, subst, arith, rules, sym, w32}
 use Rattle.std.proofs.lemmas.Int.{to_z-of_z}
 use Rattle.std.proofs.lemmas.Option.{same_Some}
 use Rattle.mvt_plane.specs.Position.{Position}
-use Rattle.mvt_polygon.specs.Bounds.{AreBoundsOf}
+use Rattle.mvt_polygon.specs.Calls.Bounds.{AreBoundsOf}
 use Rattle.mvt_polygon.specs.Rings.{rings_of}
-use Rattle.mvt_polygon.proofs.PolygonSpans.{more_ring_spans}
-use Rattle.mvt_polygon.proofs.RingReads.{vertices_there}
+use Rattle.mvt_polygon.proofs.Cells.PolygonSpans.{more_ring_spans}
+use Rattle.mvt_polygon.proofs.Vertices.RingReads.{vertices_there}
 use Rattle.mvt_polygon.proofs.feature.crowded.ring_spans.Goals as goal
 
 pub of-bounds-requires : goal.of-bounds-requires

@@ -1,4 +1,4 @@
-use Rattle.mvt_polygon.specs.Cells.{AreRingSpans}
+use Rattle.mvt_polygon.specs.Calls.Cells.{AreRingSpans}
 use Rattle.mvt_polygon.specs.Rings.{rings_of}
 use Rattle.mvt_polygon.proofs.feature.crowded.ring_spans.Given as goal
 

@@ -1,6 +1,6 @@
 use Rattle.std.proofs.Common.{arith, Vec, Bool, sym, subst, ◌+◌}
 use Rattle.std.specs.declared.alloc.Global.{Global}
-use Rattle.mvt_polygon.proofs.SharedCells.{AreMarkedTo, read_marked, read_passed}
+use Rattle.mvt_polygon.proofs.Cells.SharedCells.{AreMarkedTo, read_marked, read_passed}
 use Rattle.mvt_polygon.proofs.feature.crowded.shared_cells.Goals as goal
 use Rattle.mvt_polygon.proofs.feature.crowded.shared_cells.Goals.{then-owner-number, else-owner-number}
 

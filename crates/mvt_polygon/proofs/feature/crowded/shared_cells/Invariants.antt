@@ -1,4 +1,4 @@
-use Rattle.mvt_polygon.proofs.SharedCells.{AreMarkedTo}
+use Rattle.mvt_polygon.proofs.Cells.SharedCells.{AreMarkedTo}
 use Rattle.mvt_polygon.proofs.feature.crowded.shared_cells.Given as goal
 
 -- the numbers so far of whose cells others are kept are marked, and the kept ones too

@@ -1,9 +1,9 @@
 use Rattle.std.proofs.Common.{arith, rules, sym, w32}
 use Rattle.std.proofs.lemmas.Int.{to_z-of_z}
 use Rattle.mvt_polygon.specs.Rings.{rings_of}
-use Rattle.mvt_polygon.proofs.ApartFaults.{rings_at, rings_listed, ends_within}
-use Rattle.mvt_polygon.proofs.PolygonSpans.{more_spans}
-use Rattle.mvt_polygon.proofs.RingReads.{count_of_rings}
+use Rattle.mvt_polygon.proofs.Holes.ApartFaults.{rings_at, rings_listed, ends_within}
+use Rattle.mvt_polygon.proofs.Cells.PolygonSpans.{more_spans}
+use Rattle.mvt_polygon.proofs.Vertices.RingReads.{count_of_rings}
 use Rattle.mvt_polygon.proofs.feature.crowded.spans_of.Goals as goal
 
 pub of_polygon-bounds-requires-clause-further : goal.of_polygon-bounds-requires-clause-further

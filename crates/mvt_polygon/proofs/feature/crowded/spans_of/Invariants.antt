@@ -1,4 +1,4 @@
-use Rattle.mvt_polygon.specs.Cells.{AreSpansOf}
+use Rattle.mvt_polygon.specs.Calls.Cells.{AreSpansOf}
 use Rattle.mvt_polygon.specs.Rings.{rings_of}
 use Rattle.mvt_polygon.proofs.feature.crowded.spans_of.Given as goal
 

@@ -1,7 +1,7 @@
 use Rattle.std.proofs.Common.{subst}
 use Rattle.mvt_polygon.specs.Meeting.{first_of, second_of, IsMeetingOf}
 use Rattle.mvt_polygon.specs.Rings.{rings_of}
-use Rattle.mvt_polygon.specs.Swept.{IsSweptAnswer}
+use Rattle.mvt_polygon.specs.Calls.Swept.{IsSweptAnswer}
 use Rattle.mvt_polygon.proofs.feature.front.clear_front.Goals as goal
 
 pub returns-in-Meets-clause-apart : goal.returns-in-Meets-clause-apart

@@ -1,19 +1,19 @@
 use Rattle.std.proofs.Common.{◌+◌, ◌-◌, ◌/◌, ◌<◌, List, length, take, refl, sym, ap, subst, arith}
 use Rattle.std.proofs.lemmas.List.{length-take-le}
 use Rattle.mvt_plane.specs.Position.{Position}
-use Rattle.mvt_polygon.specs.FeatureParts.{listed_at}
+use Rattle.mvt_polygon.specs.Calls.FeatureParts.{listed_at}
 use Rattle.mvt_polygon.specs.Meeting.{IsMeetingOf}
 use Rattle.mvt_polygon.specs.Rings.{rings_of, AreProperRings}
-use Rattle.mvt_polygon.specs.Swept.{IsNotedClear, IsSweptAnswer}
+use Rattle.mvt_polygon.specs.Calls.Swept.{IsNotedClear, IsSweptAnswer}
 use Rattle.mvt_polygon.specs.declared.sweep.swept.Swept.TheVariants.{Meets, Clear}
-use Rattle.mvt_polygon.proofs.ApartFaults.{ends_within, rings_listed}
-use Rattle.mvt_polygon.proofs.FirstMeetings.{first_slice, second_within}
-use Rattle.mvt_polygon.proofs.FirstPolygons.{of_listed}
-use Rattle.mvt_polygon.proofs.FirstRings.{count_of_first, first_drawn}
-use Rattle.mvt_polygon.proofs.FrontHalves.{all_halved, clear_half, meeting_half, nearer_less, not_halved, work_of_another, work_of_halves}
-use Rattle.mvt_polygon.proofs.RingReads.{count_of_rings}
-use Rattle.mvt_polygon.proofs.SweepsAdded.{first_sweep}
-use Rattle.mvt_polygon.proofs.NotesBegun.{none_clear}
+use Rattle.mvt_polygon.proofs.Holes.ApartFaults.{ends_within, rings_listed}
+use Rattle.mvt_polygon.proofs.Features.FirstMeetings.{first_slice, second_within}
+use Rattle.mvt_polygon.proofs.Features.FirstPolygons.{of_listed}
+use Rattle.mvt_polygon.proofs.Features.FirstRings.{count_of_first, first_drawn}
+use Rattle.mvt_polygon.proofs.Features.FrontHalves.{all_halved, clear_half, meeting_half, nearer_less, not_halved, work_of_another, work_of_halves}
+use Rattle.mvt_polygon.proofs.Vertices.RingReads.{count_of_rings}
+use Rattle.mvt_polygon.proofs.Sweeps.SweepsAdded.{first_sweep}
+use Rattle.mvt_polygon.proofs.Notes.NotesBegun.{none_clear}
 use Rattle.mvt_polygon.proofs.feature.front.front_before.Goals as goal
 
 pub polygon_of-meets-requires : goal.polygon_of-meets-requires

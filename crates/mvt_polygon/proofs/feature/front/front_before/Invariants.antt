@@ -1,6 +1,6 @@
 use Rattle.std.proofs.Common.{◌-◌}
 use Rattle.mvt_polygon.specs.Rings.{rings_of}
-use Rattle.mvt_polygon.proofs.FrontHalves.{IsHalved}
+use Rattle.mvt_polygon.proofs.Features.FrontHalves.{IsHalved}
 use Rattle.mvt_polygon.proofs.feature.front.front_before.Given as goal
 
 -- what is known of the polygons so far

@@ -1,5 +1,5 @@
 use Rattle.std.proofs.Common.{ℕ, ◌<◌, ◌≤◌}
-use Rattle.mvt_polygon.specs.FeatureParts.{listed_at}
+use Rattle.mvt_polygon.specs.Calls.FeatureParts.{listed_at}
 use Rattle.mvt_polygon.proofs.feature.front.polygon_of.Given as goal
 
 -- the polygons so far end before the ring

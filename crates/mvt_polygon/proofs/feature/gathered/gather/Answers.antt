@@ -1,8 +1,8 @@
 use Rattle.std.proofs.Common.{◌<◌, arith}
-use Rattle.mvt_polygon.specs.FeatureParts.{listed_at}
+use Rattle.mvt_polygon.specs.Calls.FeatureParts.{listed_at}
 use Rattle.mvt_polygon.specs.Rings.{rings_of}
-use Rattle.mvt_polygon.proofs.ApartFaults.{rings_listed, ends_within}
-use Rattle.mvt_polygon.proofs.RingReads.{count_of_rings}
+use Rattle.mvt_polygon.proofs.Holes.ApartFaults.{rings_listed, ends_within}
+use Rattle.mvt_polygon.proofs.Vertices.RingReads.{count_of_rings}
 use Rattle.mvt_polygon.proofs.feature.gathered.gather.Goals as goal
 
 pub add_rings-requires-clause-in_order : goal.add_rings-requires-clause-in_order

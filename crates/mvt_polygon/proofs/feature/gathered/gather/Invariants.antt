@@ -1,5 +1,5 @@
 use Rattle.std.proofs.Common.{◌≡◌}
-use Rattle.mvt_polygon.specs.Gathered.{gathered_rings, gathered_places, gathered_numbers}
+use Rattle.mvt_polygon.specs.Calls.Gathered.{gathered_rings, gathered_places, gathered_numbers}
 use Rattle.mvt_polygon.specs.Rings.{rings_of}
 use Rattle.mvt_polygon.proofs.feature.gathered.gather.Given as goal
 

@@ -2,13 +2,13 @@ use Rattle.std.proofs.Common.{◌≡◌, ◌<◌, ◌+◌, ℕ, List, Option, So
 use Rattle.std.proofs.lemmas.Bool.{not-false, false≢true}
 use Rattle.std.proofs.lemmas.Option.{slice_get-get_or}
 use Rattle.std.specs.declared.alloc.Global.{Global}
-use Rattle.mvt_polygon.specs.FeatureParts.{listed_at}
-use Rattle.mvt_polygon.specs.Lands.{AreFailing, IsOnlyLake, land_of}
+use Rattle.mvt_polygon.specs.Calls.FeatureParts.{listed_at}
+use Rattle.mvt_polygon.specs.Calls.Lands.{AreFailing, IsOnlyLake, land_of}
 use Rattle.mvt_polygon.specs.Rings.{rings_of}
-use Rattle.mvt_polygon.proofs.ApartFaults.{exterior_read, ends_within, rings_listed}
-use Rattle.mvt_polygon.proofs.Lakes.{read_as}
-use Rattle.mvt_polygon.proofs.RingReads.{count_of_rings}
-use Rattle.mvt_polygon.proofs.SettledPolygons.{more_failing, same_failing}
+use Rattle.mvt_polygon.proofs.Holes.ApartFaults.{exterior_read, ends_within, rings_listed}
+use Rattle.mvt_polygon.proofs.Cells.Lakes.{read_as}
+use Rattle.mvt_polygon.proofs.Vertices.RingReads.{count_of_rings}
+use Rattle.mvt_polygon.proofs.Cells.SettledPolygons.{more_failing, same_failing}
 use Rattle.mvt_polygon.proofs.feature.islands.failing_cells.Goals as goal
 use Rattle.mvt_polygon.proofs.feature.islands.failing_cells.Goals.{then-land-polygon+then-not-index, else-land-polygon, else-land-polygon-via-then-land-polygon+else-not-index, else-land-polygon-via-else-land-polygon}
 

@@ -1,10 +1,10 @@
 use Rattle.std.proofs.Common.{◌<◌, length, refl, arith}
 use Rattle.std.proofs.lemmas.Option.{slice_get_read}
-use Rattle.mvt_plane.specs.Polygon.{PolygonRings}
-use Rattle.mvt_polygon.specs.Lands.{IsOnlyLake}
+use Rattle.mvt_plane.specs.Geometry.Polygon.{PolygonRings}
+use Rattle.mvt_polygon.specs.Calls.Lands.{IsOnlyLake}
 use Rattle.mvt_polygon.specs.Rings.{rings_of}
-use Rattle.mvt_polygon.proofs.Lakes.{of_some}
-use Rattle.mvt_polygon.proofs.RingReads.{ring_there, vertices_there}
+use Rattle.mvt_polygon.proofs.Cells.Lakes.{of_some}
+use Rattle.mvt_polygon.proofs.Vertices.RingReads.{ring_there, vertices_there}
 use Rattle.mvt_polygon.proofs.feature.islands.is_settled.Goals as goal
 
 pub index-requires : goal.index-requires

@@ -1,4 +1,4 @@
-use Rattle.mvt_polygon.specs.Lands.{AreOfFailing}
+use Rattle.mvt_polygon.specs.Calls.Lands.{AreOfFailing}
 use Rattle.mvt_polygon.proofs.feature.islands.of_failing.Given as goal
 
 -- the polygons so far have their marks

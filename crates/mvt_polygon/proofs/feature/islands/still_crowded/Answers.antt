@@ -1,10 +1,10 @@
 use Rattle.std.proofs.Common.{Bool, Vec, List, Option, ℕ, length, subst}
 use Rattle.std.proofs.lemmas.Result.{IfOk-weaker}
 use Rattle.std.specs.declared.alloc.Global.{Global}
-use Rattle.mvt_polygon.specs.Islands.{AreMarked}
-use Rattle.mvt_polygon.specs.Lands.{AreFailing, AreOfFailing}
+use Rattle.mvt_polygon.specs.Calls.Islands.{AreMarked}
+use Rattle.mvt_polygon.specs.Calls.Lands.{AreFailing, AreOfFailing}
 use Rattle.mvt_polygon.specs.Rings.{rings_of}
-use Rattle.mvt_polygon.proofs.SettledPolygons.{marked_of_failing}
+use Rattle.mvt_polygon.proofs.Cells.SettledPolygons.{marked_of_failing}
 use Rattle.mvt_polygon.proofs.feature.islands.still_crowded.Goals as goal
 
 pub returns : goal.returns

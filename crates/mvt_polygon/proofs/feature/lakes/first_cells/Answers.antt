@@ -2,12 +2,12 @@ use Rattle.std.proofs.Common.{ℕ, ◌+◌, List, Vec, inl, inr, length, get_or,
 use Rattle.std.proofs.Math.ListN.{length-set}
 use Rattle.std.proofs.lemmas.Bool.{cases_lt}
 use Rattle.std.specs.declared.alloc.Global.{Global}
-use Rattle.mvt_polygon.specs.FeatureParts.{listed_at}
-use Rattle.mvt_polygon.specs.Lands.{AreFirstCells}
+use Rattle.mvt_polygon.specs.Calls.FeatureParts.{listed_at}
+use Rattle.mvt_polygon.specs.Calls.Lands.{AreFirstCells}
 use Rattle.mvt_polygon.specs.Rings.{rings_of}
-use Rattle.mvt_polygon.proofs.ApartFaults.{rings_listed, ends_within}
-use Rattle.mvt_polygon.proofs.Lakes.{more_first, written_back}
-use Rattle.mvt_polygon.proofs.RingReads.{count_of_rings}
+use Rattle.mvt_polygon.proofs.Holes.ApartFaults.{rings_listed, ends_within}
+use Rattle.mvt_polygon.proofs.Cells.Lakes.{more_first, written_back}
+use Rattle.mvt_polygon.proofs.Vertices.RingReads.{count_of_rings}
 use Rattle.mvt_polygon.proofs.feature.lakes.first_cells.Goals as goal
 use Rattle.mvt_polygon.proofs.feature.lakes.first_cells.Goals.{then-lands-cell, else-lands-cell}
 
@@ -62,13 +62,13 @@ loop-polygon-preserved c =
           (more_first rings polygons cells lands polygon count before newer c.requires.listed c.loop-polygon-test.true c.loop-polygon.invariant (w.write_cell.ensures.size ∙ ap length value)
           (λ ring away. elim (cases_lt ring (it.exterior + 1)) [
             | inl earlier ↦ w.write_cell.ensures.kept ring (inl earlier) ∙ ap (λ (first : List ℕ). get_or first ring 0) value
-            | inr behind ↦ elim (cases_lt ring it.after) [
+            | inr following ↦ elim (cases_lt ring it.after) [
               | inl earlier ↦ absurd (away (record { from = omega arith; before = earlier }))
               | inr later ↦ w.write_cell.ensures.kept ring (inr later) ∙ ap (λ (first : List ℕ). get_or first ring 0) value
             ]
           ])
           (λ no_land. absurd (no_land w.if-lands-cell.true))
-          (λ _ hole is_hole. let behind = is_hole.behind in w.write_cell.ensures.written hole (omega arith) is_hole.before))
+          (λ _ hole is_hole. let following = is_hole.following in w.write_cell.ensures.written hole (omega arith) is_hole.before))
       | else-lands-cell w ↦
           let is = ap (λ (first : Vec ℕ Global). first.items) w.first-is in
           subst Are (sym is)

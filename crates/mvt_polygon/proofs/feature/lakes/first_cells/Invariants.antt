@@ -1,5 +1,5 @@
 use Rattle.std.proofs.Common.{length}
-use Rattle.mvt_polygon.specs.Lands.{AreFirstCells}
+use Rattle.mvt_polygon.specs.Calls.Lands.{AreFirstCells}
 use Rattle.mvt_polygon.proofs.feature.lakes.first_cells.Given as goal
 
 -- the rings of the polygons so far have their cells

@@ -1,11 +1,11 @@
 use Rattle.std.proofs.Common.{◌+◌, length, List, sym, ◌∙◌, ap, subst, arith}
-use Rattle.mvt_polygon.specs.FeatureParts.{listed_at}
-use Rattle.mvt_polygon.specs.Lands.{AreHeld, IsHeld}
+use Rattle.mvt_polygon.specs.Calls.FeatureParts.{listed_at}
+use Rattle.mvt_polygon.specs.Calls.Lands.{AreHeld, IsHeld}
 use Rattle.mvt_polygon.specs.Rings.{rings_of}
 use Rattle.mvt_polygon.specs.declared.feature.lakes.Held.{Held}
-use Rattle.mvt_polygon.proofs.ApartFaults.{rings_listed, ends_within}
-use Rattle.mvt_polygon.proofs.Lakes.{more_held, written_back}
-use Rattle.mvt_polygon.proofs.RingReads.{count_of_rings}
+use Rattle.mvt_polygon.proofs.Holes.ApartFaults.{rings_listed, ends_within}
+use Rattle.mvt_polygon.proofs.Cells.Lakes.{more_held, written_back}
+use Rattle.mvt_polygon.proofs.Vertices.RingReads.{count_of_rings}
 use Rattle.mvt_polygon.proofs.feature.lakes.held_holes.Goals as goal
 
 pub overflow_add-exterior : goal.overflow_add-exterior
@@ -34,5 +34,5 @@ loop-polygon-preserved c =
     let written = written_back newer before c.loop-polygon.held.len (c.hold.ensures.size ∙ c.deref_mut.ensures.len) in
     subst (AreHeld polygons ring_cells (polygon + 1)) (sym written)
     (more_held polygons ring_cells polygon before newer c.loop-polygon.invariant (c.hold.ensures.size ∙ ap length value)
-    (λ hole is. let behind = is.behind in c.hold.ensures.added hole (omega arith) is.before)
+    (λ hole is. let following = is.following in c.hold.ensures.added hole (omega arith) is.before)
     (λ hole is. c.hold.ensures.kept hole (subst (λ (held : List Held). IsHeld ring_cells held hole) (sym value) is)))

@@ -1,4 +1,4 @@
-use Rattle.mvt_polygon.specs.Lands.{AreHeld}
+use Rattle.mvt_polygon.specs.Calls.Lands.{AreHeld}
 use Rattle.mvt_polygon.proofs.feature.lakes.held_holes.Given as goal
 
 -- the holes of the polygons so far are held

@@ -1,7 +1,7 @@
 use Rattle.std.proofs.Common.{◌≤◌, ℕ, set, get_or, ◌∙◌, below_more, arith}
 use Rattle.std.proofs.Math.ListN.{length-set}
-use Rattle.mvt_polygon.specs.Lands.{IsHeld}
-use Rattle.mvt_polygon.proofs.Lakes.{still_held, now_held}
+use Rattle.mvt_polygon.specs.Calls.Lands.{IsHeld}
+use Rattle.mvt_polygon.proofs.Cells.Lakes.{still_held, now_held}
 use Rattle.mvt_polygon.proofs.feature.lakes.hold.Goals as goal
 
 pub loop-hole-preserved : goal.loop-hole-preserved

@@ -1,5 +1,5 @@
 use Rattle.std.proofs.Common.{◌≡◌, ◌<◌, ◌≤◌, ℕ, length}
-use Rattle.mvt_polygon.specs.Lands.{IsHeld}
+use Rattle.mvt_polygon.specs.Calls.Lands.{IsHeld}
 use Rattle.mvt_polygon.proofs.feature.lakes.hold.Given as goal
 
 -- the holes so far are held, and those that were

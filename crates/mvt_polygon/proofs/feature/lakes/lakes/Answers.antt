@@ -1,12 +1,12 @@
 use Rattle.std.proofs.Common.{◌≡◌, ◌<◌, ℕ, false, List, Some, length, get_or, sym, ◌∙◌, ap, subst, arith}
-use Rattle.mvt_polygon.specs.FeatureParts.{listed_at}
-use Rattle.mvt_polygon.specs.Lands.{AreHeld, IsLakeOf, land_of}
+use Rattle.mvt_polygon.specs.Calls.FeatureParts.{listed_at}
+use Rattle.mvt_polygon.specs.Calls.Lands.{AreHeld, IsLakeOf, land_of}
 use Rattle.mvt_polygon.specs.Rings.{rings_of}
 use Rattle.mvt_polygon.specs.declared.feature.lakes.Held.{Held}
 use Rattle.mvt_polygon.specs.declared.feature.lakes.Held.TheVariants.{Empty}
-use Rattle.mvt_polygon.proofs.ApartFaults.{rings_listed, ends_within}
-use Rattle.mvt_polygon.proofs.Lakes.{more_lakes, more_unmarked, of_some, only_lake, read_as}
-use Rattle.mvt_polygon.proofs.RingReads.{count_of_rings}
+use Rattle.mvt_polygon.proofs.Holes.ApartFaults.{rings_listed, ends_within}
+use Rattle.mvt_polygon.proofs.Cells.Lakes.{more_lakes, more_unmarked, of_some, only_lake, read_as}
+use Rattle.mvt_polygon.proofs.Vertices.RingReads.{count_of_rings}
 use Rattle.mvt_polygon.proofs.feature.lakes.lakes.Goals as goal
 
 pub index-requires : goal.index-requires

@@ -1,4 +1,4 @@
-use Rattle.mvt_polygon.specs.Lands.{AreLakes, AreLakesUnmarked}
+use Rattle.mvt_polygon.specs.Calls.Lands.{AreLakes, AreLakesUnmarked}
 use Rattle.mvt_polygon.specs.Rings.{rings_of}
 use Rattle.mvt_polygon.proofs.feature.lakes.lakes.Given as goal
 

@@ -1,8 +1,8 @@
 use Rattle.std.proofs.Common.{sym, ◌∙◌, subst, length}
-use Rattle.mvt_polygon.specs.Lands.{AreLakesParted}
+use Rattle.mvt_polygon.specs.Calls.Lands.{AreLakesParted}
 use Rattle.mvt_polygon.specs.Rings.{rings_of}
-use Rattle.mvt_polygon.proofs.Lakes.{lakes_parted, written_back}
-use Rattle.mvt_polygon.proofs.RingReads.{count_of_rings}
+use Rattle.mvt_polygon.proofs.Cells.Lakes.{lakes_parted, written_back}
+use Rattle.mvt_polygon.proofs.Vertices.RingReads.{count_of_rings}
 use Rattle.mvt_polygon.proofs.feature.lakes.ring_cells.Goals as goal
 
 pub returns-clause-parted : goal.returns-clause-parted

@@ -1,7 +1,7 @@
 use Rattle.std.proofs.Common.{◌≡◌, ℕ, false, get_or, sym, subst, arith, []}
-use Rattle.mvt_polygon.specs.FeatureParts.{listed_at}
-use Rattle.mvt_polygon.specs.Lands.{AreLakes, IsSingleLakeOf, land_of}
-use Rattle.mvt_polygon.proofs.Lakes.{more_lakes, more_unmarked, of_some, single_lake}
+use Rattle.mvt_polygon.specs.Calls.FeatureParts.{listed_at}
+use Rattle.mvt_polygon.specs.Calls.Lands.{AreLakes, IsSingleLakeOf, land_of}
+use Rattle.mvt_polygon.proofs.Cells.Lakes.{more_lakes, more_unmarked, of_some, single_lake}
 use Rattle.mvt_polygon.proofs.feature.lakes.single_lakes.Goals as goal
 
 pub loop-polygon-preserved : goal.loop-polygon-preserved

@@ -1,6 +1,6 @@
 use Rattle.std.proofs.Common.{List}
 use Rattle.mvt_plane.specs.Position.{Position}
-use Rattle.mvt_polygon.specs.Lands.{AreLakes, AreLakesUnmarked}
+use Rattle.mvt_polygon.specs.Calls.Lands.{AreLakes, AreLakesUnmarked}
 use Rattle.mvt_polygon.proofs.feature.lakes.single_lakes.Given as goal
 
 -- the lakes of the polygons so far

@@ -1,4 +1,4 @@
-use Rattle.mvt_polygon.specs.Lands.{AreLands}
+use Rattle.mvt_polygon.specs.Calls.Lands.{AreLands}
 use Rattle.mvt_polygon.proofs.feature.lands.lands.Given as goal
 
 -- the cells of the polygons so far have lands

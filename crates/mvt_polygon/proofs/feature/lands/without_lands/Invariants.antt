@@ -1,4 +1,4 @@
-use Rattle.mvt_polygon.specs.Lands.{AreWithoutLands}
+use Rattle.mvt_polygon.specs.Calls.Lands.{AreWithoutLands}
 use Rattle.mvt_polygon.proofs.feature.lands.without_lands.Given as goal
 
 -- the polygons so far have their cells

@@ -1,6 +1,6 @@
 use Rattle.std.proofs.Common.{below_more, refl, arith}
 use Rattle.mvt_polygon.specs.Rings.{rings_of}
-use Rattle.mvt_polygon.proofs.ApartFaults.{rings_listed}
+use Rattle.mvt_polygon.proofs.Holes.ApartFaults.{rings_listed}
 use Rattle.mvt_polygon.proofs.feature.later.first_inside_later.Goals as goal
 
 pub returns-in-Some-clause-first : goal.returns-in-Some-clause-first

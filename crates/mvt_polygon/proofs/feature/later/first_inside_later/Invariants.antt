@@ -1,5 +1,5 @@
 use Rattle.std.proofs.Common.{ℕ, ◌<◌}
-use Rattle.mvt_polygon.specs.FeatureParts.{IsInNoLater}
+use Rattle.mvt_polygon.specs.Calls.FeatureParts.{IsInNoLater}
 use Rattle.mvt_polygon.specs.Rings.{rings_of}
 use Rattle.mvt_polygon.proofs.feature.later.first_inside_later.Given as goal
 

@@ -1,11 +1,11 @@
 use Rattle.std.proofs.Common.{below_more, refl}
 use Rattle.std.proofs.lemmas.Option.{slice_get_read}
-use Rattle.mvt_plane.specs.Nesting.{IsInsidePolygon}
-use Rattle.mvt_plane.specs.Polygon.{PolygonRings}
-use Rattle.mvt_polygon.specs.Bounds.{IsWithin}
+use Rattle.mvt_plane.specs.Geometry.Nesting.{IsInsidePolygon}
+use Rattle.mvt_plane.specs.Geometry.Polygon.{PolygonRings}
+use Rattle.mvt_polygon.specs.Calls.Bounds.{IsWithin}
 use Rattle.mvt_polygon.specs.Rings.{rings_of}
-use Rattle.mvt_polygon.proofs.OutsideBounds.{outside_polygon, not_this_one}
-use Rattle.mvt_polygon.proofs.RingReads.{fails}
+use Rattle.mvt_polygon.proofs.Holes.OutsideBounds.{outside_polygon, not_this_one}
+use Rattle.mvt_polygon.proofs.Vertices.RingReads.{fails}
 use Rattle.mvt_polygon.proofs.feature.later.first_vertex_in.Goals as goal
 use Rattle.mvt_polygon.proofs.feature.later.first_vertex_in.Goals.{else-contain-via-then-contain+else-is_in_polygon, else-contain-via-else-contain}
 

@@ -1,4 +1,4 @@
-use Rattle.mvt_polygon.specs.Bounds.{AreNotIn}
+use Rattle.mvt_polygon.specs.Calls.Bounds.{AreNotIn}
 use Rattle.mvt_polygon.specs.Rings.{rings_of}
 use Rattle.mvt_polygon.proofs.feature.later.first_vertex_in.Given as goal
 

@@ -1,8 +1,8 @@
 use Rattle.std.proofs.Common.{rules, arith}
 use Rattle.mvt_polygon.specs.Rings.{rings_of}
-use Rattle.mvt_polygon.proofs.ApartFaults.{rings_at, rings_listed, ends_within, exterior_read}
-use Rattle.mvt_polygon.proofs.LaterPolygons.{fault_by_vertex, first_of_found, first_of_vertex, found_within, none_by_vertices, none_of_all, vertex_within}
-use Rattle.mvt_polygon.proofs.RingReads.{count_of_rings, ring_there, vertices_there}
+use Rattle.mvt_polygon.proofs.Holes.ApartFaults.{rings_at, rings_listed, ends_within, exterior_read}
+use Rattle.mvt_polygon.proofs.Features.LaterPolygons.{fault_by_vertex, first_of_found, first_of_vertex, found_within, none_by_vertices, none_of_all, vertex_within}
+use Rattle.mvt_polygon.proofs.Vertices.RingReads.{count_of_rings, ring_there, vertices_there}
 use Rattle.mvt_polygon.proofs.feature.later.first_with.Goals as goal
 
 pub offset_bounds-rings-exterior : goal.offset_bounds-rings-exterior
@@ -13,8 +13,8 @@ offset_bounds-rings-exterior c =
 pub bounds-rings-exterior : goal.bounds-rings-exterior
 bounds-rings-exterior c = exterior_read c.args.rings.now c.args.polygons.now c.args.polygon c.requires.listed (omega (arith, c.requires.earlier, c.requires.other))
 
-pub first_behind-until-requires : goal.first_behind-until-requires
-first_behind-until-requires c =
+pub first_after-until-requires : goal.first_after-until-requires
+first_after-until-requires c =
     let rings = rings_of c.args.rings.now in
     let polygons = c.args.polygons.now in
     let polygon = c.args.polygon in
@@ -43,7 +43,7 @@ returns-in-Some c =
     let other = c.args.other in
     let it = rings_at polygons polygon in
     let its = rings_at polygons other in
-    let until = c.first_behind-until.result in
+    let until = c.first_after-until.result in
     let vertices = c.deref.result.now in
     let vertex = c.in-Some.vertex in
     let first = c.in-Some.ensures.first in
@@ -54,7 +54,7 @@ returns-in-Some c =
     let fault = fault_by_vertex rings polygon other until vertex it its vertices is_it is_its there (λ same. omega (arith, c.requires.earlier)) first in
     let less = fault.0 in
     first_of_vertex rings polygon other until vertex c.args.found fault.1 less
-    (none_by_vertices rings polygon other until it its vertices is_it is_its there vertex (omega arith) first.first) c.first_behind-until.ensures.before
+    (none_by_vertices rings polygon other until it its vertices is_it is_its there vertex (omega arith) first.first) c.first_after-until.ensures.before
 
 pub returns-in-None : goal.returns-in-None
 returns-in-None c =
@@ -64,7 +64,7 @@ returns-in-None c =
     let other = c.args.other in
     let it = rings_at polygons polygon in
     let its = rings_at polygons other in
-    let until = c.first_behind-until.result in
+    let until = c.first_after-until.result in
     let vertices = c.deref.result.now in
     let within = exterior_read c.args.rings.now polygons polygon c.requires.listed (omega (arith, c.requires.earlier, c.requires.other)) in
     let is_it = rings_listed rings polygons polygon c.requires.listed (omega (arith, c.requires.earlier, c.requires.other)) in
@@ -72,4 +72,4 @@ returns-in-None c =
     let there = vertices_there c.args.rings.now it.exterior c.index-rings-exterior.result vertices within c.index-rings-exterior.is c.deref.ensures.value in
     first_of_found rings polygon other until _ c.args.found
     (λ vertex fault. let inside = vertex_within rings polygon it vertices is_it there vertex other fault in omega (arith, c.len.ensures, c.deref.ensures.len))
-    (none_of_all rings polygon other until it its vertices is_it is_its there (omega (arith, c.first_behind-until.ensures.within, c.len.ensures, c.deref.ensures.len)) c.in-None.ensures.none) c.first_behind-until.ensures.none c.first_behind-until.ensures.behind
+    (none_of_all rings polygon other until it its vertices is_it is_its there (omega (arith, c.first_after-until.ensures.within, c.len.ensures, c.deref.ensures.len)) c.in-None.ensures.none) c.first_after-until.ensures.none c.first_after-until.ensures.following

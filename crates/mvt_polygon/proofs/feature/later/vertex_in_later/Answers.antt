@@ -1,10 +1,10 @@
 use Rattle.std.proofs.Common.{rules, ◌+◌, ◌-◌, ◌<◌, length, refl, arith}
 use Rattle.std.proofs.lemmas.Option.{slice_get_read}
 use Rattle.mvt_polygon.specs.Rings.{rings_of}
-use Rattle.mvt_polygon.proofs.ApartFaults.{rings_at, rings_listed, exterior_read}
-use Rattle.mvt_polygon.proofs.LaterPolygons.{apart_behind, apart_here, first_of_all, found_beyond_reach, found_everywhere, found_with, found_without, has_vertex, none_at_all, none_at_place}
-use Rattle.mvt_polygon.proofs.RingReads.{vertices_there}
-use Rattle.mvt_polygon.proofs.WiderBounds.{beyond_read, not_at_most}
+use Rattle.mvt_polygon.proofs.Holes.ApartFaults.{rings_at, rings_listed, exterior_read}
+use Rattle.mvt_polygon.proofs.Features.LaterPolygons.{apart_after, apart_here, first_of_all, found_beyond_reach, found_everywhere, found_with, found_without, has_vertex, none_at_all, none_at_place}
+use Rattle.mvt_polygon.proofs.Vertices.RingReads.{vertices_there}
+use Rattle.mvt_polygon.proofs.Cells.WiderBounds.{beyond_read, not_at_most}
 use Rattle.mvt_polygon.proofs.feature.later.vertex_in_later.Goals as goal
 
 pub offset_bounds-rings-exterior : goal.offset_bounds-rings-exterior
@@ -42,7 +42,7 @@ back-init c =
       within = c.begun-at.ensures.within;
       found = λ place left number from here.
           none_at_place rings polygons c.args.later polygon it vertices own bounds order place left number c.requires.listed all in_order is_it there c.of-own.ensures here
-          (apart_behind own bounds order place left number in_order here (beyond_read own.right left (search rules) (c.begun-at.ensures.behind place left number from here)));
+          (apart_after own bounds order place left number in_order here (beyond_read own.right left (search rules) (c.begun-at.ensures.following place left number from here)));
     }
 
 pub index-its-requires : goal.index-its-requires
@@ -50,7 +50,7 @@ index-its-requires c =
     let order = c.args.spread.now.order.items in
     let pair = c.index-in-back.result.now in
     let here = slice_get_read order _ (c.back.at - 1) pair refl (omega (arith, c.back.invariant.within, c.back-test.true)) c.index-in-back.ensures in
-    let known = c.requires.spread.order.known (c.back.at - 1) pair.0 pair.1 here in
+    let known = c.requires.spread.order.numbering.known (c.back.at - 1) pair.0 pair.1 here in
     omega arith
 
 pub overflow_add-later : goal.overflow_add-later
@@ -58,7 +58,7 @@ overflow_add-later c =
     let order = c.args.spread.now.order.items in
     let pair = c.index-in-back.result.now in
     let here = slice_get_read order _ (c.back.at - 1) pair refl (omega (arith, c.back.invariant.within, c.back-test.true)) c.index-in-back.ensures in
-    let known = c.requires.spread.order.known (c.back.at - 1) pair.0 pair.1 here in
+    let known = c.requires.spread.order.numbering.known (c.back.at - 1) pair.0 pair.1 here in
     let count = c.requires.spread.bounds.count in
     let within : c.args.later + pair.1 < length c.args.polygons.now = omega arith in
     search rules
@@ -68,7 +68,7 @@ first_with-found-requires-clause-other c =
     let order = c.args.spread.now.order.items in
     let pair = c.index-in-back.result.now in
     let here = slice_get_read order _ (c.back.at - 1) pair refl (omega (arith, c.back.invariant.within, c.back-test.true)) c.index-in-back.ensures in
-    let known = c.requires.spread.order.known (c.back.at - 1) pair.0 pair.1 here in
+    let known = c.requires.spread.order.numbering.known (c.back.at - 1) pair.0 pair.1 here in
     let count = c.requires.spread.bounds.count in
     omega arith
 
@@ -77,7 +77,7 @@ first_with-found-requires-clause-bounds c =
     let order = c.args.spread.now.order.items in
     let pair = c.index-in-back.result.now in
     let here = slice_get_read order _ (c.back.at - 1) pair refl (omega (arith, c.back.invariant.within, c.back-test.true)) c.index-in-back.ensures in
-    let known = c.requires.spread.order.known (c.back.at - 1) pair.0 pair.1 here in
+    let known = c.requires.spread.order.numbering.known (c.back.at - 1) pair.0 pair.1 here in
     let its = c.index-its.result.now in
     λ exterior there. c.requires.spread.bounds.are pair.1 its exterior (slice_get_read c.args.spread.now.bounds.items _ pair.1 its refl known c.index-its.ensures) there
 
@@ -86,7 +86,7 @@ back-preserved-then-not-are_apart c =
     let order = c.args.spread.now.order.items in
     let pair = c.index-in-back.result.now in
     let here = slice_get_read order _ (c.back.at - 1) pair refl (omega (arith, c.back.invariant.within, c.back-test.true)) c.index-in-back.ensures in
-    let known = c.requires.spread.order.known (c.back.at - 1) pair.0 pair.1 here in
+    let known = c.requires.spread.order.numbering.known (c.back.at - 1) pair.0 pair.1 here in
     record {
       within = omega (arith, c.back.invariant.within);
       found = found_with (rings_of c.args.rings.now) c.args.later c.args.polygon order c.back.at (c.back.at - 1) pair.0 pair.1 c.back.found c.first_with-found.result (omega arith) here
@@ -110,7 +110,7 @@ back-preserved c =
     let in_order = c.requires.spread.order in
     let pair = c.index-in-back.result.now in
     let here = slice_get_read order _ (c.back.at - 1) pair refl (omega (arith, c.back.invariant.within, c.back-test.true)) c.index-in-back.ensures in
-    let known = in_order.known (c.back.at - 1) pair.0 pair.1 here in
+    let known = in_order.numbering.known (c.back.at - 1) pair.0 pair.1 here in
     let its = c.index-its.result.now in
     let its_there = slice_get_read bounds _ pair.1 its refl known c.index-its.ensures in
     record {

@@ -1,6 +1,6 @@
 use Rattle.std.proofs.Common.{◌≤◌, length}
 use Rattle.mvt_polygon.specs.Rings.{rings_of}
-use Rattle.mvt_polygon.proofs.LaterPolygons.{IsFoundFrom}
+use Rattle.mvt_polygon.proofs.Features.LaterPolygons.{IsFoundFrom}
 use Rattle.mvt_polygon.proofs.feature.later.vertex_in_later.Given as goal
 
 -- what is found is the first fault with the polygons from this place on

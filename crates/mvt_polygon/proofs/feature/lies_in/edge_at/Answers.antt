@@ -1,7 +1,7 @@
 use Rattle.std.proofs.Common.{◌≡◌, ◌<◌, length, arith}
-use Rattle.mvt_plane.specs.Ring.{next_round}
-use Rattle.mvt_plane.proofs.RingEdges.{round_last, round_next}
-use Rattle.mvt_polygon.proofs.EdgeNumbers.{edge_read}
+use Rattle.mvt_plane.specs.Geometry.Ring.{next_round}
+use Rattle.mvt_plane.proofs.Rings.RingEdges.{round_last, round_next}
+use Rattle.mvt_polygon.proofs.Vertices.EdgeNumbers.{edge_read}
 use Rattle.mvt_polygon.proofs.feature.lies_in.edge_at.Goals as goal
 use Rattle.mvt_polygon.proofs.feature.lies_in.edge_at.Goals.{then-number-ring, else-number-ring}
 

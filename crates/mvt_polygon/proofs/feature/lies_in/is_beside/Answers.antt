@@ -1,8 +1,8 @@
 use Rattle.std.proofs.Common.{◌≡◌, below_more, refl, sym, ◌∙◌, subst, arith, int_cmp, pos}
 use Rattle.std.proofs.lemmas.Option.{slice_get_read, slice_get_within, same_Some}
-use Rattle.mvt_plane.specs.Measure.{orientation}
+use Rattle.mvt_plane.specs.Geometry.Measure.{orientation}
 use Rattle.mvt_plane.specs.Position.{Position}
-use Rattle.mvt_polygon.proofs.LyingRings.{no_side_equal}
+use Rattle.mvt_polygon.proofs.Vertices.LyingRings.{no_side_equal}
 use Rattle.mvt_polygon.proofs.feature.lies_in.is_beside.Goals as goal
 
 pub loop-vertex-preserved : goal.loop-vertex-preserved

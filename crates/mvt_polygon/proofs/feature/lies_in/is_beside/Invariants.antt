@@ -1,5 +1,5 @@
 use Rattle.std.proofs.Common.{◌≡◌, ◌<◌, ℕ, slice_get, Some, int_cmp, pos}
-use Rattle.mvt_plane.specs.Measure.{orientation}
+use Rattle.mvt_plane.specs.Geometry.Measure.{orientation}
 use Rattle.mvt_plane.specs.Position.{Position}
 use Rattle.mvt_polygon.proofs.feature.lies_in.is_beside.Given as goal
 

@@ -1,7 +1,7 @@
 use Rattle.std.proofs.Common.{below_more, sym, ◌∙◌, subst, arith}
 use Rattle.std.proofs.lemmas.Option.{same_Some}
-use Rattle.mvt_polygon.specs.Islands.{IsClearOfEdge}
-use Rattle.mvt_polygon.proofs.LyingRings.{beside_clear, clear_of_all, far_clear}
+use Rattle.mvt_polygon.specs.Calls.Islands.{IsClearOfEdge}
+use Rattle.mvt_polygon.proofs.Vertices.LyingRings.{beside_clear, clear_of_all, far_clear}
 use Rattle.mvt_polygon.proofs.feature.lies_in.is_clear.Goals as goal
 use Rattle.mvt_polygon.proofs.feature.lies_in.is_clear.Goals.{then-not-are_apart+else-near-ge-MOST_NEAR+else-not-is_beside, else-not-are_apart}
 

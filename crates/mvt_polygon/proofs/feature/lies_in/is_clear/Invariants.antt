@@ -1,4 +1,4 @@
-use Rattle.mvt_polygon.specs.Islands.{AreClearBefore}
+use Rattle.mvt_polygon.specs.Calls.Islands.{AreClearBefore}
 use Rattle.mvt_polygon.proofs.feature.lies_in.is_clear.Given as goal
 
 -- the edges so far have nothing in common with the ring

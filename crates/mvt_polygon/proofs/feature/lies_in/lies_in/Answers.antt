@@ -1,6 +1,6 @@
 use Rattle.std.proofs.Common.{refl}
 use Rattle.std.proofs.lemmas.Option.{slice_get_read}
-use Rattle.mvt_polygon.proofs.LyingRings.{lies_by_first}
+use Rattle.mvt_polygon.proofs.Vertices.LyingRings.{lies_by_first}
 use Rattle.mvt_polygon.proofs.feature.lies_in.lies_in.Goals as goal
 
 pub returns-then-inside : goal.returns-then-inside

@@ -2,13 +2,13 @@ use Rattle.std.proofs.Common.{◌≡◌, ℕ, length, arith}
 use Rattle.std.proofs.lemmas.Result.{IfOk-weaker}
 use Rattle.mvt_polygon.specs.Meeting.{first_of, second_of}
 use Rattle.mvt_polygon.specs.Nesting.{one_polygon}
-use Rattle.mvt_polygon.specs.Passings.{AreAdded, IsPassing, passing_by}
+use Rattle.mvt_polygon.specs.Calls.Passings.{AreAdded, IsPassing, passing_by}
 use Rattle.mvt_polygon.specs.Rings.{rings_of}
-use Rattle.mvt_polygon.specs.RingsAround.{nearest_at}
+use Rattle.mvt_polygon.specs.Calls.RingsAround.{nearest_at}
 use Rattle.mvt_polygon.specs.declared.feature.passing.Passing.{Passing}
-use Rattle.mvt_polygon.proofs.AddedPassings.{said_of_added}
-use Rattle.mvt_polygon.proofs.OwnPassings.{own_passing}
-use Rattle.mvt_polygon.proofs.RingReads.{count_of_rings}
+use Rattle.mvt_polygon.proofs.Placed.AddedPassings.{said_of_added}
+use Rattle.mvt_polygon.proofs.Placed.OwnPassings.{own_passing}
+use Rattle.mvt_polygon.proofs.Vertices.RingReads.{count_of_rings}
 use Rattle.mvt_polygon.proofs.feature.passing.add_passings.Goals as goal
 
 pub unreachable-requires : goal.unreachable-requires

@@ -1,13 +1,13 @@
 use Rattle.std.proofs.Common.{ℕ, List, length, take, rules, sym, ◌∙◌, subst, arith}
 use Rattle.mvt_plane.specs.Position.{Position}
-use Rattle.mvt_polygon.specs.Corners.{vertex_count}
+use Rattle.mvt_polygon.specs.Work.{vertex_count}
 use Rattle.mvt_polygon.specs.Meeting.{NoMeeting}
 use Rattle.mvt_polygon.specs.Rings.{rings_of, AreProperRings}
-use Rattle.mvt_polygon.proofs.AddedPassings.{AddsParts, none_reached, no_passings, more_read, more_work, all_parts, part_read, part_size, ends_read}
-use Rattle.mvt_polygon.proofs.ApartFaults.{rings_at}
-use Rattle.mvt_polygon.proofs.OwnPassings.{proper_part, clear_part}
-use Rattle.mvt_polygon.proofs.RingReads.{count_of_rings}
-use Rattle.mvt_polygon.proofs.StatusCounts.{no_work}
+use Rattle.mvt_polygon.proofs.Placed.AddedPassings.{AddsParts, none_reached, no_passings, more_read, more_work, all_parts, part_read, part_size, ends_read}
+use Rattle.mvt_polygon.proofs.Holes.ApartFaults.{rings_at}
+use Rattle.mvt_polygon.proofs.Placed.OwnPassings.{proper_part, clear_part}
+use Rattle.mvt_polygon.proofs.Vertices.RingReads.{count_of_rings}
+use Rattle.mvt_polygon.proofs.Sweeps.StatusCounts.{no_work}
 use Rattle.mvt_polygon.proofs.feature.passing.passings.Goals as goal
 
 pub loop-polygon-init : goal.loop-polygon-init

@@ -1,8 +1,8 @@
 use Rattle.std.proofs.Common.{length, take}
-use Rattle.mvt_polygon.specs.Corners.{vertex_count}
-use Rattle.mvt_polygon.specs.Passings.{ArePassings}
+use Rattle.mvt_polygon.specs.Work.{vertex_count}
+use Rattle.mvt_polygon.specs.Calls.Passings.{ArePassings}
 use Rattle.mvt_polygon.specs.Rings.{rings_of}
-use Rattle.mvt_polygon.proofs.AddedPassings.{IsReached, AddsParts}
+use Rattle.mvt_polygon.proofs.Placed.AddedPassings.{IsReached, AddsParts}
 use Rattle.mvt_polygon.proofs.feature.passing.passings.Given as goal
 
 -- the rings of so many polygons are listed

@@ -1,8 +1,8 @@
 use Rattle.std.proofs.Common.{◌≡◌, ℕ, Some, length, get_or, refl, sym, ◌∙◌, ap, subst, arith}
 use Rattle.std.proofs.lemmas.Option.{slice_get_read, slice_get-get_or}
-use Rattle.mvt_polygon.specs.RingsAround.{nearest_at}
+use Rattle.mvt_polygon.specs.Calls.RingsAround.{nearest_at}
 use Rattle.mvt_polygon.specs.declared.feature.passing.Passing.TheVariants.{Enters}
-use Rattle.mvt_polygon.proofs.CountedPassings.{AreNothing, no_rings, one_ring_more, none_counted, outermost_counted, inner_counted, next_there, all_counted, come_here}
+use Rattle.mvt_polygon.proofs.Placed.CountedPassings.{AreNothing, no_rings, one_ring_more, none_counted, outermost_counted, inner_counted, next_there, all_counted, come_here}
 use Rattle.mvt_polygon.proofs.feature.passing.polygons_around.Goals as goal
 use Rattle.mvt_polygon.proofs.feature.passing.polygons_around.Goals.{in-Some, in_default}
 

@@ -1,4 +1,4 @@
-use Rattle.mvt_polygon.proofs.CountedPassings.{AreNothing, AreCountedTo}
+use Rattle.mvt_polygon.proofs.Placed.CountedPassings.{AreNothing, AreCountedTo}
 use Rattle.mvt_polygon.proofs.feature.passing.polygons_around.Given as goal
 
 -- so many rings have no polygon around them yet

@@ -1,8 +1,8 @@
 use Rattle.std.proofs.Common.{◌≡◌, ℕ}
-use Rattle.mvt_polygon.specs.Passings.{passing_by}
-use Rattle.mvt_polygon.specs.RingsAround.{nearest_at}
+use Rattle.mvt_polygon.specs.Calls.Passings.{passing_by}
+use Rattle.mvt_polygon.specs.Calls.RingsAround.{nearest_at}
 use Rattle.mvt_polygon.specs.declared.feature.passing.Passing.{Passing}
-use Rattle.mvt_polygon.proofs.AddedPassings.{one_added}
+use Rattle.mvt_polygon.proofs.Placed.AddedPassings.{one_added}
 use Rattle.mvt_polygon.proofs.feature.passing.push_passings.Goals as goal
 
 pub loop-ring-preserved : goal.loop-ring-preserved

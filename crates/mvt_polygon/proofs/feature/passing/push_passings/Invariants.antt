@@ -1,6 +1,6 @@
 use Rattle.std.proofs.Common.{◌≡◌}
-use Rattle.mvt_polygon.specs.Passings.{AreAdded, passing_by}
-use Rattle.mvt_polygon.specs.RingsAround.{nearest_at}
+use Rattle.mvt_polygon.specs.Calls.Passings.{AreAdded, passing_by}
+use Rattle.mvt_polygon.specs.Calls.RingsAround.{nearest_at}
 use Rattle.mvt_polygon.proofs.feature.passing.push_passings.Given as goal
 
 -- so many rings are added

@@ -1,6 +1,6 @@
 use Rattle.std.proofs.Common.{ℕ, ◌<◌}
-use Rattle.mvt_polygon.specs.FeatureParts.{listed_at}
-use Rattle.mvt_polygon.specs.Passings.{HasRightNotes}
+use Rattle.mvt_polygon.specs.Calls.FeatureParts.{listed_at}
+use Rattle.mvt_polygon.specs.Calls.Passings.{HasRightNotes}
 use Rattle.mvt_polygon.proofs.feature.placed.are_placed.Given as goal
 
 -- the polygons so far are placed

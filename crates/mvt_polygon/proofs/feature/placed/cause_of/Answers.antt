@@ -1,15 +1,16 @@
 use Rattle.std.proofs.Common.{◌≡◌, ◌+◌, ◌-◌, ◌<◌, ℕ, List, length, get_or, Vec, rules, refl, sym, ◌∙◌, subst, arith}
 use Rattle.std.specs.declared.alloc.Global.{Global}
-use Rattle.mvt_plane.specs.Nesting.{IsVertexOf}
+use Rattle.mvt_plane.specs.Geometry.Nesting.{IsVertexOf}
 use Rattle.mvt_plane.specs.Position.{Position}
-use Rattle.mvt_polygon.specs.Nesting.{IsFirstOf, IsNestFault, IsOfVertex}
+use Rattle.mvt_polygon.specs.Calls.Nesting.{IsFirstOf, IsOfVertex}
+use Rattle.mvt_polygon.specs.Nesting.{IsNestFault}
 use Rattle.mvt_polygon.specs.Polygons.{ArePolygons}
 use Rattle.mvt_polygon.specs.Rings.{rings_of, AreProperRings}
 use Rattle.mvt_polygon.specs.declared.nesting.NestFault.{NestFault}
-use Rattle.mvt_polygon.proofs.AddedPassings.{part_read, ends_read}
-use Rattle.mvt_polygon.proofs.ApartFaults.{rings_at, rings_listed, ends_within, exterior_read, vertex_there, first_vertex}
-use Rattle.mvt_polygon.proofs.PlacedPolygons.{AreLeftTo, first_of_part, nested_where_left, left_listed, wrong_has_fault, placed_where_none, around_where_some, first_in_slice, some_vertex, exterior_around, part_probes}
-use Rattle.mvt_polygon.proofs.RingReads.{count_of_rings}
+use Rattle.mvt_polygon.proofs.Placed.AddedPassings.{part_read, ends_read}
+use Rattle.mvt_polygon.proofs.Holes.ApartFaults.{rings_at, rings_listed, ends_within, exterior_read, vertex_there, first_vertex}
+use Rattle.mvt_polygon.proofs.Placed.PlacedPolygons.{AreLeftTo, first_of_part, nested_where_left, left_listed, wrong_has_fault, placed_where_none, around_where_some, first_in_slice, some_vertex, exterior_around, part_probes}
+use Rattle.mvt_polygon.proofs.Vertices.RingReads.{count_of_rings}
 use Rattle.mvt_polygon.proofs.feature.placed.cause_of.Goals as goal
 
 pub first_wrong_hole-requires-clause-further : goal.first_wrong_hole-requires-clause-further
@@ -43,7 +44,7 @@ fault_of_first_vertex-requires-clause-here c =
     let it = rings_at c.args.polygons.now c.args.polygon in
     let ends = ends_read c.args.rings.now c.args.polygons.now c.args.polygon c.requires.listed c.requires.there in
     let wrong = c.in-Some.ensures.some in
-    first_in_slice c.args.rings.now it c.in-Some.hole c.index-rings-hole.result c.index.result.now c.requires.drawn ends.1 wrong.behind wrong.before c.index-rings-hole.is c.index.ensures
+    first_in_slice c.args.rings.now it c.in-Some.hole c.index-rings-hole.result c.index.result.now c.requires.drawn ends.1 wrong.following wrong.before c.index-rings-hole.is c.index.ensures
 
 pub returns-in_err-fault-clause-none : goal.returns-in_err-fault-clause-none
 returns-in_err-fault-clause-none c =
@@ -72,7 +73,7 @@ returns-in-Some-clause-some c =
     let it = rings_at c.args.polygons.now c.args.polygon in
     let is_it = rings_listed rings c.args.polygons.now c.args.polygon c.requires.listed c.requires.there in
     let wrong = c.in-Some.ensures.some in
-    let behind = wrong.behind in
+    let following = wrong.following in
     let before = wrong.before in
     let own = c.in-Some.hole - it.exterior in
     let number : c.in-Some.hole ≡ it.exterior + own = omega arith in

@@ -1,15 +1,15 @@
 use Rattle.std.proofs.Common.{ℕ, List, length, slice_get, sym, ◌∙◌, ap, subst, below_more, arith}
 use Rattle.mvt_plane.specs.Counted.{Counted}
-use Rattle.mvt_polygon.specs.Corners.{vertex_count}
-use Rattle.mvt_polygon.specs.FeatureParts.{AreAllPlaced}
-use Rattle.mvt_polygon.specs.Passings.{ArePassings}
+use Rattle.mvt_polygon.specs.Work.{vertex_count}
+use Rattle.mvt_polygon.specs.Calls.FeatureParts.{AreAllPlaced}
+use Rattle.mvt_polygon.specs.Calls.Passings.{ArePassings}
 use Rattle.mvt_polygon.specs.Rings.{rings_of}
 use Rattle.mvt_polygon.specs.declared.feature.passing.Passing.{Passing}
-use Rattle.mvt_polygon.proofs.AddedPassings.{AddsParts, ends_read}
-use Rattle.mvt_polygon.proofs.ApartFaults.{rings_listed}
-use Rattle.mvt_polygon.proofs.PlacedFeatures.{placed_as_listed, all_placed, placed_by_notes, not_placed, in_order, are_counts, around_exteriors}
-use Rattle.mvt_polygon.proofs.PolygonCounts.{around_count}
-use Rattle.mvt_polygon.proofs.RingReads.{count_of_rings}
+use Rattle.mvt_polygon.proofs.Placed.AddedPassings.{AddsParts, ends_read}
+use Rattle.mvt_polygon.proofs.Holes.ApartFaults.{rings_listed}
+use Rattle.mvt_polygon.proofs.Placed.PlacedFeatures.{placed_as_listed, all_placed, placed_by_notes, not_placed, in_order, are_counts, around_exteriors}
+use Rattle.mvt_polygon.proofs.Placed.PolygonCounts.{around_count}
+use Rattle.mvt_polygon.proofs.Vertices.RingReads.{count_of_rings}
 use Rattle.mvt_polygon.proofs.feature.placed.first_misplaced.Goals as goal
 
 pub are_placed-requires : goal.are_placed-requires

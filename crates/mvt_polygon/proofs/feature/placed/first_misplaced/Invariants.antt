@@ -1,9 +1,9 @@
 use Rattle.std.proofs.Common.{ℕ, ◌<◌}
-use Rattle.mvt_polygon.specs.Corners.{vertex_count}
+use Rattle.mvt_polygon.specs.Work.{vertex_count}
 use Rattle.mvt_polygon.specs.Feature.{IsPlaced}
-use Rattle.mvt_polygon.specs.FeatureParts.{listed_at}
+use Rattle.mvt_polygon.specs.Calls.FeatureParts.{listed_at}
 use Rattle.mvt_polygon.specs.Rings.{rings_of}
-use Rattle.mvt_polygon.proofs.AddedPassings.{AddsParts}
+use Rattle.mvt_polygon.proofs.Placed.AddedPassings.{AddsParts}
 use Rattle.mvt_polygon.proofs.feature.placed.first_misplaced.Given as goal
 
 -- the polygons so far are placed, and nothing was counted of them

@@ -25,10 +25,10 @@ returns-then-ne-clause-some c =
     let passing = get_or c.args.passings.now hole Enters in
     let there = slice_get-get_or c.args.passings.now hole Enters (omega (arith, c.requires.within)) in
     record {
-      behind = omega (arith, c.loop-hole.auto.hole);
+      following = omega (arith, c.loop-hole.auto.hole);
       before = c.loop-hole-test.true;
       wrong = λ left. differs passing (sym c.ne.ensures ∙ c.if-ne.true) (same_Some passing Leaves (sym there ∙ left));
-      first = λ other behind before. c.loop-hole.invariant other before behind;
+      first = λ other following before. c.loop-hole.invariant other before following;
     }
 
 pub loop-hole-preserved : goal.loop-hole-preserved
@@ -36,4 +36,4 @@ loop-hole-preserved c =
     let hole = c.loop-hole.hole in
     let passing = get_or c.args.passings.now hole Enters in
     let there = slice_get-get_or c.args.passings.now hole Enters (omega (arith, c.requires.within)) in
-    below_more _ _ c.loop-hole.invariant (λ behind. there ∙ ap Some (is_left passing (sym c.ne.ensures ∙ c.if-ne.false)))
+    below_more _ _ c.loop-hole.invariant (λ following. there ∙ ap Some (is_left passing (sym c.ne.ensures ∙ c.if-ne.false)))

@@ -1,5 +1,5 @@
 use Rattle.std.proofs.Common.{◌≡◌, ℕ, ◌<◌, Some}
-use Rattle.mvt_polygon.specs.RingsAround.{nearest_at}
+use Rattle.mvt_polygon.specs.Calls.RingsAround.{nearest_at}
 use Rattle.mvt_polygon.proofs.feature.placed.is_placed.Given as goal
 
 -- the exterior is directly around each hole so far

@@ -1,20 +1,20 @@
 use Rattle.std.proofs.Common.{◌≡◌, ℕ, ◌<◌, IfNone, IfSome, List, take, Option, option_map, sym, ◌∙◌, ap, ap₂, subst, arith}
 use Rattle.std.specs.Option.{option_or}
 use Rattle.mvt_plane.specs.Position.{Position}
-use Rattle.mvt_plane.specs.Ring.{ArePolygonRings}
-use Rattle.mvt_polygon.specs.Corners.{vertex_count}
+use Rattle.mvt_plane.specs.Geometry.Ring.{ArePolygonRings}
+use Rattle.mvt_polygon.specs.Work.{vertex_count}
 use Rattle.mvt_polygon.specs.Feature.{IsFeatureAnswer}
-use Rattle.mvt_polygon.specs.FeatureParts.{AreAllPlaced, fault_behind, IsFirstLater, IsFirstMisplaced, IsFront, IsInNoLater}
+use Rattle.mvt_polygon.specs.Calls.FeatureParts.{AreAllPlaced, fault_after, IsFirstLater, IsFirstMisplaced, IsFront, IsInNoLater}
 use Rattle.mvt_polygon.specs.Polygons.{ArePolygons}
 use Rattle.mvt_polygon.specs.Rings.{rings_of, AreProperRings}
-use Rattle.mvt_polygon.specs.Swept.{IsNotedClear}
+use Rattle.mvt_polygon.specs.Calls.Swept.{IsNotedClear}
 use Rattle.mvt_polygon.specs.declared.feature.FeatureFault.{FeatureFault}
-use Rattle.mvt_polygon.proofs.FeatureAnswers.{answer_of_parts, front_is_of_first, until_within}
-use Rattle.mvt_polygon.proofs.FirstMeetings.{first_slice}
-use Rattle.mvt_polygon.proofs.FirstPolygons.{first_are_listed}
-use Rattle.mvt_polygon.proofs.FirstRings.{first_drawn, first_sound}
-use Rattle.mvt_polygon.proofs.SweepsOfFeatures.{sweeps_of_feature, sweeps_with_front}
-use Rattle.mvt_polygon.proofs.SweepsAdded.{fewer_vertices, no_sweeps}
+use Rattle.mvt_polygon.proofs.Features.FeatureAnswers.{answer_of_parts, front_is_of_first, until_within}
+use Rattle.mvt_polygon.proofs.Features.FirstMeetings.{first_slice}
+use Rattle.mvt_polygon.proofs.Features.FirstPolygons.{first_are_listed}
+use Rattle.mvt_polygon.proofs.Features.FirstRings.{first_drawn, first_sound}
+use Rattle.mvt_polygon.proofs.Features.SweepsOfFeatures.{sweeps_of_feature, sweeps_with_front}
+use Rattle.mvt_polygon.proofs.Sweeps.SweepsAdded.{fewer_vertices, no_sweeps}
 use Rattle.mvt_polygon.proofs.feature.together.check_together.Goals as goal
 
 -- The front
@@ -113,10 +113,10 @@ returns-clause-answer c =
     let until = c.placed_up_to-until.ensures in
     let none_later = subst (λ (n : ℕ). IfNone inside ((polygon : ℕ) → polygon < n → IsInNoLater rings front.polygons polygon)) until c.in_ok-inside.ensures.none in
     let some_later = subst (λ (n : ℕ). IfSome inside (IsFirstLater rings front.polygons n)) until c.in_ok-inside.ensures.first in
-    let behind : c.fault_of_meeting.result ≡ option_map (fault_behind items front.polygons) front.meeting =
-    c.fault_of_meeting.ensures ∙ ap (λ (polygons : List (ℕ × ℕ)). option_map (fault_behind polygons front.polygons) front.meeting) c.deref-4.ensures.value in
-    let same : c.or-2.result ≡ option_or (option_or inside misplaced) (option_map (fault_behind items front.polygons) front.meeting) =
-    c.or-2.ensures ∙ ap₂ (λ (one other : Option FeatureFault). option_or one other) c.or.ensures behind in
+    let following : c.fault_of_meeting.result ≡ option_map (fault_after items front.polygons) front.meeting =
+    c.fault_of_meeting.ensures ∙ ap (λ (polygons : List (ℕ × ℕ)). option_map (fault_after polygons front.polygons) front.meeting) c.deref-4.ensures.value in
+    let same : c.or-2.result ≡ option_or (option_or inside misplaced) (option_map (fault_after items front.polygons) front.meeting) =
+    c.or-2.ensures ∙ ap₂ (λ (one other : Option FeatureFault). option_or one other) c.or.ensures following in
     subst (IsFeatureAnswer rings) (sym same) (answer_of_parts rings items front misplaced inside c.in_ok-polygons.ensures is none some none_later some_later)
 
 pub returns-clause-counted : goal.returns-clause-counted

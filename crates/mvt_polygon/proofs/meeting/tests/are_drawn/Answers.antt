@@ -4,9 +4,9 @@ use Rattle.std.proofs.lemmas.Option.{same_Some, slice_get_within}
 use Rattle.std.specs.declared.alloc.Global.{Global}
 use Rattle.std.specs.Prelude.{Vec}
 use Rattle.mvt_plane.specs.Position.{Position}
-use Rattle.mvt_plane.specs.Ring.{next_round}
+use Rattle.mvt_plane.specs.Geometry.Ring.{next_round}
 use Rattle.mvt_polygon.specs.Rings.{rings_of}
-use Rattle.mvt_polygon.proofs.RingReads.{ring_there}
+use Rattle.mvt_polygon.proofs.Vertices.RingReads.{ring_there}
 use Rattle.mvt_polygon.proofs.meeting.tests.are_drawn.Goals as goal
 
 -- a ring is that of its number

@@ -1,4 +1,4 @@
-use Rattle.mvt_polygon.proofs.EdgeNumbers.{edge_read}
+use Rattle.mvt_polygon.proofs.Vertices.EdgeNumbers.{edge_read}
 use Rattle.mvt_polygon.proofs.meeting.tests.edge_of.Goals as goal
 
 pub returns : goal.returns

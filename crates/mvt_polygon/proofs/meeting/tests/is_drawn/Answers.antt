@@ -3,17 +3,17 @@ use Rattle.std.proofs.lemmas.Bool.Decides.{Decides-int_eq}
 use Rattle.std.proofs.lemmas.Grind.{common_steps}
 use Rattle.std.proofs.lemmas.Option.{same_Some, slice_get_within}
 use Rattle.mvt_plane.specs.Position.{Position}
-use Rattle.mvt_plane.specs.Ring.{edges, next_round}
-use Rattle.mvt_plane.specs.declared.edge.Edge.{Edge}
-use Rattle.mvt_plane.proofs.RingEdges.{ends_of_edge}
+use Rattle.mvt_plane.specs.Geometry.Ring.{edges, next_round}
+use Rattle.mvt_plane.specs.declared.geometry.edge.Edge.{Edge}
+use Rattle.mvt_plane.proofs.Rings.RingEdges.{ends_of_edge}
 use Rattle.mvt_polygon.proofs.meeting.tests.is_drawn.Goals as goal
 
 -- an edge with two ends is between two positions
 apart_by_edge : (ring : List Position) (vertex : ℕ) (it : Edge) → slice_get (edges ring) vertex ≡ Some it → it.a ≢ it.b → (position next : Position) → slice_get ring vertex ≡ Some position
     → slice_get ring (next_round (length ring) vertex) ≡ Some next → position ≢ next
-apart_by_edge ring vertex it here apart position next there behind same =
+apart_by_edge ring vertex it here apart position next there following same =
     let ends = ends_of_edge ring vertex it here in
-    apart (same_Some it.a position (sym ends.0 ∙ there) ∙ same ∙ same_Some next it.b (sym behind ∙ ends.1))
+    apart (same_Some it.a position (sym ends.0 ∙ there) ∙ same ∙ same_Some next it.b (sym following ∙ ends.1))
 
 -- positions that differ in a coordinate differ
 differ : (a b : Position) (r : Bool) → r ≡ (int_eq a.x b.x && int_eq a.y b.y) → r ≡ false → a ≢ b

@@ -1,6 +1,6 @@
 use Rattle.std.proofs.Common.{◌≡◌, ◌≢◌, ◌<◌, ℕ, length, slice_get, Some}
 use Rattle.mvt_plane.specs.Position.{Position}
-use Rattle.mvt_plane.specs.Ring.{next_round}
+use Rattle.mvt_plane.specs.Geometry.Ring.{next_round}
 use Rattle.mvt_polygon.proofs.meeting.tests.is_drawn.Given as goal
 
 -- no vertex so far is at the position of the next one

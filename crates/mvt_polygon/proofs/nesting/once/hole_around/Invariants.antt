@@ -1,7 +1,7 @@
 use Rattle.std.proofs.Common.{ℕ, ◌<◌, ◌-◌, take}
-use Rattle.mvt_polygon.specs.CornerOrder.{AddsWork}
-use Rattle.mvt_polygon.specs.Corners.{vertex_count}
-use Rattle.mvt_polygon.specs.Nesting.{IsHoleAround}
+use Rattle.mvt_polygon.specs.Work.{AddsWork}
+use Rattle.mvt_polygon.specs.Work.{vertex_count}
+use Rattle.mvt_polygon.specs.Calls.Nesting.{IsHoleAround}
 use Rattle.mvt_polygon.specs.Rings.{rings_of}
 use Rattle.mvt_polygon.proofs.nesting.once.hole_around.Given as goal
 

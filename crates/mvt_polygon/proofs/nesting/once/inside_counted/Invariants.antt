@@ -1,4 +1,4 @@
-use Rattle.mvt_polygon.specs.CornerOrder.{AddsWork}
+use Rattle.mvt_polygon.specs.Work.{AddsWork}
 use Rattle.mvt_polygon.proofs.nesting.once.inside_counted.Given as goal
 
 -- each edge so far is counted

@@ -1,9 +1,9 @@
 use Rattle.std.proofs.Common.{◌≡◌, ℕ, Bool, true, false, Ordering, ℤ, pos, ◌<ℤ◌, int_cmp, sym, subst, ◌∙◌}
 use Rattle.std.specs.Ordering.{is_gt}
-use Rattle.mvt_polygon.specs.Corners.{plan_of, position_at, turn_at}
-use Rattle.mvt_polygon.specs.Sweep.{BothBegin}
-use Rattle.mvt_polygon.proofs.CornerSteps.{lower_comes, lower_goes}
-use Rattle.mvt_polygon.proofs.SegmentEnds.{positive_by_side}
+use Rattle.mvt_polygon.specs.Calls.SweepVertices.{plan_of, position_at, turn_at}
+use Rattle.mvt_polygon.specs.Calls.Sweep.{BothBegin}
+use Rattle.mvt_polygon.proofs.Sweeps.VertexSteps.{lower_comes, lower_goes}
+use Rattle.mvt_polygon.proofs.Vertices.SegmentEnds.{positive_by_side}
 use Rattle.mvt_polygon.proofs.sweep.begin.in_order.Goals as goal
 
 -- a turn that passes the test of the code is positive
@@ -18,15 +18,15 @@ turns_not turn side test is answer failed positive =
 
 pub returns-then-is_gt-clause-begin : goal.returns-then-is_gt-clause-begin
 returns-then-is_gt-clause-begin c =
-    let corners = c.args.corners.now in
+    let vertices = c.args.vertices.now in
     let number = c.args.number in
-    subst (λ (it : ℕ). BothBegin (plan_of corners) (position_at corners number) it number) (sym c.previous-previous.ensures.value)
-    (lower_comes corners number c.requires.number c.requires.begin (turns_up (turn_at corners number) c.args.turn c.is_gt.result c.requires.turn c.is_gt.ensures c.if-is_gt.true))
+    subst (λ (it : ℕ). BothBegin (plan_of vertices) (position_at vertices number) it number) (sym c.previous-previous.ensures.value)
+    (lower_comes vertices number c.requires.number c.requires.begin (turns_up (turn_at vertices number) c.args.turn c.is_gt.result c.requires.turn c.is_gt.ensures c.if-is_gt.true))
 
 pub returns-else-is_gt-clause-begin : goal.returns-else-is_gt-clause-begin
 returns-else-is_gt-clause-begin c =
-    let corners = c.args.corners.now in
+    let vertices = c.args.vertices.now in
     let number = c.args.number in
-    subst (λ (it : ℕ). BothBegin (plan_of corners) (position_at corners number) number it) (sym c.previous-previous.ensures.value)
-    (lower_goes corners number c.requires.number c.requires.begin c.requires.tested
-    (turns_not (turn_at corners number) c.args.turn c.is_gt.result c.requires.turn c.is_gt.ensures c.if-is_gt.false))
+    subst (λ (it : ℕ). BothBegin (plan_of vertices) (position_at vertices number) number it) (sym c.previous-previous.ensures.value)
+    (lower_goes vertices number c.requires.number c.requires.begin c.requires.tested
+    (turns_not (turn_at vertices number) c.args.turn c.is_gt.result c.requires.turn c.is_gt.ensures c.if-is_gt.false))

@@ -1,16 +1,16 @@
 use Rattle.std.proofs.Common.{◌≡◌, ◌≤◌, ℕ, List, length, remove, refl, sym, ap, subst, arith}
 use Rattle.std.proofs.lemmas.List.Edits.{length-remove}
-use Rattle.mvt_plane.specs.Measure.{key_of}
-use Rattle.mvt_polygon.specs.Chains.{above_of, below_of, edges_of, outside_of}
-use Rattle.mvt_polygon.specs.Corners.{corner_count, plan_of, position_at, previous_at}
-use Rattle.mvt_polygon.specs.Sweep.{IsSwept}
-use Rattle.mvt_polygon.proofs.LeastWork.{counted_by}
-use Rattle.mvt_polygon.proofs.ChainEnds.{AreLeaving, AreThere, across_known, across_within, chains_end, edges_kept, joined_across, leaving, leaving_there}
-use Rattle.mvt_polygon.proofs.ChainSteps.{chains_few, chains_known}
-use Rattle.mvt_polygon.proofs.CornerPlans.{plan_of_corners}
-use Rattle.mvt_polygon.proofs.NoMeetings.{none_map}
-use Rattle.mvt_polygon.proofs.StatusCounts.{work_then, work_within, work_of_edits}
-use Rattle.mvt_polygon.proofs.SweepSlabs.{split}
+use Rattle.mvt_plane.specs.Geometry.Measure.{key_of}
+use Rattle.mvt_polygon.specs.Calls.Chains.{above_of, below_of, edges_of, outside_of}
+use Rattle.mvt_polygon.specs.Calls.SweepVertices.{sweep_count, plan_of, position_at, previous_at}
+use Rattle.mvt_polygon.specs.Calls.Sweep.{IsSwept}
+use Rattle.mvt_polygon.proofs.Sweeps.LeastWork.{counted_by}
+use Rattle.mvt_polygon.proofs.Chains.ChainEnds.{AreLeaving, AreThere, across_known, across_within, chains_end, edges_kept, joined_across, leaving, leaving_there}
+use Rattle.mvt_polygon.proofs.Chains.ChainSteps.{chains_few, chains_known}
+use Rattle.mvt_polygon.proofs.Vertices.VertexPlans.{plan_of_vertices}
+use Rattle.mvt_polygon.proofs.Sweeps.NoMeetings.{none_map}
+use Rattle.mvt_polygon.proofs.Sweeps.StatusCounts.{work_then, work_within, work_of_edits}
+use Rattle.mvt_polygon.proofs.Sweeps.SweepSlabs.{split}
 use Rattle.mvt_polygon.proofs.sweep.event.end.Given as given
 use Rattle.mvt_polygon.proofs.sweep.event.end.Goals as goal
 use Rattle.mvt_polygon.proofs.sweep.event.end.Goals.{After-place_of-place, After-remove-lower, After-remove-upper}
@@ -20,20 +20,20 @@ abbrev list_of : (g : given.Over) → After-place_of-place g → List ℕ
 list_of g c = g.S.Status.edges c.args.status.now
 
 pub place_of-place-requires-clause-known : goal.place_of-place-requires-clause-known
-place_of-place-requires-clause-known g c = chains_known c.args.corners.now c.args.chains.now (g.S.Status.edges c.args.status.now) c.requires.next.key c.requires.chains c.requires.next.swept
+place_of-place-requires-clause-known g c = chains_known c.args.vertices.now c.args.chains.now (g.S.Status.edges c.args.status.now) c.requires.next.key c.requires.chains c.requires.next.swept
 
 pub place_of-place-requires-clause-few : goal.place_of-place-requires-clause-few
-place_of-place-requires-clause-few g c = chains_few c.args.corners.now c.args.chains.now (g.S.Status.edges c.args.status.now) c.requires.next.key c.requires.next.swept
+place_of-place-requires-clause-few g c = chains_few c.args.vertices.now c.args.chains.now (g.S.Status.edges c.args.status.now) c.requires.next.key c.requires.next.swept
 
 pub place_of-place-requires-clause-cut : goal.place_of-place-requires-clause-cut
 place_of-place-requires-clause-cut g c =
-    split (plan_of c.args.corners.now) c.requires.next.key (position_at c.args.corners.now c.args.number) (previous_at c.args.corners.now c.args.number) c.args.number
-    (edges_of c.args.chains.now (g.S.Status.edges c.args.status.now)) (plan_of_corners c.args.corners.now) c.requires.next.swept c.requires.next.event
+    split (plan_of c.args.vertices.now) c.requires.next.key (position_at c.args.vertices.now c.args.number) (previous_at c.args.vertices.now c.args.number) c.args.number
+    (edges_of c.args.chains.now (g.S.Status.edges c.args.status.now)) (plan_of_vertices c.args.vertices.now) c.requires.next.swept c.requires.next.event
 
 -- the places of the chains that end
 there : (g : given.Over) (c : After-place_of-place g) (fewer : List ℕ) → fewer ≡ remove (list_of g c) c.place_of-place.result.point → AreThere (list_of g c) fewer c.place_of-place.result.point
 there g c fewer removed =
-    leaving_there c.args.corners.now c.args.chains.now (list_of g c) fewer c.requires.next.key (position_at c.args.corners.now c.args.number) (previous_at c.args.corners.now c.args.number)
+    leaving_there c.args.vertices.now c.args.chains.now (list_of g c) fewer c.requires.next.key (position_at c.args.vertices.now c.args.number) (previous_at c.args.vertices.now c.args.number)
     c.args.number c.place_of-place.result.point c.requires.next.swept c.requires.next.event c.requires.ends c.place_of-place.ensures.cut c.place_of-place.ensures.within removed
 
 pub remove-lower-requires : goal.remove-lower-requires
@@ -44,11 +44,11 @@ remove-upper-requires g c = (there g (goal.at.remove-upper-requires g c).After-p
 
 -- the chains that end, among the others
 gone : (g : given.Over) (c : After-remove-upper g)
-    → AreLeaving c.args.corners.now c.args.chains.now (g.S.Status.edges c.args.status.now) (g.S.Status.edges c.remove-upper.new.self) (position_at c.args.corners.now c.args.number)
+    → AreLeaving c.args.vertices.now c.args.chains.now (g.S.Status.edges c.args.status.now) (g.S.Status.edges c.remove-upper.new.self) (position_at c.args.vertices.now c.args.number)
     c.remove-lower.result c.remove-upper.result
 gone g c =
-    leaving c.args.corners.now c.args.chains.now (g.S.Status.edges c.args.status.now) (g.S.Status.edges c.remove-lower.new.self) (g.S.Status.edges c.remove-upper.new.self) c.requires.next.key
-    (position_at c.args.corners.now c.args.number) (previous_at c.args.corners.now c.args.number) c.args.number c.place_of-place.result.point c.remove-lower.result c.remove-upper.result
+    leaving c.args.vertices.now c.args.chains.now (g.S.Status.edges c.args.status.now) (g.S.Status.edges c.remove-lower.new.self) (g.S.Status.edges c.remove-upper.new.self) c.requires.next.key
+    (position_at c.args.vertices.now c.args.number) (previous_at c.args.vertices.now c.args.number) c.args.number c.place_of-place.result.point c.remove-lower.result c.remove-upper.result
     c.requires.chains c.requires.next.swept c.requires.next.event c.requires.ends c.place_of-place.ensures.cut c.place_of-place.ensures.within c.remove-lower.ensures.list
     c.remove-upper.ensures.list c.remove-lower.ensures.value c.remove-upper.ensures.value
 
@@ -56,7 +56,7 @@ gone g c =
 within : (g : given.Over) (c : After-remove-upper g)
     → (below_of c.args.chains.now c.remove-lower.result ≤ outside_of c.args.chains.now) × (above_of c.args.chains.now c.remove-upper.result ≤ outside_of c.args.chains.now)
 within g c =
-    across_within c.args.corners.now c.args.chains.now (g.S.Status.edges c.args.status.now) (g.S.Status.edges c.remove-upper.new.self) (position_at c.args.corners.now c.args.number)
+    across_within c.args.vertices.now c.args.chains.now (g.S.Status.edges c.args.status.now) (g.S.Status.edges c.remove-upper.new.self) (position_at c.args.vertices.now c.args.number)
     c.remove-lower.result c.remove-upper.result c.requires.chains (gone g c)
 
 pub edge_below-below-requires-clause-within : goal.edge_below-below-requires-clause-within
@@ -91,25 +91,25 @@ pub meeting_across-requires : goal.meeting_across-requires
 meeting_across-requires g c =
     let at = (goal.at.meeting_across-requires g c).After-remove-upper in
     rw (c.edge_below-below.ensures, c.edge_above-above.ensures)
-    (across_known c.args.corners.now c.args.chains.now (g.S.Status.edges c.args.status.now) (g.S.Status.edges c.remove-upper.new.self) c.requires.next.key
-    (position_at c.args.corners.now c.args.number) c.remove-lower.result c.remove-upper.result c.requires.next.swept (gone g at))
+    (across_known c.args.vertices.now c.args.chains.now (g.S.Status.edges c.args.status.now) (g.S.Status.edges c.remove-upper.new.self) c.requires.next.key
+    (position_at c.args.vertices.now c.args.number) c.remove-lower.result c.remove-upper.result c.requires.next.swept (gone g at))
 
 pub returns-clause-none : goal.returns-clause-none
 returns-clause-none g c =
     let at = (goal.at.returns-clause-none g c).After-remove-upper in
-    let corners = c.args.corners.now in
+    let vertices = c.args.vertices.now in
     let before = c.args.chains.now in
     let after = c.end_two.new.self in
-    let vertex = position_at corners c.args.number in
+    let vertex = position_at vertices c.args.number in
     let list = g.S.Status.edges c.args.status.now in
     let fewest = g.S.Status.edges c.remove-upper.new.self in
     let it = gone g at in
-    let chains = chains_end corners before after list fewest vertex c.remove-lower.result c.remove-upper.result c.requires.chains it c.end_two.ensures.twins c.end_two.ensures.size
+    let chains = chains_end vertices before after list fewest vertex c.remove-lower.result c.remove-upper.result c.requires.chains it c.end_two.ensures.twins c.end_two.ensures.size
     c.end_two.ensures.above c.end_two.ensures.below in
     let tested = rw (c.edge_below-below.ensures, c.edge_above-above.ensures) at c.meeting_across.ensures.none in
     none_map c.meeting_across.result (λ across. (
-      subst (IsSwept (plan_of corners) (key_of vertex)) (sym (edges_kept before after fewest c.end_two.ensures.twins))
-          (it.over (joined_across corners before list fewest vertex c.remove-lower.result c.remove-upper.result it across)),
+      subst (IsSwept (plan_of vertices) (key_of vertex)) (sym (edges_kept before after fewest c.end_two.ensures.twins))
+          (it.over (joined_across vertices before list fewest vertex c.remove-lower.result c.remove-upper.result it across)),
       chains,
     )) tested
 
@@ -117,12 +117,12 @@ pub returns-clause-counted : goal.returns-clause-counted
 returns-clause-counted g c =
     let at = (goal.at.returns-clause-counted g c).After-place_of-place in
     let list = g.S.Status.edges c.args.status.now in
-    let corners = corner_count c.args.corners.now in
-    let few = chains_few c.args.corners.now c.args.chains.now list c.requires.next.key c.requires.next.swept in
-    let fewer : length (g.S.Status.edges c.remove-lower.new.self) ≤ corners =
+    let vertices = sweep_count c.args.vertices.now in
+    let few = chains_few c.args.vertices.now c.args.chains.now list c.requires.next.key c.requires.next.swept in
+    let fewer : length (g.S.Status.edges c.remove-lower.new.self) ≤ vertices =
     omega (arith, few, ap length c.remove-lower.ensures.list, length-remove list c.place_of-place.result.point (there g at _ refl).one_there) in
-    let first = work_of_edits 2 (length list) corners few c.remove-lower.ensures.counted in
-    let second = work_of_edits 2 (length (g.S.Status.edges c.remove-lower.new.self)) corners fewer c.remove-upper.ensures.counted in
+    let first = work_of_edits 2 (length list) vertices few c.remove-lower.ensures.counted in
+    let second = work_of_edits 2 (length (g.S.Status.edges c.remove-lower.new.self)) vertices fewer c.remove-upper.ensures.counted in
     work_within (omega arith) (omega arith) (omega arith) (work_then c.place_of-place.ensures.counted (work_then first (work_then second c.meeting_across.ensures.counted)))
 
 pub returns-clause-least : goal.returns-clause-least

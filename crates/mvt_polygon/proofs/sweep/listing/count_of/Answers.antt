@@ -1,7 +1,7 @@
 use Rattle.std.proofs.Common.{length, ◌≤◌, arith}
 use Rattle.mvt_polygon.specs.Rings.{rings_of}
-use Rattle.mvt_polygon.proofs.CornerNumbers.{count_whole, count_another}
-use Rattle.mvt_polygon.proofs.RingReads.{ring_there, count_of_rings}
+use Rattle.mvt_polygon.proofs.Vertices.VertexNumbers.{count_whole, count_another}
+use Rattle.mvt_polygon.proofs.Vertices.RingReads.{ring_there, count_of_rings}
 use Rattle.mvt_polygon.proofs.sweep.listing.count_of.Goals as goal
 
 pub loop-ring-preserved : goal.loop-ring-preserved

@@ -1,15 +1,15 @@
 use Rattle.std.proofs.Common.{◌≡◌, ◌↔◌, ℕ, IsTrue, Bool, true, false, true≢false, List, ◌++◌, drop, length, map, take, pos, refl, sym, subst, arith}
 use Rattle.std.proofs.lemmas.Int.{ints, by_lt_z}
 use Rattle.std.proofs.lemmas.List.{take-map, drop-map}
-use Rattle.mvt_plane.specs.Measure.{orientation}
+use Rattle.mvt_plane.specs.Geometry.Measure.{orientation}
 use Rattle.mvt_plane.specs.Position.{Position}
-use Rattle.mvt_polygon.specs.Chain.{Each}
-use Rattle.mvt_polygon.specs.Chains.{edge_of}
-use Rattle.mvt_polygon.specs.Corners.{corner_count}
-use Rattle.mvt_polygon.specs.Sweep.{Plan, IsUnder, IsCut}
-use Rattle.mvt_polygon.proofs.ChainEdges.{each_map, each_of_map, parted}
-use Rattle.mvt_polygon.proofs.ChainParts.{split_of_parts, parts_of_split, take_drop}
-use Rattle.mvt_polygon.proofs.StatusCounts.{work_of_split}
+use Rattle.mvt_polygon.specs.Calls.Chain.{Each}
+use Rattle.mvt_polygon.specs.Calls.Chains.{edge_of}
+use Rattle.mvt_polygon.specs.Calls.SweepVertices.{sweep_count}
+use Rattle.mvt_polygon.specs.Calls.Sweep.{Plan, IsUnder, IsCut}
+use Rattle.mvt_polygon.proofs.Chains.ChainEdges.{each_map, each_of_map, parted}
+use Rattle.mvt_polygon.proofs.Chains.ChainParts.{split_of_parts, parts_of_split, take_drop}
+use Rattle.mvt_polygon.proofs.Sweeps.StatusCounts.{work_of_split}
 use Rattle.mvt_status.specs.Split.{IsSplit}
 use Rattle.mvt_polygon.proofs.sweep.place.place_of.Goals as goal
 
@@ -63,4 +63,4 @@ returns-clause-cut g c =
     cut_of _ c.position.result.now _ (edge_of c.args.chains.now) (g.S.Status.edges c.args.status.now) c.split_around.result.point c.position.ensures c.split_around.ensures.split
 
 pub returns-clause-counted : goal.returns-clause-counted
-returns-clause-counted g c = work_of_split (length (g.S.Status.edges c.args.status.now)) (corner_count c.args.corners.now) c.requires.few c.split_around.ensures.counted
+returns-clause-counted g c = work_of_split (length (g.S.Status.edges c.args.status.now)) (sweep_count c.args.vertices.now) c.requires.few c.split_around.ensures.counted

@@ -1,72 +1,73 @@
-use Rattle.std.proofs.Common.{◌≡◌, ℕ, Bool, true, false, ℤ, SFits, to_z, of_z, w64, sym, ap, subst, ◌∙◌}
+use Rattle.std.proofs.Common.{◌≡◌, ℕ, Bool, true, false, arith, ℤ, SFits, to_z, of_z, w64, sym, ap, subst, ◌∙◌}
 use Rattle.std.specs.Int.Signed.{lt_z}
-use Rattle.mvt_plane.specs.Measure.{key_of}
-use Rattle.mvt_polygon.specs.Chains.{edges_of}
-use Rattle.mvt_polygon.specs.CornerOrder.{IsNextCorner}
-use Rattle.mvt_polygon.specs.Steps.{IsStep}
+use Rattle.mvt_plane.specs.Geometry.Measure.{key_of}
+use Rattle.mvt_polygon.specs.Calls.Chains.{edges_of}
+use Rattle.mvt_polygon.specs.Calls.VertexOrder.{IsNextVertex, turns_here}
+use Rattle.mvt_polygon.specs.Calls.Steps.{IsStep}
 use Rattle.mvt_polygon.specs.declared.sweep.step.Step.{Step}
-use Rattle.mvt_polygon.specs.Corners.{next_at, plan_of, position_at, previous_at}
-use Rattle.mvt_polygon.specs.Sweep.{PassesOn}
-use Rattle.mvt_polygon.proofs.SegmentEnds.{test_of_keys}
-use Rattle.mvt_polygon.proofs.CornerSteps.{passes_on, passes_back, both_end, both_begin, next_back}
-use Rattle.mvt_polygon.proofs.LeastWork.{counted_after_an_end}
-use Rattle.mvt_polygon.proofs.NoMeetings.{none_map}
-use Rattle.mvt_polygon.proofs.StepsAfterAnEnd.{an_end_from_before, an_end_from_behind, none_after_an_end, step_after_an_end}
+use Rattle.mvt_polygon.specs.Calls.SweepVertices.{sweep_count, next_at, plan_of, position_at, previous_at}
+use Rattle.mvt_polygon.specs.Calls.Sweep.{PassesOn}
+use Rattle.mvt_polygon.proofs.Vertices.SegmentEnds.{test_of_keys}
+use Rattle.mvt_polygon.proofs.Sweeps.VertexSteps.{passes_on, passes_back, both_end, both_begin, next_back, turns_at_begins, turns_at_ends}
+use Rattle.mvt_polygon.proofs.Sweeps.LeastWork.{counted_after_an_end}
+use Rattle.mvt_polygon.proofs.Sweeps.NoMeetings.{none_map}
+use Rattle.mvt_polygon.proofs.Sweeps.StatusSteps.{work_of_pass, work_of_turn}
+use Rattle.mvt_polygon.proofs.Sweeps.StepsAfterAnEnd.{an_end_from_before, an_end_from_later, none_after_an_end, step_after_an_end}
 use Rattle.mvt_polygon.proofs.sweep.step.go_over.Given as given
 use Rattle.mvt_polygon.proofs.sweep.step.go_over.Goals as goal
 use Rattle.mvt_polygon.proofs.sweep.step.go_over.Goals.{After-sweep_key}
 
 -- the test of whether the edge comes from before
 comes : (g : given.Over) (c : After-sweep_key g) (answer : Bool) → lt_z (to_z w64 (of_z w64 c.sweep_key.result)) (to_z w64 (of_z w64 c.sweep_key-key.result)) ≡ answer
-    → lt_z (key_of (position_at c.args.corners.now (previous_at c.args.corners.now c.args.number))) (key_of (position_at c.args.corners.now c.args.number)) ≡ answer
+    → lt_z (key_of (position_at c.args.vertices.now (previous_at c.args.vertices.now c.args.number))) (key_of (position_at c.args.vertices.now c.args.number)) ≡ answer
 comes g c answer test =
-    test_of_keys (position_at c.args.corners.now (previous_at c.args.corners.now c.args.number)) (position_at c.args.corners.now c.args.number) c.sweep_key.result c.sweep_key-key.result
+    test_of_keys (position_at c.args.vertices.now (previous_at c.args.vertices.now c.args.number)) (position_at c.args.vertices.now c.args.number) c.sweep_key.result c.sweep_key-key.result
     answer (record { sfits = c.sweep_key.type_inv }) (record { sfits = c.sweep_key-key.type_inv })
     (c.sweep_key.ensures.value ∙ ap key_of (rw c.previous-previous.ensures.value at c.position-before.ensures)) (c.sweep_key-key.ensures.value ∙ ap key_of c.position.ensures) test
 
 -- and of whether the next one goes on
-goes : (g : given.Over) (c : After-sweep_key g) (behind : ℤ) (answer : Bool) → SFits w64 behind → behind ≡ key_of c.position-behind.result.now
-    → lt_z (to_z w64 (of_z w64 c.sweep_key-key.result)) (to_z w64 (of_z w64 behind)) ≡ answer
-    → lt_z (key_of (position_at c.args.corners.now c.args.number)) (key_of (position_at c.args.corners.now (next_at c.args.corners.now c.args.number))) ≡ answer
-goes g c behind answer fits is test =
-    test_of_keys (position_at c.args.corners.now c.args.number) (position_at c.args.corners.now (next_at c.args.corners.now c.args.number)) c.sweep_key-key.result behind answer
+goes : (g : given.Over) (c : After-sweep_key g) (following : ℤ) (answer : Bool) → SFits w64 following → following ≡ key_of c.position-following.result.now
+    → lt_z (to_z w64 (of_z w64 c.sweep_key-key.result)) (to_z w64 (of_z w64 following)) ≡ answer
+    → lt_z (key_of (position_at c.args.vertices.now c.args.number)) (key_of (position_at c.args.vertices.now (next_at c.args.vertices.now c.args.number))) ≡ answer
+goes g c following answer fits is test =
+    test_of_keys (position_at c.args.vertices.now c.args.number) (position_at c.args.vertices.now (next_at c.args.vertices.now c.args.number)) c.sweep_key-key.result following answer
     (record { sfits = c.sweep_key-key.type_inv }) fits (c.sweep_key-key.ensures.value ∙ ap key_of c.position.ensures)
-    (is ∙ ap key_of (rw c.next.ensures.value at c.position-behind.ensures)) test
+    (is ∙ ap key_of (rw c.next.ensures.value at c.position-following.ensures)) test
 
 pub pass-requires-clause-passes : goal.pass-requires-clause-passes
 pass-requires-clause-passes g c =
-    let corners = c.args.corners.now in
+    let vertices = c.args.vertices.now in
     let number = c.args.number in
-    subst (λ (it : ℕ). PassesOn (plan_of corners) (position_at corners number) it number) (sym c.previous-previous.ensures.value)
-    (passes_on corners number c.requires.number
+    subst (λ (it : ℕ). PassesOn (plan_of vertices) (position_at vertices number) it number) (sym c.previous-previous.ensures.value)
+    (passes_on vertices number c.requires.number
     (comes g (goal.at.pass-requires-clause-passes g c).After-sweep_key true c.if-comes_from_before.true)
     (goes g (goal.at.pass-requires-clause-passes g c).After-sweep_key c.sweep_key-2.result true (record { sfits = c.sweep_key-2.type_inv }) c.sweep_key-2.ensures.value c.if-goes_on.true))
 
 pub end-requires-clause-ends : goal.end-requires-clause-ends
 end-requires-clause-ends g c =
-    both_end c.args.corners.now c.args.number c.requires.number
+    both_end c.args.vertices.now c.args.number c.requires.number
     (comes g (goal.at.end-requires-clause-ends g c).After-sweep_key true c.if-comes_from_before.true)
     (goes g (goal.at.end-requires-clause-ends g c).After-sweep_key c.sweep_key-2.result false (record { sfits = c.sweep_key-2.type_inv }) c.sweep_key-2.ensures.value c.if-goes_on.false)
 
 pub begin-requires-clause-begin : goal.begin-requires-clause-begin
 begin-requires-clause-begin g c =
-    both_begin c.args.corners.now c.args.number c.requires.number
+    both_begin c.args.vertices.now c.args.number c.requires.number
     (comes g (goal.at.begin-requires-clause-begin g c).After-sweep_key false c.if-comes_from_before.false)
     (goes g (goal.at.begin-requires-clause-begin g c).After-sweep_key c.sweep_key-2.result true (record { sfits = c.sweep_key-2.type_inv }) c.sweep_key-2.ensures.value c.if-goes_on-2.true)
 
 pub pass-requires-else-goes_on-2-clause-next : goal.pass-requires-else-goes_on-2-clause-next
 pass-requires-else-goes_on-2-clause-next g c =
-    let corners = c.args.corners.now in
+    let vertices = c.args.vertices.now in
     let number = c.args.number in
-    subst (λ (it : ℕ). IsNextCorner corners number number it (edges_of c.args.chains.now (g.S.Status.edges c.args.status.now))) (sym c.previous-previous.ensures.value)
-    (next_back corners number (previous_at corners number) number (edges_of c.args.chains.now (g.S.Status.edges c.args.status.now)) c.requires.next)
+    subst (λ (it : ℕ). IsNextVertex vertices number number it (edges_of c.args.chains.now (g.S.Status.edges c.args.status.now))) (sym c.previous-previous.ensures.value)
+    (next_back vertices number (previous_at vertices number) number (edges_of c.args.chains.now (g.S.Status.edges c.args.status.now)) c.requires.next)
 
 pub pass-requires-else-goes_on-2-clause-passes : goal.pass-requires-else-goes_on-2-clause-passes
 pass-requires-else-goes_on-2-clause-passes g c =
-    let corners = c.args.corners.now in
+    let vertices = c.args.vertices.now in
     let number = c.args.number in
-    subst (λ (it : ℕ). PassesOn (plan_of corners) (position_at corners number) number it) (sym c.previous-previous.ensures.value)
-    (passes_back corners number c.requires.number
+    subst (λ (it : ℕ). PassesOn (plan_of vertices) (position_at vertices number) number it) (sym c.previous-previous.ensures.value)
+    (passes_back vertices number c.requires.number
     (comes g (goal.at.pass-requires-else-goes_on-2-clause-passes g c).After-sweep_key false c.if-comes_from_before.false)
     (goes g (goal.at.pass-requires-else-goes_on-2-clause-passes g c).After-sweep_key c.sweep_key-2.result false (record { sfits = c.sweep_key-2.type_inv }) c.sweep_key-2.ensures.value c.if-goes_on-2.false))
 
@@ -74,26 +75,26 @@ pub returns-then-goes_on-clause-step : goal.returns-then-goes_on-clause-step
 returns-then-goes_on-clause-step g c =
     let edges = edges_of c.args.chains.now (g.S.Status.edges c.args.status.now) in
     let after = edges_of c.pass.new.chains (g.S.Status.edges c.args.status.now) in
-    subst (λ (step : Step). IsStep c.args.corners.now c.args.number edges after step) (sym c.after_an_end.ensures)
-    (step_after_an_end c.args.corners.now c.args.number edges after c.pass.result (none_map c.pass.result (λ both. both.0) c.pass.ensures.none) c.pass.ensures.some
-    (an_end_from_before c.args.corners.now c.args.number (comes g (goal.at.returns-then-goes_on-clause-step g c).After-sweep_key true c.if-comes_from_before.true)))
+    subst (λ (step : Step). IsStep c.args.vertices.now c.args.number edges after step) (sym c.after_an_end.ensures)
+    (step_after_an_end c.args.vertices.now c.args.number edges after c.pass.result (none_map c.pass.result (λ both. both.0) c.pass.ensures.none) c.pass.ensures.some
+    (an_end_from_before c.args.vertices.now c.args.number (comes g (goal.at.returns-then-goes_on-clause-step g c).After-sweep_key true c.if-comes_from_before.true)))
 
 pub returns-else-goes_on-clause-step : goal.returns-else-goes_on-clause-step
 returns-else-goes_on-clause-step g c =
     let edges = edges_of c.args.chains.now (g.S.Status.edges c.args.status.now) in
     let after = edges_of c.end.new.chains (g.S.Status.edges c.end.new.status) in
-    subst (λ (step : Step). IsStep c.args.corners.now c.args.number edges after step) (sym c.after_an_end-else-goes_on.ensures)
-    (step_after_an_end c.args.corners.now c.args.number edges after c.end.result (none_map c.end.result (λ both. both.0) c.end.ensures.none) c.end.ensures.some
-    (an_end_from_before c.args.corners.now c.args.number (comes g (goal.at.returns-else-goes_on-clause-step g c).After-sweep_key true c.if-comes_from_before.true)))
+    subst (λ (step : Step). IsStep c.args.vertices.now c.args.number edges after step) (sym c.after_an_end-else-goes_on.ensures)
+    (step_after_an_end c.args.vertices.now c.args.number edges after c.end.result (none_map c.end.result (λ both. both.0) c.end.ensures.none) c.end.ensures.some
+    (an_end_from_before c.args.vertices.now c.args.number (comes g (goal.at.returns-else-goes_on-clause-step g c).After-sweep_key true c.if-comes_from_before.true)))
 
 pub returns-else-goes_on-2-clause-step : goal.returns-else-goes_on-2-clause-step
 returns-else-goes_on-2-clause-step g c =
     let edges = edges_of c.args.chains.now (g.S.Status.edges c.args.status.now) in
     let after = edges_of c.pass-else-goes_on-2.new.chains (g.S.Status.edges c.args.status.now) in
     let found = c.pass-else-goes_on-2 in
-    subst (λ (step : Step). IsStep c.args.corners.now c.args.number edges after step) (sym c.after_an_end-else-goes_on-2.ensures)
-    (step_after_an_end c.args.corners.now c.args.number edges after found.result (none_map found.result (λ both. both.0) found.ensures.none) found.ensures.some
-    (an_end_from_behind c.args.corners.now c.args.number c.requires.number
+    subst (λ (step : Step). IsStep c.args.vertices.now c.args.number edges after step) (sym c.after_an_end-else-goes_on-2.ensures)
+    (step_after_an_end c.args.vertices.now c.args.number edges after found.result (none_map found.result (λ both. both.0) found.ensures.none) found.ensures.some
+    (an_end_from_later c.args.vertices.now c.args.number c.requires.number
     (goes g (goal.at.returns-else-goes_on-2-clause-step g c).After-sweep_key c.sweep_key-2.result false (record { sfits = c.sweep_key-2.type_inv }) c.sweep_key-2.ensures.value c.if-goes_on-2.false)))
 
 pub returns-then-goes_on-clause-chains : goal.returns-then-goes_on-clause-chains
@@ -116,3 +117,26 @@ returns-else-goes_on-clause-least g c = counted_after_an_end c.args.count.now c.
 pub returns-else-goes_on-2-clause-least : goal.returns-else-goes_on-2-clause-least
 returns-else-goes_on-2-clause-least g c =
     counted_after_an_end c.args.count.now c.pass-else-goes_on-2.new.count c.pass-else-goes_on-2.result _ c.after_an_end-else-goes_on-2.ensures c.pass-else-goes_on-2.ensures.least
+
+-- a step over a vertex where an edge goes on
+pub returns-then-goes_on-clause-counted : goal.returns-then-goes_on-clause-counted
+returns-then-goes_on-clause-counted g c = work_of_pass (turns_here c.args.vertices.now c.args.number) (sweep_count c.args.vertices.now) c.pass.ensures.counted
+
+pub returns-else-goes_on-2-clause-counted : goal.returns-else-goes_on-2-clause-counted
+returns-else-goes_on-2-clause-counted g c = work_of_pass (turns_here c.args.vertices.now c.args.number) (sweep_count c.args.vertices.now) c.pass-else-goes_on-2.ensures.counted
+
+-- where both edges end
+pub returns-else-goes_on-clause-counted : goal.returns-else-goes_on-clause-counted
+returns-else-goes_on-clause-counted g c =
+    let at = (goal.at.returns-else-goes_on-clause-counted g c).After-sweep_key in
+    work_of_turn 1 (turns_here c.args.vertices.now c.args.number) (sweep_count c.args.vertices.now) (omega arith)
+    (turns_at_ends c.args.vertices.now c.args.number c.requires.number (comes g at true c.if-comes_from_before.true)
+    (goes g at c.sweep_key-2.result false (record { sfits = c.sweep_key-2.type_inv }) c.sweep_key-2.ensures.value c.if-goes_on.false)) c.end.ensures.counted
+
+-- and where both begin
+pub returns-then-goes_on-2-clause-counted : goal.returns-then-goes_on-2-clause-counted
+returns-then-goes_on-2-clause-counted g c =
+    let at = (goal.at.returns-then-goes_on-2-clause-counted g c).After-sweep_key in
+    work_of_turn 3 (turns_here c.args.vertices.now c.args.number) (sweep_count c.args.vertices.now) (omega arith)
+    (turns_at_begins c.args.vertices.now c.args.number c.requires.number (comes g at false c.if-comes_from_before.false)
+    (goes g at c.sweep_key-2.result true (record { sfits = c.sweep_key-2.type_inv }) c.sweep_key-2.ensures.value c.if-goes_on-2.true)) c.begin.ensures.counted

@@ -1,6 +1,6 @@
 use Rattle.std.proofs.Common.{◌≡◌, ◌++◌, ◌∙◌, ◌-◌, List, ℕ, ap, length, drop, take, subst, sym, arith}
 use Rattle.std.proofs.lemmas.List.{length-take-le, take-append-drop, take_rest}
-use Rattle.mvt_status.proofs.Insertions.{put_in_behind, put_in_front}
+use Rattle.mvt_status.proofs.Insertions.{put_in_after, put_in_front}
 use Rattle.mvt_status.proofs.node.insert.halved.Goals as goal
 
 pub returns-then-at-le-HALF-clause-edges : goal.returns-then-at-le-HALF-clause-edges
@@ -19,4 +19,4 @@ returns-else-at-le-HALF-clause-edges c =
     let put : c.put_in_alone.result.value.0 ≡ take (c.args.at - 8) (drop 8 c.args.own.now.items) ++ (c.args.new.now ++ drop (c.args.at - 8) (drop 8 c.args.own.now.items))
     = subst (λ (moved : List ℕ). c.put_in_alone.result.value.0 ≡ take (c.args.at - 8) moved ++ (c.args.new.now ++ drop (c.args.at - 8) moved)) upper (ap (λ seen. seen.0) c.put_in_alone.ensures) in
     ap (λ (kept : List ℕ). kept ++ c.put_in_alone.result.value.0) c.truncate.ensures.items
-    ∙ put_in_behind (take 8 c.args.own.now.items) (drop 8 c.args.own.now.items) c.put_in_alone.result.value.0 c.args.own.now.items c.args.new.now c.args.at 8 (take-append-drop 8 c.args.own.now.items) (sym lower) (omega arith) put
+    ∙ put_in_after (take 8 c.args.own.now.items) (drop 8 c.args.own.now.items) c.put_in_alone.result.value.0 c.args.own.now.items c.args.new.now c.args.at 8 (take-append-drop 8 c.args.own.now.items) (sym lower) (omega arith) put

@@ -1,4 +1,4 @@
-use Rattle.mvt_status.specs.Tree.{height_of}
+use Rattle.mvt_status.specs.Calls.Tree.{height_of}
 use Rattle.mvt_status.proofs.node.lookup.+edge_at.Given as goal
 
 -- levels that are left

@@ -1,7 +1,7 @@
 use Rattle.std.proofs.Common.{◌≡◌, ℕ, ◌+◌, ◌*◌, ◌<◌, ◌≤◌, ◌++◌, ◌∙◌, List, [], inl, inr, refl, sym, ap, length, length-append, slice_index, of_calls, arith}
 use Rattle.std.proofs.lemmas.Bool.{cases_lt}
 use Rattle.mvt_status.specs.Counts.{bits}
-use Rattle.mvt_status.specs.Tree.{edges_of, fewest, height_of}
+use Rattle.mvt_status.specs.Calls.Tree.{edges_of, fewest, height_of}
 use Rattle.mvt_status.proofs.Heights.{filled_over_both, found_in_node, height_by_digits, one_more_level}
 use Rattle.mvt_status.proofs.NodeSplits.{beside_in_node, beside_node, beside_none, edges_in, none_in_front, of_first, of_last, of_own, searched_all, searched_in, searched_left, searched_right, split_among, split_of_all}
 use Rattle.mvt_status.proofs.node.lookup.split_of.Goals as goal
@@ -104,36 +104,36 @@ returns-in_default-last-clause-counted g c =
       visits_added = omega (arith, so_far.counted.visits_added, so_far.left);
     }
 
-pub split_behind_first-point-requires-clause-callable : goal.split_behind_first-point-requires-clause-callable
-split_behind_first-point-requires-clause-callable g c =
+pub split_after_first-point-requires-clause-callable : goal.split_after_first-point-requires-clause-callable
+split_after_first-point-requires-clause-callable g c =
     let found = searched_in (goal.F-post g c.args.below.now) _ _ c.in-Some-last.own _ _ _ c.in-Some-last.is c.levels.invariant.searched in
     of_own (goal.F-pre g c.args.below.now) (goal.F-post g c.args.below.now) _ _ _ _ _ found c.requires.callable
 
-pub split_behind_first-point-requires-clause-splits : goal.split_behind_first-point-requires-clause-splits
-split_behind_first-point-requires-clause-splits g c =
+pub split_after_first-point-requires-clause-splits : goal.split_after_first-point-requires-clause-splits
+split_after_first-point-requires-clause-splits g c =
     let found = searched_in (goal.F-post g c.args.below.now) _ _ c.in-Some-last.own _ _ _ c.in-Some-last.is c.levels.invariant.searched in
     split_among (goal.F-post g c.args.below.now) _ _ _ _ _ found (ap edges_of c.in_default.is) (of_last (λ own. 0 < length own.now) _ _ c.in-Some-last.is c.levels.invariant.some) c.requires.splits
 
 pub returns-clause-split : goal.returns-clause-split
 returns-clause-split g c =
     let found = searched_in (goal.F-post g c.args.below.now) _ _ c.in-Some-last.own _ _ _ c.in-Some-last.is c.levels.invariant.searched in
-    split_of_all (goal.F-post g c.args.below.now) _ _ _ _ c.split_behind_first-point.result _ _ found (ap edges_of c.in_default.is) (of_last (λ own. 0 < length own.now) _ _ c.in-Some-last.is c.levels.invariant.some) c.requires.splits c.split_behind_first-point.ensures.split refl
+    split_of_all (goal.F-post g c.args.below.now) _ _ _ _ c.split_after_first-point.result _ _ found (ap edges_of c.in_default.is) (of_last (λ own. 0 < length own.now) _ _ c.in-Some-last.is c.levels.invariant.some) c.requires.splits c.split_after_first-point.ensures.split refl
 
 pub returns-clause-beside : goal.returns-clause-beside
 returns-clause-beside g c =
     let found = searched_in (goal.F-post g c.args.below.now) _ _ c.in-Some-last.own _ _ _ c.in-Some-last.is c.levels.invariant.searched in
     let none : edges_of c.levels.part.now ≡ [] = ap edges_of c.in_default.is in
-    elim (cases_lt c.split_behind_first-point.result (length c.in-Some-last.own.now)) [
+    elim (cases_lt c.split_after_first-point.result (length c.in-Some-last.own.now)) [
       | inl within ↦
           rw (c.edge_or.ensures.there within)
-          (beside_in_node (goal.F-post g c.args.below.now) _ _ _ _ c.split_behind_first-point.result _ _ _ _ found none c.split_behind_first-point.ensures.some within refl refl refl)
+          (beside_in_node (goal.F-post g c.args.below.now) _ _ _ _ c.split_after_first-point.result _ _ _ _ found none c.split_after_first-point.ensures.some within refl refl refl)
       | inr all ↦
           rw (c.edge_or.ensures.further all)
-          (beside_node (goal.F-post g c.args.below.now) _ _ _ _ c.split_behind_first-point.result _ _ _ found none c.split_behind_first-point.ensures.some (omega (arith, all, c.split_behind_first-point.ensures.split.within)) refl refl)
+          (beside_node (goal.F-post g c.args.below.now) _ _ _ _ c.split_after_first-point.result _ _ _ found none c.split_after_first-point.ensures.some (omega (arith, all, c.split_after_first-point.ensures.split.within)) refl refl)
     ]
 
 pub returns-clause-counted : goal.returns-clause-counted
 returns-clause-counted g c =
-    found_in_node _ _ _ _ c.levels.invariant.counted c.split_behind_first-point.ensures.counted c.levels.invariant.left
+    found_in_node _ _ _ _ c.levels.invariant.counted c.split_after_first-point.ensures.counted c.levels.invariant.left
     (of_last (λ _. 0 < height_of c.args.side.now) _ _ c.in-Some-last.is c.levels.invariant.high) (of_last (λ own. 0 < length own.now) _ _ c.in-Some-last.is c.levels.invariant.some)
     (omega (arith, c.levels.invariant.room, ap length (ap edges_in c.in-Some-last.is))) (omega (arith, c.levels.invariant.filled_there, ap length (ap edges_in c.in-Some-last.is)))

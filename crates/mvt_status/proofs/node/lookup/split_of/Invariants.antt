@@ -1,7 +1,7 @@
 use Rattle.std.proofs.Common.{◌≡◌, ◌⊎◌, ℕ, ◌+◌, ◌<◌, ◌≤◌, IfSome, length}
 use Rattle.mvt_plane.specs.Counted.{ticked}
 use Rattle.mvt_status.specs.Counts.{AddsAtMost}
-use Rattle.mvt_status.specs.Tree.{edges_of, fewest, height_of}
+use Rattle.mvt_status.specs.Calls.Tree.{edges_of, fewest, height_of}
 use Rattle.mvt_status.proofs.NodeSplits.{IsSearched, edges_in}
 use Rattle.mvt_status.proofs.node.lookup.split_of.Given as goal
 
@@ -13,7 +13,7 @@ decreases-levels g l = height_of l.part
 -- passed has as many edges as are wanted for them
 abbrev pub invariant-levels : goal.invariant-levels
 invariant-levels g l = record {
-  searched : IsSearched (goal.F-post g l.below) (edges_of l.side) (edges_in l.last) (edges_of l.part) l.passed l.behind;
+  searched : IsSearched (goal.F-post g l.below) (edges_of l.side) (edges_in l.last) (edges_of l.part) l.passed l.following;
   some : IfSome l.last (λ own. 0 < length own.now);
   high : IfSome l.last (λ _. 0 < height_of l.side);
   room : length (edges_in l.last) ≤ 16;

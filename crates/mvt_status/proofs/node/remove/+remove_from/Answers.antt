@@ -1,28 +1,29 @@
-use Rattle.std.proofs.Common.{◌≡◌, ℕ, None, suc, ◌+◌, ◌≤◌, ◌++◌, ◌∙◌, length, append-nil, remove, slice_index, refl, ap, sym, subst, arith}
+use Rattle.std.proofs.Common.{◌≡◌, ℕ, None, suc, max, ◌+◌, ◌≤◌, ◌++◌, ◌∙◌, length, append-nil, remove, slice_index, refl, ap, sym, subst, arith}
 use Rattle.std.proofs.lemmas.List.Edits.{length-remove}
-use Rattle.mvt_status.specs.Tree.{IsNode, edges_of, fewest, height_of}
+use Rattle.mvt_status.specs.Calls.Tree.{IsNode, edges_of, fewest, height_of}
 use Rattle.mvt_status.proofs.Heights.{as_high_as_before, more_levels, no_side, node_alone, visits_below}
-use Rattle.mvt_status.proofs.Removals.{IsLower, IsWithout, all_counted, found_first, lower_both, lower_left, lower_right, taken_between, without_left, without_own, without_right}
+use Rattle.mvt_status.proofs.Levels.{IsHigher, higher_left, higher_right}
+use Rattle.mvt_status.proofs.Removals.{IsWithout, all_counted, found_first, lower_both, taken_between, without_left, without_own, without_right}
 use Rattle.mvt_status.proofs.node.remove.+remove_from.Goals as goal
-use Rattle.mvt_status.proofs.node.remove.+remove_from.Goals.{Then-top-before, After-len, After-height-else-top-before, After-settle, then-at-before+else-height-level, else-at-before+else-at-behind+else-top-before+else-height-level-2, else-at-behind-via-then-at-behind+else-len-gt1, else-at-behind-via-else-at-behind, then-at-behind-2, else-at-behind-2}
+use Rattle.mvt_status.proofs.node.remove.+remove_from.Goals.{Then-top-before, After-len, After-height-else-top-before, After-settle, then-at-before+else-height-level, else-at-before+else-at-following+else-top-before+else-height-level-2, else-at-following-via-then-at-following+else-len-gt1, else-at-following-via-else-at-following, then-at-following-2, else-at-following-2}
 
 -- what is left of the node where the edge did not go out on the left
-without_behind : (t : ℕ) (c : After-height-else-top-before t) → IsWithout (edges_of c.if-at-behind-2.top-inside.left) c.if-at-behind-2.top-inside.own.items (edges_of c.if-at-behind-2.top-inside.right)
-    (edges_of c.args.side.now) (c.if-at-behind-2.top-inside.size) c.args.at c.if-at-behind-2.out
-without_behind t c =
+without_after : (t : ℕ) (c : After-height-else-top-before t) → IsWithout (edges_of c.if-at-following-2.top-inside.left) c.if-at-following-2.top-inside.own.items (edges_of c.if-at-following-2.top-inside.right)
+    (edges_of c.args.side.now) (c.if-at-following-2.top-inside.size) c.args.at c.if-at-following-2.out
+without_after t c =
     let same : edges_of c.top.inside.left ++ (c.top.inside.own.items ++ edges_of c.top.inside.right) ≡ edges_of c.args.side.now
     = ap (λ seen. seen.0) (c.top.view_is ∙ c.deref_mut-top.ensures.value) ∙ sym (ap edges_of c.in-Some.is) in
     let many : c.size-before.result + c.len.result ≡ length (edges_of c.top.inside.left) + length c.top.inside.own.items = omega (arith, c.size-before.ensures, c.len.ensures.value) in
-    elim c.if-at-behind-2.branch [
-      | then-at-behind-2 next ↦
-          (let few : length c.top.inside.own.items ≤ 1 = elim c.else-at-behind.branch [
-            | else-at-behind-via-then-at-behind+else-len-gt1 w ↦ omega (arith, w.if-len-gt1.false, w.len-then-at-behind.ensures.value)
-            | else-at-behind-via-else-at-behind w ↦ absurd (omega (arith, w.if-at-behind.false, next.if-at-behind-2.true))
+    elim c.if-at-following-2.branch [
+      | then-at-following-2 next ↦
+          (let few : length c.top.inside.own.items ≤ 1 = elim c.else-at-following.branch [
+            | else-at-following-via-then-at-following+else-len-gt1 w ↦ omega (arith, w.if-len-gt1.false, w.len-then-at-following.ensures.value)
+            | else-at-following-via-else-at-following w ↦ absurd (omega (arith, w.if-at-following.false, next.if-at-following-2.true))
           ] in
           rw (next.top-inside-is, next.out-is) (without_own _ _ _ _ _ _ _ _ _ _ same c.top.invariant.counted next.own_from-out.ensures.some c.size-before.ensures c.if-at-before.false
-          (omega (arith, next.if-at-behind-2.true, many, c.size-before.ensures)) few next.own_from-out.ensures.edges next.own_from-out.ensures.out))
-      | else-at-behind-2 further ↦ rw (further.top-inside-is, further.out-is) (without_right _ _ _ _ _ _ _ _ _ same c.top.invariant.counted c.top.invariant.some many further.if-at-behind-2.false c.requires.within
-          further.remove_from-out-else-at-behind-2.ensures.edges further.remove_from-out-else-at-behind-2.ensures.out)
+          (omega (arith, next.if-at-following-2.true, many, c.size-before.ensures)) few next.own_from-out.ensures.edges next.own_from-out.ensures.out))
+      | else-at-following-2 further ↦ rw (further.top-inside-is, further.out-is) (without_right _ _ _ _ _ _ _ _ _ same c.top.invariant.counted c.top.invariant.some many further.if-at-following-2.false c.requires.within
+          further.remove_from-out-else-at-following-2.ensures.edges further.remove_from-out-else-at-following-2.ensures.out)
     ]
 
 -- what is left of the node where a side is a level lower
@@ -35,16 +36,16 @@ without t c =
     elim c.if-at-before.branch [
       | then-at-before+else-height-level w ↦
           rw (w.top-inside-is, w.out-is) (without_left _ _ _ _ _ _ _ _ same c.top.invariant.counted c.top.invariant.some (omega (arith, c.size-before.ensures, w.if-at-before.true)) w.remove_from-out.ensures.edges w.remove_from-out.ensures.out)
-      | else-at-before+else-at-behind+else-top-before+else-height-level-2 w ↦ elim w.if-at-behind-2.branch [
-        | then-at-behind-2 next ↦
-            (let few : length c.top.inside.own.items ≤ 1 = elim w.else-at-behind.branch [
-              | else-at-behind-via-then-at-behind+else-len-gt1 v ↦ omega (arith, v.if-len-gt1.false, v.len-then-at-behind.ensures.value)
-              | else-at-behind-via-else-at-behind v ↦ absurd (omega (arith, v.if-at-behind.false, next.if-at-behind-2.true))
+      | else-at-before+else-at-following+else-top-before+else-height-level-2 w ↦ elim w.if-at-following-2.branch [
+        | then-at-following-2 next ↦
+            (let few : length c.top.inside.own.items ≤ 1 = elim w.else-at-following.branch [
+              | else-at-following-via-then-at-following+else-len-gt1 v ↦ omega (arith, v.if-len-gt1.false, v.len-then-at-following.ensures.value)
+              | else-at-following-via-else-at-following v ↦ absurd (omega (arith, v.if-at-following.false, next.if-at-following-2.true))
             ] in
             rw (w.top-inside-is, w.out-is, next.top-inside-is, next.out-is) (without_own _ _ _ _ _ _ _ _ _ _ same c.top.invariant.counted next.own_from-out.ensures.some c.size-before.ensures w.if-at-before.false
-            (omega (arith, next.if-at-behind-2.true, many, c.size-before.ensures)) few next.own_from-out.ensures.edges next.own_from-out.ensures.out))
-        | else-at-behind-2 further ↦ rw (w.top-inside-is, w.out-is, further.top-inside-is, further.out-is) (without_right _ _ _ _ _ _ _ _ _ same c.top.invariant.counted c.top.invariant.some many
-            further.if-at-behind-2.false c.requires.within further.remove_from-out-else-at-behind-2.ensures.edges further.remove_from-out-else-at-behind-2.ensures.out)
+            (omega (arith, next.if-at-following-2.true, many, c.size-before.ensures)) few next.own_from-out.ensures.edges next.own_from-out.ensures.out))
+        | else-at-following-2 further ↦ rw (w.top-inside-is, w.out-is, further.top-inside-is, further.out-is) (without_right _ _ _ _ _ _ _ _ _ same c.top.invariant.counted c.top.invariant.some many
+            further.if-at-following-2.false c.requires.within further.remove_from-out-else-at-following-2.ensures.edges further.remove_from-out-else-at-following-2.ensures.out)
       ]
     ]
 
@@ -61,31 +62,31 @@ filled_before t c =
     (omega (arith, all_counted (edges_of c.top.inside.left) c.top.inside.own.items (edges_of c.top.inside.right) (edges_of c.args.side.now) same, c.top.invariant.counted, c.top.invariant.some, c.top.invariant.filled))
 
 -- the levels of its sides where the edge did not go out on the left, and what was counted
-lower_behind : (t : ℕ) (c : After-height-else-top-before t) → IsLower (height_of c.top.inside.left) (height_of c.top.inside.right) (height_of c.if-at-behind-2.top-inside.left) (height_of c.if-at-behind-2.top-inside.right)
-    (height_of c.if-at-behind-2.spare) c.visit.new.count c.if-at-behind-2.count
-lower_behind t c = elim c.if-at-behind-2.branch [
-  | then-at-behind-2 next ↦
+lower_after : (t : ℕ) (c : After-height-else-top-before t) → IsHigher (height_of c.if-at-following-2.top-inside.left) (height_of c.if-at-following-2.top-inside.right) (height_of c.top.inside.left) (height_of c.top.inside.right)
+    (max (height_of c.top.inside.left) (height_of c.top.inside.right)) (height_of c.if-at-following-2.spare) c.visit.new.count c.if-at-following-2.count
+lower_after t c = elim c.if-at-following-2.branch [
+  | then-at-following-2 next ↦
       rw (next.top-inside-is, next.spare-is, next.count-is)
-      (lower_right _ _ _ _ _ _ next.own_from-out.ensures.not_higher next.own_from-out.ensures.at_most_one_lower next.own_from-out.ensures.spare next.own_from-out.ensures.counted)
-  | else-at-behind-2 further ↦ rw (further.top-inside-is, further.spare-is, further.count-is) (lower_right _ _ _ _ _ _ further.remove_from-out-else-at-behind-2.ensures.not_higher
-      further.remove_from-out-else-at-behind-2.ensures.at_most_one_lower further.remove_from-out-else-at-behind-2.ensures.spare further.remove_from-out-else-at-behind-2.ensures.counted)
+      (higher_right _ _ _ _ _ _ _ _ next.own_from-out.ensures.not_higher next.own_from-out.ensures.at_most_one_lower next.own_from-out.ensures.spare next.own_from-out.ensures.counted (omega arith))
+  | else-at-following-2 further ↦ rw (further.top-inside-is, further.spare-is, further.count-is) (higher_right _ _ _ _ _ _ _ _ further.remove_from-out-else-at-following-2.ensures.not_higher
+      further.remove_from-out-else-at-following-2.ensures.at_most_one_lower further.remove_from-out-else-at-following-2.ensures.spare further.remove_from-out-else-at-following-2.ensures.counted (omega arith))
 ]
 
 -- and where it went out on either
-lower : (t : ℕ) (c : After-settle t) → IsLower (height_of c.top.inside.left) (height_of c.top.inside.right) (height_of c.if-at-before.top-inside.left) (height_of c.if-at-before.top-inside.right)
-    (height_of c.if-at-before.spare) c.visit.new.count c.if-at-before.count
+lower : (t : ℕ) (c : After-settle t) → IsHigher (height_of c.if-at-before.top-inside.left) (height_of c.if-at-before.top-inside.right) (height_of c.top.inside.left) (height_of c.top.inside.right)
+    (max (height_of c.top.inside.left) (height_of c.top.inside.right)) (height_of c.if-at-before.spare) c.visit.new.count c.if-at-before.count
 lower t c = elim c.if-at-before.branch [
   | then-at-before+else-height-level w ↦
       rw (w.top-inside-is, w.spare-is, w.count-is)
-      (lower_left _ _ _ _ _ _ w.remove_from-out.ensures.not_higher w.remove_from-out.ensures.at_most_one_lower w.remove_from-out.ensures.spare w.remove_from-out.ensures.counted)
-  | else-at-before+else-at-behind+else-top-before+else-height-level-2 w ↦ elim w.if-at-behind-2.branch [
-    | then-at-behind-2 next ↦
+      (higher_left _ _ _ _ _ _ _ _ w.remove_from-out.ensures.not_higher w.remove_from-out.ensures.at_most_one_lower w.remove_from-out.ensures.spare w.remove_from-out.ensures.counted (omega arith))
+  | else-at-before+else-at-following+else-top-before+else-height-level-2 w ↦ elim w.if-at-following-2.branch [
+    | then-at-following-2 next ↦
         rw (w.top-inside-is, w.spare-is, w.count-is, next.top-inside-is, next.spare-is, next.count-is)
-        (lower_right _ _ _ _ _ _ next.own_from-out.ensures.not_higher next.own_from-out.ensures.at_most_one_lower next.own_from-out.ensures.spare next.own_from-out.ensures.counted)
-    | else-at-behind-2 further ↦
+        (higher_right _ _ _ _ _ _ _ _ next.own_from-out.ensures.not_higher next.own_from-out.ensures.at_most_one_lower next.own_from-out.ensures.spare next.own_from-out.ensures.counted (omega arith))
+    | else-at-following-2 further ↦
         rw (w.top-inside-is, w.spare-is, w.count-is, further.top-inside-is, further.spare-is, further.count-is)
-        (lower_right _ _ _ _ _ _ further.remove_from-out-else-at-behind-2.ensures.not_higher further.remove_from-out-else-at-behind-2.ensures.at_most_one_lower
-        further.remove_from-out-else-at-behind-2.ensures.spare further.remove_from-out-else-at-behind-2.ensures.counted)
+        (higher_right _ _ _ _ _ _ _ _ further.remove_from-out-else-at-following-2.ensures.not_higher further.remove_from-out-else-at-following-2.ensures.at_most_one_lower
+        further.remove_from-out-else-at-following-2.ensures.spare further.remove_from-out-else-at-following-2.ensures.counted (omega arith))
   ]
 ]
 
@@ -99,7 +100,7 @@ pub returns-then-len-gt1-clause-edges : goal.returns-then-len-gt1-clause-edges
 returns-then-len-gt1-clause-edges t c =
     let same : edges_of c.top.inside.left ++ (c.top.inside.own.items ++ edges_of c.top.inside.right) ≡ edges_of c.args.side.now
     = ap (λ seen. seen.0) (c.top.view_is ∙ c.deref_mut-top.ensures.value) ∙ sym (ap edges_of c.in-Some.is) in
-    taken_between _ _ _ _ _ _ _ same c.size-before.ensures c.if-at-before.false (omega (arith, c.if-at-behind.true, c.len.ensures.value)) c.take_out.ensures.items
+    taken_between _ _ _ _ _ _ _ same c.size-before.ensures c.if-at-before.false (omega (arith, c.if-at-following.true, c.len.ensures.value)) c.take_out.ensures.items
 
 -- the node's only edge goes out, and nothing is on the right
 is_only : (t : ℕ) (c : Then-top-before t) → (length c.top.inside.own.items ≡ 1) × (c.top.inside.right ≡ None)
@@ -130,20 +131,20 @@ returns-then-top-before-clause-at_most_one_lower t c =
 
 pub invariant_of-top-then-height-level-2 : goal.invariant_of-top-then-height-level-2
 invariant_of-top-then-height-level-2 t c =
-    let left = without_behind t (goal.at.invariant_of-top-then-height-level-2 t c).After-height-else-top-before in
-    let as_high : c.if-at-behind-2.top-inside.height ≡ c.top.inside.height = elim c.if-at-behind-2.branch [
-      | then-at-behind-2 next ↦ rw next.top-inside-is refl
-      | else-at-behind-2 further ↦ rw further.top-inside-is refl
+    let left = without_after t (goal.at.invariant_of-top-then-height-level-2 t c).After-height-else-top-before in
+    let as_high : c.if-at-following-2.top-inside.height ≡ c.top.inside.height = elim c.if-at-following-2.branch [
+      | then-at-following-2 next ↦ rw next.top-inside-is refl
+      | else-at-following-2 further ↦ rw further.top-inside-is refl
     ] in
-    let left_same : c.if-at-behind-2.top-inside.left ≡ c.top.inside.left = elim c.if-at-behind-2.branch [
-      | then-at-behind-2 next ↦ rw next.top-inside-is refl
-      | else-at-behind-2 further ↦ rw further.top-inside-is refl
+    let left_same : c.if-at-following-2.top-inside.left ≡ c.top.inside.left = elim c.if-at-following-2.branch [
+      | then-at-following-2 next ↦ rw next.top-inside-is refl
+      | else-at-following-2 further ↦ rw further.top-inside-is refl
     ] in
     as_high_as_before _ _ _ _ _ _ _ _ _ _ c.top.invariant left.some left.counted as_high (ap height_of left_same)
     (omega (arith, c.height-else-top-before.ensures.value, c.height-level-else-top-before.ensures.value, c.if-height-level-2.true)) (rw left_same c.is_filled.ensures.filled) c.height-else-top-before.ensures.filled
 
 pub returns-then-height-level-2-clause-edges : goal.returns-then-height-level-2-clause-edges
-returns-then-height-level-2-clause-edges t c = (without_behind t (goal.at.returns-then-height-level-2-clause-edges t c).After-height-else-top-before).edges
+returns-then-height-level-2-clause-edges t c = (without_after t (goal.at.returns-then-height-level-2-clause-edges t c).After-height-else-top-before).edges
 
 pub invariant_of-top-in_default-settle : goal.invariant_of-top-in_default-settle
 invariant_of-top-in_default-settle t c =
@@ -213,16 +214,16 @@ returns-then-height-level-clause-counted t c =
     (omega (arith, tall t (goal.at.returns-then-height-level-clause-counted t c).After-len, c.top.invariant.measured))
 
 pub returns-then-height-level-2-clause-spare : goal.returns-then-height-level-2-clause-spare
-returns-then-height-level-2-clause-spare t c = (lower_behind t (goal.at.returns-then-height-level-2-clause-spare t c).After-height-else-top-before).spared
+returns-then-height-level-2-clause-spare t c = (lower_after t (goal.at.returns-then-height-level-2-clause-spare t c).After-height-else-top-before).spared
 
 pub returns-then-height-level-2-clause-counted : goal.returns-then-height-level-2-clause-counted
 returns-then-height-level-2-clause-counted t c =
-    visits_below _ c.visit.ensures.counted (lower_behind t (goal.at.returns-then-height-level-2-clause-counted t c).After-height-else-top-before).counted
+    visits_below _ c.visit.ensures.counted (lower_after t (goal.at.returns-then-height-level-2-clause-counted t c).After-height-else-top-before).counted
     (omega (arith, tall t (goal.at.returns-then-height-level-2-clause-counted t c).After-len, c.top.invariant.measured))
 
 pub returns-then-height-level-2-clause-visited : goal.returns-then-height-level-2-clause-visited
 returns-then-height-level-2-clause-visited t c =
-    let down = lower_behind t (goal.at.returns-then-height-level-2-clause-visited t c).After-height-else-top-before in
+    let down = lower_after t (goal.at.returns-then-height-level-2-clause-visited t c).After-height-else-top-before in
     omega (arith, c.visit.ensures.visited, down.counted.no_fewer_visits)
 
 pub returns-in_default-settle-clause-spare : goal.returns-in_default-settle-clause-spare
@@ -254,12 +255,12 @@ returns-in-Some-settle-clause-visited t c =
 pub returns-in_default-settle-clause-not_higher : goal.returns-in_default-settle-clause-not_higher
 returns-in_default-settle-clause-not_higher t c =
     let down = lower t (goal.at.returns-in_default-settle-clause-not_higher t c).After-settle in
-    omega (arith, down.left_not_higher, down.right_not_higher, c.in_default-settle.ensures.measured, tall t (goal.at.returns-in_default-settle-clause-not_higher t c).After-len, c.top.invariant.measured)
+    omega (arith, down.left, down.right, c.in_default-settle.ensures.measured, tall t (goal.at.returns-in_default-settle-clause-not_higher t c).After-len, c.top.invariant.measured)
 
 pub returns-in_default-settle-clause-at_most_one_lower : goal.returns-in_default-settle-clause-at_most_one_lower
 returns-in_default-settle-clause-at_most_one_lower t c =
     let down = lower t (goal.at.returns-in_default-settle-clause-at_most_one_lower t c).After-settle in
-    omega (arith, down.left_not_higher, down.right_not_higher, down.at_most_one_lower, c.in_default-settle.ensures.measured, tall t (goal.at.returns-in_default-settle-clause-at_most_one_lower t c).After-len, c.top.invariant.measured)
+    omega (arith, down.left, down.right, down.at_most_one, c.in_default-settle.ensures.measured, tall t (goal.at.returns-in_default-settle-clause-at_most_one_lower t c).After-len, c.top.invariant.measured)
 
 pub returns-in-Some-settle-clause-not_higher : goal.returns-in-Some-settle-clause-not_higher
 returns-in-Some-settle-clause-not_higher t c =
@@ -270,8 +271,8 @@ returns-in-Some-settle-clause-not_higher t c =
       height.at_most_one_higher,
       ap height_of c.in-Some-settle.ensures.out_left,
       ap height_of c.in-Some-settle.ensures.out_right,
-      down.left_not_higher,
-      down.right_not_higher,
+      down.left,
+      down.right,
       tall t (goal.at.returns-in-Some-settle-clause-not_higher t c).After-len,
       c.top.invariant.measured,
     )
@@ -286,8 +287,8 @@ pub join_over-requires-clause-near : goal.join_over-requires-clause-near
 join_over-requires-clause-near t c =
     let down = lower t (goal.at.join_over-requires-clause-near t c).After-settle in
     record {
-      first = omega (arith, ap height_of c.in-Some-settle.ensures.out_left, ap height_of c.in-Some-settle.ensures.out_right, c.top.invariant.near, down.left_not_higher, down.right_not_higher, down.at_most_one_lower);
-      second = omega (arith, ap height_of c.in-Some-settle.ensures.out_left, ap height_of c.in-Some-settle.ensures.out_right, c.top.invariant.near, down.left_not_higher, down.right_not_higher, down.at_most_one_lower);
+      first = omega (arith, ap height_of c.in-Some-settle.ensures.out_left, ap height_of c.in-Some-settle.ensures.out_right, c.top.invariant.near, down.left, down.right, down.at_most_one);
+      second = omega (arith, ap height_of c.in-Some-settle.ensures.out_left, ap height_of c.in-Some-settle.ensures.out_right, c.top.invariant.near, down.left, down.right, down.at_most_one);
     }
 
 pub returns-then-len-gt1-clause-counted : goal.returns-then-len-gt1-clause-counted

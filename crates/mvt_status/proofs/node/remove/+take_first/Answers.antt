@@ -1,7 +1,8 @@
 use Rattle.std.proofs.Common.{◌≡◌, ◌+◌, ◌∙◌, length, length-append, refl, ap, sym, arith}
-use Rattle.mvt_status.specs.Tree.{edges_of, height_of}
+use Rattle.mvt_status.specs.Calls.Tree.{edges_of, height_of}
 use Rattle.mvt_status.proofs.Heights.{as_high_as_before, edge_of_levels, level_of_none, node_alone, visits_below}
-use Rattle.mvt_status.proofs.Removals.{lower_both, lower_left}
+use Rattle.mvt_status.proofs.Levels.{higher_left}
+use Rattle.mvt_status.proofs.Removals.{lower_both}
 use Rattle.mvt_status.proofs.node.remove.+take_first.Goals as goal
 
 pub invariant_of-top : goal.invariant_of-top
@@ -45,32 +46,32 @@ returns-in-Some-settle-clause-counted t c =
 pub returns-in_default-settle-clause-not_higher : goal.returns-in_default-settle-clause-not_higher
 returns-in_default-settle-clause-not_higher t c =
     let tall : c.top.inside.height ≡ height_of c.args.side.now = ap (λ seen. seen.1) (c.top.view_is ∙ c.deref_mut-top.ensures.value) ∙ sym (ap height_of c.in-Some.is) in
-    let down = lower_left (height_of c.top.inside.left) (height_of c.top.inside.right) (height_of c.take_first-first.new.side) 0 _ _ c.take_first-first.ensures.not_higher c.take_first-first.ensures.at_most_one_lower (omega arith) c.take_first-first.ensures.counted in
-    omega (arith, down.left_not_higher, down.right_not_higher, down.at_most_one_lower, c.in_default-settle.ensures.measured, tall, c.top.invariant.measured)
+    let down = higher_left (height_of c.take_first-first.new.side) (height_of c.top.inside.left) (height_of c.top.inside.right) (height_of c.top.inside.left) (height_of c.top.inside.left) 0 _ _ c.take_first-first.ensures.not_higher c.take_first-first.ensures.at_most_one_lower (omega arith) c.take_first-first.ensures.counted (omega arith) in
+    omega (arith, down.left, down.right, down.at_most_one, c.in_default-settle.ensures.measured, tall, c.top.invariant.measured)
 
 pub returns-in_default-settle-clause-at_most_one_lower : goal.returns-in_default-settle-clause-at_most_one_lower
 returns-in_default-settle-clause-at_most_one_lower t c =
     let tall : c.top.inside.height ≡ height_of c.args.side.now = ap (λ seen. seen.1) (c.top.view_is ∙ c.deref_mut-top.ensures.value) ∙ sym (ap height_of c.in-Some.is) in
-    let down = lower_left (height_of c.top.inside.left) (height_of c.top.inside.right) (height_of c.take_first-first.new.side) 0 _ _ c.take_first-first.ensures.not_higher c.take_first-first.ensures.at_most_one_lower (omega arith) c.take_first-first.ensures.counted in
-    omega (arith, down.left_not_higher, down.right_not_higher, down.at_most_one_lower, c.in_default-settle.ensures.measured, tall, c.top.invariant.measured)
+    let down = higher_left (height_of c.take_first-first.new.side) (height_of c.top.inside.left) (height_of c.top.inside.right) (height_of c.top.inside.left) (height_of c.top.inside.left) 0 _ _ c.take_first-first.ensures.not_higher c.take_first-first.ensures.at_most_one_lower (omega arith) c.take_first-first.ensures.counted (omega arith) in
+    omega (arith, down.left, down.right, down.at_most_one, c.in_default-settle.ensures.measured, tall, c.top.invariant.measured)
 
 pub returns-in-Some-settle-clause-not_higher : goal.returns-in-Some-settle-clause-not_higher
 returns-in-Some-settle-clause-not_higher t c =
     let tall : c.top.inside.height ≡ height_of c.args.side.now = ap (λ seen. seen.1) (c.top.view_is ∙ c.deref_mut-top.ensures.value) ∙ sym (ap height_of c.in-Some.is) in
-    let down = lower_left (height_of c.top.inside.left) (height_of c.top.inside.right) (height_of c.take_first-first.new.side) 0 _ _ c.take_first-first.ensures.not_higher c.take_first-first.ensures.at_most_one_lower (omega arith) c.take_first-first.ensures.counted in
+    let down = higher_left (height_of c.take_first-first.new.side) (height_of c.top.inside.left) (height_of c.top.inside.right) (height_of c.top.inside.left) (height_of c.top.inside.left) 0 _ _ c.take_first-first.ensures.not_higher c.take_first-first.ensures.at_most_one_lower (omega arith) c.take_first-first.ensures.counted (omega arith) in
     let height = c.join_over.ensures.height in
-    omega (arith, height.at_most_one_higher, ap height_of c.in-Some-settle.ensures.out_left, ap height_of c.in-Some-settle.ensures.out_right, down.left_not_higher, down.right_not_higher, down.at_most_one_lower, tall, c.top.invariant.measured)
+    omega (arith, height.at_most_one_higher, ap height_of c.in-Some-settle.ensures.out_left, ap height_of c.in-Some-settle.ensures.out_right, down.left, down.right, down.at_most_one, tall, c.top.invariant.measured)
 
 pub returns-in-Some-settle-clause-at_most_one_lower : goal.returns-in-Some-settle-clause-at_most_one_lower
 returns-in-Some-settle-clause-at_most_one_lower t c =
     let tall : c.top.inside.height ≡ height_of c.args.side.now = ap (λ seen. seen.1) (c.top.view_is ∙ c.deref_mut-top.ensures.value) ∙ sym (ap height_of c.in-Some.is) in
-    let down = lower_left (height_of c.top.inside.left) (height_of c.top.inside.right) (height_of c.take_first-first.new.side) 0 _ _ c.take_first-first.ensures.not_higher c.take_first-first.ensures.at_most_one_lower (omega arith) c.take_first-first.ensures.counted in
+    let down = higher_left (height_of c.take_first-first.new.side) (height_of c.top.inside.left) (height_of c.top.inside.right) (height_of c.top.inside.left) (height_of c.top.inside.left) 0 _ _ c.take_first-first.ensures.not_higher c.take_first-first.ensures.at_most_one_lower (omega arith) c.take_first-first.ensures.counted (omega arith) in
     omega (arith, lower_both c.top.invariant.near down (ap height_of c.in-Some-settle.ensures.out_left) (ap height_of c.in-Some-settle.ensures.out_right) c.join_over.ensures.height, tall, c.top.invariant.measured)
 
 pub join_over-requires-clause-near : goal.join_over-requires-clause-near
 join_over-requires-clause-near t c =
-    let down = lower_left (height_of c.top.inside.left) (height_of c.top.inside.right) (height_of c.take_first-first.new.side) 0 _ _ c.take_first-first.ensures.not_higher c.take_first-first.ensures.at_most_one_lower (omega arith) c.take_first-first.ensures.counted in
+    let down = higher_left (height_of c.take_first-first.new.side) (height_of c.top.inside.left) (height_of c.top.inside.right) (height_of c.top.inside.left) (height_of c.top.inside.left) 0 _ _ c.take_first-first.ensures.not_higher c.take_first-first.ensures.at_most_one_lower (omega arith) c.take_first-first.ensures.counted (omega arith) in
     record {
-      first = omega (arith, ap height_of c.in-Some-settle.ensures.out_left, ap height_of c.in-Some-settle.ensures.out_right, c.top.invariant.near, down.left_not_higher, down.right_not_higher, down.at_most_one_lower);
-      second = omega (arith, ap height_of c.in-Some-settle.ensures.out_left, ap height_of c.in-Some-settle.ensures.out_right, c.top.invariant.near, down.left_not_higher, down.right_not_higher, down.at_most_one_lower);
+      first = omega (arith, ap height_of c.in-Some-settle.ensures.out_left, ap height_of c.in-Some-settle.ensures.out_right, c.top.invariant.near, down.left, down.right, down.at_most_one);
+      second = omega (arith, ap height_of c.in-Some-settle.ensures.out_left, ap height_of c.in-Some-settle.ensures.out_right, c.top.invariant.near, down.left, down.right, down.at_most_one);
     }

@@ -1,15 +1,15 @@
 use Rattle.std.proofs.Common.{◌≡◌, ◌∙◌, ◌+◌, ◌≤◌, sym, ap, subst, refl, List, [], ◌∷◌, Vec, Global, length, slice_get, Some, None, arith}
 use Rattle.std.proofs.lemmas.List.{length-map}
-use Rattle.std.proofs.lemmas.Option.{same_Some}
+use Rattle.std.proofs.lemmas.Option.{same_Some, slice_get_within}
 use Rattle.std.proofs.lemmas.Result.{IfOk-weaker}
 use Rattle.mvt_wire.specs.Tile.{FeatureRecord}
 use Rattle.mvt_tile.specs.Advice.{IdAt}
-use Rattle.mvt_tile.specs.Equal.{HeldAt, held_value}
+use Rattle.mvt_tile.specs.Calls.Equal.{HeldAt, held_value}
 use Rattle.mvt_tile.specs.View.{feature_of, layer_of}
 use Rattle.mvt_tile.specs.declared.advice.first_places.Held.{Held}
-use Rattle.mvt_tile.proofs.HeldPlaces.{place_of, IdHeldAt, id_within, held_is, through_only, mapped_there}
-use Rattle.mvt_tile.proofs.Names.{IsNaming}
-use Rattle.mvt_tile.proofs.Repetitions.{Before, IsNaming-pushed, IsNaming-skipped, through_function}
+use Rattle.mvt_tile.proofs.RuleFaults.HeldPlaces.{place_of, IdHeldAt, held_is, through_only, mapped_there}
+use Rattle.mvt_tile.proofs.RuleFaults.Names.{IsNaming}
+use Rattle.mvt_tile.proofs.RuleFaults.Repetitions.{Before, IsNaming-pushed, IsNaming-skipped, through_function}
 use Rattle.mvt_tile.proofs.advice.repeated.first_equal_ids.Goals.{in-Some+in_ok-push, in_default}
 use Rattle.mvt_tile.proofs.advice.repeated.first_equal_ids.Goals as goal
 
@@ -47,5 +47,5 @@ returns c =
     IfOk-weaker c.first_places.result _ _
     (λ firsts noted.
     through_function (λ id. id ∷ []) (IdAt layer) (HeldAt c.loop-place.held.items) firsts.items (λ one other same. cc same)
-    (held_is (IdHeldAt layer) (length layer.features) c.loop-place.place c.loop-place.held.items end (id_within layer) c.loop-place.invariant) noted)
+    (held_is (IdHeldAt layer) (length layer.features) c.loop-place.place c.loop-place.held.items end (λ place value held. slice_get_within layer.features place held.1.0 held.1.1) c.loop-place.invariant) noted)
     c.first_places.ensures

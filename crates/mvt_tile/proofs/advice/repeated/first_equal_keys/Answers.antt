@@ -1,13 +1,13 @@
 use Rattle.std.proofs.Common.{◌≡◌, ◌∙◌, ◌≤◌, sym, ap, refl, ◌∷◌, length, slice_get, Some, arith}
 use Rattle.std.proofs.lemmas.List.{length-map}
-use Rattle.std.proofs.lemmas.Option.{same_Some}
+use Rattle.std.proofs.lemmas.Option.{same_Some, slice_get_within}
 use Rattle.std.proofs.lemmas.Result.{IfOk-weaker}
 use Rattle.mvt_tile.specs.Advice.{KeyAt}
-use Rattle.mvt_tile.specs.Equal.{HeldAt, held_value}
-use Rattle.mvt_tile.specs.Names.{key_of}
+use Rattle.mvt_tile.specs.Calls.Equal.{HeldAt, held_value}
+use Rattle.mvt_tile.specs.Calls.Names.{key_of}
 use Rattle.mvt_tile.specs.View.{layer_of}
-use Rattle.mvt_tile.proofs.HeldPlaces.{place_of, KeyHeldAt, key_within, held_is, through_only, mapped_there}
-use Rattle.mvt_tile.proofs.Repetitions.{IsNaming-pushed, through_function}
+use Rattle.mvt_tile.proofs.RuleFaults.HeldPlaces.{place_of, KeyHeldAt, held_is, through_only, mapped_there}
+use Rattle.mvt_tile.proofs.RuleFaults.Repetitions.{IsNaming-pushed, through_function}
 use Rattle.mvt_tile.proofs.advice.repeated.first_equal_keys.Goals as goal
 
 pub loop-place-preserved : goal.loop-place-preserved
@@ -28,5 +28,5 @@ returns c =
     IfOk-weaker c.first_places.result _ _
     (λ firsts noted.
     through_function (λ key. key_of key ∷ key) (KeyAt layer) (HeldAt c.loop-place.held.items) firsts.items (λ one other same. cc same)
-    (held_is (KeyHeldAt layer) (length layer.keys) c.loop-place.place c.loop-place.held.items end (key_within layer) c.loop-place.invariant) noted)
+    (held_is (KeyHeldAt layer) (length layer.keys) c.loop-place.place c.loop-place.held.items end (λ place value held. slice_get_within layer.keys place held.0 held.1) c.loop-place.invariant) noted)
     c.first_places.ensures

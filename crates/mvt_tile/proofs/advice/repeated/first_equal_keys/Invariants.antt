@@ -1,8 +1,8 @@
-use Rattle.mvt_tile.specs.Equal.{held_value}
+use Rattle.mvt_tile.specs.Calls.Equal.{held_value}
 use Rattle.mvt_tile.specs.View.{layer_of}
-use Rattle.mvt_tile.proofs.HeldPlaces.{place_of, KeyHeldAt}
-use Rattle.mvt_tile.proofs.Names.{IsNaming}
-use Rattle.mvt_tile.proofs.Repetitions.{Before}
+use Rattle.mvt_tile.proofs.RuleFaults.HeldPlaces.{place_of, KeyHeldAt}
+use Rattle.mvt_tile.proofs.RuleFaults.Names.{IsNaming}
+use Rattle.mvt_tile.proofs.RuleFaults.Repetitions.{Before}
 use Rattle.mvt_tile.proofs.advice.repeated.first_equal_keys.Given as goal
 
 -- the keys that were passed are held

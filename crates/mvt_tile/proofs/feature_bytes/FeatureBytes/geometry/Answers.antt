@@ -1,4 +1,4 @@
-use Rattle.mvt_tile.proofs.FeatureParts.{shown}
+use Rattle.mvt_tile.proofs.Reading.FeatureParts.{shown}
 use Rattle.mvt_tile.proofs.feature_bytes.FeatureBytes.geometry.Goals as goal
 
 pub returns-clause-shows : goal.returns-clause-shows

@@ -1,10 +1,10 @@
-use Rattle.std.proofs.Common.{[], None, refl, arith}
+use Rattle.std.proofs.Common.{[], ◌∷◌, None, Some, refl, arith}
 use Rattle.std.proofs.lemmas.List.{length-take-le}
 use Rattle.mvt_wire.specs.Numbers.{GivesNumber, walk_at}
-use Rattle.mvt_wire.proofs.NumberWalks.{GivesNumber-at}
-use Rattle.mvt_wire.proofs.NumbersLeft.{one_left}
+use Rattle.mvt_wire.proofs.FieldNumbers.NumberWalks.{GivesNumber-at}
+use Rattle.mvt_wire.proofs.FieldNumbers.NumbersLeft.{one_left}
 use Rattle.mvt_tile.specs.Numbers.{walk_of}
-use Rattle.mvt_tile.proofs.FaultlessNumbers.{IsFaultless-step, faultless_there, number_next}
+use Rattle.mvt_tile.proofs.Reading.FaultlessNumbers.{number_next}
 use Rattle.mvt_tile.proofs.numbers.FeatureNumbersNumberSource.next_number.Goals as goal
 use Rattle.mvt_tile.proofs.numbers.FeatureNumbersNumberSource.next_number.Goals.{After-next_varint-number}
 
@@ -15,7 +15,7 @@ pub next_varint-number-requires-clause-stands : goal.next_varint-number-requires
 next_varint-number-requires-clause-stands c =
     let self = c.args.self.now in
     let leaves = (c.varints_left-at.ensures.found c.if-at-end.false) in
-    number_next self.bytes.now self.field_number c.varints_left-at.result.0 c.varints_left-at.result.1 leaves.left leaves.within (faultless_there (walk_of self) c.varints_left-at.result.0 c.varints_left-at.result.1 self.faultless leaves)
+    number_next self.bytes.now self.field_number c.varints_left-at.result.0 c.varints_left-at.result.1 leaves.left leaves.within (λ given cause left. self.faultless given cause (leaves.same given (Some cause) left))
 
 -- the number was given
 gives : (c : After-next_varint-number) → GivesNumber (walk_of c.args.self.now) (walk_at c.args.self.now.bytes.now c.args.self.now.field_number c.next_varint-number.result.1 c.varints_left-at.result.1) c.next_varint-number.result.0
@@ -33,7 +33,7 @@ invariant_of-self c =
     record {
       forward = omega arith;
       within = within;
-      faultless = IsFaultless-step (walk_of self) _ c.next_varint-number.result.0 (gives c) self.faultless;
+      faultless = λ given cause left. self.faultless (c.next_varint-number.result.0 ∷ given) cause ((gives c).first given (Some cause) left);
       no_more = self.no_more;
     }
 

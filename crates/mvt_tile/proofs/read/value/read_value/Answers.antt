@@ -1,23 +1,23 @@
 use Rattle.mvt_wire.specs.Field.{entry_of}
 use Rattle.mvt_wire.specs.declared.schema.Message.TheVariants as messages
-use Rattle.mvt_wire.specs.Tile.{FitsRule}
-use Rattle.mvt_tile.proofs.ValueReading.{IsValue-from_known, none_known-more, none_known-over}
-use Rattle.mvt_tile.proofs.ReadingWalk.{IsWalking-front, IsWalking-defectless, IsWalking-over, All-given}
+use Rattle.mvt_wire.specs.Calls.Tile.{FitsRule}
+use Rattle.mvt_tile.proofs.Reading.ValueReading.{IsValue-from_known, none_known-more, none_known-over}
+use Rattle.mvt_tile.proofs.Reading.ReadingWalk.{IsWalking-front, IsWalking-defectless, IsWalking-over, All-given}
 use Rattle.mvt_tile.proofs.read.value.read_value.Goals as goal
 use Rattle.mvt_wire.proofs.Walking.{IsWalking-more}
 
 pub next_field-requires : goal.next_field-requires
-next_field-requires c = let there = c.requires.stands.1 in IsWalking-defectless there.entries c.walk.invariant.1 there.whole
+next_field-requires c = let there = c.requires.1 in IsWalking-defectless there.entries c.walk.invariant.1 there.whole
 
 pub value_in-requires : goal.value_in-requires
 value_in-requires c =
-    let there = c.requires.stands.1 in
+    let there = c.requires.1 in
     All-given there.entries c.walk.invariant.1 there.whole c.in-Some.ensures.field (FitsRule messages.Value) there.keeps.fits
 
 pub returns-in-Some-value_in : goal.returns-in-Some-value_in
 returns-in-Some-value_in c =
     let so_far = c.walk.invariant in
-    let there = c.requires.stands.1 in
+    let there = c.requires.1 in
     let found = c.in-Some-value_in.ensures in
     let front = IsWalking-front there.entries so_far.1 there.whole c.in-Some.ensures.field in
     IsValue-from_known there so_far.0 front.0 (entry_of c.in-Some.field) so_far.2 found.known front.1 found.says
@@ -29,5 +29,5 @@ walk-preserved c =
 
 pub unreachable-requires : goal.unreachable-requires
 unreachable-requires c =
-    let there = c.requires.stands.1 in
+    let there = c.requires.1 in
     none_known-over there c.walk.invariant.2 (IsWalking-over there.entries c.walk.invariant.1 there.whole c.in_default.ensures.over)

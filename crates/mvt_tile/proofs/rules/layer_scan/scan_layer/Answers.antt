@@ -1,26 +1,41 @@
-use Rattle.std.proofs.Common.{List, [], subst, refl, arith}
-use Rattle.mvt_wire.specs.Field.{Entry, content_of, entry_of}
-use Rattle.mvt_wire.specs.Tile.{IsFeature, FitsRule}
+use Rattle.std.proofs.Common.{◌≡◌, true, false, is_some, Option, Some, None, MatchOption, List, [], refl, sym, ◌∙◌, ap, subst, arith}
+use Rattle.mvt_wire.specs.Field.{Entry}
+use Rattle.mvt_wire.specs.Tile.{IsFeature}
+use Rattle.mvt_wire.specs.Calls.Tile.{FitsRule}
 use Rattle.mvt_wire.specs.declared.schema.Message.TheVariants as messages
 use Rattle.mvt_tile.specs.FeatureBytes.{Shows}
-use Rattle.mvt_tile.specs.Reading.{TellsSummary}
-use Rattle.mvt_tile.proofs.CleanWalk.{CleanWalk-nothing}
-use Rattle.mvt_tile.proofs.FeatureScan.{IsScanned-other, IsScanned-found, IsScanned-large, IsScanned-more, IsScanned-sound, IsScanned-least}
-use Rattle.mvt_wire.proofs.NothingFound.{IfNone-held}
-use Rattle.mvt_tile.proofs.ReadingRules.{fits_at, own_type}
-use Rattle.mvt_tile.proofs.ReadingWalk.{IsWalking-none, IsWalking-defectless, IsWalking-over, All-given}
-use Rattle.mvt_tile.proofs.Stretches.{Embeds-given, LiesIn-given}
-use Rattle.mvt_tile.proofs.SummaryReading.{few_counted, IsSummary-from_told}
+use Rattle.mvt_tile.specs.Calls.Reading.{GivesSummary}
+use Rattle.mvt_tile.proofs.WireFaults.CleanWalk.{CleanWalk-nothing}
+use Rattle.mvt_tile.proofs.RuleFaults.FeatureScan.{IsScanned-other, IsScanned-more, IsScanned-finds}
+use Rattle.mvt_tile.proofs.Reading.ReadingRules.{own_type}
+use Rattle.mvt_tile.proofs.Reading.ReadingWalk.{IsWalking-none, IsWalking-defectless, IsWalking-over, All-given}
+use Rattle.mvt_tile.proofs.WireFaults.EmbeddedSpans.{Embeds-given, LiesIn-given}
+use Rattle.mvt_tile.proofs.RuleFaults.SummaryReading.{few_counted, IsSummary-from_told}
 use Rattle.mvt_tile.proofs.rules.layer_scan.scan_layer.Goals as goal
-use Rattle.mvt_tile.proofs.rules.layer_scan.scan_layer.Goals.{else-field-eq-FEATURES-via-then-field-eq-FEATURES+then-is_none+else-needs-to, else-field-eq-FEATURES-via-then-field-eq-FEATURES+else-is_none, else-field-eq-FEATURES-via-else-field-eq-FEATURES}
+use Rattle.mvt_tile.proofs.rules.layer_scan.scan_layer.Goals.{else-field-eq-FEATURES-via-then-field-eq-FEATURES+else-is_none, else-field-eq-FEATURES-via-else-field-eq-FEATURES}
 use Rattle.mvt_wire.proofs.Walking.{IsWalking-more}
+
+-- what was found stays found
+still_found : {F : Type 0} (X Y : Type 0) (First : F → Type 0) (found : Option F) → is_some found ≡ true → MatchOption found X First → MatchOption found Y First
+still_found X Y First None is held = absurd (cc)
+still_found X Y First (Some first) is held = held
+
+-- where nothing was found, the other fact holds
+nothing_found : {F X : Type 0} (First : F → Type 0) (found : Option F) → is_some found ≡ false → MatchOption found X First → X
+nothing_found First None is held = held
+nothing_found First (Some first) is held = absurd (cc)
+
+found_nothing : {F X : Type 0} (First : F → Type 0) (found : Option F) → is_some found ≡ false → X → MatchOption found X First
+found_nothing First None is holds = holds
+found_nothing First (Some first) is holds = absurd (cc)
 
 pub walk-init : goal.walk-init
 walk-init over c = record {
   entries = [];
   walking = IsWalking-none c.new-fields.ensures;
-  tells = c.empty_summary-summary.ensures;
-  features = record { none = λ small. CleanWalk-nothing c.new-fields.ensures; some = tt };
+  gives = c.empty_summary-summary.ensures;
+  kept = λ some. refl;
+  features = λ none. record { first = found_nothing _ c.args.found.now none (CleanWalk-nothing c.new-fields.ensures) };
   few = omega arith;
 }
 
@@ -34,48 +49,49 @@ add_field-requires-clause-fits over c =
 
 pub add_field-requires-clause-keys : goal.add_field-requires-clause-keys
 add_field-requires-clause-keys over c =
-    let few = few_counted c.args.bytes.now c.args.to c.walk.invariant.walking c.in-Some.ensures.field c.walk.invariant.tells in
+    let few = few_counted c.args.part.bytes.now c.args.part.to c.walk.invariant.walking c.in-Some.ensures.field c.walk.invariant.gives in
     omega (arith, few.0)
 
 pub add_field-requires-clause-values : goal.add_field-requires-clause-values
 add_field-requires-clause-values over c =
-    let few = few_counted c.args.bytes.now c.args.to c.walk.invariant.walking c.in-Some.ensures.field c.walk.invariant.tells in
+    let few = few_counted c.args.part.bytes.now c.args.part.to c.walk.invariant.walking c.in-Some.ensures.field c.walk.invariant.gives in
     omega (arith, few.1)
 
-pub stretch_of-start-requires-clause-own : goal.stretch_of-start-requires-clause-own
-stretch_of-start-requires-clause-own over c =
+pub payload_span-from-requires-clause-own : goal.payload_span-from-requires-clause-own
+payload_span-from-requires-clause-own over c =
     let there = c.requires.stands.1 in
     let fits = All-given there.entries c.walk.invariant.walking there.whole c.in-Some.ensures.field (FitsRule messages.Layer) there.keeps.fits in
-    own_type _ (content_of c.in-Some.field.body) 2 (fits_at messages.Layer (entry_of c.in-Some.field) 2 _ fits c.if-field-eq-FEATURES.true refl) (λ t. refl)
+    own_type messages.Layer c.in-Some.field 2 2 fits c.if-field-eq-FEATURES.true refl (λ t. refl)
 
-pub stretch_of-start-requires-clause-below : goal.stretch_of-start-requires-clause-below
-stretch_of-start-requires-clause-below over c = λ span there.
-    let inside = LiesIn-given c.args.bytes.now c.args.to c.walk.invariant.walking c.in-Some.ensures.field span there in
-    omega (arith, inside.1, c.requires.within)
+pub payload_span-from-requires-clause-below : goal.payload_span-from-requires-clause-below
+payload_span-from-requires-clause-below over c = λ span there.
+    let inside = LiesIn-given c.args.part.bytes.now c.args.part.to c.walk.invariant.walking c.in-Some.ensures.field span there in
+    omega (arith, inside.1, c.args.part.within)
 
-pub new-feature-requires-clause-within : goal.new-feature-requires-clause-within
-new-feature-requires-clause-within over c =
-    (LiesIn-given c.args.bytes.now c.args.to c.walk.invariant.walking c.in-Some.ensures.field _ c.stretch_of-start.ensures).1
+pub invariant_of-new : goal.invariant_of-new
+invariant_of-new over c =
+    let inside = LiesIn-given c.args.part.bytes.now c.args.part.to c.walk.invariant.walking c.in-Some.ensures.field _ c.payload_span-from.ensures in
+    record { forward = inside.0; within = inside.1 }
 
-pub new-feature-requires-clause-stands : goal.new-feature-requires-clause-stands
-new-feature-requires-clause-stands over c =
+pub new-feature-requires : goal.new-feature-requires
+new-feature-requires over c =
     let there = c.requires.stands.1 in
-    Embeds-given there.entries c.walk.invariant.walking there.whole c.in-Some.ensures.field 2 (IsFeature c.args.bytes.now) c.requires.stands.0.features there.features
-    _ c.if-field-eq-FEATURES.true c.stretch_of-start.ensures
+    Embeds-given there.entries c.walk.invariant.walking there.whole c.in-Some.ensures.field 2 (IsFeature c.args.part.bytes.now) c.requires.stands.0.features there.features
+    _ c.if-field-eq-FEATURES.true c.payload_span-from.ensures
 
-pub walk-preserved-then-needs-to : goal.walk-preserved-then-needs-to
-walk-preserved-then-needs-to over c =
+pub walk-preserved-then-is_none : goal.walk-preserved-then-is_none
+walk-preserved-then-is_none over c =
     let so_far = c.walk.invariant in
     let given = c.in-Some.ensures.field in
-    let found = c.in_ok-find_so_far.ensures in
     record {
       entries = _;
       walking = IsWalking-more _ _ _ _ _ _ so_far.walking given;
-      tells = c.add_field.ensures so_far.entries so_far.tells;
-      features =
-          IsScanned-more (IfNone-held c.walk.found c.if-is_none.ensures so_far.features.none c.if-needs-to.true) given c.if-field-eq-FEATURES.true _ c.stretch_of-start.ensures
-          c.find_so_far.new.needs c.find_so_far.ensures.no_fewer_keys c.find_so_far.ensures.no_fewer_values
-          c.requires.behind_tags (Shows c.new-feature.result) c.new-feature.ensures c.find_so_far.new.found found.none found.least;
+      gives = c.add_field.ensures so_far.entries so_far.gives;
+      kept = λ some. let both : true ≡ false = sym some ∙ ap is_some (sym (so_far.kept some)) ∙ c.if-is_none.ensures in absurd (cc);
+      features = λ none.
+          IsScanned-more (nothing_found _ c.walk.found c.if-is_none.ensures (so_far.features none).first) given c.if-field-eq-FEATURES.true _ c.payload_span-from.ensures
+          c.find_in_feature.new.needs c.find_in_feature.ensures.no_fewer_keys c.find_in_feature.ensures.no_fewer_values
+          c.requires.after_tags (Shows c.new-feature.result) c.new-feature.ensures c.find_in_feature.new.found (λ layer_record it shows like. c.in_ok-find_in_feature.ensures.finds layer_record it shows like);
       few = omega (arith, given.further, so_far.few);
     }
 
@@ -86,11 +102,11 @@ walk-preserved over c =
     record {
       entries = _;
       walking = IsWalking-more _ _ _ _ _ _ so_far.walking given;
-      tells = c.add_field.ensures so_far.entries so_far.tells;
-      features = elim c.else-field-eq-FEATURES.branch [
-        | else-field-eq-FEATURES-via-then-field-eq-FEATURES+then-is_none+else-needs-to w ↦ IsScanned-large so_far.features w.if-needs-to.false
-        | else-field-eq-FEATURES-via-then-field-eq-FEATURES+else-is_none w ↦ IsScanned-found so_far.features w.if-is_none.ensures
-        | else-field-eq-FEATURES-via-else-field-eq-FEATURES w ↦ IsScanned-other so_far.features given w.if-field-eq-FEATURES.false
+      gives = c.add_field.ensures so_far.entries so_far.gives;
+      kept = so_far.kept;
+      features = λ none. elim c.else-field-eq-FEATURES.branch [
+        | else-field-eq-FEATURES-via-then-field-eq-FEATURES+else-is_none w ↦ record { first = still_found _ _ _ c.walk.found w.if-is_none.ensures (so_far.features none).first }
+        | else-field-eq-FEATURES-via-else-field-eq-FEATURES w ↦ IsScanned-other c.walk.found (so_far.features none) given w.if-field-eq-FEATURES.false
       ];
       few = omega (arith, given.further, so_far.few);
     }
@@ -99,10 +115,7 @@ pub returns-clause-summary : goal.returns-clause-summary
 returns-clause-summary over c = λ layer there.
     let so_far = c.walk.invariant in
     IsSummary-from_told there
-    (subst (λ (entries : List Entry). TellsSummary entries c.walk.summary) (IsWalking-over there.entries so_far.walking there.whole c.in_default.ensures.over) so_far.tells)
+    (subst (λ (entries : List Entry). GivesSummary entries c.walk.summary) (IsWalking-over there.entries so_far.walking there.whole c.in_default.ensures.over) so_far.gives)
 
-pub returns-clause-none : goal.returns-clause-none
-returns-clause-none over c = IsScanned-sound c.requires.forward c.walk.invariant.features c.requires.behind_tags c.in_default.ensures.over
-
-pub returns-clause-least : goal.returns-clause-least
-returns-clause-least over c = IsScanned-least c.requires.forward c.walk.invariant.features
+pub returns-clause-finds : goal.returns-clause-finds
+returns-clause-finds over c = λ none. IsScanned-finds c.requires.after_tags c.walk.found c.in_default.ensures.over (c.walk.invariant.features none)

@@ -1,14 +1,13 @@
-use Rattle.std.proofs.Common.{◌≡◌, ℕ, ◌<◌, List, length, map, slice_get, get_or, refl, sym, ◌∙◌, ap, subst, arith}
+use Rattle.std.proofs.Common.{inr, ◌≡◌, ℕ, ◌<◌, List, length, map, slice_get, get_or, refl, sym, ◌∙◌, ap, subst, arith}
 use Rattle.std.proofs.lemmas.List.{length-map}
 use Rattle.std.proofs.lemmas.Option.{IfSome_then, slice_get-map, slice_get_read}
 use Rattle.std.specs.Option.{option_map}
-use Rattle.mvt_tile.specs.PassedLayers.{passed, EndsLayers, IsNextLayer}
+use Rattle.mvt_tile.specs.Calls.PassedLayers.{passed, EndsLayers, IsNextLayer}
 use Rattle.mvt_tile.specs.View.{layer_of, tile_of}
 use Rattle.mvt_tile.specs.declared.record.Layer.{Layer}
 use Rattle.mvt_tile.specs.declared.record.Tile.{Tile}
 use Rattle.mvt_tile.specs.declared.rules.layer_rules.LayerRules.{LayerRules}
 use Rattle.mvt_wire.proofs.NothingFound.{IfNone_then}
-use Rattle.mvt_tile.proofs.LayerNames.{EndsLayers-all}
 use Rattle.mvt_tile.proofs.rules.layers.check_layers.Goals.{else-loop-layer-test, then-loop-layer-test+in_ok-note+then-not-branch}
 use Rattle.mvt_tile.proofs.rules.layers.check_layers.Goals as goal
 
@@ -42,7 +41,7 @@ ends c =
       | else-loop-layer-test w ↦
           let all : length (tile_of tile).layers ≡ passed c.loop-layer.rules =
           omega (arith, length-map tile.layers.items layer_of, ap length c.deref-layer-items.ensures.value, w.loop-layer-test.false, c.loop-layer.auto.layer-index-end, c.loop-layer.invariant.1) in
-          subst (λ (rules : LayerRules). EndsLayers rules (tile_of tile)) (sym w.rules-is) (EndsLayers-all c.loop-layer.rules (tile_of tile) c.loop-layer.invariant.0 all)
+          subst (λ (rules : LayerRules). EndsLayers rules (tile_of tile)) (sym w.rules-is) (record { layers = c.loop-layer.invariant.0.layers; end = inr (c.loop-layer.invariant.0.no_other, all) })
       | then-loop-layer-test+in_ok-note+then-not-branch w ↦
           subst (λ (rules : LayerRules). EndsLayers rules (tile_of tile)) (sym w.rules-is)
           (w.in_ok-note.ensures.ends w.if-not-branch.true (tile_of tile) c.loop-layer.invariant.0

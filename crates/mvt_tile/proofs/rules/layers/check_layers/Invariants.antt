@@ -1,5 +1,5 @@
 use Rattle.std.proofs.Common.{◌≡◌}
-use Rattle.mvt_tile.specs.PassedLayers.{passed, PassesLayers}
+use Rattle.mvt_tile.specs.Calls.PassedLayers.{passed, PassesLayers}
 use Rattle.mvt_tile.specs.View.{tile_of}
 use Rattle.mvt_tile.proofs.rules.layers.check_layers.Given as goal
 

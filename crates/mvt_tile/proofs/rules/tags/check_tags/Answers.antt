@@ -1,20 +1,13 @@
 use Rattle.std.proofs.Common.{◌≡◌, ◌∙◌, ◌<◌, ℕ, List, length, get_or, Option, Some, slice_get, subst, arith}
 use Rattle.std.proofs.lemmas.List.{length-map}
-use Rattle.mvt_fault.specs.TrueFaults.{IsFaultOfTags, TagsBreak, tag}
-use Rattle.mvt_fault.specs.declared.fault.Fault.{Fault}
 use Rattle.mvt_fault.specs.declared.tag.TagCode.{TagCode}
-use Rattle.mvt_wire.specs.Tile.{FeatureRecord, LayerRecord}
-use Rattle.mvt_tile.specs.RuleFaults.{FindsFirstTagFault}
+use Rattle.mvt_wire.specs.Tile.{FeatureRecord}
+use Rattle.mvt_tile.specs.Calls.RuleFaults.{FindsFirstTagFault}
 use Rattle.mvt_tile.specs.View.{layer_of, value_of}
 use Rattle.mvt_tile.specs.declared.record.Feature.{Feature}
 use Rattle.mvt_tile.specs.declared.record.Layer.{Layer}
-use Rattle.mvt_tile.proofs.TagFaults.{IsLeast-first, feature_tags}
+use Rattle.mvt_tile.proofs.RuleFaults.TagFaults.{IsLeast-first, feature_tags, no_tag_broken}
 use Rattle.mvt_tile.proofs.rules.tags.check_tags.Goals as goal
-
--- tags that break no rule have no fault
-no_fault : (layer_record : LayerRecord) (it : FeatureRecord) (layer feature : ℕ) → ((code : TagCode) (place : ℕ) → ¬ TagsBreak code (length layer_record.keys) (length layer_record.values) it.tags place)
-    → (fault : Fault) → ¬ IsFaultOfTags layer_record it layer feature fault
-no_fault layer_record it layer feature none fault (tag code index broken) = none code index broken
 
 -- what was found of the list, as said of the feature's tags in its layer
 found_in : (found : Option (TagCode × ℕ)) (keys values : ℕ) (listed : List ℕ) (layer : Layer) (feature : ℕ) (shown : Feature) (it : FeatureRecord) → keys ≡ length layer.keys.items → values ≡ length layer.values.items → listed ≡ shown.tags.items
@@ -30,13 +23,13 @@ found_in found keys values listed layer feature shown it same_keys same_values s
 pub returns-in_default-clause-none : goal.returns-in_default-clause-none
 returns-in_default-clause-none c = λ feature_record there.
     let finds =
-    found_in c.in_ok-scan.scan.found c.len.result c.len-2.result c.deref.result.now c.args.layer.now c.args.feature_index c.index.result.now feature_record (omega arith) (omega arith) c.deref.ensures.value c.requires c.index.ensures there
-    (c.in_ok-scan.ensures.first c.deref.result.now c.new-tags.ensures.all) in
-    no_fault (layer_of c.args.layer.now) feature_record c.args.layer_index c.args.feature_index (rw c.in_default.is at finds)
+    found_in c.scan_tags.new.found c.len-keys.result c.len-values.result c.deref.result.now c.args.layer.now c.args.feature_index c.index.result.now feature_record (omega arith) (omega arith) c.deref.ensures.value c.requires c.index.ensures there
+    (c.in_ok-scan_tags.ensures c.deref.result.now c.new-tags.ensures.all).0 in
+    no_tag_broken (layer_of c.args.layer.now) feature_record c.args.layer_index c.args.feature_index (rw c.in_default.is at finds)
 
 pub returns-clause-least : goal.returns-clause-least
 returns-clause-least c = λ feature_record there.
     let finds =
-    found_in c.in_ok-scan.scan.found c.len.result c.len-2.result c.deref.result.now c.args.layer.now c.args.feature_index c.index.result.now feature_record (omega arith) (omega arith) c.deref.ensures.value c.requires c.index.ensures there
-    (c.in_ok-scan.ensures.first c.deref.result.now c.new-tags.ensures.all) in
+    found_in c.scan_tags.new.found c.len-keys.result c.len-values.result c.deref.result.now c.args.layer.now c.args.feature_index c.index.result.now feature_record (omega arith) (omega arith) c.deref.ensures.value c.requires c.index.ensures there
+    (c.in_ok-scan_tags.ensures c.deref.result.now c.new-tags.ensures.all).0 in
     IsLeast-first (layer_of c.args.layer.now) feature_record c.args.layer_index c.args.feature_index c.in-Some.code c.in-Some.index (rw c.in-Some.is at finds)

@@ -1,59 +1,28 @@
-use Rattle.std.proofs.Common.{◌+◌, ℕ, List, length, drop, Some, sym, ◌∙◌, ap, subst, arith}
-use Rattle.mvt_tile.proofs.Sources.{at_end, number_at}
-use Rattle.mvt_tile.proofs.TagScans.{IsScanned-pair, first_of_all, first_of_odd, needs_of_all, two}
+use Rattle.std.proofs.Common.{drop, Some, arith}
+use Rattle.mvt_tile.proofs.RuleFaults.TagScans.{IsScanned-pair, all_scanned, given_at, odd_scanned}
 use Rattle.mvt_tile.proofs.rules.tags.scan_rest.Goals as goal
 
-pub returns-in_default-next_number-clause-first : goal.returns-in_default-next_number-clause-first
-returns-in_default-next_number-clause-first g c = λ given leaves set keys values before.
-    let scanned = c.pairs.invariant.scanned given leaves set keys values before in
-    let taken = c.in-Some.ensures.number (drop c.pairs.at given) (c.pairs.invariant.left given leaves) in
-    let key = number_at given c.pairs.at c.in-Some.key taken.0 taken.1 in
-    let none = c.in_default-next_number.ensures.end taken.0 taken.2 in
-    let within = key.within in
-    rw c.odd.ensures (first_of_odd scanned (omega (arith, ap length none)))
-
-pub returns-in_default-next_number-clause-met : goal.returns-in_default-next_number-clause-met
-returns-in_default-next_number-clause-met g c = λ given leaves set keys values before.
-    let scanned = c.pairs.invariant.scanned given leaves set keys values before in
-    let taken = c.in-Some.ensures.number (drop c.pairs.at given) (c.pairs.invariant.left given leaves) in
-    let key = number_at given c.pairs.at c.in-Some.key taken.0 taken.1 in
-    let none = c.in_default-next_number.ensures.end taken.0 taken.2 in
-    let within = key.within in
-    rw c.odd.ensures (needs_of_all scanned (omega (arith, ap length none)))
-
-pub returns-in_default-next_number-clause-fits : goal.returns-in_default-next_number-clause-fits
-returns-in_default-next_number-clause-fits g c = rw c.odd.ensures c.pairs.invariant.fits
+pub returns-in_default-next_number : goal.returns-in_default-next_number
+returns-in_default-next_number g c = λ given leaves set keys values before.
+    let so_far = c.pairs.invariant.scanned given leaves set keys values before in
+    let taken = c.in-Some.ensures.number (drop c.pairs.at given) so_far.0 in
+    odd_scanned so_far.1 (g.N.NumberSource.Leaves c.next_number.new.self) c.in-Some.key taken (c.in_default-next_number.ensures.end taken.0 taken.2)
 
 pub pairs-preserved : goal.pairs-preserved
 pairs-preserved g c = record {
   few = omega (arith, c.pairs.invariant.few, c.in-Some.ensures.fewer, c.in-Some-next_number.ensures.fewer);
-  fits = c.add.ensures.fits;
-  left = λ given leaves.
-      let at = c.pairs.at in
-      let taken = c.in-Some.ensures.number (drop at given) (c.pairs.invariant.left given leaves) in
-      let key = number_at given at c.in-Some.key taken.0 taken.1 in
-      let further = c.in-Some-next_number.ensures.number taken.0 taken.2 in
-      let value = number_at given (at + 1) c.in-Some-next_number.value further.0 (sym key.behind ∙ further.1) in
-      subst (λ (rest : List ℕ). g.N.NumberSource.Leaves c.next_number-in-Some.new.self rest) (value.behind ∙ ap (λ (place : ℕ). drop place given) (two at)) further.2;
   scanned = λ given leaves set keys values before.
-      let at = c.pairs.at in
-      let scanned = c.pairs.invariant.scanned given leaves set keys values before in
-      let taken = c.in-Some.ensures.number (drop at given) (c.pairs.invariant.left given leaves) in
-      let key = number_at given at c.in-Some.key taken.0 taken.1 in
-      let further = c.in-Some-next_number.ensures.number taken.0 taken.2 in
-      let value = number_at given (at + 1) c.in-Some-next_number.value further.0 (sym key.behind ∙ further.1) in
-      IsScanned-pair scanned set c.in-Some.key c.in-Some-next_number.value c.add.new.self (Some c.args.fault) key.here value.here
-      (rw c.of.ensures at c.add.ensures.keys) (rw c.of.ensures at c.add.ensures.values) scanned.so_far;
+      let so_far = c.pairs.invariant.scanned given leaves set keys values before in
+      let taken = c.in-Some.ensures.number (drop c.pairs.at given) so_far.0 in
+      let pair = given_at (g.N.NumberSource.Leaves c.next_number.new.self) (g.N.NumberSource.Leaves c.next_number-in-Some.new.self) given c.pairs.at c.in-Some.key c.in-Some-next_number.value
+      taken (c.in-Some-next_number.ensures.number taken.0 taken.2) in (
+        pair.left,
+        IsScanned-pair so_far.1 set c.in-Some.key c.in-Some-next_number.value c.add.new.self (Some c.args.fault) pair.first pair.second
+            (rw c.of.ensures at c.add.ensures.keys) (rw c.of.ensures at c.add.ensures.values) so_far.1.so_far,
+      );
 }
 
-pub returns-clause-fits : goal.returns-clause-fits
-returns-clause-fits g c = c.pairs.invariant.fits
-
-pub returns-clause-first : goal.returns-clause-first
-returns-clause-first g c = λ given leaves set keys values before.
-    first_of_all (c.pairs.invariant.scanned given leaves set keys values before) (c.in_default.ensures.end (drop c.pairs.at given) (c.pairs.invariant.left given leaves))
-
-pub returns-clause-met : goal.returns-clause-met
-returns-clause-met g c = λ given leaves set keys values before.
-    needs_of_all (c.pairs.invariant.scanned given leaves set keys values before)
-    (omega (arith, at_end given c.pairs.at (c.in_default.ensures.end (drop c.pairs.at given) (c.pairs.invariant.left given leaves))))
+pub returns : goal.returns
+returns g c = λ given leaves set keys values before.
+    let so_far = c.pairs.invariant.scanned given leaves set keys values before in
+    all_scanned so_far.1 (c.in_default.ensures.end (drop c.pairs.at given) so_far.0)

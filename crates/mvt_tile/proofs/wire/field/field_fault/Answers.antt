@@ -1,6 +1,6 @@
 use Rattle.std.proofs.Common.{sym}
 use Rattle.std.proofs.lemmas.Bool.{both_ways}
-use Rattle.mvt_tile.proofs.FieldFaults.{MayOccur}
+use Rattle.mvt_tile.proofs.WireFaults.FieldFaults.{MayOccur}
 use Rattle.mvt_tile.proofs.wire.field.field_fault.Goals as goal
 use Rattle.mvt_tile.proofs.wire.field.field_fault.Goals.{else-occurred-via-then-occurred+else-is_singular, else-occurred-via-else-occurred}
 

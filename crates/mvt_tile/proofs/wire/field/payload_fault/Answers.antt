@@ -1,8 +1,8 @@
 use Rattle.std.proofs.Common.{rules, sym, ap, subst}
 use Rattle.mvt_wire.specs.Field.{content_of, entry_of}
 use Rattle.mvt_wire.specs.WireFault.{EntryFault}
-use Rattle.mvt_tile.specs.Least.{IsLeastCause}
-use Rattle.mvt_tile.proofs.FieldFaults.{out_of_range-first, no_text-first, packed-first}
+use Rattle.mvt_tile.specs.Calls.Least.{IsLeastCause}
+use Rattle.mvt_tile.proofs.WireFaults.FieldFaults.{out_of_range-first, no_text-first, packed-first}
 use Rattle.mvt_tile.proofs.wire.field.payload_fault.Goals as goal
 
 pub returns-in-Varint : goal.returns-in-Varint

@@ -1,6 +1,6 @@
 use Rattle.std.proofs.Common.{◌≡◌, ◌-◌, ◌<◌, length, get_or, subst, arith}
 use Rattle.std.proofs.lemmas.Bool.{not-true}
-use Rattle.mvt_tile.proofs.ShortNumbers.{AreSmallBefore-short}
+use Rattle.mvt_tile.proofs.WireFaults.ShortNumbers.{AreSmallBefore-short}
 use Rattle.mvt_tile.proofs.wire.packed.are_short.Goals as goal
 
 pub returns-then-last-lt128 : goal.returns-then-last-lt128

@@ -1,5 +1,5 @@
 use Rattle.std.proofs.Common.{◌<◌, length, ◌+◌, sym, subst, arith}
-use Rattle.mvt_tile.proofs.SmallNumbers.{IsWalked, IsWalked-on, IsWalked-next}
+use Rattle.mvt_tile.proofs.WireFaults.SmallNumbers.{IsWalked, IsWalked-on, IsWalked-next}
 use Rattle.mvt_tile.proofs.wire.packed.first_bad.Goals as goal
 use Rattle.mvt_tile.proofs.wire.packed.first_bad.Goals.{then-byte-lt128, else-byte-lt128+in_default}
 

@@ -1,4 +1,4 @@
-use Rattle.mvt_tile.proofs.SmallNumbers.{IsWalked}
+use Rattle.mvt_tile.proofs.WireFaults.SmallNumbers.{IsWalked}
 use Rattle.mvt_tile.proofs.wire.packed.first_bad.Given as goal
 
 abbrev pub invariant-loop-i : goal.invariant-loop-i

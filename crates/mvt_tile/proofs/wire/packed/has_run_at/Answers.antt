@@ -1,5 +1,5 @@
 use Rattle.std.proofs.lemmas.Bool.{not-false}
-use Rattle.mvt_tile.proofs.ShortNumbers.{HasNoRun-fours}
+use Rattle.mvt_tile.proofs.WireFaults.ShortNumbers.{HasNoRun-fours}
 use Rattle.mvt_tile.proofs.wire.packed.has_run_at.Goals as goal
 
 pub returns : goal.returns

@@ -1,7 +1,7 @@
 use Rattle.std.proofs.Common.{sym, subst}
 use Rattle.mvt_wire.specs.Number.{PackedFault}
-use Rattle.mvt_tile.specs.Least.{FindsLeastCause}
-use Rattle.mvt_tile.proofs.SmallNumbers.{IsLeastCause-first, small_faultless}
+use Rattle.mvt_tile.specs.Calls.Least.{FindsLeastCause}
+use Rattle.mvt_tile.proofs.WireFaults.SmallNumbers.{IsLeastCause-first, small_faultless}
 use Rattle.mvt_tile.proofs.wire.packed.packed_fault.Goals as goal
 
 pub returns : goal.returns

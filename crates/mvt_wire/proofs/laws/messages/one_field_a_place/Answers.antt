@@ -1,4 +1,4 @@
-use Rattle.mvt_wire.proofs.Entries.{one_field}
+use Rattle.mvt_wire.proofs.Encoding.Entries.{one_field}
 use Rattle.mvt_wire.proofs.laws.messages.one_field_a_place.Goals as goal
 
 pub returns : goal.returns

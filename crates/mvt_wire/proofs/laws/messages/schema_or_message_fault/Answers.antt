@@ -1,4 +1,4 @@
-use Rattle.mvt_wire.proofs.Judgements.{message_judged, message_or_fault}
+use Rattle.mvt_wire.proofs.Parts.Judgements.{message_judged, message_or_fault}
 use Rattle.mvt_wire.proofs.laws.messages.schema_or_message_fault.Goals as goal
 
 pub returns-clause-some : goal.returns-clause-some

@@ -1,7 +1,7 @@
 use Rattle.std.proofs.Common.{arith}
 use Rattle.std.proofs.lemmas.List.{length-take-le}
-use Rattle.mvt_wire.proofs.NumberFields.{left_at_field}
-use Rattle.mvt_wire.proofs.NumberWalks.{left_from_field}
+use Rattle.mvt_wire.proofs.FieldNumbers.NumberFields.{left_at_field}
+use Rattle.mvt_wire.proofs.FieldNumbers.NumberWalks.{left_from_field}
 use Rattle.mvt_wire.proofs.numbers.Numbers.new.Goals as goal
 
 pub returns : goal.returns

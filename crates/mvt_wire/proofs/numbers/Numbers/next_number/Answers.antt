@@ -1,5 +1,5 @@
 use Rattle.std.proofs.lemmas.Result.{IfOk-at_ok, IfErr-at_err}
-use Rattle.mvt_wire.proofs.NumberWalks.{GivesNumber-at, EndsNumbers-at, left_at_fault}
+use Rattle.mvt_wire.proofs.FieldNumbers.NumberWalks.{GivesNumber-at, EndsNumbers-at, left_at_fault}
 use Rattle.mvt_wire.proofs.numbers.Numbers.next_number.Goals as goal
 
 pub returns-in-Ok-clause-number : goal.returns-in-Ok-clause-number

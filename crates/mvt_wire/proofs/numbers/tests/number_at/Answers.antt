@@ -9,17 +9,17 @@ use Rattle.mvt_wire.proofs.numbers.tests.number_at.Goals as goal
 abbrev Nearer : NumberWalk → Option WireCause → ℕ → Option ℕ → Type 0
 Nearer walk ending place wanted = (rest : List ℕ) × NumbersLeft walk rest ending × (slice_get rest place ≡ wanted)
 
--- behind a number it is one place nearer
+-- after a number it is one place nearer
 nearer : (old new : NumberWalk) (n : ℕ) (ending : Option WireCause) (place : ℕ) (wanted : Option ℕ) → GivesNumber old new n → Nearer old ending (suc place) wanted → Nearer new ending place wanted
 nearer old new n ending place wanted given left =
-    let behind = given.others left.0 ending left.1 in
-    (behind.0, behind.2, ap (λ (numbers : List ℕ). slice_get numbers (suc place)) (sym behind.1) ∙ left.2)
+    let following = given.others left.0 ending left.1 in
+    (following.0, following.2, ap (λ (numbers : List ℕ). slice_get numbers (suc place)) (sym following.1) ∙ left.2)
 
 -- or it is that number
 here : (old new : NumberWalk) (n : ℕ) (ending : Option WireCause) (wanted : Option ℕ) → GivesNumber old new n → Nearer old ending 0 wanted → Some n ≡ wanted
 here old new n ending wanted given left =
-    let behind = given.others left.0 ending left.1 in
-    ap (λ (numbers : List ℕ). slice_get numbers 0) (sym behind.1) ∙ left.2
+    let following = given.others left.0 ending left.1 in
+    ap (λ (numbers : List ℕ). slice_get numbers 0) (sym following.1) ∙ left.2
 
 -- where nothing is left there is none
 over : (old new : NumberWalk) (last ending : Option WireCause) (place : ℕ) (wanted : Option ℕ) → EndsNumbers old new last → Nearer old ending place wanted → ◌≡◌ {A = Option ℕ} None wanted

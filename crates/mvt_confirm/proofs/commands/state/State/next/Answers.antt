@@ -1,6 +1,6 @@
 use Rattle.std.proofs.Common.{sym, subst}
-use Rattle.mvt_confirm.specs.Commands.{Faults, plane_state, plane_type}
-use Rattle.mvt_confirm.proofs.NextStates.{drawn_faults}
+use Rattle.mvt_confirm.specs.Calls.Commands.{Faults, plane_state, plane_type}
+use Rattle.mvt_confirm.proofs.Drawing.NextStates.{drawn_faults}
 use Rattle.mvt_confirm.specs.declared.commands.state.State.{State}
 use Rattle.mvt_fault.specs.declared.command.CommandCode.TheVariants.{OtherCommand}
 use Rattle.mvt_confirm.proofs.commands.state.State.next.Goals as goal

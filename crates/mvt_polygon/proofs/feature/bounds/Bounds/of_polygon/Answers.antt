@@ -1,9 +1,9 @@
 use Rattle.std.proofs.Common.{◌≡◌, below_more, slice_get, List, sym, ◌∙◌, ap, subst, arith}
 use Rattle.std.proofs.lemmas.Option.{same_Some}
 use Rattle.mvt_plane.specs.Position.{Position}
-use Rattle.mvt_polygon.specs.Bounds.{AreBoundsOf}
+use Rattle.mvt_polygon.specs.Calls.Bounds.{AreBoundsOf}
 use Rattle.mvt_polygon.specs.Rings.{rings_of}
-use Rattle.mvt_polygon.proofs.RingReads.{vertices_there}
+use Rattle.mvt_polygon.proofs.Vertices.RingReads.{vertices_there}
 use Rattle.mvt_polygon.proofs.feature.bounds.Bounds.of_polygon.Goals as goal
 
 pub of-bounds-requires : goal.of-bounds-requires

@@ -1,6 +1,6 @@
 use Rattle.std.proofs.Common.{◌≡◌, ◌<◌, ◌≤◌, ℕ, List, slice_get, Some}
 use Rattle.mvt_plane.specs.Position.{Position}
-use Rattle.mvt_polygon.specs.Bounds.{AreBoundsOf}
+use Rattle.mvt_polygon.specs.Calls.Bounds.{AreBoundsOf}
 use Rattle.mvt_polygon.specs.Rings.{rings_of}
 use Rattle.mvt_polygon.proofs.feature.bounds.Bounds.of_polygon.Given as goal
 

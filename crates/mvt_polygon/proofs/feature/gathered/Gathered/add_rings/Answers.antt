@@ -1,5 +1,5 @@
 use Rattle.std.proofs.Common.{◌≡◌, ◌++◌, [], ◌∷◌, ◌∙◌, ap, arith}
-use Rattle.mvt_polygon.proofs.GatheredSteps.{rings_more, both_more, range_more}
+use Rattle.mvt_polygon.proofs.Features.GatheredSteps.{rings_more, both_more, range_more}
 use Rattle.mvt_polygon.proofs.feature.gathered.Gathered.add_rings.Goals as goal
 
 pub loop-ring-preserved : goal.loop-ring-preserved

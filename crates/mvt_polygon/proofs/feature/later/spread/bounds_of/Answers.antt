@@ -1,8 +1,8 @@
 use Rattle.std.proofs.Common.{rules}
 use Rattle.mvt_polygon.specs.Rings.{rings_of}
-use Rattle.mvt_polygon.proofs.ApartFaults.{rings_at, exterior_read}
-use Rattle.mvt_polygon.proofs.LaterPolygons.{has_vertex, more_bounds}
-use Rattle.mvt_polygon.proofs.RingReads.{vertices_there}
+use Rattle.mvt_polygon.proofs.Holes.ApartFaults.{rings_at, exterior_read}
+use Rattle.mvt_polygon.proofs.Features.LaterPolygons.{has_vertex, more_bounds}
+use Rattle.mvt_polygon.proofs.Vertices.RingReads.{vertices_there}
 use Rattle.mvt_polygon.proofs.feature.later.spread.bounds_of.Goals as goal
 
 pub offset_bounds-rings-exterior : goal.offset_bounds-rings-exterior

@@ -1,4 +1,4 @@
-use Rattle.mvt_polygon.specs.Bounds.{AreLaterBounds}
+use Rattle.mvt_polygon.specs.Calls.Bounds.{AreLaterBounds}
 use Rattle.mvt_polygon.specs.Rings.{rings_of}
 use Rattle.mvt_polygon.proofs.feature.later.spread.bounds_of.Given as goal
 

@@ -1,6 +1,6 @@
 use Rattle.std.proofs.Common.{◌≡◌, ℕ, length, subst, arith, rules}
 use Rattle.std.proofs.lemmas.List.Sorted.{answers_always}
-use Rattle.mvt_polygon.proofs.SpreadOrder.{AreNumbered, numbered_more, order_sorted, left_read}
+use Rattle.mvt_polygon.proofs.Cells.SpreadOrder.{AreNumbered, numbered_more, order_sorted, left_read}
 use Rattle.mvt_polygon.proofs.feature.later.spread.order_of.Goals as goal
 
 pub loop-number-preserved : goal.loop-number-preserved

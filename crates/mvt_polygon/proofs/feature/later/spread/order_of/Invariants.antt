@@ -1,4 +1,4 @@
-use Rattle.mvt_polygon.proofs.SpreadOrder.{AreNumbered}
+use Rattle.mvt_polygon.proofs.Cells.SpreadOrder.{AreNumbered}
 use Rattle.mvt_polygon.proofs.feature.later.spread.order_of.Given as goal
 
 -- the bounds so far are in the order of their numbers

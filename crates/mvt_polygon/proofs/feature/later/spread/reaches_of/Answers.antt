@@ -1,6 +1,6 @@
 use Rattle.std.proofs.Common.{pos, rules}
-use Rattle.mvt_polygon.proofs.SpreadOrder.{reach_more, reaches_more, right_read}
-use Rattle.mvt_polygon.proofs.WiderBounds.{within_upper}
+use Rattle.mvt_polygon.proofs.Cells.SpreadOrder.{reach_more, reaches_more, right_read}
+use Rattle.mvt_polygon.proofs.Cells.WiderBounds.{within_upper}
 use Rattle.mvt_polygon.proofs.feature.later.spread.reaches_of.Goals as goal
 
 pub loop-at-preserved : goal.loop-at-preserved

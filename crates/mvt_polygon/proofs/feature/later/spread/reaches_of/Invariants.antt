@@ -1,5 +1,5 @@
-use Rattle.mvt_polygon.specs.Bounds.{AreReaches}
-use Rattle.mvt_polygon.proofs.SpreadOrder.{IsReachBefore}
+use Rattle.mvt_polygon.specs.Calls.Bounds.{AreReaches}
+use Rattle.mvt_polygon.proofs.Cells.SpreadOrder.{IsReachBefore}
 use Rattle.mvt_polygon.proofs.feature.later.spread.reaches_of.Given as goal
 
 -- the reaches so far, and the last one of them

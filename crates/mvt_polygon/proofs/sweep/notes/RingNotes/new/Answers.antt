@@ -2,8 +2,8 @@ use Rattle.std.proofs.Common.{◌≡◌, ℕ, List, [], ◌∷◌, ◌++◌, ◌
 use Rattle.std.proofs.lemmas.List.{replicate_more}
 use Rattle.mvt_polygon.specs.Rings.{rings_of}
 use Rattle.mvt_polygon.specs.declared.sweep.notes.Around.{Around}
-use Rattle.mvt_polygon.proofs.NotesBegun.{one_more_ring, all_new}
-use Rattle.mvt_polygon.proofs.RingReads.{ring_there, count_of_rings}
+use Rattle.mvt_polygon.proofs.Notes.NotesBegun.{one_more_ring, all_new}
+use Rattle.mvt_polygon.proofs.Vertices.RingReads.{ring_there, count_of_rings}
 use Rattle.mvt_polygon.proofs.sweep.notes.RingNotes.new.Goals as goal
 
 pub loop-ring-preserved : goal.loop-ring-preserved
@@ -13,8 +13,8 @@ loop-ring-preserved c =
     let count : c.len.result ≡ length ring.items = omega (arith, c.len.ensures, ring.ok.0) in
     let nothing : Option Around = None in
     record {
-      numbers = one_more_ring (rings_of c.args.rings.now) c.loop-ring.ring c.loop-ring.ring_of.items c.add_corners.new.ring_of.items ring.items there c.loop-ring.invariant.numbers
-          (c.in_ok-add_corners.ensures ∙ ap (λ (n : ℕ). c.loop-ring.ring_of.items ++ replicate n c.loop-ring.ring) count);
+      numbers = one_more_ring (rings_of c.args.rings.now) c.loop-ring.ring c.loop-ring.ring_of.items c.add_vertices.new.ring_of.items ring.items there c.loop-ring.invariant.numbers
+          (c.in_ok-add_vertices.ensures ∙ ap (λ (n : ℕ). c.loop-ring.ring_of.items ++ replicate n c.loop-ring.ring) count);
       none = c.in_ok-push.ensures.items ∙ ap (λ (list : List (Option Around)). list ++ nothing ∷ []) c.loop-ring.invariant.none ∙ replicate_more c.loop-ring.ring nothing;
     }
 

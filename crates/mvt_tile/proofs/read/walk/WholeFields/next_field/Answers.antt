@@ -1,7 +1,7 @@
 use Rattle.std.proofs.Common.{◌<◌, length, subst, arith}
 use Rattle.mvt_wire.specs.Field.{FieldDefect}
 use Rattle.mvt_wire.specs.Walk.{Walk}
-use Rattle.mvt_tile.proofs.WholeFields.{stands}
+use Rattle.mvt_tile.proofs.Reading.WholeFields.{stands}
 use Rattle.mvt_tile.proofs.read.walk.WholeFields.next_field.Goals as goal
 
 pub whole_field-next-requires : goal.whole_field-next-requires

@@ -1,5 +1,5 @@
 use Rattle.std.proofs.Common.{refl}
-use Rattle.mvt_tile.proofs.LayerNames.{PassesLayers-more}
+use Rattle.mvt_tile.proofs.RuleFaults.LayerNames.{PassesLayers-more}
 use Rattle.mvt_tile.proofs.rules.layer_rules.LayerRules.note.Goals as goal
 
 pub returns-clause-passes : goal.returns-clause-passes

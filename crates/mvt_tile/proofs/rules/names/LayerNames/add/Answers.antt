@@ -1,9 +1,9 @@
 use Rattle.std.proofs.Common.{◌≡◌, subst, sym, arith}
 use Rattle.std.specs.Prelude.{All}
 use Rattle.std.proofs.lemmas.List.Elements.{All-push}
-use Rattle.mvt_tile.specs.Names.{key_of}
+use Rattle.mvt_tile.specs.Calls.Names.{key_of}
 use Rattle.mvt_tile.specs.declared.rules.names.NamedLayer.{NamedLayer}
-use Rattle.mvt_tile.proofs.Names.{numbered_pushed}
+use Rattle.mvt_tile.proofs.RuleFaults.Names.{numbered_pushed}
 use Rattle.mvt_tile.proofs.rules.names.LayerNames.add.Goals as goal
 
 pub invariant_of-self-2 : goal.invariant_of-self-2

@@ -3,9 +3,9 @@ use Rattle.std.specs.Cmp.Lexicographic.{pointwise}
 use Rattle.std.proofs.lemmas.List.Sorted.{All-permutation}
 use Rattle.std.proofs.lemmas.Option.{slice_get_read}
 use Rattle.std.proofs.lemmas.Slice.Eq.{bytes_eq-Decides}
-use Rattle.mvt_tile.specs.Names.{key_of}
+use Rattle.mvt_tile.specs.Calls.Names.{key_of}
 use Rattle.mvt_tile.specs.declared.rules.names.NamedLayer.{NamedLayer}
-use Rattle.mvt_tile.proofs.Names.{IsNamed, IsLeastPair, IsLeastPair-none, pair_kept, pair_taken, one_key, IsNaming-numbered, grouped_by_sort, IsNaming, if_none, if_some}
+use Rattle.mvt_tile.proofs.RuleFaults.Names.{IsNamed, IsLeastPair, IsLeastPair-none, pair_kept, pair_taken, one_key, IsNaming-numbered, grouped_by_sort, IsNaming, if_none, if_some}
 use Rattle.mvt_tile.proofs.rules.names.LayerNames.first_repeated.Goals.{then-layer-next+then-eq+then-comes_first, else-layer-next, else-layer-next-via-then-layer-next+then-eq+else-comes_first, else-layer-next-via-then-layer-next+else-eq, else-layer-next-via-else-layer-next}
 use Rattle.mvt_tile.proofs.rules.names.LayerNames.first_repeated.Goals as goal
 

@@ -1,5 +1,5 @@
 use Rattle.mvt_tile.specs.declared.rules.names.NamedLayer.{NamedLayer}
-use Rattle.mvt_tile.proofs.Names.{IsLeastPair}
+use Rattle.mvt_tile.proofs.RuleFaults.Names.{IsLeastPair}
 use Rattle.mvt_tile.proofs.rules.names.LayerNames.first_repeated.Given as goal
 
 -- the least pair of neighbours of one name that were passed

@@ -1,6 +1,6 @@
 use Rattle.std.proofs.Common.{◌≡◌, true, ◌&&◌, not, rules, sym}
 use Rattle.mvt_wire.specs.declared.schema.Message.TheVariants.{Value}
-use Rattle.mvt_tile.proofs.EndFaults.{Missing-first, EndFault-none}
+use Rattle.mvt_tile.proofs.WireFaults.EndFaults.{Missing-first, EndFault-none}
 use Rattle.mvt_tile.proofs.wire.scan.FieldScan.end_fault.Goals as goal
 use Rattle.mvt_tile.proofs.wire.scan.FieldScan.end_fault.Goals.{else-eq-via-then-eq+else-not-has_one, else-eq-via-else-eq}
 

@@ -1,7 +1,7 @@
 use Rattle.std.proofs.Common.{◌≡◌, drop}
 use Rattle.mvt_wire.specs.Schema.{rules_of}
-use Rattle.mvt_tile.specs.FieldScan.{was_seen}
-use Rattle.mvt_tile.proofs.SchemaRules.{first_unseen}
+use Rattle.mvt_tile.specs.Calls.FieldScan.{was_seen}
+use Rattle.mvt_tile.proofs.WireFaults.SchemaRules.{first_unseen}
 use Rattle.mvt_tile.proofs.wire.scan.FieldScan.first_missing.Given as goal
 
 abbrev pub invariant-loop-rule : goal.invariant-loop-rule

@@ -1,5 +1,5 @@
 use Rattle.std.proofs.Common.{refl, rules}
-use Rattle.mvt_tile.proofs.FieldScans.{FieldFault-nothing}
+use Rattle.mvt_tile.proofs.WireFaults.FieldScans.{none_split}
 use Rattle.mvt_tile.proofs.wire.scan.FieldScan.new.Goals as goal
 
 pub returns : goal.returns
@@ -7,5 +7,5 @@ returns c = λ message. record {
   occurred = λ field_number rule known. search rules;
   known = λ value. refl;
   several = λ value. refl;
-  faultless = FieldFault-nothing message;
+  faultless = λ cause fault. none_split fault.before fault.entry fault.after fault.split;
 }

@@ -1,7 +1,7 @@
 use Rattle.std.proofs.Common.{◌<◌, length, refl, sym, arith, rules}
 use Rattle.mvt_wire.specs.Field.{entry_of}
-use Rattle.mvt_tile.proofs.SchemaRules.{known_number}
-use Rattle.mvt_tile.proofs.FieldScans.{Passes-unknown, Passes-known, Passes-fault}
+use Rattle.mvt_tile.proofs.WireFaults.SchemaRules.{known_number}
+use Rattle.mvt_tile.proofs.WireFaults.FieldScans.{Passes-unknown, Passes-known, Passes-fault}
 use Rattle.mvt_tile.proofs.wire.scan.FieldScan.pass.Goals as goal
 
 pub bounds-self-number : goal.bounds-self-number

@@ -1,6 +1,6 @@
 use Rattle.std.proofs.Common.{arith}
 use Rattle.mvt_wire.specs.Field.{entry_of}
-use Rattle.mvt_tile.proofs.Walking.{IsPlaced-field}
+use Rattle.mvt_tile.proofs.WireFaults.Walking.{IsPlaced-field}
 use Rattle.mvt_tile.proofs.wire.scan.FieldScan.pass_key.Goals as goal
 
 pub pass-requires : goal.pass-requires

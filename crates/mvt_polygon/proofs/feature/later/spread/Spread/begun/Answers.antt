@@ -1,7 +1,7 @@
 use Rattle.std.proofs.Common.{SFits, w32, ◌/◌, ◌+◌, ◌-◌, refl, rules, arith}
 use Rattle.std.proofs.lemmas.Int.{ints}
 use Rattle.std.proofs.lemmas.Option.{slice_get_read}
-use Rattle.mvt_polygon.proofs.SpreadOrder.{beyond_from}
+use Rattle.mvt_polygon.proofs.Cells.SpreadOrder.{beyond_from}
 use Rattle.mvt_polygon.proofs.feature.later.spread.Spread.begun.Goals as goal
 
 pub halves-preserved : goal.halves-preserved
@@ -13,5 +13,5 @@ halves-preserved c =
     let fits : SFits w32 pair.0 = search rules in
     record {
       within = omega arith;
-      behind = beyond_from c.args.self.now.bounds.items order middle _ pair.0 pair.1 c.requires there (grind (arith, ints));
+      following = beyond_from c.args.self.now.bounds.items order middle _ pair.0 pair.1 c.requires there (grind (arith, ints));
     }

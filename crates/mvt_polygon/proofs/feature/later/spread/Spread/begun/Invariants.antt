@@ -5,7 +5,7 @@ use Rattle.mvt_polygon.proofs.feature.later.spread.Spread.begun.Given as goal
 abbrev pub invariant-halves : goal.invariant-halves
 invariant-halves l = record {
   within : l.to ≤ length l.self.order.items;
-  behind : (at : ℕ) (left : ℤ) (number : ℕ) → l.to ≤ at → slice_get l.self.order.items at ≡ Some (left, number) → l.right <ℤ left;
+  following : (at : ℕ) (left : ℤ) (number : ℕ) → l.to ≤ at → slice_get l.self.order.items at ≡ Some (left, number) → l.right <ℤ left;
 }
 
 -- places that are left

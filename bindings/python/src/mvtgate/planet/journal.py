@@ -1,0 +1,138 @@
+"""The journal of a run: a line of JSON for each partition that is done, with all that was found in it.
+
+What is done and what was found are one line, which is on the disk before the run goes on, so they can't come apart. The first
+line says of which run it is. A line that was cut off in the middle of a write is no line, and is taken away.
+"""
+from __future__ import annotations
+
+import errno
+import fcntl
+import json
+import os
+from typing import Any, BinaryIO, Dict, Iterator, List
+
+from .records import Judged, Partition
+
+FORMAT = 1
+
+
+class JournalError(Exception):
+    """A journal that can't be gone on with, or not be written, with the reason."""
+
+
+class Journal:
+    """Opened for one run alone. `done` and `splits` are what it has; the lines themselves stay in the file."""
+
+    def __init__(self, path: str, run: Dict[str, Any], is_anew: bool = False) -> None:
+        self.path = path
+        self._done: Dict[Partition, int] = {}
+        self._splits: Dict[Partition, List[Partition]] = {}
+        self._file = self._open()
+        self._end = 0
+        try:
+            if is_anew:
+                os.ftruncate(self._file.fileno(), 0)
+            self._read(run)
+            os.ftruncate(self._file.fileno(), self._end)
+            if self._end == 0:
+                self._write({"run": run})
+        except BaseException:
+            self.close()
+            raise
+
+    def _open(self) -> BinaryIO:
+        try:
+            file = open(self.path, "a+b", buffering=0)
+        except OSError as error:
+            raise JournalError(f"{self.path}: {error.strerror}") from None
+        try:
+            fcntl.flock(file, fcntl.LOCK_EX | fcntl.LOCK_NB)
+        except OSError as error:
+            file.close()
+            reason = "another run is writing to it" if error.errno == errno.EWOULDBLOCK else error.strerror
+            raise JournalError(f"{self.path}: {reason}") from None
+        return file
+
+    def _read(self, run: Dict[str, Any]) -> None:
+        with open(self.path, "rb") as file:
+            for line in file:
+                if not line.endswith(b"\n"):
+                    return
+                try:
+                    self._take(json.loads(line), run)
+                except (ValueError, LookupError, TypeError, RecursionError):
+                    raise JournalError(f"{self.path}: at byte {self._end} is no line of a journal") from None
+                self._end += len(line)
+
+    def _take(self, members: Any, run: Dict[str, Any]) -> None:
+        if not isinstance(members, dict):
+            raise ValueError(members)
+        if self._end == 0:
+            self._expect(members, run)
+        elif "judged" in members:
+            self._done[Partition.of(members["judged"]["partition"])] = self._end
+        else:
+            self._splits[Partition.of(members["split"])] = [Partition.of(it) for it in members["into"]]
+
+    def _expect(self, members: Dict[str, Any], run: Dict[str, Any]) -> None:
+        """The run that is gone on with has to be this one, but for the time when it began."""
+        was = members.get("run")
+        if not isinstance(was, dict) or was.get("format") != FORMAT:
+            raise JournalError(f"{self.path} is no journal of this version")
+        different = [key for key in run if key != "began" and run[key] != was.get(key)]
+        if different:
+            raise JournalError(
+                f"{self.path} is of another run ({', '.join(different)} not the same): the tiles have changed, or the words are "
+                "others; name another --output, or begin --anew"
+            )
+        run["began"] = was["began"]
+
+    def _write(self, members: Dict[str, Any]) -> None:
+        line = json.dumps(members, separators=(",", ":")).encode() + b"\n"
+        try:
+            # (a write may end early without an error)
+            left = memoryview(line)
+            while left:
+                left = left[self._file.write(left) :]
+            os.fsync(self._file.fileno())
+        except OSError as error:
+            raise JournalError(f"{self.path}: {error.strerror}; what was written before stands") from None
+        self._end += len(line)
+
+    def add(self, judged: Judged) -> None:
+        """A partition is done."""
+        at = self._end
+        assert judged.partition not in self._done
+        self._write({"judged": judged.members()})
+        self._done[judged.partition] = at
+
+    def split(self, partition: Partition, into: List[Partition]) -> None:
+        """A partition goes on as these parts, also in a later run."""
+        self._write({"split": partition.members(), "into": [it.members() for it in into]})
+        self._splits[partition] = into
+
+    def left(self, partition: Partition) -> Iterator[Partition]:
+        """What is not done of a partition: itself, or those of its parts that aren't."""
+        if partition in self._splits:
+            for it in self._splits[partition]:
+                yield from self.left(it)
+        elif partition not in self._done:
+            yield partition
+
+    @property
+    def tiles(self) -> int:
+        """How many tiles are done."""
+        return sum(it.tiles for it in self._done)
+
+    def partitions(self) -> List[Partition]:
+        """All that are done, in the order of the tiles."""
+        return sorted(self._done)
+
+    def judged(self, partition: Partition) -> Judged:
+        """What was found in a partition that is done."""
+        with open(self.path, "rb") as file:
+            file.seek(self._done[partition])
+            return Judged.of(json.loads(file.readline())["judged"])
+
+    def close(self) -> None:
+        self._file.close()

@@ -1,0 +1,124 @@
+"""Collects what a run found, and writes the report of it."""
+from __future__ import annotations
+
+import os
+from collections import Counter
+from dataclasses import dataclass
+from typing import Any, Dict, Optional, Sequence, Union
+
+import mvtgate
+
+from ..outputs import whole_file
+from ..records import Finding, Judged, Partition
+from .counts import CountsByCode, Labels
+from .firsts import AdviceFound, Firsts, Found, Slowest, Unjudged, found_in, place_of
+from .html import written
+from .limits import LAYERS
+from .pictures import Dump, Pictures, SourceLike
+from .tile_map import TileMap
+
+
+@dataclass
+class Totals:
+    """Sums over all partitions."""
+
+    tiles: int = 0
+    faulty: int = 0
+    unjudged: int = 0
+    packed: int = 0
+    unpacked: int = 0
+    seconds: float = 0.0
+    confirmed: int = 0
+    refuted: int = 0
+
+    @property
+    def valid(self) -> int:
+        return self.tiles - self.faulty - self.unjudged
+
+    @property
+    def unasked(self) -> int:
+        """Faults of which the checker wasn't asked."""
+        return self.faulty - self.confirmed - self.refuted
+
+
+@dataclass(frozen=True)
+class Duration:
+    """How long a run took, how many workers it had, and how many tiles they judged."""
+
+    seconds: float
+    workers: int
+    tiles: int
+
+
+class Report:
+    """The report of a run. What it keeps is bounded, however many tiles there are.
+
+    `run` is what the journal's first line has of the run, and `sources` are the opened sources, in the order in which it names
+    them. `add` is called for each partition in the order of the tiles, and `add_unjudged` for one that no worker could judge.
+    """
+
+    def __init__(self, run: Dict[str, Any], sources: Sequence[SourceLike], dump: Dump = mvtgate.dump) -> None:
+        self.run = run
+        self.sources = sources
+        self.totals = Totals()
+        self.counts = CountsByCode(Labels(LAYERS, "no layer", "other layers"))
+        self.firsts: Firsts[int, Found] = Firsts()
+        self.map = TileMap(run["sources"])
+        self.slowest = Slowest()
+        self.unjudged = Unjudged()
+        self.advice = AdviceFound()
+        self._dump = dump
+
+    def add(self, judged: Judged) -> None:
+        """Takes in what was found in a partition."""
+        self.totals.tiles += judged.partition.tiles
+        self.totals.packed += judged.packed
+        self.totals.unpacked += judged.unpacked
+        self.totals.seconds += judged.seconds
+        self.map.add(judged)
+        self.slowest.add(judged)
+        faults = Counter((it.fault["code"], it.layer) for it in judged.findings if it.fault is not None)
+        for (code, layer), tiles in faults.items():
+            self.counts.add(code, layer, tiles)
+        for it in judged.findings:
+            self._add_finding(judged.partition, it)
+        for line in judged.advice:
+            self.advice.add(judged.partition, line)
+
+    def _add_finding(self, partition: Partition, finding: Finding) -> None:
+        if finding.fault is None:
+            self.totals.unjudged += 1
+            self.unjudged.add(place_of(partition, finding), finding.error or "")
+            return
+        code = finding.fault["code"]
+        self.totals.faulty += 1
+        self.totals.confirmed += finding.confirmed is True
+        self.totals.refuted += finding.confirmed is False
+        if self.firsts.wants(code):
+            self.firsts.add(code, found_in(partition, finding))
+
+    def add_unjudged(self, partition: Partition, reason: str) -> None:
+        """Takes in a partition that wasn't judged."""
+        self.totals.tiles += partition.tiles
+        self.totals.unjudged += partition.tiles
+        self.map.add_unjudged(partition)
+        self.unjudged.add_partition(partition, reason)
+
+    def write(
+        self,
+        path: Union[str, os.PathLike[str]],
+        seconds: float,
+        workers: int,
+        page: Optional[str] = "page.html",
+        tiles: Optional[int] = None,
+    ) -> None:
+        """Writes the file, whole or not at all.
+
+        `seconds` is the time by the clock, in which so many `tiles` were judged, where an earlier run had judged the others. `page`
+        is the address of the page that opens tiles; None makes no links. ReportPartsMissing where the script or the style is
+        nowhere.
+        """
+        duration = Duration(seconds, workers, self.totals.tiles if tiles is None else tiles)
+        text = written(self, Pictures(self.sources, self._dump), duration, page)
+        with whole_file(os.fspath(path)) as file:
+            file.write(text)

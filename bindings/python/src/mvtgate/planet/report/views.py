@@ -1,0 +1,279 @@
+"""What the template shows, section by section."""
+from __future__ import annotations
+
+import json
+from typing import TYPE_CHECKING, Any, Dict, List, Optional, Sequence
+
+from ..._advice import Advice
+from ..._faults import Fault
+from ..._words import words_of_advice, words_of_fault
+from ..records import Partition, Place
+from .classes import CLASSES, class_of
+from .counts import Label
+from .firsts import Found
+from .limits import PICTURED
+from .pictures import Picture, Pictures
+from .texts import capital, counted, moment_text, rate_text, readable, share_text, size_text, time_text
+
+if TYPE_CHECKING:
+    from .report import Duration, Report
+    from .tile_map import ZoomCells
+
+View = Dict[str, Any]
+
+_CONFIRMED = {True: "yes", False: "no", None: "not asked"}
+
+
+def tile_name(place: Place) -> str:
+    """A tile's place as addresses have it, with its row from the north."""
+    return f"{place.zoom}/{place.column}/{place.row}"
+
+
+def _paths(report: Report) -> List[str]:
+    return [readable(str(it["path"])) for it in report.run["sources"]]
+
+
+def source_names(report: Report) -> List[str]:
+    """The sources as the tables name them: empty where there is just one."""
+    paths = _paths(report)
+    return paths if len(paths) > 1 else [""] * len(paths)
+
+
+def overview_of(report: Report, duration: Duration) -> View:
+    """The verdict on all tiles, the figures of the run, and its sources."""
+    totals, run = report.totals, report.run
+    sources = _paths(report)
+    return {
+        "title": sources[0].rstrip("/").rpartition("/")[2] if len(sources) == 1 else counted(len(sources), "source", "sources"),
+        "state": "fault" if totals.faulty else "unreadable" if totals.unjudged or not totals.tiles else "valid",
+        "verdict": _verdict(report),
+        "sentences": _sentences(report),
+        "figures": [
+            ("tiles", "Tiles", f"{totals.tiles:,}", ""),
+            ("valid", "Valid", f"{totals.valid:,}", share_text(totals.valid, totals.tiles)),
+            ("faulty", "With a fault", f"{totals.faulty:,}", share_text(totals.faulty, totals.tiles)),
+            ("unjudged", "Not judged", f"{totals.unjudged:,}", share_text(totals.unjudged, totals.tiles)),
+            ("rate", "Tiles a second", rate_text(duration.tiles, duration.seconds), _rate_note(report, duration)),
+        ],
+        "measures": [
+            ("seconds", "Clock time", time_text(duration.seconds)),
+            ("processor", "Processor time", time_text(totals.seconds)),
+            ("workers", "Workers", f"{duration.workers:,}"),
+            ("unpacked", "Bytes judged", size_text(totals.unpacked)),
+            ("packed", "Bytes stored", size_text(totals.packed)),
+            ("profile", "Profile", str(run["profile"])),
+            ("confirmed", "Faults confirmed", _confirmed_text(report)),
+            ("began", "Begun", moment_text(str(run["began"]))),
+            ("version", "mvtgate", str(run["version"])),
+        ],
+        "sources": [
+            {"path": path, "kind": it["kind"], "tiles": it["tiles"], "zooms": _zooms_text(it)}
+            for path, it in zip(sources, run["sources"])
+        ],
+    }
+
+
+def _rate_note(report: Report, duration: Duration) -> str:
+    earlier = report.totals.tiles - duration.tiles
+    return f"{earlier:,} judged before" if earlier else f"in {time_text(duration.seconds)}"
+
+
+def _verdict(report: Report) -> str:
+    totals = report.totals
+    if not totals.tiles:
+        return "There are no tiles"
+    if totals.faulty:
+        return f"{totals.faulty:,} of {counted(totals.tiles, 'tile', 'tiles')} {'is' if totals.faulty == 1 else 'are'} not valid"
+    if totals.unjudged:
+        return f"{counted(totals.unjudged, 'tile', 'tiles')} of {totals.tiles:,} couldn't be judged"
+    return "The tile is valid" if totals.tiles == 1 else f"All {totals.tiles:,} tiles are valid"
+
+
+def _sentences(report: Report) -> List[str]:
+    totals, said = report.totals, []
+    if totals.faulty and totals.unjudged:
+        said.append(f"{counted(totals.unjudged, 'further tile', 'further tiles')} couldn't be judged.")
+    if totals.refuted:
+        said.append(
+            f"The separate checker doesn't confirm {counted(totals.refuted, 'fault', 'faults')}. "
+            "That is a mistake of the gate: please report it."
+        )
+    elif totals.faulty and not totals.unasked:
+        said.append("The separate checker confirms each fault.")
+    if totals.tiles and totals.tiles == totals.valid:
+        said.append(f"Each keeps every rule of the gate, by the profile {report.run['profile']}.")
+    return said
+
+
+def _confirmed_text(report: Report) -> str:
+    totals = report.totals
+    if not totals.faulty:
+        return "none to confirm"
+    parts = [f"{totals.confirmed:,}"]
+    parts += [f"{totals.refuted:,} not confirmed"] if totals.refuted else []
+    parts += [f"{totals.unasked:,} not asked"] if totals.unasked else []
+    return ", ".join(parts)
+
+
+def _zooms_text(source: Dict[str, Any]) -> str:
+    zooms = sorted(it["zoom"] for it in source["zooms"])
+    if not zooms:
+        return "no zoom"
+    return f"zoom {zooms[0]}" if len(zooms) == 1 else f"zooms {zooms[0]} to {zooms[-1]}"
+
+
+def codes_of(report: Report, pictures: Pictures) -> List[View]:
+    """The codes that were found, with their layers and first tiles."""
+    return [_code_view(report, code, tiles, pictures) for code, tiles in report.counts.codes()]
+
+
+def _code_view(report: Report, code: int, tiles: int, pictures: Pictures) -> View:
+    listed = report.firsts.of(code)
+    words = words_of_fault(code)
+    return {
+        "code": code,
+        "class": class_of(code).name,
+        "title": words["title"],
+        "meaning": words["meaning"],
+        "cause": capital(words["cause"]),
+        "remedy": capital(words["remedy"]),
+        "tiles": tiles,
+        "layers": [_layer_view(label, count) for label, count in report.counts.layers(code)],
+        "found": [_found_view(report, it, picture, at) for at, (it, picture) in enumerate(zip(listed, pictures.of(listed)))],
+        "pictured": PICTURED,
+    }
+
+
+def _layer_view(label: Label, tiles: int) -> View:
+    return {"name": label.text, "is_name": label.is_name, "tiles": tiles}
+
+
+def _layer_of(found: Found) -> View:
+    return _layer_view(Label("none", False) if found.finding.layer is None else Label(found.finding.layer), 1)
+
+
+def _found_view(report: Report, found: Found, picture: Optional[Picture], at: int) -> View:
+    place, finding = found.place, found.finding
+    fault = Fault.from_text(json.dumps(finding.fault))
+    return {
+        "id": f"tile-{fault.code}-{at}",
+        "tile": tile_name(place),
+        "tms_row": place.tms_row,
+        "source": source_names(report)[place.source],
+        "layer": _layer_of(found),
+        "feature_id": finding.feature_id,
+        "size": finding.size,
+        "seconds": finding.seconds,
+        "confirmed": _CONFIRMED[finding.confirmed],
+        "sentence": fault.sentence,
+        "place": fault.place,
+        "text": fault.text,
+        "picture": picture,
+        "zoom": place.zoom,
+        "column": place.column,
+        "row": place.row,
+        "source_number": place.source,
+    }
+
+
+def zooms_of(report: Report) -> List[View]:
+    """The table beside the map."""
+    names = source_names(report)
+    return [_zoom_view(names[source], cells) for (source, _), cells in report.map.zooms.items()]
+
+
+def _zoom_view(source: str, cells: ZoomCells) -> View:
+    extent = cells.extent
+    return {
+        "source": source,
+        "zoom": extent.zoom,
+        "tiles": cells.tiles,
+        "faulty": cells.faulty,
+        "unjudged": cells.unjudged,
+        "worst": cells.worst,
+        "worst_title": words_of_fault(cells.worst)["title"] if cells.worst else "",
+        "worst_class": class_of(cells.worst).name if cells.worst else "",
+    }
+
+
+def classes_of(report: Report) -> List[View]:
+    """The classes of codes for the legend, from the worst one, with the number of tiles."""
+    counts = {it.name: 0 for it in CLASSES}
+    for code, tiles in report.counts.codes():
+        counts[class_of(code).name] += tiles
+    return [{"name": it.name, "label": it.label, "first": it.first, "tiles": counts[it.name]} for it in CLASSES]
+
+
+def unjudged_of(report: Report) -> List[View]:
+    """The reasons for which tiles weren't judged, with the places of the first ones."""
+    names = source_names(report)
+    ordered = sorted(report.unjudged.counts.items(), key=lambda it: (not it[0].is_name, -it[1], it[0]))
+    return [
+        {
+            "reason": label.text,
+            "is_name": label.is_name,
+            "tiles": tiles,
+            "places": [_place_view(names, it) for it in report.unjudged.firsts.of(label)],
+            "partitions": [_partition_view(names, it) for it in report.unjudged.partitions.of(label)],
+        }
+        for label, tiles in ordered
+    ]
+
+
+def _place_view(names: Sequence[str], place: Place) -> View:
+    return {"tile": tile_name(place), "source": names[place.source]}
+
+
+def _partition_view(names: Sequence[str], partition: Partition) -> View:
+    return {
+        "zoom": partition.zoom,
+        "first": partition.first[0],
+        "last": partition.last[0],
+        "tiles": partition.tiles,
+        "source": names[partition.source],
+    }
+
+
+def slowest_of(report: Report) -> List[View]:
+    """The tiles that took the longest, the slowest first."""
+    names = source_names(report)
+    return [
+        {**_place_view(names, place), "seconds": timed.seconds, "size": timed.size} for place, timed in report.slowest.tiles
+    ]
+
+
+def advice_of(report: Report) -> List[View]:
+    """The kinds of advice, the most frequent first."""
+    names = source_names(report)
+    ordered = sorted(report.advice.counts.items(), key=lambda it: (-it[1], it[0]))
+    return [
+        {
+            "kind": kind,
+            "count": count,
+            **words_of_advice(kind),
+            "places": [
+                {**_place_view(names, place), "sentence": Advice(**members).sentence}
+                for place, members in report.advice.firsts.of(kind)
+            ],
+        }
+        for kind, count in ordered
+    ]
+
+
+def map_data(report: Report, codes: Sequence[View]) -> View:
+    """What the script draws the map from."""
+    names = source_names(report)
+    zooms = [
+        {"source": source, "sourceName": names[source], **cells.members()} for (source, _), cells in report.map.zooms.items()
+    ]
+    return {
+        "classes": [{"name": it.name, "first": it.first} for it in CLASSES],
+        "titles": {str(it["code"]): it["title"] for it in codes},
+        "zooms": zooms,
+        "pictures": [
+            {"id": it["id"], "source": it["source_number"], "zoom": it["zoom"], "column": it["column"], "row": it["row"]}
+            for code in codes
+            for it in code["found"]
+            if it["picture"] is not None and it["picture"].data is not None
+        ],
+    }

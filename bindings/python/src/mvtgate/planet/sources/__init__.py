@@ -1,0 +1,15 @@
+"""Where tiles come from: MBTiles files, and folders with files z/x/y.mvt."""
+from __future__ import annotations
+
+import os
+
+from .folder import Folder
+from .mbtiles import Mbtiles
+from .source import NotASource, Source, SourceChanged, Stored
+
+__all__ = ["NotASource", "Source", "SourceChanged", "Stored", "open_source"]
+
+
+def open_source(path: str) -> Source:
+    """The source at a path. NotASource where there is none."""
+    return Folder(path) if os.path.isdir(path) else Mbtiles(path)

@@ -1,0 +1,109 @@
+/* A library that stands before the real one, for tests of what goes wrong. It forwards all calls to the library that
+ * SHIM_LIBRARY names. A check takes SHIM_DELAY microseconds more. A tile whose last bytes are one of the marks below is
+ * forwarded without them, and what the mark says happens. A slow confirmation writes the number of its process into the
+ * file that SHIM_NOTE names. */
+#include <dlfcn.h>
+#include <signal.h>
+#include <stddef.h>
+#include <stdint.h>
+#include <stdio.h>
+#include <stdlib.h>
+#include <string.h>
+#include <unistd.h>
+
+enum { MARK = 8, NOT_CONFIRMED = 1, NO_MEMORY = 2 };
+
+static int (*real_check)(uint32_t, const uint8_t *, size_t, uint8_t *, size_t, size_t *);
+static int (*real_confirm)(uint32_t, const uint8_t *, size_t, const uint8_t *, size_t);
+static int (*real_dump)(const uint8_t *, size_t, uint8_t *, size_t, size_t *);
+static int (*real_advise)(const uint8_t *, size_t, uint8_t *, size_t, size_t *);
+static uint32_t (*real_version)(void);
+static useconds_t delay;
+
+static void *found(void *library, const char *name)
+{
+    void *call = library ? dlsym(library, name) : NULL;
+    if (!call) {
+        fprintf(stderr, "shim: %s\n", dlerror());
+        abort();
+    }
+    return call;
+}
+
+__attribute__((constructor)) static void load(void)
+{
+    const char *name = getenv("SHIM_LIBRARY"), *said = getenv("SHIM_DELAY");
+    void *library = dlopen(name ? name : "libmvtgate.so.0", RTLD_NOW | RTLD_LOCAL);
+    *(void **)&real_check = found(library, "mvtgate_check");
+    *(void **)&real_confirm = found(library, "mvtgate_confirm");
+    *(void **)&real_dump = found(library, "mvtgate_dump");
+    *(void **)&real_advise = found(library, "mvtgate_advise");
+    *(void **)&real_version = found(library, "mvtgate_version");
+    delay = said ? (useconds_t)atol(said) : 0;
+}
+
+static int ends_with(const uint8_t *tile, size_t length, const char *mark)
+{
+    return length >= MARK && !memcmp(tile + length - MARK, mark, MARK);
+}
+
+/* The length without a mark, each of which begins with the same bytes. */
+static size_t unmarked(const uint8_t *tile, size_t length)
+{
+    return length >= MARK && !memcmp(tile + length - MARK, "\xff\xff!!", 4) ? length - MARK : length;
+}
+
+static void confirm_slowly(void)
+{
+    FILE *note = fopen(getenv("SHIM_NOTE"), "a");
+    if (note) {
+        fprintf(note, "%d\n", (int)getpid());
+        fclose(note);
+    }
+    usleep(1500000);
+}
+
+int mvtgate_check(uint32_t profile, const uint8_t *tile, size_t length, uint8_t *text, size_t room, size_t *text_length)
+{
+    if (delay)
+        usleep(delay);
+    if (ends_with(tile, length, "\xff\xff!!wait"))
+        usleep(30000);
+    if (ends_with(tile, length, "\xff\xff!!kill"))
+        raise(SIGKILL);
+    if (ends_with(tile, length, "\xff\xff!!full")) {
+        *text_length = 0;
+        return NO_MEMORY;
+    }
+    return real_check(profile, tile, unmarked(tile, length), text, room, text_length);
+}
+
+int mvtgate_confirm(uint32_t profile, const uint8_t *tile, size_t length, const uint8_t *text, size_t text_length)
+{
+    if (ends_with(tile, length, "\xff\xff!!conf"))
+        raise(SIGKILL);
+    if (ends_with(tile, length, "\xff\xff!!deny"))
+        return NOT_CONFIRMED;
+    if (ends_with(tile, length, "\xff\xff!!slow"))
+        confirm_slowly();
+    return real_confirm(profile, tile, unmarked(tile, length), text, text_length);
+}
+
+int mvtgate_dump(const uint8_t *tile, size_t length, uint8_t *text, size_t room, size_t *text_length)
+{
+    return real_dump(tile, unmarked(tile, length), text, room, text_length);
+}
+
+int mvtgate_advise(const uint8_t *tile, size_t length, uint8_t *text, size_t room, size_t *text_length)
+{
+    if (ends_with(tile, length, "\xff\xff!!advi")) {
+        *text_length = 0;
+        return NO_MEMORY;
+    }
+    return real_advise(tile, unmarked(tile, length), text, room, text_length);
+}
+
+uint32_t mvtgate_version(void)
+{
+    return real_version();
+}

@@ -1,0 +1,41 @@
+"""The report of a real run, in a real browser: its figures and faults are those of the run."""
+from __future__ import annotations
+
+import pathlib
+from collections import Counter
+
+from browsers import Chromium
+from page import Page
+from planet.planets import Planet
+from planet.reports import chromium, draw_all, figures, opened, quiet, rows
+from planet.runs import expect_whole, run
+
+__all__ = ["chromium", "quiet"]
+
+
+def test_report_of_run(planet: Planet, tmp_path: pathlib.Path, scheduler: str, quiet: Chromium) -> None:
+    it = run(tmp_path / "out", planet.path, "--scheduler", scheduler)
+    expect_whole(planet, it)
+    page = opened(quiet, (it.output / "report.html").as_uri())
+    shown = figures(page)
+    faulty = len(planet.lines)
+    assert [shown[key] for key in ("tiles", "valid", "faulty", "unjudged")] == ["1,024", f"{1024 - faulty}", f"{faulty}", "0"]
+    assert (shown["confirmed"], shown["workers"], shown["profile"]) == (f"{faulty}", "2", "polygon")
+    codes = Counter(str(line["fault"]["code"]) for line in planet.lines.values())
+    # (the cell of the code has its colour, too)
+    assert {row[0]: row[2] for row in rows(page, ".code-table .of-code")} == {code: str(count) for code, count in codes.items()}
+    assert_pictures(page, planet)
+
+
+def assert_pictures(page: Page, planet: Planet) -> None:
+    """Each picture is of a tile with this fault, and has what the fault names of edges."""
+    names = draw_all(page)
+    assert any(name.startswith("tile-504-") for name in names)
+    for name in names:
+        _, code, _ = name.split("-")
+        zoom, column, row = map(int, page.script("return document.getElementById(arguments[0]).dataset.tile.split('/')", name))
+        fault = planet.lines[zoom, column, row]["fault"]
+        assert str(fault["code"]) == code
+        for key in ("first", "second") if code == "504" else ():
+            ring, edge = fault[key]["ring"], fault[key]["edge"]
+            assert page.count(f"#{name} [data-role='{key}-edge'][data-ring='{ring}'][data-edge='{edge}']"), (name, key)

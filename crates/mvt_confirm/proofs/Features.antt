@@ -1,0 +1,9 @@
+-- The parts of layers and features, and the rules for tags.
+pub mod DrawnFeatures
+pub mod FeatureNumbers
+pub mod LayerTexts
+pub mod RuleWalks
+pub mod TagRules
+pub mod TagWalks
+pub mod TileFeatures
+pub mod TileScopes

@@ -1,0 +1,8 @@
+use Rattle.std.proofs.Common.{None}
+use Rattle.mvt_wire.proofs.FieldNumbers.SmallNumbers.{geometry_end}
+use Rattle.mvt_confirm.specs.Calls.ByteSpan.{as_span}
+use Rattle.mvt_confirm.proofs.message_bytes.MessageBytes.geometry.Goals as goal
+
+pub returns : goal.returns
+returns c = λ it is.
+    (c.new.ensures it.geometry None).1 (geometry_end c.args.self.now.bytes.now (as_span c.args.self.now.span) it is)

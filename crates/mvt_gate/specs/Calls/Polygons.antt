@@ -1,0 +1,80 @@
+-- What is known of the rings of one feature while its polygons are checked one after another (Mapbox Vector Tile
+-- Specification 2.1, section 4.3.4.4).
+use Rattle.std.specs.Prelude.{ℕ, ◌+◌, ◌<◌, List}
+use Rattle.mvt_confirm.specs.Geometry.{IsFaultOfGeometryBy}
+use Rattle.mvt_confirm.specs.Valid.{IsValidPolygonBy}
+use Rattle.mvt_fault.specs.Place.{IsLeast}
+use Rattle.mvt_fault.specs.declared.fault.Fault.{Fault}
+use Rattle.mvt_fault.specs.declared.fault.Fault.TheVariants as faults
+use Rattle.mvt_fault.specs.declared.profile.Profile.{Profile}
+use Rattle.mvt_plane.specs.FeatureGeometry.{HasRings}
+use Rattle.mvt_plane.specs.Geometry.Polygon.{PolygonRings, IsPolygon}
+use Rattle.mvt_plane.specs.Position.{Position}
+use Rattle.mvt_polygon.specs.declared.apart.ApartFault.{ApartFault}
+use Rattle.mvt_polygon.specs.declared.feature.FeatureCause.{FeatureCause}
+use Rattle.mvt_polygon.specs.declared.feature.FeatureCause.TheVariants as causes
+use Rattle.mvt_polygon.specs.declared.meeting.Meeting.{Meeting}
+use Rattle.mvt_polygon.specs.declared.nesting.NestFault.{NestFault}
+use Rattle.mvt_polygon.specs.declared.nesting.NestFault.TheVariants as nest_faults
+use Rattle.mvt_wire.specs.Tile.{FeatureRecord}
+use Rattle.mvt_gate.specs.declared.polygons.PolygonPlace.{PolygonPlace}
+
+-- of a feature that has these rings, and these ordinals, the fault is the first of its geometry, by the profile
+abbrev pub IsFirstOfRings : Profile → List (List Position) → ℕ → ℕ → Fault → Type 0
+IsFirstOfRings profile rings layer feature fault =
+    (feature_record : FeatureRecord) → HasRings feature_record.kind feature_record.geometry rings → IsLeast (IsFaultOfGeometryBy profile feature_record layer feature) fault
+
+-- the polygons before that of this number are valid by the profile
+abbrev pub AreValidBefore : Profile → List (List Position) → ℕ → Type 0
+AreValidBefore profile rings polygon = (earlier : ℕ) (polygon_rings : PolygonRings) → earlier < polygon → IsPolygon rings earlier polygon_rings → IsValidPolygonBy profile rings polygon_rings
+
+-- One polygon
+
+-- its rings, by their numbers in the feature
+abbrev pub rings_at : PolygonPlace → PolygonRings
+rings_at place = record { exterior = place.exterior; after = place.after }
+
+-- a ring's number in the feature, of one by its number in the polygon, is one of the polygon's rings
+abbrev pub IsRingWithin : PolygonPlace → ℕ → Type 0
+IsRingWithin place ring = place.exterior + ring < place.after
+
+-- the fault of a meeting, with the numbers that the rings have in the feature
+abbrev pub fault_of_meeting : PolygonPlace → Meeting → Fault
+fault_of_meeting place meeting =
+    faults.Meeting place.layer place.feature place.polygon
+    (record { ring = place.exterior + meeting.first_ring; edge = meeting.first_edge })
+    (record { ring = place.exterior + meeting.second_ring; edge = meeting.second_edge })
+    meeting.point.x meeting.point.y meeting.point.w
+
+-- the fault of a hole, with those numbers
+abbrev pub fault_of_hole : PolygonPlace → NestFault → Fault
+fault_of_hole place (nest_faults.Outside ring vertex) = faults.Outside place.layer place.feature place.polygon (place.exterior + ring) vertex
+fault_of_hole place (nest_faults.InHole ring vertex other) =
+    faults.HoleInHole place.layer place.feature place.polygon (place.exterior + ring) vertex (place.exterior + other)
+
+-- the rings that such a fault names are the polygon's
+abbrev pub AreWithin : PolygonPlace → NestFault → Type 0
+AreWithin place (nest_faults.Outside ring vertex) = IsRingWithin place ring
+AreWithin place (nest_faults.InHole ring vertex other) = IsRingWithin place ring × IsRingWithin place other
+
+-- the fault of a vertex of the polygon's exterior that is inside another polygon
+abbrev pub fault_of_apart : PolygonPlace → ApartFault → Fault
+fault_of_apart place found = faults.InPolygon place.layer place.feature place.polygon found.vertex found.other
+
+-- One polygon of a feature whose polygons are kept apart
+
+-- the rings up to its last one, as a place of their own
+abbrev pub front_place : PolygonPlace → PolygonPlace
+front_place place = record { layer = place.layer; feature = place.feature; polygon = place.polygon; exterior = 0; after = place.after }
+
+-- the fault of what is wrong with the polygon. A meeting has the numbers that its rings have in the feature.
+abbrev pub fault_of_cause : PolygonPlace → FeatureCause → Fault
+fault_of_cause place (causes.Meeting meeting) = fault_of_meeting (front_place place) meeting
+fault_of_cause place (causes.Nesting fault) = fault_of_hole place fault
+fault_of_cause place (causes.Apart found) = fault_of_apart place found
+
+-- the rings that such a fault names are those up to the polygon's last one
+abbrev pub IsReportable : PolygonPlace → FeatureCause → Type 0
+IsReportable place (causes.Meeting meeting) = IsRingWithin (front_place place) meeting.first_ring × IsRingWithin (front_place place) meeting.second_ring
+IsReportable place (causes.Nesting fault) = AreWithin place fault
+IsReportable place (causes.Apart found) = Unit {0}

@@ -1,0 +1,11 @@
+use Rattle.std.proofs.Common.{rules}
+use Rattle.mvt_plane.proofs.geometry.hpoint.Hpoint.new.Goals as goal
+
+pub invariant_of-result : goal.invariant_of-result
+invariant_of-result c = search rules
+
+pub returns-then-contains-3-clause-in_range : goal.returns-then-contains-3-clause-in_range
+returns-then-contains-3-clause-in_range c = search rules
+
+pub returns-else-contains-clause-none : goal.returns-else-contains-clause-none
+returns-else-contains-clause-none c = search rules

@@ -1,5 +1,0 @@
-use Rattle.mvt_plane.proofs.DirectlyBelow.{odd_as_below_the_edge}
-use Rattle.mvt_plane.proofs.laws.below.odd_as_below_the_edge.Goals as goal
-
-pub returns : goal.returns
-returns c = odd_as_below_the_edge

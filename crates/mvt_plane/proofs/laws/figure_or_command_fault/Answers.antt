@@ -1,5 +1,0 @@
-use Rattle.mvt_plane.proofs.CommandFaults.{figure_or_command_fault}
-use Rattle.mvt_plane.proofs.laws.figure_or_command_fault.Goals as goal
-
-pub returns : goal.returns
-returns c = figure_or_command_fault

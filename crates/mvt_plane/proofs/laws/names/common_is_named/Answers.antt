@@ -1,5 +1,0 @@
-use Rattle.mvt_plane.proofs.NamedWhereCommon.{common_is_named}
-use Rattle.mvt_plane.proofs.laws.names.common_is_named.Goals as goal
-
-pub returns : goal.returns
-returns c = common_is_named

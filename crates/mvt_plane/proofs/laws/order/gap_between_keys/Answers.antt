@@ -1,8 +1,0 @@
-use Rattle.mvt_plane.proofs.Gaps.{gap_between, gap_positive_between}
-use Rattle.mvt_plane.proofs.laws.order.gap_between_keys.Goals as goal
-
-pub returns-clause-sum : goal.returns-clause-sum
-returns-clause-sum c = gap_between
-
-pub returns-clause-positive : goal.returns-clause-positive
-returns-clause-positive c = gap_positive_between

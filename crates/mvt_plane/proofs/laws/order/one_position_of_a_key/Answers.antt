@@ -1,5 +1,0 @@
-use Rattle.mvt_plane.proofs.Gaps.{same_key}
-use Rattle.mvt_plane.proofs.laws.order.one_position_of_a_key.Goals as goal
-
-pub returns : goal.returns
-returns c = same_key

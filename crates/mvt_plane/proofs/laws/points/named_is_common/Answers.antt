@@ -1,5 +1,0 @@
-use Rattle.mvt_plane.proofs.CommonPoints.{named_is_common}
-use Rattle.mvt_plane.proofs.laws.points.named_is_common.Goals as goal
-
-pub returns : goal.returns
-returns c = named_is_common

@@ -1,5 +1,0 @@
-use Rattle.mvt_plane.proofs.CommonPoints.{only_at_the_shared_vertex}
-use Rattle.mvt_plane.proofs.laws.points.only_at_the_shared_vertex.Goals as goal
-
-pub returns : goal.returns
-returns c = only_at_the_shared_vertex

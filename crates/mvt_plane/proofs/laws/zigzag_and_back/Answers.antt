@@ -1,8 +1,0 @@
-use Rattle.mvt_plane.proofs.Parameters.{unzigzag-zigzag, zigzag-unzigzag}
-use Rattle.mvt_plane.proofs.laws.zigzag_and_back.Goals as goal
-
-pub returns-clause-there : goal.returns-clause-there
-returns-clause-there c = zigzag-unzigzag
-
-pub returns-clause-back : goal.returns-clause-back
-returns-clause-back c = unzigzag-zigzag

@@ -1,5 +1,0 @@
-use Rattle.std.proofs.Common.{rules}
-use Rattle.mvt_plane.proofs.point.Point.origin.Goals as goal
-
-pub returns : goal.returns
-returns c = search rules

@@ -1,0 +1,71 @@
+-- Rings, their edges and their area, and what keeps the rings of a feature from being those of polygons (Mapbox Vector
+-- Tile Specification 2.1, section 4.3.4.4).
+use Rattle.std.specs.Prelude.{◌≡◌, ℕ, suc, ◌-◌, ◌==◌, cond, List, [], ◌∷◌, length, slice_get, Some, ℤ, pos, ◌+ℤ◌, ◌-ℤ◌, ◌*ℤ◌, ◌<ℤ◌}
+use Rattle.mvt_plane.specs.Position.{Position}
+use Rattle.mvt_plane.specs.declared.geometry.edge.Edge.{Edge}
+
+-- Edges
+
+-- from a vertex through further ones, and back to the first
+abbrev pub edges_through : Position → Position → List Position → List Edge
+edges_through first from [] = record { a = from; b = first } ∷ []
+edges_through first from (to ∷ rest) = record { a = from; b = to } ∷ edges_through first to rest
+
+-- the edges of a ring: each goes from the vertex of its own number to the next one, the last to the first vertex
+abbrev pub edges : List Position → List Edge
+edges [] = []
+edges (first ∷ rest) = edges_through first first rest
+
+-- the number after this one, going round: after the last one comes 0
+abbrev pub next_round : ℕ → ℕ → ℕ
+next_round count number = cond (suc number == count) 0 (suc number)
+
+-- Area
+
+-- the part of an edge in the doubled area
+abbrev pub edge_area : Edge → ℤ
+edge_area edge = edge.a.x *ℤ edge.b.y -ℤ edge.b.x *ℤ edge.a.y
+
+-- the sum over edges
+abbrev pub area_of_edges : List Edge → ℤ
+area_of_edges [] = pos 0
+area_of_edges (edge ∷ rest) = edge_area edge +ℤ area_of_edges rest
+
+-- twice the area that the ring goes round, by the surveyor's formula: positive for an exterior, negative for a hole
+abbrev pub doubled_area : List Position → ℤ
+doubled_area ring = area_of_edges (edges ring)
+
+-- Rings with a fault of their own
+
+-- the last position of the ring of this number is its first one, to which ClosePath leads anyway
+pub record EndsAtItsBeginning (rings : List (List Position)) (number : ℕ) : Type 0 where
+  pub ring : List Position
+  pub there : slice_get rings number ≡ Some ring
+  pub position : Position
+  pub first : slice_get ring 0 ≡ Some position
+  pub last : slice_get ring (length ring - 1) ≡ Some position
+
+-- the ring of this number has no area
+pub record HasNoArea (rings : List (List Position)) (number : ℕ) : Type 0 where
+  pub ring : List Position
+  pub there : slice_get rings number ≡ Some ring
+  pub none : doubled_area ring ≡ pos 0
+
+-- the ring of this number is the first of the feature, and is a hole
+pub record BeginsWithHole (rings : List (List Position)) (number : ℕ) : Type 0 where
+  pub first : number ≡ 0
+  pub ring : List Position
+  pub there : slice_get rings number ≡ Some ring
+  pub negative : doubled_area ring <ℤ pos 0
+
+-- the ring of this number has the fault of this code
+pub data BreaksRings (rings : List (List Position)) (code ring : ℕ) : Type 0 where
+  ends_at_its_beginning : code ≡ 501 → EndsAtItsBeginning rings ring → BreaksRings rings code ring
+  no_area : code ≡ 502 → HasNoArea rings ring → BreaksRings rings code ring
+  begins_with_hole : code ≡ 503 → BeginsWithHole rings ring → BreaksRings rings code ring
+
+-- no ring has any of these faults
+pub record ArePolygonRings (rings : List (List Position)) : Type 0 where
+  pub open_ends : (number : ℕ) → ¬ EndsAtItsBeginning rings number
+  pub areas : (number : ℕ) → ¬ HasNoArea rings number
+  pub exterior_first : (number : ℕ) → ¬ BeginsWithHole rings number

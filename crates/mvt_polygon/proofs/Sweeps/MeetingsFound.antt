@@ -1,0 +1,64 @@
+-- The work of a sweep, step by step, and what follows for the rings from what it finds.
+use Rattle.std.proofs.Common.{◌≡◌, ℕ, ◌+◌, ◌*◌, ◌≤◌, List, Option, Some, None, IfNone, IfSome, subst, arith}
+use Rattle.std.proofs.Math.Nat.{mul-le-mul_right}
+use Rattle.mvt_plane.specs.Counted.{Counted}
+use Rattle.mvt_plane.specs.Position.{Position}
+use Rattle.mvt_polygon.specs.Work.{AddsWork}
+use Rattle.mvt_polygon.specs.Calls.VertexOrder.{AreTogether}
+use Rattle.mvt_polygon.specs.Calls.SweepVertices.{AreSweepVertices, IsMeetingAt, IsNamedMeeting, plan_of}
+use Rattle.mvt_polygon.specs.Meeting.{IsMeetingOf}
+use Rattle.mvt_polygon.specs.Rings.{AreProperRings}
+use Rattle.mvt_polygon.specs.Calls.Sweep.{Tested}
+use Rattle.mvt_polygon.specs.declared.meeting.Meeting.{Meeting}
+use Rattle.mvt_polygon.specs.declared.sweep.vertices.SweepVertices.{SweepVertices}
+use Rattle.mvt_polygon.specs.declared.sweep.vertices.Pair.{Pair}
+use Rattle.mvt_polygon.proofs.Vertices.VertexPlans.{together_meets, meeting_of_rings}
+use Rattle.mvt_polygon.proofs.Sweeps.StatusCounts.{work_then, work_within}
+
+-- The work
+
+-- the work of one more step
+pub another_step : (at turns more probes visits : ℕ) (before between after : Counted) → AddsWork (3 * at) (at + turns * probes) (turns * visits) before between
+    → AddsWork 3 (1 + more * probes) (more * visits) between after → AddsWork (3 * (at + 1)) (at + 1 + (turns + more) * probes) ((turns + more) * visits) before after
+another_step at turns more probes visits before between after passed step =
+    work_within (omega arith) (grind arith) (grind arith) (work_then passed step)
+
+-- at most that of so many steps
+pub so_many_steps : (at many turns most_turns probes visits : ℕ) (before after : Counted) → at ≤ many → turns ≤ most_turns
+    → AddsWork (3 * at) (at + turns * probes) (turns * visits) before after
+    → AddsWork (3 * many) (many + most_turns * probes) (most_turns * visits) before after
+so_many_steps at many turns most_turns probes visits before after most fewer work =
+    work_within (omega arith) (omega (arith, most, mul-le-mul_right probes fewer)) (mul-le-mul_right visits fewer) work
+
+-- by vertices alone it is no more than this
+pub work_of_vertices : (vertices turns digits probes each : ℕ) (before after : Counted) → turns ≤ vertices → probes ≤ vertices * each
+    → AddsWork (3 * vertices) (probes + turns * (2 * digits)) (turns * (12 * digits)) before after
+    → AddsWork (3 * vertices) (vertices * (2 * digits + each)) (vertices * (20 * digits)) before after
+work_of_vertices vertices turns digits probes each before after fewer few work =
+    let searches = mul-le-mul_right (2 * digits) fewer in
+    let visits = mul-le-mul_right (12 * digits) fewer in
+    work_within (omega arith) (grind arith) (grind arith) work
+
+-- What is found
+
+-- the meeting that is returned is that of the two edges found
+abbrev pub IsNamedMeetingOf : List (List Position) → Option Pair → Meeting → Type 0
+IsNamedMeetingOf rings found meeting = (pair : Pair) × (found ≡ Some pair) × IsNamedMeeting rings pair meeting
+
+-- a meeting of vertices' edges is one of the rings
+pub some_named : (rings : List (List Position)) (vertices : SweepVertices) (found : Option Pair) (result : Option Meeting) → AreProperRings rings → AreSweepVertices rings vertices
+    → IfSome found (IsMeetingAt vertices) → IfSome result (IsNamedMeetingOf rings found) → IfSome result (IsMeetingOf rings)
+some_named rings vertices found None proper are is named = named
+some_named rings vertices found (Some meeting) proper are is (pair, same, named) =
+    meeting_of_rings rings vertices pair meeting proper are (subst (λ (it : Option Pair). IfSome it (IsMeetingAt vertices)) same is) named
+
+-- where none is returned, none was found
+pub none_named : (found : Option Pair) (result : Option Meeting) (P : Type 0) → IfNone result (found ≡ None) → IfNone found P → IfNone result P
+none_named found None P same is = subst (λ (it : Option Pair). IfNone it P) same is
+none_named found (Some meeting) P same is = same
+
+-- of two vertices at one position the edges meet, so that a meeting is found
+pub together_found : (vertices : SweepVertices) (first second : ℕ) (found : Option Pair) (P : Type 0) → AreTogether vertices first second
+    → IfNone found (Tested (plan_of vertices) first second × Tested (plan_of vertices) second first) → IfNone found P
+together_found vertices first second None P together tested = absurd (together_meets vertices first second together tested.0)
+together_found vertices first second (Some it) P together tested = tested

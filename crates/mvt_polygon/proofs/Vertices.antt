@@ -1,0 +1,20 @@
+-- Rings, vertices and edges by their numbers, and vertices in order.
+pub mod EdgeNumbers
+pub mod KeyParts
+pub mod LyingRings
+pub mod NearSorted
+pub mod NumbersInOrder
+pub mod NumbersOnce
+pub mod PairMeetings
+pub mod PairsEnough
+pub mod RingCopies
+pub mod RingFaults
+pub mod RingReads
+pub mod SegmentEnds
+pub mod SharedVertices
+pub mod TestCounts
+pub mod TurnCounts
+pub mod VertexNumbers
+pub mod VertexOrders
+pub mod VertexParts
+pub mod VertexPlans

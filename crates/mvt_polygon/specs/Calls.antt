@@ -1,0 +1,27 @@
+-- Definitions that only state contracts of private functions. No public contract rests on them.
+pub mod Alone
+pub mod Apart
+pub mod Bounds
+pub mod Cells
+pub mod Chain
+pub mod Chains
+pub mod FeatureParts
+pub mod FrontEdges
+pub mod Gathered
+pub mod Islands
+pub mod KeyParts
+pub mod Lands
+pub mod Links
+pub mod Nesting
+pub mod Pairs
+pub mod Passings
+pub mod PolygonsAround
+pub mod RingNotes
+pub mod Rings
+pub mod RingsAround
+pub mod RingsBelow
+pub mod Steps
+pub mod Sweep
+pub mod SweepVertices
+pub mod Swept
+pub mod VertexOrder

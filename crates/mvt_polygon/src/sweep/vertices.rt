@@ -1,0 +1,167 @@
+//! The vertices of rings in one list, each with the edge that begins in it.
+ghost use Rattle.std.specs.Prelude.{◌<◌, ◌^◌, length};
+ghost use Rattle.mvt_polygon.specs.Calls.Links.{AreLinked};
+
+use crate::sweep::heights::heights_apart;
+use crate::sweep::listing::list_of;
+use crate::sweep::vertex::SweepVertex;
+use mvt_plane::{Count, Edge, Hpoint, Point, common};
+use std::alloc::{AllocError, Global};
+
+/// Two edges that meet wrongly, by their numbers, the lesser one first.
+#[derive(Clone, Copy)]
+pub(crate) struct Pair {
+    pub(crate) first: usize,
+    pub(crate) second: usize,
+    /// The point that they have in common, as `common` names it for the first and the second edge.
+    pub(crate) point: Hpoint,
+}
+
+/// The vertices of rings, ring by ring: next and previous lead round in each.
+#[derive(Drop)]
+pub(crate) struct SweepVertices {
+    list: Vec<SweepVertex>,
+    ghost linked: { AreLinked list.items },
+    ghost few: { length list.items < 2 ^ 32 },
+}
+
+impl SweepVertices {
+    ghost use Rattle.std.specs.Prelude.{◌≡◌, ◌≢◌, ◌<◌, IfOk, IfNone, IfSome};
+    ghost use Rattle.mvt_plane.specs.Counted.{ticked};
+    ghost use Rattle.mvt_polygon.specs.Work.{AddsWork};
+    ghost use Rattle.mvt_polygon.specs.Calls.SweepVertices.{AreSweepVertices, IsMeetingAt, sweep_count, edge_at, next_at, plan_of, position_at, previous_at, shared_at};
+    ghost use Rattle.mvt_polygon.specs.Rings.{rings_of, AreProperRings};
+    ghost use Rattle.mvt_polygon.specs.Calls.Sweep.{Tested};
+
+    /// The vertices of these rings. The only error is that memory was refused, or that a `u32` is
+    /// too small for their number.
+    pub(crate) fn of_rings(alloc: Global, rings: &[Vec<Point>]) -> Result<SweepVertices, AllocError>
+        requires { AreProperRings (rings_of rings.now) }
+        ensures { IfOk result (AreSweepVertices (rings_of rings.now)) }
+    {
+        Ok(SweepVertices {
+            list: list_of(alloc, rings)?,
+        })
+    }
+
+    /// How many there are.
+    #[inline]
+    pub(crate) fn len(&self) -> usize
+        ensures { result ≡ sweep_count self.now }
+    {
+        self.list.len()
+    }
+
+    /// Where the vertex of this number is.
+    #[inline]
+    pub(crate) fn position(&self, number: usize) -> &Point
+        requires { number < sweep_count self.now }
+        ensures { result.now ≡ position_at self.now number }
+    {
+        &self.list[number].position
+    }
+
+    /// The number of the vertex after this one in its ring, where its edge ends.
+    #[inline]
+    pub(crate) fn next(&self, number: usize) -> usize
+        requires { number < sweep_count self.now }
+        ensures value { result ≡ next_at self.now number }
+        ensures within { result < sweep_count self.now }
+    {
+        let far_end = self.list[number].far_end as usize;
+        if far_end < number {
+            far_end
+        } else {
+            number + 1
+        }
+    }
+
+    /// The number of the vertex before this one in its ring, whose edge ends in it.
+    #[inline]
+    pub(crate) fn previous(&self, number: usize) -> usize
+        requires { number < sweep_count self.now }
+        ensures value { result ≡ previous_at self.now number }
+        ensures within { result < sweep_count self.now }
+    {
+        let far_end = self.list[number].far_end as usize;
+        if number < far_end {
+            far_end
+        } else {
+            number - 1
+        }
+    }
+
+    /// The edge that begins in the vertex of this number.
+    #[inline]
+    pub(crate) fn edge(&self, number: usize) -> Edge
+        requires { number < sweep_count self.now }
+        ensures { result ≡ edge_at self.now number }
+    {
+        Edge {
+            a: *self.position(number),
+            b: *self.position(self.next(number)),
+        }
+    }
+
+    /// The wrong meeting of two different edges, if they have one: one test, of the edges in the
+    /// order of their numbers. Most neighbours along a line are apart by their heights alone.
+    #[inline]
+    pub(crate) fn meeting(&self, one: usize, other: usize, count: &mut Count) -> Option<Pair>
+        requires one { one < sweep_count self.now }
+        requires other { other < sweep_count self.now }
+        requires differ { one ≢ other }
+        ensures none { IfNone result (Tested (plan_of self.now) one other
+            × Tested (plan_of self.now) other one) }
+        ensures some { IfSome result (IsMeetingAt self.now) }
+        ensures counted { AddsWork 1 0 0 count.old count.new }
+        ensures tested { count.new.tests ≡ ticked count.old.tests }
+    {
+        if heights_apart(&self.edge(one), &self.edge(other)) {
+            count.tick_test();
+            return None;
+        }
+        if one < other {
+            self.meeting_in_order(one, other, count)
+        } else {
+            self.meeting_in_order(other, one, count)
+        }
+    }
+
+    /// The same, where the first comes before the second, by their points alone.
+    pub(crate) fn meeting_in_order(
+        &self,
+        first: usize,
+        second: usize,
+        count: &mut Count,
+    ) -> Option<Pair>
+        requires in_order { first < second }
+        requires known { second < sweep_count self.now }
+        ensures none { IfNone result (Tested (plan_of self.now) first second) }
+        ensures some { IfSome result (IsMeetingAt self.now) }
+        ensures counted { AddsWork 1 0 0 count.old count.new }
+        ensures tested { count.new.tests ≡ ticked count.old.tests }
+    {
+        let shared = self.shared(first, second);
+        let point = common(self.edge(first), self.edge(second), shared, count)?;
+        Some(Pair {
+            first,
+            second,
+            point,
+        })
+    }
+
+    /// The vertex that two edges share as neighbours in a ring.
+    fn shared(&self, first: usize, second: usize) -> Option<Point>
+        requires first { first < sweep_count self.now }
+        requires second { second < sweep_count self.now }
+        ensures { result ≡ shared_at self.now first second }
+    {
+        if self.next(first) == second {
+            return Some(*self.position(second));
+        }
+        if self.next(second) == first {
+            return Some(*self.position(first));
+        }
+        None
+    }
+}

@@ -1,0 +1,14 @@
+-- The first fault of the rules between a tile's parts, and advice.
+pub mod Advised
+pub mod FeatureFaults
+pub mod FeatureScan
+pub mod HeldPlaces
+pub mod LayerNames
+pub mod Names
+pub mod OneAdvice
+pub mod Repetitions
+pub mod RuleOrder
+pub mod SummaryReading
+pub mod TagFaults
+pub mod TagScans
+pub mod TileScan

@@ -1,0 +1,90 @@
+-- Of the faults of a tile's bytes, those of layers come first and those of features after them; there are no others.
+use Rattle.std.proofs.Common.{◌≡◌, ℕ, ◌⊎◌, inl, inr, List, ◌∷◌, length, Option, Some, None, IfSome, IfNone, refl, sym, subst, arith}
+use Rattle.mvt_wire.specs.Tile.{TileRecord, IsTile}
+use Rattle.mvt_fault.specs.Place.{ComesFirst, IsLeast, place_of}
+use Rattle.mvt_fault.specs.TrueFaults.{BreaksRule, IsFaultOfLayers, OneFeatureHas, version, name}
+use Rattle.mvt_fault.specs.declared.fault.Fault.{Fault}
+use Rattle.mvt_tile.specs.FeatureRules.{Breaks, Keeps}
+use Rattle.mvt_tile.specs.Calls.FeatureRules.{IsFaultOfFeature, AllSound, FindsInTile}
+use Rattle.mvt_tile.specs.Calls.PassedLayers.{passed, EndsLayers}
+use Rattle.mvt_tile.specs.Calls.RuleFaults.{AreAfterTags}
+use Rattle.mvt_tile.specs.RuleFaults.{BreaksAnyRule, KeepsRules}
+use Rattle.mvt_tile.specs.declared.rules.layer_rules.LayerRules.{LayerRules}
+use Rattle.mvt_fault.specs.declared.fault.Fault.TheVariants.{Version}
+use Rattle.mvt_tile.proofs.RuleFaults.FeatureFaults.{features_begin}
+
+-- the place of a fault of layers begins as those of all layers do
+layers_begin : (tile : TileRecord) (fault : Fault) → IsFaultOfLayers tile fault → (rest : List ℕ) × (place_of fault ≡ 1 ∷ rest)
+layers_begin tile fault (version layer holds) = (_, refl)
+layers_begin tile fault (name first second holds) = (_, refl)
+
+module _ (IsBroken : Breaks) (after_tags : AreAfterTags IsBroken) where
+  -- so a fault of layers comes before one of features
+  layers_first : (tile : TileRecord) (fault other : Fault) → IsFaultOfLayers tile fault → OneFeatureHas (IsFaultOfFeature IsBroken) tile other → ComesFirst (place_of fault) (place_of other)
+  layers_first tile fault other of_layers of_features =
+      let first = layers_begin tile fault of_layers in
+      let second = features_begin IsBroken after_tags tile other of_features in
+      let ordered : ComesFirst (1 ∷ first.0) (2 ∷ second.0) = inl (omega arith) in
+      subst (λ (place : List ℕ). ComesFirst place (place_of other)) (sym first.1) (subst (ComesFirst (1 ∷ first.0)) (sym second.1) ordered)
+
+  -- each fault of a tile is one of its layers or one of its features
+  by_part : (tile : TileRecord) (fault : Fault) → BreaksAnyRule IsBroken tile fault → IsFaultOfLayers tile fault ⊎ OneFeatureHas (IsFaultOfFeature IsBroken) tile fault
+  by_part tile fault (inl (inl of_layers)) = inl of_layers
+  by_part tile fault (inl (inr of_tags)) =
+      inr (record { layer = of_tags.layer; feature = of_tags.feature; layer_record = of_tags.layer_record; feature_record = of_tags.feature_record; there = of_tags.there; broken = inl of_tags.broken })
+  by_part tile fault (inr of_rule) =
+      inr (record { layer = of_rule.layer; feature = of_rule.feature; layer_record = of_rule.layer_record; feature_record = of_rule.feature_record; there = of_rule.there; broken = inr of_rule.broken })
+
+  -- and the other way round
+  of_feature : (tile : TileRecord) (fault : Fault) (holds : OneFeatureHas (IsFaultOfFeature IsBroken) tile fault) → BreaksAnyRule IsBroken tile fault
+  of_feature tile fault holds = elim holds.broken [
+    | inl of_tags ↦ inl (inr (record { layer = holds.layer; feature = holds.feature; layer_record = holds.layer_record; feature_record = holds.feature_record; there = holds.there; broken = of_tags }))
+    | inr of_rule ↦ inr (record { layer = holds.layer; feature = holds.feature; layer_record = holds.layer_record; feature_record = holds.feature_record; there = holds.there; broken = of_rule })
+  ]
+
+  module _ (tile : TileRecord) where
+    pub least_of_layers : (fault : Fault) → IsLeast (IsFaultOfLayers tile) fault → IsLeast (BreaksAnyRule IsBroken tile) fault
+    least_of_layers fault first = record {
+      holds = inl (inl first.holds);
+      least = λ other holds. elim (by_part tile other holds) [
+        | inl in_layers ↦ first.least other in_layers
+        | inr in_features ↦ layers_first tile fault other first.holds in_features
+      ];
+    }
+
+    least_of_features : ((fault : Fault) → ¬ IsFaultOfLayers tile fault) → (fault : Fault) → IsLeast (OneFeatureHas (IsFaultOfFeature IsBroken) tile) fault → IsLeast (BreaksAnyRule IsBroken tile) fault
+    least_of_features none fault first = record {
+      holds = of_feature tile fault first.holds;
+      least = λ other holds. elim (by_part tile other holds) [
+        | inl in_layers ↦ absurd (none other in_layers)
+        | inr in_features ↦ first.least other in_features
+      ];
+    }
+
+    -- where the layers have no fault and the features are sound, the tile keeps the rules
+    all_kept : (IsKept : Keeps) → ((fault : Fault) → ¬ IsFaultOfLayers tile fault) → AllSound IsBroken IsKept tile → KeepsRules IsKept tile
+    all_kept IsKept none sound = record { parts = parts; features = λ layer feature layer_record feature_record there. (sound layer feature layer_record feature_record there).kept }
+      where
+        parts : (fault : Fault) → ¬ BreaksRule tile fault
+        parts fault (inl of_layers) = none fault of_layers
+        parts fault (inr of_tags) = (sound of_tags.layer of_tags.feature of_tags.layer_record of_tags.feature_record of_tags.there).faultless fault (inl of_tags.broken)
+
+  -- Where the layers have no fault, all were passed, and the features decide.
+  module _ (bytes : List ℕ) (rules : LayerRules) (ends : (tile : TileRecord) → IsTile bytes tile → EndsLayers rules tile)
+      (none : (tile : TileRecord) → EndsLayers rules tile → (fault : Fault) → ¬ IsFaultOfLayers tile fault) where
+    all_passed : (tile : TileRecord) → IsTile bytes tile → passed rules ≡ length tile.layers
+    all_passed tile is = elim (ends tile is).end [
+      | inl next ↦ absurd (none tile (ends tile is) (Version (passed rules)) (version (passed rules) (record { layer_record = next.1.layer_record; there = next.1.there; other = next.1.other })))
+      | inr last ↦ sym last.1
+    ]
+
+    module _ (IsKept : Keeps) where
+      pub no_rule_broken : (found : Option Fault) → ((tile : TileRecord) → IsTile bytes tile → passed rules ≡ length tile.layers → FindsInTile IsBroken IsKept tile found)
+          → IfNone found ((tile : TileRecord) → IsTile bytes tile → KeepsRules IsKept tile)
+      no_rule_broken (Some fault) finds = tt
+      no_rule_broken None finds = λ tile is. all_kept tile IsKept (none tile (ends tile is)) (finds tile is (all_passed tile is))
+
+      pub features_fault : (found : Option Fault) → ((tile : TileRecord) → IsTile bytes tile → passed rules ≡ length tile.layers → FindsInTile IsBroken IsKept tile found)
+          → IfSome found (λ (first : Fault). (tile : TileRecord) → IsTile bytes tile → IsLeast (BreaksAnyRule IsBroken tile) first)
+      features_fault None finds = tt
+      features_fault (Some fault) finds = λ tile is. least_of_features tile (none tile (ends tile is)) fault (finds tile is (all_passed tile is))

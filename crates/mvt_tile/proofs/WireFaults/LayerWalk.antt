@@ -1,0 +1,128 @@
+-- What is known while the fields of a layer are walked, and what it says of the layer's faults.
+use Rattle.std.proofs.Common.{◌≡◌, ℕ, ◌+◌, ◌≤◌, List, [], ◌∷◌, ◌++◌, length, take, Option, Some, None, sym, ◌∙◌, subst, arith}
+use Rattle.std.proofs.lemmas.List.{length-take-le}
+use Rattle.mvt_wire.specs.Field.{Entry, entry_of}
+use Rattle.mvt_wire.specs.Scope.{spans_of}
+use Rattle.mvt_wire.specs.Calls.Scope.{span_between}
+use Rattle.mvt_wire.specs.Message.{FieldList, IsMessage}
+use Rattle.mvt_wire.specs.WireFault.{EndFault, MessageFault}
+use Rattle.mvt_wire.specs.declared.cause.WireCause.{WireCause}
+use Rattle.mvt_wire.specs.declared.field.Field.{Field}
+use Rattle.mvt_wire.specs.declared.schema.Message.{Message}
+use Rattle.mvt_wire.specs.declared.schema.Message.TheVariants as messages
+use Rattle.mvt_wire.specs.declared.scope.Scope.TheVariants as scopes
+use Rattle.mvt_fault.specs.Place.{IsLeast}
+use Rattle.mvt_fault.specs.declared.fault.Fault.{Fault}
+use Rattle.mvt_tile.specs.Calls.Embedded.{HasNone, HasFirst}
+use Rattle.mvt_tile.specs.Calls.First.{FindsFirst}
+use Rattle.mvt_tile.specs.Calls.LayerFault.{IsLayerFault}
+use Rattle.mvt_tile.specs.Calls.Least.{FindsLeastCause}
+use Rattle.mvt_tile.specs.Calls.FieldScan.{Passes, PassesNext, IsFirstFrom}
+use Rattle.mvt_tile.specs.declared.wire.embedded.EmbeddedScan.{EmbeddedScan}
+use Rattle.mvt_tile.specs.declared.wire.scan.FieldScan.{FieldScan}
+use Rattle.mvt_fault.specs.TrueFaults.{wire_fault_in}
+use Rattle.mvt_tile.proofs.WireFaults.Layers.{IsLeast-own, IsLeast-value, IsLeast-feature, IsLayerFault-none}
+use Rattle.mvt_tile.proofs.WireFaults.Walking.{IsScanning, IsScanning-more, IsScanning-whole}
+
+-- the scan has passed these fields
+abbrev pub ScansEmbedded : List ℕ → EmbeddedScan Message (ℕ × WireCause) → List Entry → Type 0
+ScansEmbedded bytes scan entries = FindsFirst (HasNone scan.check bytes) (HasFirst scan.check bytes) (spans_of scan.number entries) scan.count scan.first
+
+-- the fields that were passed, and what the three scans keep of them
+pub record LayerWalk (bytes : List ℕ) (from to at : ℕ) (own : FieldScan) (value_scan feature_scan : EmbeddedScan Message (ℕ × WireCause)) : Type 0 where
+  pub within : at ≤ to
+  pub entries : List Entry
+  pub scanning : IsScanning messages.Layer (take to bytes) from at own entries
+  pub values : ScansEmbedded bytes value_scan entries
+  pub features : ScansEmbedded bytes feature_scan entries
+  pub value_message : value_scan.check ≡ messages.Value
+  pub value_number : value_scan.number ≡ 4
+  pub feature_message : feature_scan.check ≡ messages.Feature
+  pub feature_number : feature_scan.number ≡ 2
+  pub few_values : value_scan.count ≤ at
+  pub few_features : feature_scan.count ≤ at
+
+-- what a scan of embedded messages has found, by its message and number
+scan_finds : (bytes : List ℕ) (scan : EmbeddedScan Message (ℕ × WireCause)) (entries : List Entry) (message : Message) (field_number : ℕ) (found : Option (ℕ × WireCause)) → scan.check ≡ message → scan.number ≡ field_number → scan.first ≡ found
+    → ScansEmbedded bytes scan entries → FindsFirst (HasNone message bytes) (HasFirst message bytes) (spans_of field_number entries) scan.count found
+scan_finds bytes scan entries message field_number found kind number first scans =
+    subst (λ (m : Message). FindsFirst (HasNone m bytes) (HasFirst m bytes) (spans_of field_number entries) scan.count found) kind
+    (subst (λ (n : ℕ). FindsFirst (HasNone scan.check bytes) (HasFirst scan.check bytes) (spans_of n entries) scan.count found) number
+    (subst (λ (f : Option (ℕ × WireCause)). FindsFirst (HasNone scan.check bytes) (HasFirst scan.check bytes) (spans_of scan.number entries) scan.count f) first scans))
+
+-- what a scan of embedded messages keeps of the field that it passes
+pub record Notes (bytes : List ℕ) (before after : EmbeddedScan Message (ℕ × WireCause)) (entry : Entry) : Type 0 where
+  pub message : after.check ≡ before.check
+  pub number : after.number ≡ before.number
+  pub count : after.count ≤ before.count + 1
+  pub noted : (entries : List Entry) → ScansEmbedded bytes before entries → ScansEmbedded bytes after (entries ++ entry ∷ [])
+
+-- where the layer's own field wasn't passed the quick way, nothing has changed
+pub LayerWalk-unchanged : {bytes : List ℕ} {from to at : ℕ} {own next_own : FieldScan} {value_scan feature_scan : EmbeddedScan Message (ℕ × WireCause)} → LayerWalk bytes from to at own value_scan feature_scan → next_own ≡ own
+    → LayerWalk bytes from to at next_own value_scan feature_scan
+LayerWalk-unchanged {bytes} {from} {to} {at} {value_scan = value_scan} {feature_scan = feature_scan} so_far same = subst (λ (scan : FieldScan). LayerWalk bytes from to at scan value_scan feature_scan) (sym same) so_far
+
+module _ (bytes : List ℕ) (from to at : ℕ) (own : FieldScan) (value_scan feature_scan : EmbeddedScan Message (ℕ × WireCause)) (within : to ≤ length bytes) (so_far : LayerWalk bytes from to at own value_scan feature_scan) where
+  -- one more field is passed
+  pub LayerWalk-more : (read : Field × ℕ) (next_own : FieldScan) (next_values next_features : EmbeddedScan Message (ℕ × WireCause)) → PassesNext messages.Layer (take to bytes) at own next_own read
+      → Notes bytes value_scan next_values (entry_of read.0) → Notes bytes feature_scan next_features (entry_of read.0)
+      → LayerWalk bytes from to read.1 next_own next_values next_features
+  LayerWalk-more read next_own next_values next_features next values features =
+      let size = length-take-le to bytes within in
+      let further = next.given.further in
+      let few_values = so_far.few_values in
+      let few_features = so_far.few_features in
+      record {
+        within = omega (arith, next.given.within);
+        entries = so_far.entries ++ entry_of read.0 ∷ [];
+        scanning = IsScanning-more so_far.scanning next;
+        values = values.noted so_far.entries so_far.values;
+        features = features.noted so_far.entries so_far.features;
+        value_message = values.message ∙ so_far.value_message;
+        value_number = values.number ∙ so_far.value_number;
+        feature_message = features.message ∙ so_far.feature_message;
+        feature_number = features.number ∙ so_far.feature_number;
+        few_values = omega (arith, values.count);
+        few_features = omega (arith, features.count);
+      }
+
+  -- or has a fault, which is the first of the layer
+  pub LayerWalk-fault : (layer : ℕ) (cause : WireCause) → IsFirstFrom messages.Layer (take to bytes) at own cause → IsLeast (IsLayerFault bytes (span_between from to) layer) (wire_fault_in (scopes.Layer layer) cause)
+  LayerWalk-fault layer cause fault = IsLeast-own bytes (span_between from to) layer cause (fault from so_far.entries so_far.scanning.passed so_far.scanning.passes)
+
+  module _ (over : at ≡ to) where
+    -- the whole layer was passed
+    whole : IsMessage (take to bytes) from so_far.entries
+    whole = let size = length-take-le to bytes within in subst (λ (place : ℕ). FieldList (take to bytes) from so_far.entries place) (over ∙ sym size) so_far.scanning.passed
+
+    -- what the scan of the layer's own fields finds
+    own_finds : (found : Option WireCause) → ((passed : List Entry) → Passes messages.Layer own passed → FindsLeastCause (EndFault messages.Layer passed to) found)
+        → FindsLeastCause (MessageFault messages.Layer (take to bytes) from) found
+    own_finds found finds = IsScanning-whole bytes to found within over so_far.scanning finds
+
+    pub LayerWalk-own : (layer : ℕ) (cause : WireCause)
+        → ((passed : List Entry) → Passes messages.Layer own passed → FindsLeastCause (EndFault messages.Layer passed to) (Some cause))
+        → IsLeast (IsLayerFault bytes (span_between from to) layer) (wire_fault_in (scopes.Layer layer) cause)
+    LayerWalk-own layer cause finds = IsLeast-own bytes (span_between from to) layer cause (own_finds (Some cause) finds)
+
+    module _ (none : (passed : List Entry) → Passes messages.Layer own passed → FindsLeastCause (EndFault messages.Layer passed to) None) where
+      -- that of a value, where the layer has none of its own
+      pub LayerWalk-value : (layer ordinal : ℕ) (cause : WireCause) → value_scan.first ≡ Some (ordinal, cause) → IsLeast (IsLayerFault bytes (span_between from to) layer) (wire_fault_in (scopes.Value layer ordinal) cause)
+      LayerWalk-value layer ordinal cause first =
+          IsLeast-value bytes (span_between from to) layer so_far.entries ordinal cause whole (own_finds None none)
+          (scan_finds bytes value_scan so_far.entries messages.Value 4 (Some (ordinal, cause)) so_far.value_message so_far.value_number first so_far.values)
+
+      -- that of a feature, where no value has one
+      pub LayerWalk-feature : (layer ordinal : ℕ) (cause : WireCause) → value_scan.first ≡ None → feature_scan.first ≡ Some (ordinal, cause)
+          → IsLeast (IsLayerFault bytes (span_between from to) layer) (wire_fault_in (scopes.Feature layer ordinal) cause)
+      LayerWalk-feature layer ordinal cause values first =
+          IsLeast-feature bytes (span_between from to) layer so_far.entries ordinal cause whole (own_finds None none)
+          (scan_finds bytes value_scan so_far.entries messages.Value 4 None so_far.value_message so_far.value_number values so_far.values).1
+          (scan_finds bytes feature_scan so_far.entries messages.Feature 2 (Some (ordinal, cause)) so_far.feature_message so_far.feature_number first so_far.features)
+
+      -- none
+      pub LayerWalk-none : (layer : ℕ) → value_scan.first ≡ None → feature_scan.first ≡ None → (fault : Fault) → ¬ IsLayerFault bytes (span_between from to) layer fault
+      LayerWalk-none layer values features =
+          IsLayerFault-none bytes (span_between from to) layer so_far.entries whole (own_finds None none)
+          (scan_finds bytes value_scan so_far.entries messages.Value 4 None so_far.value_message so_far.value_number values so_far.values).1
+          (scan_finds bytes feature_scan so_far.entries messages.Feature 2 None so_far.feature_message so_far.feature_number features so_far.features).1

@@ -1,0 +1,162 @@
+-- A walk over the fields of a message, and what the faults of its fields say of the message.
+use Rattle.std.proofs.Common.{◌≡◌, ℕ, ◌-◌, ◌<◌, ◌≤◌, ◌⊎◌, inl, inr, List, [], ◌∷◌, ◌++◌, length, take, Option, Some, None, sym, ◌∙◌, ap, subst, arith, append-nil, append_assoc}
+use Rattle.std.proofs.lemmas.List.{length-take-le}
+use Rattle.std.proofs.lemmas.List.Edits.{length-between}
+use Rattle.mvt_wire.specs.Field.{Content, varint, eight_bytes, delimited, four_bytes, Entry, entry_of, IsPayload, IsField}
+use Rattle.mvt_wire.specs.Message.{FieldList, IsMessage, HasDefect}
+use Rattle.mvt_wire.specs.Walk.{Walk, GivesField}
+use Rattle.mvt_wire.specs.WireFault.{FieldFault, EndFault, MessageFault}
+use Rattle.mvt_wire.specs.declared.cause.WireCause.{WireCause}
+use Rattle.mvt_wire.specs.declared.field.Field.{Field}
+use Rattle.mvt_wire.specs.declared.schema.Message.{Message}
+use Rattle.mvt_wire.proofs.Encoding.Entries.{field_extent}
+use Rattle.mvt_wire.proofs.Encoding.Messages.{FieldList-push, one_list, whole_or_defect, one_defect}
+use Rattle.mvt_tile.specs.Calls.Least.{IsLeastCause, FindsLeastCause}
+use Rattle.mvt_tile.specs.Calls.FieldPlace.{LiesWithin, IsPlaced}
+use Rattle.mvt_tile.specs.Calls.FieldsLeft.{IsDefectOr}
+use Rattle.mvt_tile.specs.Calls.FieldScan.{Passes, PassesNext, IsFirstFault}
+use Rattle.mvt_tile.specs.declared.wire.scan.FieldScan.{FieldScan}
+use Rattle.mvt_tile.proofs.WireFaults.Causes.{by_offset, same_cause}
+use Rattle.mvt_tile.proofs.WireFaults.EndFaults.{end_place}
+use Rattle.mvt_tile.proofs.WireFaults.OneMoreField.{IsFirstFault-kept}
+use Rattle.mvt_wire.proofs.Walking.{IsWalking}
+
+-- where a payload lies
+payload_place : (bytes : List ℕ) (at key_end to : ℕ) (content : Content) → at < key_end → IsPayload bytes key_end to content → LiesWithin at to content
+payload_place bytes at key_end to (varint value place) forward p = let ahead = p.1.forward in (omega (arith, p.0), omega (arith, p.0))
+payload_place bytes at key_end to (eight_bytes part) forward p = tt
+payload_place bytes at key_end to (delimited start part) forward p =
+    let ahead = p.1.forward in
+    let size : length part ≡ to - start = ap length p.4 ∙ length-between bytes start to p.3 in
+    (omega arith, omega (arith, p.2))
+payload_place bytes at key_end to (four_bytes part) forward p = tt
+
+-- a field lies before the next
+pub IsPlaced-field : (bytes : List ℕ) (next : ℕ) (entry : Entry) → IsField bytes next entry → IsPlaced entry next
+IsPlaced-field bytes next entry field = record {
+  forward = (field_extent bytes next entry field).0;
+  payload = payload_place bytes entry.at field.key_end next entry.content field.key.spelled.forward field.payload;
+}
+
+-- a field of a front of the bytes lies within it
+pub IsPlaced-within : (bytes : List ℕ) (to : ℕ) {at next : ℕ} {entry : Entry} → to ≤ length bytes → GivesField (record { bytes = take to bytes; at = at }) (record { bytes = take to bytes; at = next }) entry
+    → (end : ℕ) × IsPlaced entry end × (end ≤ to)
+IsPlaced-within bytes to {next = next} {entry = entry} within given =
+    let size = length-take-le to bytes within in
+    (next, IsPlaced-field (take to bytes) next entry given.spelled, omega (arith, given.within))
+
+-- a defect is the only fault of its message
+pub defect_alone : (message : Message) (bytes : List ℕ) (from : ℕ) (cause : WireCause) → HasDefect bytes from cause → IsLeastCause (MessageFault message bytes from) cause
+defect_alone message bytes from cause defect = record {
+  holds = inl defect;
+  least = λ other fault. elim fault [
+    | inl another ↦ same_cause cause other (one_defect bytes from cause other defect another)
+    | inr whole ↦ absurd (whole_or_defect bytes from whole.0 cause whole.1 defect)
+  ];
+}
+
+-- a fault of a whole message is one of its fields, or one at its end
+whole_fault : (message : Message) (bytes : List ℕ) (from : ℕ) (entries : List Entry) (cause : WireCause) → IsMessage bytes from entries → MessageFault message bytes from cause
+    → FieldFault message entries cause ⊎ EndFault message entries (length bytes) cause
+whole_fault message bytes from entries cause whole (inl defect) = absurd (whole_or_defect bytes from entries cause whole defect)
+whole_fault message bytes from entries cause whole (inr other) =
+    subst (λ (list : List Entry). FieldFault message list cause ⊎ EndFault message list (length bytes) cause) (one_list bytes from other.0 entries other.1 whole) other.2
+
+whole_finds : (message : Message) (bytes : List ℕ) (from : ℕ) (entries : List Entry) (found : Option WireCause) → IsMessage bytes from entries
+    → FindsLeastCause (λ cause. FieldFault message entries cause ⊎ EndFault message entries (length bytes) cause) found → FindsLeastCause (MessageFault message bytes from) found
+whole_finds message bytes from entries None whole finds = λ cause fault. finds cause (whole_fault message bytes from entries cause whole fault)
+whole_finds message bytes from entries (Some first) whole finds = record {
+  holds = inr (entries, whole, finds.holds);
+  least = λ cause fault. finds.least cause (whole_fault message bytes from entries cause whole fault);
+}
+
+-- where no field has a fault, those at the end are all
+end_finds : (message : Message) (entries : List Entry) (end : ℕ) (found : Option WireCause) → ((cause : WireCause) → ¬ FieldFault message entries cause) → FindsLeastCause (EndFault message entries end) found
+    → FindsLeastCause (λ cause. FieldFault message entries cause ⊎ EndFault message entries end cause) found
+end_finds message entries end None none finds = λ cause fault. elim fault [ inl field ↦ none cause field | inr at_end ↦ finds cause at_end ]
+end_finds message entries end (Some first) none finds = record {
+  holds = inr finds.holds;
+  least = λ cause fault. elim fault [ inl field ↦ absurd (none cause field) | inr at_end ↦ finds.least cause at_end ];
+}
+
+-- a first fault of the fields before a place is the first of all, whatever is later
+first_of_rest : (message : Message) (bytes : List ℕ) (entries rest : List Entry) (from to : ℕ) (first : WireCause) → FieldList bytes from rest to → IsFirstFault message entries from first
+    → IsFirstFault message (entries ++ rest) to first
+first_of_rest message bytes entries [] from to first list so_far =
+    subst (λ (list : List Entry). IsFirstFault message list to first) (sym (append-nil entries)) (subst (λ (place : ℕ). IsFirstFault message entries place first) list so_far)
+first_of_rest message bytes entries (entry ∷ rest) from to first list so_far =
+    let here : IsFirstFault message entries entry.at first = subst (λ (place : ℕ). IsFirstFault message entries place first) (sym list.0) so_far in
+    let one : IsFirstFault message (entries ++ entry ∷ []) list.1.0 first =
+    IsFirstFault-kept message entries entry list.1.0 first (IsPlaced-field bytes list.1.0 entry list.1.1) here in
+    subst (λ (list : List Entry). IsFirstFault message list to first) (append_assoc entries (entry ∷ []) rest) (first_of_rest message bytes (entries ++ entry ∷ []) rest list.1.0 to first list.1.2 one)
+
+-- two field lists, one after the other
+FieldList-append : (bytes : List ℕ) (from at to : ℕ) (entries rest : List Entry) → FieldList bytes from entries at → FieldList bytes at rest to → FieldList bytes from (entries ++ rest) to
+FieldList-append bytes from at to [] rest list following = subst (λ (place : ℕ). FieldList bytes place rest to) (sym list) following
+FieldList-append bytes from at to (entry ∷ entries) rest list following = (list.0, (list.1.0, list.1.1, FieldList-append bytes list.1.0 at to entries rest list.1.2 following))
+
+HasDefect-following : (bytes : List ℕ) (from at : ℕ) (entries : List Entry) (cause : WireCause) → FieldList bytes from entries at → HasDefect bytes at cause → HasDefect bytes from cause
+HasDefect-following bytes from at entries cause list defect =
+    record { entries = entries ++ defect.entries; at = defect.at; before = FieldList-append bytes from at defect.at entries defect.entries list defect.before; left = defect.left; defect = defect.defect }
+
+-- after a first fault, the defect of the message is its only fault, and where there is none the first fault is its first
+pub first_or_defect : (message : Message) (bytes : List ℕ) (from : ℕ) (walk : Walk) (entries : List Entry) (first cause : WireCause) → IsWalking bytes from walk entries
+    → IsFirstFault message entries walk.at first → IsDefectOr walk first cause → IsLeastCause (MessageFault message bytes from) cause
+first_or_defect message bytes from walk entries first cause walked fault (inl defect) =
+    defect_alone message bytes from cause
+    (HasDefect-following bytes from walk.at entries cause walked.passed (subst (λ (list : List ℕ). HasDefect list walk.at cause) walked.same_bytes defect))
+first_or_defect message bytes from walk entries first cause walked fault (inr whole) =
+    let rest : IsMessage bytes walk.at whole.0.0 = subst (λ (list : List ℕ). IsMessage list walk.at whole.0.0) walked.same_bytes whole.0.1 in
+    let all : IsFirstFault message (entries ++ whole.0.0) (length bytes) first = first_of_rest message bytes entries whole.0.0 walk.at (length bytes) first rest fault in
+    subst (IsLeastCause (MessageFault message bytes from)) (sym whole.1)
+    (whole_finds message bytes from (entries ++ whole.0.0) (Some first) (FieldList-append bytes from walk.at (length bytes) entries whole.0.0 walked.passed rest) (record {
+      holds = inl all.least.holds;
+      least = λ other fault. elim fault [
+        | inl field ↦ all.least.least other field
+        | inr at_end ↦ let place = end_place message (entries ++ whole.0.0) (length bytes) other at_end in by_offset first other (omega (arith, all.before))
+      ];
+    }))
+
+-- What is known while the fields of a message are walked, up to a place: those that were passed, and what the scan keeps of them.
+pub record IsScanning (message : Message) (bytes : List ℕ) (from at : ℕ) (scan : FieldScan) (entries : List Entry) : Type 0 where
+  pub passed : FieldList bytes from entries at
+  pub passes : Passes message scan entries
+
+-- one more field was passed
+pub IsScanning-more : {message : Message} {bytes : List ℕ} {from at : ℕ} {before after : FieldScan} {entries : List Entry} {read : Field × ℕ} → IsScanning message bytes from at before entries
+    → PassesNext message bytes at before after read → IsScanning message bytes from read.1 after (entries ++ entry_of read.0 ∷ [])
+IsScanning-more so_far next = record {
+  passed = FieldList-push _ _ _ _ _ _ so_far.passed next.given.here next.given.spelled;
+  passes = next.passed _ so_far.passes;
+}
+
+-- the faults at the end of a whole message that was scanned are all that it has
+pub IsScanning-whole : {message : Message} (bytes : List ℕ) {from at : ℕ} (to : ℕ) {scan : FieldScan} {entries : List Entry} (found : Option WireCause) → to ≤ length bytes → at ≡ to
+    → IsScanning message (take to bytes) from at scan entries
+    → ((passed : List Entry) → Passes message scan passed → FindsLeastCause (EndFault message passed to) found)
+    → FindsLeastCause (MessageFault message (take to bytes) from) found
+IsScanning-whole {message} bytes {from} to {entries = entries} found within end so_far finds =
+    let size : length (take to bytes) ≡ to = length-take-le to bytes within in
+    whole_finds message (take to bytes) from entries found (subst (λ (place : ℕ). FieldList (take to bytes) from entries place) (end ∙ sym size) so_far.passed)
+    (end_finds message entries (length (take to bytes)) found so_far.passes.faultless (rw size (finds entries so_far.passes)))
+
+-- What is known while one message is walked.
+pub record MessageWalk (message : Message) (bytes : List ℕ) (from at : ℕ) (scan : FieldScan) : Type 0 where
+  pub within : at ≤ length bytes
+  pub entries : List Entry
+  pub scanning : IsScanning message bytes from at scan entries
+
+pub MessageWalk-more : {message : Message} {bytes : List ℕ} {from at : ℕ} {before after : FieldScan} {read : Field × ℕ} → MessageWalk message bytes from at before
+    → PassesNext message bytes at before after read → MessageWalk message bytes from read.1 after
+MessageWalk-more so_far next = record { within = next.given.within; entries = _; scanning = IsScanning-more so_far.scanning next }
+
+-- where a field wasn't passed the quick way, nothing has changed
+pub MessageWalk-unchanged : {message : Message} {bytes : List ℕ} {from at : ℕ} {before after : FieldScan} → MessageWalk message bytes from at before → after ≡ before → MessageWalk message bytes from at after
+MessageWalk-unchanged {message} {bytes} {from} {at} so_far same = subst (λ (scan : FieldScan). MessageWalk message bytes from at scan) (sym same) so_far
+
+-- the field that was passed, one way or the other
+pub PassesNext-as : {message : Message} {bytes : List ℕ} {at : ℕ} {old before after own : FieldScan} {read next : Field × ℕ} → PassesNext message bytes at before after read → before ≡ old → own ≡ after → next ≡ read
+    → PassesNext message bytes at old own next
+PassesNext-as {message} {bytes} {at} {old} {before} {after} {own} {read} {next} passed begin end is =
+    subst (λ (scan : FieldScan). PassesNext message bytes at scan own next) begin
+    (subst (λ (scan : FieldScan). PassesNext message bytes at before scan next) (sym end) (subst (λ (r : Field × ℕ). PassesNext message bytes at before after r) (sym is) passed))

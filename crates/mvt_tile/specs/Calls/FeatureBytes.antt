@@ -1,0 +1,15 @@
+-- The parts of a feature, as its fields give them.
+use Rattle.std.specs.Prelude.{◌≡◌, ℕ, List, map, None, Some}
+use Rattle.mvt_wire.specs.Field.{Entry}
+use Rattle.mvt_wire.specs.Tile.{numbers_of}
+use Rattle.mvt_tile.specs.Calls.NumberSpan.{StandBefore}
+use Rattle.mvt_tile.specs.Calls.Reading.{last_of}
+use Rattle.mvt_tile.specs.View.{kind_number}
+use Rattle.mvt_tile.specs.declared.feature_bytes.FeatureParts.{FeatureParts}
+
+-- the parts are those of these fields, after which the place is
+pub record GivesParts (message : List ℕ) (from : ℕ) (entries : List Entry) (place : ℕ) (parts : FeatureParts) : Type 0 where
+  pub id : parts.id ≡ last_of None (map Some (numbers_of 1 entries))
+  pub kind : kind_number parts.kind ≡ last_of 0 (numbers_of 3 entries)
+  pub tags : StandBefore message from 2 place parts.tags
+  pub geometry : StandBefore message from 4 place parts.geometry

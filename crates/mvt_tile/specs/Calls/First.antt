@@ -1,0 +1,19 @@
+-- The first of several spans of bytes in which something is found.
+use Rattle.std.specs.Prelude.{◌≡◌, ℕ, ◌<◌, List, length, Option, Some, MatchOption, slice_get}
+use Rattle.mvt_wire.specs.Scope.{Span}
+
+-- each is clean, with its ordinal
+abbrev pub AreClean : (ℕ → Span → Type 0) → List Span → Type 0
+AreClean Clean spans = (ordinal : ℕ) (span : Span) → slice_get spans ordinal ≡ Some span → Clean ordinal span
+
+-- something is found in one of them, and those before it are clean
+pub record IsFirst (Clean Found : ℕ → Span → Type 0) (spans : List Span) : Type 0 where
+  pub ordinal : ℕ
+  pub span : Span
+  pub here : slice_get spans ordinal ≡ Some span
+  pub found : Found ordinal span
+  pub before : (earlier : ℕ) (other : Span) → earlier < ordinal → slice_get spans earlier ≡ Some other → Clean earlier other
+
+-- what is found first, or else how many there are, all of them clean
+abbrev pub FindsFirst : {R : Type 0} → (ℕ → Span → Type 0) → (R → ℕ → Span → Type 0) → List Span → ℕ → Option R → Type 0
+FindsFirst Clean Found spans count first = MatchOption first ((count ≡ length spans) × AreClean Clean spans) (λ found. IsFirst Clean (Found found) spans)

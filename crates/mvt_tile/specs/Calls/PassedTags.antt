@@ -1,0 +1,49 @@
+-- Tags that a pass over their pairs has gone over (Mapbox Vector Tile Specification 2.1, section 4.4).
+use Rattle.std.specs.Prelude.{◌≡◌, ℕ, ◌+◌, ◌*◌, ◌<◌, ◌≤◌, Bool, true, List, length, slice_get, Option, Some, MatchOption}
+use Rattle.mvt_fault.specs.TrueFaults.{TagsBreak}
+use Rattle.mvt_fault.specs.declared.tag.TagCode.{TagCode}
+use Rattle.mvt_wire.specs.Rules.{IsKeyAt}
+use Rattle.mvt_tile.specs.Calls.KeyMarks.{has_key}
+use Rattle.mvt_tile.specs.Calls.RuleFaults.{IsFirstTagFault}
+use Rattle.mvt_tile.specs.declared.rules.key_marks.KeyMarks.{KeyMarks}
+use Rattle.mvt_tile.specs.declared.rules.tags.TagNeeds.{TagNeeds}
+
+-- in a list of pairs, this one is at a place
+pub record IsPairAt (tags : List ℕ) (at key value : ℕ) : Type 0 where
+  pub pairs : ℕ
+  pub even : length tags ≡ 2 * pairs
+  pub first : slice_get tags at ≡ Some key
+  pub second : slice_get tags (at + 1) ≡ Some value
+
+-- the tags before a place have no fault, in a layer of so many keys and values
+pub record AreCleanBefore (keys values : ℕ) (tags : List ℕ) (to : ℕ) : Type 0 where
+  pub clean : (code : TagCode) (place : ℕ) → place < to → ¬ TagsBreak code keys values tags place
+
+-- The keys of the pairs before a place are the keys that were kept. A place after some pairs of the list is even.
+pub record IsPassed (tags : List ℕ) (has : ℕ → Bool) (to : ℕ) : Type 0 where
+  pub pair : ℕ
+  pub even : to ≡ 2 * pair
+  pub stood : (key : ℕ) → has key ≡ true → (earlier : ℕ) × (earlier < to) × IsKeyAt tags earlier key
+  pub kept : (key earlier : ℕ) → earlier < to → IsKeyAt tags earlier key → has key ≡ true
+
+-- the pairs before a place have no fault, and their keys are in the set
+pub record ArePassed (set : KeyMarks) (keys values : ℕ) (tags : List ℕ) (to : ℕ) : Type 0 where
+  pub passed : IsPassed tags (has_key set) to
+  pub clean : AreCleanBefore keys values tags to
+
+-- the indices of the pairs before a place are lesser than these numbers of keys and values
+pub record IsMetBefore (keys values : ℕ) (tags : List ℕ) (to : ℕ) : Type 0 where
+  pub pair : ℕ
+  pub even : to ≡ 2 * pair
+  pub key : (earlier key : ℕ) → 2 * earlier < to → slice_get tags (2 * earlier) ≡ Some key → key < keys
+  pub value : (earlier value : ℕ) → 2 * earlier < to → slice_get tags (2 * earlier + 1) ≡ Some value → value < values
+
+-- what was found of the pairs before a place: their first fault, or their keys where they have none
+abbrev pub HasFoundBefore : KeyMarks → ℕ → ℕ → List ℕ → ℕ → Option (TagCode × ℕ) → Type 0
+HasFoundBefore set keys values tags to found = MatchOption found (ArePassed set keys values tags to) (λ fault. IsFirstTagFault keys values tags fault.0 fault.1)
+
+-- the pairs before a place were passed: what they need is kept and, should the list be one of pairs, what was found of them
+pub record IsScanned (set : KeyMarks) (keys values : ℕ) (tags : List ℕ) (at : ℕ) (needs : TagNeeds) (found : Option (TagCode × ℕ)) : Type 0 where
+  pub within : at ≤ length tags
+  pub met : IsMetBefore needs.keys needs.values tags at
+  pub so_far : (pairs : ℕ) → length tags ≡ 2 * pairs → HasFoundBefore set keys values tags at found

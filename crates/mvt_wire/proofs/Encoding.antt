@@ -1,0 +1,11 @@
+-- Varints, fields and messages, and their defects.
+pub mod Defects
+pub mod Entries
+pub mod FieldSpellings
+pub mod Groups
+pub mod Messages
+pub mod PackedLists
+pub mod Payloads
+pub mod VarintLists
+pub mod Varints
+pub mod Zigzags

@@ -1,0 +1,10 @@
+-- The numbers that the fields of one number state.
+pub mod NumberEnds
+pub mod NumberFaults
+pub mod NumberFields
+pub mod NumberLaws
+pub mod NumberPlaces
+pub mod NumberStops
+pub mod NumberWalks
+pub mod NumbersLeft
+pub mod SmallNumbers

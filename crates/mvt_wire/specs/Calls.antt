@@ -1,0 +1,5 @@
+-- Definitions that only state contracts of private functions. No public contract rests on them.
+pub mod Key
+pub mod Numbers
+pub mod Scope
+pub mod Tile

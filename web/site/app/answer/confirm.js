@@ -1,0 +1,35 @@
+// Asks the separate checker of any fault.
+
+import { reasonOf } from '../files/checks.js';
+import { byId } from '../tools/dom.js';
+
+/** @typedef {import('../../gate/gate.js').Confirmation} Confirmation */
+
+/** @type {{[answer in Confirmation]: string}} */
+const ANSWERS = {
+  'confirmed': 'Confirmed: this fault is true of the tile.',
+  'not confirmed': "Not confirmed: this fault isn't true of the tile.",
+  'not JSON': "This isn't JSON.",
+  'not a fault': 'This is JSON, but it is no fault.',
+  'out of range': 'A number of this fault is out of range.',
+};
+
+export class ConfirmForm {
+  #claim = byId('claim', HTMLTextAreaElement);
+  #told = byId('told', HTMLElement);
+
+  /** @param {(claim: string) => Promise<Confirmation>} confirm asks the checker, of the tile that is shown */
+  constructor(confirm) {
+    byId('ask', HTMLButtonElement).addEventListener('click', async () => {
+      this.#told.textContent = 'The checker is at work.';
+      const answer = confirm(this.#claim.value).then((it) => ANSWERS[it]);
+      this.#told.textContent = await answer.catch((error) => `No answer: ${reasonOf(error)}.`);
+    });
+  }
+
+  /** @param {string} claim to begin with */
+  show(claim) {
+    this.#claim.value = claim;
+    this.#told.textContent = '';
+  }
+}

@@ -1,0 +1,68 @@
+// The list of layers: which are chosen, and the keys and values of each.
+
+import { featureCounts, valueText } from '../../tile/layers.js';
+import { element } from '../tools/dom.js';
+import { counted, digits } from '../tools/text.js';
+
+/** @typedef {import('./record.js').TileRecord} TileRecord */
+/** @typedef {import('./record.js').Layer} Layer */
+
+/** How many keys, and how many values, are listed of a layer. */
+const LISTED = 200;
+
+export class LayerList {
+  /** @type {HTMLInputElement[]} */
+  #boxes = [];
+  #list;
+  #changed;
+
+  /**
+   * @param {HTMLElement} list
+   * @param {() => void} changed is called where the user chose other layers
+   */
+  constructor(list, changed) {
+    this.#list = list;
+    this.#changed = changed;
+  }
+
+  /** The layers that are chosen. */
+  get chosen() {
+    return new Set([...this.#boxes.keys()].filter((layer) => this.#boxes[layer].checked));
+  }
+
+  /** @param {Layer[]} layers */
+  show(layers) {
+    this.#boxes = [];
+    this.#list.replaceChildren(...layers.map((layer) => this.#line(layer)));
+  }
+
+  /** @param {Layer} layer */
+  #line(layer) {
+    const box = element('input', { type: 'checkbox' });
+    box.checked = true;
+    box.addEventListener('change', this.#changed);
+    this.#boxes.push(box);
+    return element('li', {},
+      element('label', {}, box, element('span', { class: 'layer-name' }, layer.name || '(no name)')),
+      element('p', { class: 'small' }, `${featureCounts(layer)}; extent ${digits(layer.extent)}, version ${layer.version}`),
+      this.#texts(`${counted(layer.keys.length, 'key')} of ${layer.name}`, layer.keys.length, (at) => layer.keys[at]),
+      this.#texts(`${counted(layer.values.length, 'value')} of ${layer.name}`, layer.values.length, (at) => valueText(layer.values[at])));
+  }
+
+  /**
+   * Keys or values, which are written when they are asked for.
+   * @param {string} title
+   * @param {number} count
+   * @param {(at: number) => string} textAt
+   */
+  #texts(title, count, textAt) {
+    if (count === 0) return '';
+    const details = element('details', { class: 'small' }, element('summary', {}, title));
+    details.addEventListener('toggle', () => {
+      const items = Array.from({ length: Math.min(count, LISTED) }, (_, at) => element('li', { value: at }, textAt(at)));
+      const rest = count > LISTED ? element('p', {}, `The first ${digits(LISTED)} of ${digits(count)} are listed.`) : '';
+      details.append(element('ol', { start: 0 }, ...items), rest);
+    }, { once: true });
+    return details;
+  }
+}

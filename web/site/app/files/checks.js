@@ -1,0 +1,228 @@
+// The files, and the check of one after another.
+
+import { OutOfMemory, Stopped } from '../../gate/errors.js';
+import { isGzip, unpack } from './gzip.js';
+import { readFile, Unreadable } from './read.js';
+
+/** @typedef {import('./link.js').Profile} Profile */
+/** @typedef {Pick<import('../../gate/remote.js').RemoteGate, 'check'|'confirm'|'stop'>} Gate */
+/** @typedef {'waiting'|'checking'|'valid'|'fault'|'unreadable'|'stopped'} State */
+/** @typedef {import('../../picture/types.js').Fault} Fault the members of a fault's text */
+
+/**
+ * What is known of a file. `said` is the text of the fault; `reason` says why there is no verdict.
+ * @typedef {object} Entry
+ * @property {string} name
+ * @property {Blob} file
+ * @property {State} state
+ * @property {boolean} isPacked
+ * @property {number} size of the tile, unpacked
+ * @property {string} said
+ * @property {Fault|null} fault
+ * @property {boolean} isConfirmed
+ * @property {number} milliseconds
+ * @property {number} memory
+ * @property {string} reason
+ */
+
+/** @typedef {Pick<Entry, 'state'> & Partial<Entry>} Result */
+
+/** @typedef {Record<State, number>} Counts how many files are in each state */
+
+/**
+ * @param {string} name
+ * @param {Blob} file
+ * @returns {Entry}
+ */
+export function newEntry(name, file) {
+  return {
+    name, file, state: 'waiting', isPacked: false, size: 0, said: '', fault: null, isConfirmed: false, milliseconds: 0, memory: 0, reason: '',
+  };
+}
+
+/** @returns {Counts} of no files */
+function noCounts() {
+  return { waiting: 0, checking: 0, valid: 0, fault: 0, unreadable: 0, stopped: 0 };
+}
+
+export class Checks {
+  /** @type {Entry[]} */
+  entries = [];
+  counts = noCounts();
+  #following = 0; // the place of the next file: none before it waits
+  /** @type {Profile} */
+  profile = 'polygon';
+  #gate;
+  #changed;
+  #isRunning = false;
+  /** @type {{entry: Entry}|null} the check that goes on */
+  #current = null;
+  /** @type {{entry: Entry|null, tile: Promise<Uint8Array>}} the tile that was read last, which is mostly the one that is shown */
+  #latest = { entry: null, tile: Promise.resolve(new Uint8Array()) };
+
+  /**
+   * @param {Gate} gate
+   * @param {(entry: Entry) => void} changed is called after each change of an entry's state
+   */
+  constructor(gate, changed) {
+    this.#gate = gate;
+    this.#changed = changed;
+  }
+
+  get isBusy() {
+    return this.counts.waiting + this.counts.checking > 0;
+  }
+
+  /**
+   * Adds files, which are then checked one after another.
+   * @param {Entry[]} entries
+   */
+  add(entries) {
+    for (const entry of entries) {
+      this.entries.push(entry);
+      this.counts[entry.state] += 1;
+    }
+    this.#run();
+  }
+
+  /** Takes all files away. */
+  clear() {
+    this.stop();
+    this.entries = [];
+    this.counts = noCounts();
+    this.#following = 0;
+    this.#latest = { entry: null, tile: Promise.resolve(new Uint8Array()) };
+  }
+
+  /**
+   * Checks a file once more.
+   * @param {Entry} entry
+   */
+  again(entry) {
+    this.#set(entry, { state: 'waiting' });
+    this.#following = 0;
+    this.#run();
+  }
+
+  /**
+   * Checks all files by another profile.
+   * @param {Profile} profile
+   */
+  setProfile(profile) {
+    if (profile === this.profile) return;
+    this.profile = profile;
+    this.#interrupt('waiting');
+    for (const entry of this.entries) if (entry.state === 'valid' || entry.state === 'fault') this.#set(entry, { state: 'waiting' });
+    this.#following = 0;
+    this.#run();
+  }
+
+  /** Ends the check that goes on, and those that wait. */
+  stop() {
+    this.#interrupt('stopped');
+  }
+
+  /**
+   * The bytes of a file's tile, unpacked.
+   * @param {Entry} entry
+   * @returns {Promise<Uint8Array>}
+   */
+  tileOf(entry) {
+    if (this.#latest.entry !== entry) this.#latest = { entry, tile: readTile(entry) };
+    return this.#latest.tile;
+  }
+
+  /** @param {State} state of the entries that were under way */
+  #interrupt(state) {
+    if (this.#current) this.#gate.stop();
+    this.#current = null;
+    for (const entry of this.entries.filter(isUnderWay)) this.#set(entry, { state });
+  }
+
+  async #run() {
+    if (this.#isRunning) return;
+    this.#isRunning = true;
+    for (let entry = this.#next(); entry; entry = this.#next()) await this.#check(entry);
+    this.#isRunning = false;
+  }
+
+  /** @returns {Entry|undefined} the first file that waits */
+  #next() {
+    while (this.#following < this.entries.length && this.entries[this.#following].state !== 'waiting') this.#following += 1;
+    return this.entries[this.#following];
+  }
+
+  /**
+   * Checks a file. Where this is interrupted, another state is set already.
+   * @param {Entry} entry
+   */
+  async #check(entry) {
+    const current = { entry };
+    this.#current = current;
+    this.#set(entry, { state: 'checking', reason: '' });
+    const result = await this.#judge(entry, () => this.#current === current).catch(afterError);
+    if (this.#current !== current) return;
+    this.#current = null;
+    this.#set(entry, result);
+  }
+
+  /**
+   * @param {Entry} entry
+   * @param {() => boolean} isCurrent
+   * @returns {Promise<Result>}
+   */
+  async #judge(entry, isCurrent) {
+    const tile = await this.tileOf(entry);
+    if (!isCurrent()) throw new Stopped();
+    const { fault, milliseconds, memory } = await this.#gate.check(tile, this.profile);
+    const measured = { size: tile.length, milliseconds, memory };
+    if (fault === null) return { state: 'valid', said: '', fault: null, isConfirmed: false, ...measured };
+    const confirmed = await this.#gate.confirm(tile, fault, this.profile);
+    return { state: 'fault', said: fault, fault: JSON.parse(fault), isConfirmed: confirmed === 'confirmed', ...measured };
+  }
+
+  /**
+   * @param {Entry} entry
+   * @param {Result} result
+   */
+  #set(entry, result) {
+    this.counts[entry.state] -= 1;
+    Object.assign(entry, result);
+    this.counts[entry.state] += 1;
+    this.#changed(entry);
+  }
+}
+
+/** @param {Entry} entry */
+function isUnderWay(entry) {
+  return entry.state === 'waiting' || entry.state === 'checking';
+}
+
+/**
+ * @param {Entry} entry
+ */
+async function readTile(entry) {
+  const bytes = await readFile(entry.file);
+  entry.isPacked = isGzip(bytes);
+  return entry.isPacked ? unpack(bytes) : bytes;
+}
+
+/**
+ * @param {unknown} error
+ * @returns {Result}
+ */
+function afterError(error) {
+  if (error instanceof Stopped) return { state: 'stopped' };
+  return { state: 'unreadable', reason: reasonOf(error) };
+}
+
+/**
+ * A sentence without its full stop: why a call brought nothing.
+ * @param {unknown} error
+ */
+export function reasonOf(error) {
+  if (error instanceof OutOfMemory) return 'the browser refused the memory that the check needs';
+  if (error instanceof Unreadable) return error.message;
+  if (error instanceof Stopped) return 'it was stopped';
+  return `the page failed with an error (${error instanceof Error ? error.message : String(error)})`;
+}

@@ -1,0 +1,37 @@
+// What is said of a file, and of all of them.
+
+import { explainFault } from '../../words/explain.js';
+import { counted, digits, listed } from '../tools/text.js';
+
+/** @typedef {import('./checks.js').Entry} Entry */
+
+/**
+ * A verdict in a line.
+ * @param {Entry} entry
+ */
+export function verdictText(entry) {
+  switch (entry.state) {
+    case 'waiting': return 'waiting';
+    case 'checking': return 'checking';
+    case 'valid': return 'valid';
+    case 'stopped': return 'stopped';
+    case 'unreadable': return `couldn't be read: ${entry.reason}`;
+    default: return entry.fault ? `${entry.fault.code}: ${explainFault(entry.fault).title}` : '';
+  }
+}
+
+/**
+ * How many files there are, and of each kind of verdict.
+ * @param {import('./checks.js').Counts} counts
+ */
+export function totalsText(counts) {
+  const parts = /** @type {[number, string][]} */ ([
+    [counts.valid, 'valid'],
+    [counts.fault, 'with a fault'],
+    [counts.unreadable, "couldn't be read"],
+    [counts.stopped, 'stopped'],
+    [counts.waiting + counts.checking, 'to be checked'],
+  ]);
+  const said = parts.filter(([number]) => number).map(([number, words]) => `${digits(number)} ${words}`);
+  return `${counted(parts.reduce((sum, [number]) => sum + number, 0), 'file')}: ${listed(said)}.`;
+}

@@ -1,0 +1,88 @@
+// The ways on which tiles come into the page: a choice, a drop, a paste, a link.
+
+import { gatherChosen, gatherDropped } from './files/gather.js';
+import { readLink } from './files/link.js';
+import { Unreadable } from './files/read.js';
+import { byId } from './tools/dom.js';
+
+/** @typedef {import('./files/gather.js').Source} Source */
+/** @typedef {import('./files/link.js').Profile} Profile */
+
+/**
+ * What is done with that which comes in.
+ * @typedef {object} Receiver
+ * @property {(sources: Source[]) => void} take
+ * @property {(profile: Profile) => void} setProfile
+ * @property {(error: unknown, name: string) => void} refuse
+ */
+
+// (so it is in Chromium)
+const NO_FOLDER = "a page that was opened from a disk can't read a folder that is dropped; use 'Choose a folder'";
+
+/** @param {Receiver} receiver */
+export function receiveFiles(receiver) {
+  for (const identifier of ['file', 'folder']) {
+    const input = byId(identifier, HTMLInputElement);
+    input.addEventListener('change', () => {
+      if (input.files) receiver.take(gatherChosen(input.files));
+      input.value = ''; // so that the same file can be chosen again
+    });
+  }
+  receiveDrops(receiver);
+  document.addEventListener('paste', (event) => {
+    if (event.target instanceof HTMLTextAreaElement || event.target instanceof HTMLInputElement || !event.clipboardData) return;
+    const text = event.clipboardData.getData('text/plain');
+    if (text) receiveLink(receiver, text.slice(text.indexOf('#') + 1), 'pasted link');
+    else takeTransfer(receiver, event.clipboardData);
+  });
+}
+
+/** @param {Receiver} receiver */
+function receiveDrops(receiver) {
+  const mark = (/** @type {boolean} */ isOver) => document.body.classList.toggle('over', isOver);
+  document.addEventListener('dragover', (event) => {
+    if (!event.dataTransfer?.types.includes('Files')) return;
+    event.preventDefault();
+    mark(true);
+  });
+  document.addEventListener('dragleave', (event) => {
+    if (!event.relatedTarget) mark(false);
+  });
+  document.addEventListener('drop', (event) => {
+    if (!event.dataTransfer?.types.includes('Files')) return;
+    event.preventDefault();
+    mark(false);
+    takeTransfer(receiver, event.dataTransfer);
+  });
+}
+
+/**
+ * @param {Receiver} receiver
+ * @param {DataTransfer} transfer
+ */
+function takeTransfer(receiver, transfer) {
+  gatherDropped(transfer).then(receiver.take, () => receiver.refuse(new Unreadable(NO_FOLDER), 'dropped folder'));
+}
+
+/** @param {Receiver} receiver */
+export function receiveLinks(receiver) {
+  const look = () => receiveLink(receiver, location.hash, 'tile of the link');
+  addEventListener('hashchange', look);
+  look();
+}
+
+/**
+ * @param {Receiver} receiver
+ * @param {string} fragment
+ * @param {string} name
+ */
+function receiveLink(receiver, fragment, name) {
+  try {
+    const link = readLink(fragment);
+    if (!link) return;
+    receiver.setProfile(link.profile);
+    receiver.take([{ name, file: new Blob([link.bytes]) }]);
+  } catch (error) {
+    receiver.refuse(error, name);
+  }
+}

@@ -1,0 +1,86 @@
+/**
+ * An instance of the gate's module and its memory. Sizes and addresses have 64 bits in the module, so they are BigInts.
+ *
+ * @typedef {bigint} Address
+ * @typedef {{
+ *   memory: WebAssembly.Memory,
+ *   malloc: (size: bigint) => Address,
+ *   free: (at: Address) => void,
+ *   forget: () => void,
+ *   version: () => number,
+ *   check: (profile: number, tile: Address, tileLength: bigint, text: Address, room: bigint, length: Address) => number,
+ *   confirm: (profile: number, tile: Address, tileLength: bigint, text: Address, textLength: bigint) => number,
+ *   dump: (tile: Address, tileLength: bigint, text: Address, room: bigint, length: Address) => number,
+ *   advise: (tile: Address, tileLength: bigint, text: Address, room: bigint, length: Address) => number,
+ * }} Exports
+ */
+import { OutOfMemory, withMemory } from './errors.js';
+
+export class Instance {
+  /** @type {Exports} */
+  exports;
+
+  /** @param {WebAssembly.Module} module */
+  constructor(module) {
+    this.exports = /** @type {any} */ (withMemory(() => new WebAssembly.Instance(module).exports));
+  }
+
+  /** The size of the memory in bytes. It only grows. */
+  get memory() {
+    return this.exports.memory.buffer.byteLength;
+  }
+
+  /**
+   * @param {number} size in bytes
+   * @returns {Address} of as many bytes
+   */
+  take(size) {
+    const at = this.exports.malloc(BigInt(size));
+    if (at === 0n) throw new OutOfMemory();
+    return at;
+  }
+
+  /**
+   * @param {Uint8Array} bytes
+   * @returns {Address} of a copy of them
+   */
+  put(bytes) {
+    const at = this.take(bytes.length);
+    // (a view is made for each use, since memory that grows takes the older ones away)
+    new Uint8Array(this.exports.memory.buffer).set(bytes, Number(at));
+    return at;
+  }
+
+  /**
+   * @param {Address} at
+   * @returns {number} the length that stands there
+   */
+  length(at) {
+    return Number(new DataView(this.exports.memory.buffer).getBigUint64(Number(at), true));
+  }
+
+  /**
+   * @param {Address} at
+   * @param {number} length
+   * @returns {string} the text of as many bytes of UTF-8
+   */
+  text(at, length) {
+    const bytes = new Uint8Array(this.exports.memory.buffer, Number(at), length);
+    const text = decoded(bytes);
+    if (text === '' && length !== 0) throw new OutOfMemory();
+    return text;
+  }
+}
+
+/**
+ * @param {Uint8Array} bytes of UTF-8
+ * @returns {string} their text, or an empty one where memory was refused or it is longer than a string can be. (Chromium answers
+ *   so itself. Other browsers throw, each another error.)
+ */
+function decoded(bytes) {
+  try {
+    return new TextDecoder().decode(bytes);
+  } catch {
+    return '';
+  }
+}

@@ -1,0 +1,158 @@
+/**
+ * The gate in a worker, so that the page stays usable and a long check can be stopped.
+ *
+ * @typedef {import('./gate.js').Profile} Profile
+ * @typedef {import('./gate.js').Confirmation} Confirmation
+ * @typedef {import('./serve.js').Question} Question
+ * @typedef {import('./serve.js').Reply} Reply
+ * @typedef {{answer: any, milliseconds: number, memory: number}} Answered
+ * @typedef {{resolve: (answered: Answered) => void, reject: (error: Error) => void}} Waiting
+ */
+import { OutOfMemory, Stopped, withMemory } from './errors.js';
+
+export { OutOfMemory, Stopped };
+
+/** In bytes: a worker that had as much is replaced, since a browser may be long in taking such memory back from one that goes on. */
+const MUCH_MEMORY = 128 * 1024 * 1024;
+
+/**
+ * @returns {() => Worker} makes workers from a text, since a page that was opened as a file may load no script of a worker
+ */
+function workersOfPage() {
+  const script = URL.createObjectURL(new Blob([WORKER_SCRIPT], { type: 'text/javascript' }));
+  return () => new Worker(script);
+}
+
+export class RemoteGate {
+  #moduleBytes;
+  #newWorker;
+  /** @type {Worker} */
+  #worker;
+  #asked = 0;
+  /** @type {Map<number, Waiting>} */
+  #waiting = new Map();
+
+  /**
+   * The version of the gate, such as '0.1.0', as soon as it takes calls. Calls may be made before.
+   *
+   * @type {Promise<string>}
+   */
+  ready;
+
+  /**
+   * @param {Uint8Array} moduleBytes
+   * @param {() => Worker} newWorker
+   */
+  constructor(moduleBytes, newWorker = workersOfPage()) {
+    this.#moduleBytes = moduleBytes;
+    this.#newWorker = newWorker;
+    this.#worker = newWorker();
+    this.ready = this.#begin();
+  }
+
+  /** @returns {Promise<string>} */
+  #begin() {
+    const worker = this.#worker;
+    worker.onmessage = ({ data }) => this.#take(data);
+    worker.onerror = (event) => this.#rejectAll(new Error(event.message || 'the worker failed'));
+    const ready = this.#ask('load', [this.#moduleBytes]).then(({ answer }) => answer);
+    // (a stop before it is ready is no error that the page has to catch)
+    ready.catch(() => {});
+    return ready;
+  }
+
+  /** @param {Reply} reply */
+  #take(reply) {
+    const waiting = this.#waiting.get(reply.id);
+    this.#waiting.delete(reply.id);
+    if (!('error' in reply)) waiting?.resolve(reply);
+    else if (reply.error.name === 'OutOfMemory') waiting?.reject(new OutOfMemory());
+    else waiting?.reject(new Error(reply.error.message));
+    if (reply.memory > MUCH_MEMORY && this.#waiting.size === 0) this.#replace();
+  }
+
+  /** @param {Error} error */
+  #rejectAll(error) {
+    const all = [...this.#waiting.values()];
+    this.#waiting.clear();
+    for (const waiting of all) waiting.reject(error);
+  }
+
+  /**
+   * @param {Question['call']} call
+   * @param {any[]} given
+   * @param {Transferable[]} moved
+   * @returns {Promise<Answered>}
+   */
+  #ask(call, given, moved = []) {
+    return new Promise((resolve, reject) => {
+      const id = this.#asked++;
+      this.#waiting.set(id, { resolve, reject });
+      this.#worker.postMessage({ id, call, given }, moved);
+    });
+  }
+
+  /**
+   * The tile is copied once, and the copy is handed over to the worker.
+   *
+   * @param {Question['call']} call
+   * @param {Uint8Array} tile
+   * @param {any[]} others
+   * @returns {Promise<Answered>}
+   */
+  #askOf(call, tile, ...others) {
+    const copy = withMemory(() => new Uint8Array(tile));
+    return this.#ask(call, [copy, ...others], [copy.buffer]);
+  }
+
+  /**
+   * @param {Uint8Array} tile
+   * @param {Profile} profile
+   * @returns {Promise<{fault: string | null, milliseconds: number, memory: number}>} the text of the tile's first fault, or null
+   *   for a valid tile; the time of the check, and the size in bytes to which the module's memory grew
+   */
+  async check(tile, profile) {
+    const { answer, milliseconds, memory } = await this.#askOf('check', tile, profile);
+    return { fault: answer, milliseconds, memory };
+  }
+
+  /**
+   * @param {Uint8Array} tile
+   * @param {string} faultText of any content
+   * @param {Profile} profile
+   * @returns {Promise<Confirmation>} what the separate checker says of it
+   */
+  async confirm(tile, faultText, profile) {
+    return (await this.#askOf('confirm', tile, faultText, profile)).answer;
+  }
+
+  /**
+   * @param {Uint8Array} tile
+   * @returns {Promise<{record: string | null, fault: string | null}>} JSON texts: what the tile holds, or the wire fault for
+   *   which it is no tile
+   */
+  async dump(tile) {
+    return (await this.#askOf('dump', tile)).answer;
+  }
+
+  /**
+   * @param {Uint8Array} tile
+   * @returns {Promise<{advice: string | null, fault: string | null}>} JSON texts: what may be a mistake in the tile, or the wire
+   *   fault for which it is no tile
+   */
+  async advise(tile) {
+    return (await this.#askOf('advise', tile)).answer;
+  }
+
+  /** Ends the worker, whatever it does. The calls that wait are rejected with Stopped, and a new worker takes further calls. */
+  stop() {
+    this.#rejectAll(new Stopped());
+    this.#replace();
+  }
+
+  #replace() {
+    this.#worker.terminate();
+    this.#worker = this.#newWorker();
+    this.ready = this.#begin();
+  }
+}

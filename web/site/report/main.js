@@ -1,0 +1,16 @@
+// The script of a run's report: the map of the tiles, and the pictures of faults. All else is in the file as it is written.
+
+import { byId } from '../app/tools/dom.js';
+import { MapView } from './map/view.js';
+import { Pictures } from './pictures.js';
+
+/**
+ * The content of a script element with JSON.
+ * @param {string} identifier
+ */
+function dataOf(identifier) {
+  return JSON.parse(byId(identifier, HTMLScriptElement).text);
+}
+
+new Pictures(dataOf('page-data')).start();
+if (document.getElementById('map-view')) new MapView(dataOf('map-data')).start();

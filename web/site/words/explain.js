@@ -1,0 +1,21 @@
+/** Faults and advice in plain words, those of bindings/faults.json. Node can't import it as it stands; fill.js does the work. */
+import words from '../../../bindings/faults.json';
+import { adviceInWords, faultInWords } from './fill.js';
+
+/** @typedef {import('./fill.js').Explanation} Explanation */
+
+/**
+ * @param {import('./fill.js').Members} fault the members of a fault's text
+ * @returns {Explanation} RangeError where it is no fault
+ */
+export function explainFault(fault) {
+  return faultInWords(words, fault);
+}
+
+/**
+ * @param {import('./fill.js').Members} advice one of the list under the key advice
+ * @returns {Explanation} RangeError where it is no advice
+ */
+export function explainAdvice(advice) {
+  return adviceInWords(words, advice);
+}

@@ -1,0 +1,30 @@
+/** What the module answers, for compare_native, in Node or in a browser. */
+import { Gate } from '../../site/gate/gate.js';
+
+/** @type {import('../../site/gate/gate.js').Profile[]} */
+const PROFILES = ['polygon', 'feature'];
+
+/**
+ * @param {string} base64
+ * @returns {Uint8Array}
+ */
+const bytesOf = (base64) => Uint8Array.from(atob(base64), (letter) => letter.charCodeAt(0));
+
+/**
+ * @param {string} module in base64
+ * @returns {(question: string) => string} answers a question, a JSON text of a tile in base64 and of texts of faults, by a JSON
+ *   text of the results of all calls
+ */
+export function answerer(module) {
+  const gate = new Gate(new WebAssembly.Module(bytesOf(module)));
+  return (question) => {
+    const { tile, faults } = JSON.parse(question);
+    const bytes = bytesOf(tile);
+    return JSON.stringify({
+      check: PROFILES.map((profile) => gate.check(bytes, profile)),
+      confirm: faults.map((/** @type {string} */ fault) => PROFILES.map((profile) => gate.confirm(bytes, fault, profile))),
+      dump: gate.dump(bytes),
+      advise: gate.advise(bytes),
+    });
+  };
+}
