@@ -11,7 +11,7 @@ import pytest
 from mvtgate import Profile
 from mvtgate._dump import Feature, Layer
 
-from running import Database, Reply, Server, map_database, tile_server
+from running import SECONDS, Database, Reply, Server, map_database, tile_server
 
 # the columns of the tiles of tables.sql
 FIELD, CLOSE_PONDS, COMMON_CORNER, CLOSE_TO_EDGE, LOOP, TWO_NAMES, NECK, OVERLAP, TWO_CORNERS, GARDEN = range(10)
@@ -36,8 +36,8 @@ def kept() -> Iterator[pathlib.Path]:
 
 @pytest.fixture(scope="session")
 def server(database: Database, kept: pathlib.Path) -> Iterator[Server]:
-    """The server by the profile `polygon`, without repairs."""
-    with tile_server(database.dsn, "--keep", str(kept)) as running:
+    """The server by the profile `polygon`, without repairs. A query may wait for a lock as long as a test holds it."""
+    with tile_server(database.dsn, "--keep", str(kept), "--query-seconds", str(SECONDS)) as running:
         yield running
 
 

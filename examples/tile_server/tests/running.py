@@ -11,6 +11,7 @@ import pwd
 import re
 import shutil
 import signal
+import socket
 import subprocess
 import sys
 import tempfile
@@ -166,6 +167,10 @@ class Server:
             self.stop()
             raise RuntimeError(f"the server did not start: {self.log()}")
         self.address, self._port = told[1].decode(), int(told[2])
+
+    def connect(self) -> socket.socket:
+        """A connection on which nothing is asked."""
+        return socket.create_connection(("127.0.0.1", self._port), timeout=SECONDS)
 
     def get(self, path: str, headers: Mapping[str, str] = {}, method: str = "GET") -> Reply:
         """Asks on a connection of its own."""

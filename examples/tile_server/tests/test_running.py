@@ -3,7 +3,6 @@ from __future__ import annotations
 
 import concurrent.futures
 import contextlib
-import http.client
 import shutil
 import subprocess
 import sys
@@ -113,17 +112,18 @@ def test_out_of_memory(database: Database, words: list[str]) -> None:
 
 
 def test_end_with_requests_under_way(database: Database) -> None:
-    with tile_server(database.dsn) as running, concurrent.futures.ThreadPoolExecutor() as threads:
+    # (the query has to last as long as the lock)
+    with tile_server(database.dsn, "--query-seconds", str(SECONDS)) as running, concurrent.futures.ThreadPoolExecutor() as threads:
         with locked_areas(database):
             asked = threads.submit(running.get, path_of(FIELD), GZIP)
             waits_for(database, 1)
             status = threads.submit(running.stop)
             end = time.monotonic() + SECONDS
             # no new ones are taken
-            with pytest.raises((ConnectionError, http.client.HTTPException)):
+            with pytest.raises(ConnectionError):
                 while time.monotonic() < end:
-                    threads.submit(running.get, path_of(0, 23)).result()
-            assert not asked.done()
+                    running.connect().close()
+            assert not asked.done() and not status.done()
         judged(asked.result())
         assert status.result() == 0
 
