@@ -138,7 +138,7 @@ pub(super) fn polygons_around(
     // (each ring comes after the one directly around it)
     let rings = notes.come_to();
     for at in 0..rings.len() {
-        let ring = rings[at];
+        let ring = rings[at] as usize;
         if let Some(nearest) = notes.nearest(ring) {
             around[ring] = around_within(around[nearest], passings[nearest]);
         }

@@ -58,7 +58,7 @@ impl Notes for NoNotes {
 #[derive(Clone, Copy)]
 pub(crate) struct Around {
     /// The one directly around it: all others are around that one too.
-    nearest: Option<usize>,
+    nearest: Option<u32>,
     /// Whether they are an odd number.
     odd: bool,
 }
@@ -71,7 +71,7 @@ pub(crate) struct RingNotes {
     /// By the number of each ring, what is around it, if the line came to it.
     around: Vec<Option<Around>>,
     /// The rings that the line came to, in this order: each after those around it.
-    come_to: Vec<usize>,
+    come_to: Vec<u32>,
 }
 
 impl RingNotes {
@@ -101,7 +101,10 @@ impl RingNotes {
         requires { ring < length self.now.around.items }
         ensures { result ≡ nearest_at self.now.around.items ring }
     {
-        self.around[ring]?.nearest
+        match self.around[ring]?.nearest {
+            Some(nearest) => Some(nearest as usize),
+            None => None,
+        }
     }
 
     /// Whether an odd number of rings are around this one.
@@ -116,7 +119,7 @@ impl RingNotes {
     }
 
     /// All rings, each after the one directly around it.
-    pub(crate) fn come_to(&self) -> &[usize]
+    pub(crate) fn come_to(&self) -> &[u32]
         ensures { result.now ≡ self.now.come_to.items }
     {
         &self.come_to
@@ -125,12 +128,12 @@ impl RingNotes {
     /// What is around a ring that the line comes to directly above an edge of another one, above an
     /// odd number of edges or an even one: what is around the other one; and that one too, where
     /// this makes the rings an odd or an even number.
-    fn around_above(&self, below: usize, odd: bool) -> Around
+    fn around_above(&self, below: u32, odd: bool) -> Around
         requires { below < length self.now.around.items }
         ensures { (around : Around) → slice_get self.now.around.items below ≡ Some (Some around)
             → IsNoteAbove around below odd result }
     {
-        match self.around[below] {
+        match self.around[below as usize] {
             Some(around) if around.odd == odd => around,
             _ => Around {
                 nearest: Some(below),
@@ -151,18 +154,18 @@ impl Notes for RingNotes {
         let Some(place) = begun else {
             return Ok(());
         };
-        let ring = self.ring_of[number] as usize;
-        if self.around[ring].is_some() {
+        let ring = self.ring_of[number];
+        if self.around[ring as usize].is_some() {
             return Ok(());
         }
         let around = match place.front {
-            Some(edge) => self.around_above(self.ring_of[edge] as usize, place.point % 2 == 1),
+            Some(edge) => self.around_above(self.ring_of[edge], place.point % 2 == 1),
             None => Around {
                 nearest: None,
                 odd: false,
             },
         };
-        self.around[ring] = Some(around);
+        self.around[ring as usize] = Some(around);
         self.come_to.push(ring)?;
         Ok(())
     }
