@@ -1,4 +1,5 @@
 -- The first fault of a tile's spelling.
+pub mod Ascii
 pub mod Causes
 pub mod CleanWalk
 pub mod EmbeddedSpans

@@ -1,4 +1,5 @@
 -- Definitions that only state contracts of private functions. No public contract rests on them.
+pub mod Ascii
 pub mod Embedded
 pub mod Equal
 pub mod FeatureBytes

@@ -8,6 +8,7 @@ ghost use Rattle.mvt_fault.specs.Place.{IsLeast};
 ghost use Rattle.mvt_fault.specs.TrueFaults.{IsWireFault};
 ghost use Rattle.mvt_tile.specs.Calls.FieldPlace.{IsPlaced};
 
+mod ascii;
 mod embedded;
 mod field;
 mod layer;

@@ -29,7 +29,7 @@ high_and a b byte_a high_a byte_b high_b = elim (cases_lt (bit_and a b) 128) [
 ]
 
 -- where no lane is found to be 128 or more, none is
-none_high : (xs : List ℕ) → mask_l (map (top 7) (zip2 at_least (replicate (length xs) 128) xs)) ≡ 0 → (i : ℕ) → get_or xs i 0 < 128
+pub none_high : (xs : List ℕ) → mask_l (map (top 7) (zip2 at_least (replicate (length xs) 128) xs)) ≡ 0 → (i : ℕ) → get_or xs i 0 < 128
 none_high [] e i = omega arith
 none_high (x ∷ xs) e zero = go (leb 128 x) refl (omega arith)
   where
@@ -93,7 +93,7 @@ length-fours part at n within =
     length-zip2 bit_and (pairs part at (at + 1) n) (pairs part (at + 2) (at + 3) n) (front ∙ sym back) ∙ front
 
 -- a mask of so few lanes has no bit beyond them
-whole_mask : (lanes : List ℕ) (n : ℕ) → length lanes ≡ n → n ≤ 64 → mask_l (map (top 7) (zip2 at_least (replicate n 128) lanes)) % 2 ^ 64 ≡ mask_l (map (top 7) (zip2 at_least (replicate n 128) lanes))
+pub whole_mask : (lanes : List ℕ) (n : ℕ) → length lanes ≡ n → n ≤ 64 → mask_l (map (top 7) (zip2 at_least (replicate n 128) lanes)) % 2 ^ 64 ≡ mask_l (map (top 7) (zip2 at_least (replicate n 128) lanes))
 whole_mask lanes n long few =
     let splat : length (replicate {A = ℕ} n 128) ≡ n = length-replicate {A = ℕ} n 128 in
     let compared : length (zip2 at_least (replicate n 128) lanes) ≡ n = length-zip2 at_least (replicate n 128) lanes (splat ∙ sym long) ∙ splat in

@@ -3,17 +3,23 @@ ghost use Rattle.std.specs.Prelude.{◌≡◌, ◌<◌, ◌≤◌, ℕ, length, 
 
 use std::alloc::{AllocError, Global};
 
-/// A set of indices of keys: a mark for each key up to the greatest index that was added. One list
-/// of marks serves all features of a tile: to clear it, only the mark that counts is changed.
+/// The marks of so many keys take no memory of their own. Few layers have more keys.
+const FIRST_KEYS: usize = 32;
+
+/// A set of indices of keys: a mark for each key up to the greatest index that was added. The same
+/// marks serve all features of a tile: to clear them, only the mark that counts is changed.
 #[derive(Drop)]
 pub(crate) struct KeyMarks {
-    /// The mark of each key, which is in the set where it is the current one.
-    marks: Vec<u32>,
+    /// The marks of the first keys. A key is in the set where its mark is the current one.
+    first: [u32; FIRST_KEYS],
+    /// The marks of the keys after them.
+    further: Vec<u32>,
     /// The current mark.
     current: u32,
     // a key without a mark has 0, which is no current mark
     ghost counts: { 0 < current },
-    ghost no_greater: { (key : ℕ) → slice_index_or marks.items key 0 ≤ current },
+    ghost no_greater: { (key : ℕ) → slice_index_or first key 0 ≤ current },
+    ghost no_greater_further: { (key : ℕ) → slice_index_or further.items key 0 ≤ current },
 }
 
 impl KeyMarks {
@@ -25,7 +31,8 @@ impl KeyMarks {
         ensures { (key : ℕ) → has_key result key ≡ false }
     {
         KeyMarks {
-            marks: Vec::new(alloc),
+            first: no_marks(),
+            further: Vec::new(alloc),
             current: 1,
         }
     }
@@ -36,7 +43,8 @@ impl KeyMarks {
         ensures { (key : ℕ) → has_key self.new key ≡ false }
     {
         if self.current == u32::MAX {
-            self.marks.clear();
+            self.first = no_marks();
+            self.further.clear();
             self.current = 1;
         } else {
             self.current += 1;
@@ -44,7 +52,8 @@ impl KeyMarks {
     }
 
     /// Adds a key, and returns whether it wasn't there. It takes memory for a mark of each key of a
-    /// lesser index. The only error is that memory was refused, and then the set is as it was.
+    /// lesser index, but for the first ones. The only error is that memory was refused, and then
+    /// the set is as it was.
     #[inline(always)]
     pub(crate) fn insert(&mut self, key: u32) -> Result<bool, AllocError>
         ensures added { IfOk result (λ added. added ≡ not (has_key self.old key)) }
@@ -54,13 +63,27 @@ impl KeyMarks {
             → has_key self.new other ≡ has_key self.old other) }
     {
         let index = key as usize;
-        if index >= self.marks.len() {
-            lengthen(&mut self.marks, index + 1)?;
+        if index < FIRST_KEYS {
+            let added = self.first[index] != self.current;
+            self.first[index] = self.current;
+            return Ok(added);
         }
-        let added = self.marks[index] != self.current;
-        self.marks[index] = self.current;
+        let place = index - FIRST_KEYS;
+        if place >= self.further.len() {
+            lengthen(&mut self.further, place + 1)?;
+        }
+        let added = self.further[place] != self.current;
+        self.further[place] = self.current;
         Ok(added)
     }
+}
+
+/// The first keys without a mark.
+#[inline(always)]
+fn no_marks() -> [u32; FIRST_KEYS]
+    ensures { (key : ℕ) → slice_index_or result key 0 ≡ 0 }
+{
+    [0; FIRST_KEYS]
 }
 
 /// Lengthens a list of marks, so that so many keys have theirs. Its room doubles where it has to

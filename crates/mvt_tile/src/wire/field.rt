@@ -6,6 +6,7 @@ ghost use Rattle.mvt_wire.specs.WireFault.{EntryFault};
 ghost use Rattle.mvt_tile.specs.Calls.Least.{FindsLeastCause};
 ghost use Rattle.mvt_tile.specs.Calls.FieldPlace.{IsPlaced};
 
+use crate::wire::ascii::is_ascii;
 use crate::wire::packed::packed_fault;
 use mvt_wire::{Body, Field, FieldRule, Shape, WireCause, WireCode, text};
 
@@ -54,7 +55,7 @@ fn payload_fault(rule: FieldRule, field: &Field<'_>) -> Option<WireCause>
 fn is_text(part: &[u8]) -> bool
     ensures { IsTrue result ↔ IsUtf8 part.now }
 {
-    part.is_ascii() || text(part).is_some()
+    is_ascii(part) || text(part).is_some()
 }
 
 /// The cause with a code at the key of a field.
