@@ -1,5 +1,5 @@
 //! A walk over the fields of a message that is known to be whole.
-ghost use Rattle.std.specs.Prelude.{◌≡◌, ◌<◌, ◌≤◌, ℕ, length, take, IfNone, IfSome};
+ghost use Rattle.std.specs.Prelude.{◌≡◌, ◌/◌, ◌<◌, ◌≤◌, ℕ, length, take, IfNone, IfSome};
 ghost use Rattle.mvt_wire.specs.Field.{Content, Entry, FieldDefect, IsField, IsPayload, content_of, entry_of, wire_type_of};
 ghost use Rattle.mvt_wire.specs.Varint.{SpellsVarint};
 ghost use Rattle.mvt_wire.specs.Walk.{Walk, IsOver, GivesField};
@@ -59,6 +59,27 @@ impl<'a> WholeFields<'a> {
         let (field, next) = whole_field(self.bytes, self.at);
         self.at = next;
         Some(field)
+    }
+
+    /// The next field where it begins with this key, which has one byte: eight times the field's
+    /// number, and the wire type. None where it doesn't, and then nothing is passed.
+    #[inline(always)]
+    pub(crate) fn next_of(&mut self, key: u8) -> Option<Field<'a>>
+        requires whole { (cause : WireCause) → self.old.at < length self.old.bytes
+            → ¬ FieldDefect self.old.bytes self.old.at cause }
+        requires short { key < 128 }
+        ensures unchanged { IfNone result (self.new ≡ self.old) }
+        ensures field { IfSome result (λ field. GivesField self.old self.new (entry_of field)) }
+        ensures number { IfSome result (λ field. field.number ≡ key / 8) }
+    {
+        if self.at >= self.bytes.len() || self.bytes[self.at] != key {
+            return None;
+        }
+        let at = self.at;
+        let (body, next) = whole_body(self.bytes, at + 1, u64::from(key % 8));
+        self.at = next;
+        let number = u32::from(key / 8);
+        Some(Field { number, at, body })
     }
 }
 

@@ -7,7 +7,7 @@ ghost use Rattle.mvt_tile.specs.Calls.Part.{Holds};
 ghost use Rattle.mvt_tile.specs.Calls.RuleFaults.{AreAfterTags, IsLike, IsSummary};
 
 use super::features::{FeatureRoom, FeatureRule, find_in_feature};
-use super::summary::{LayerSummary, add_field, empty_summary};
+use super::summary::{LayerSummary, add_next, empty_summary};
 use super::tags::TagNeeds;
 use crate::feature_bytes::FeatureBytes;
 use crate::part::Part;
@@ -85,8 +85,7 @@ fn scan_layer<'a, R: FeatureRule>(
     let mut needs = TagNeeds::none();
     let mut feature_index = 0;
     let mut fields = WholeFields::new(part.bytes, part.from, part.to);
-    'walk: while let Some(field) = fields.next_field() {
-        add_field(&mut summary, field);
+    'walk: while let Some(field) = add_next(&mut summary, &mut fields) {
         if field.number == FEATURES && found.is_none() {
             let (from, to) = payload_span(field.body);
             let bytes = part.bytes;

@@ -34,15 +34,20 @@ impl FieldScan {
         if bytes.len() - at < 2 {
             return None;
         }
+        if message == Message::Value {
+            match bytes[at] {
+                0x15 => return self.pass_fixed(message, bytes, at, 0x15),
+                0x19 => return self.pass_fixed(message, bytes, at, 0x19),
+                _ => {}
+            }
+        }
         let (value, start) = leading(bytes, at + 1)?;
         match bytes[at] {
             0x08 => self.pass_key(message, bytes, at, 0x08, value, start),
             0x0a => self.pass_key(message, bytes, at, 0x0a, value, start),
             0x10 => self.pass_key(message, bytes, at, 0x10, value, start),
             0x12 => self.pass_key(message, bytes, at, 0x12, value, start),
-            0x15 => self.pass_key(message, bytes, at, 0x15, value, start),
             0x18 => self.pass_key(message, bytes, at, 0x18, value, start),
-            0x19 => self.pass_key(message, bytes, at, 0x19, value, start),
             0x1a => self.pass_key(message, bytes, at, 0x1a, value, start),
             0x20 => self.pass_key(message, bytes, at, 0x20, value, start),
             0x22 => self.pass_key(message, bytes, at, 0x22, value, start),
@@ -74,6 +79,29 @@ impl FieldScan {
         ensures unchanged { IfNone result (self.new ≡ self.old) }
     {
         let (field, next) = field_after(bytes, at, key, value, start)?;
+        if self.pass(message, &field).is_some() {
+            return None;
+        }
+        Some((field, next))
+    }
+
+    /// The same for a field of four or eight bytes.
+    #[inline(always)]
+    fn pass_fixed<'a>(
+        &mut self,
+        message: Message,
+        bytes: &'a [u8],
+        at: usize,
+        key: u8,
+    ) -> Option<(Field<'a>, usize)>
+        requires within { at + 2 ≤ length bytes.now }
+        requires key { slice_index bytes.now at ≡ key }
+        requires numbered { 8 ≤ key }
+        requires short { key < 128 }
+        ensures passed { IfSome result (PassesNext message bytes.now at self.old self.new) }
+        ensures unchanged { IfNone result (self.new ≡ self.old) }
+    {
+        let (field, next) = fixed_after(bytes, at, key)?;
         if self.pass(message, &field).is_some() {
             return None;
         }
@@ -135,8 +163,8 @@ impl FieldScan {
 }
 
 /// The field at an offset whose key has one byte, and the offset after it; None where it has a
-/// defect. After the key is a varint, a value up to an offset `start`: the field's own or its
-/// length, but for wire types 1 and 5, of which it says nothing.
+/// defect, or four or eight bytes. After the key is a varint up to an offset `start`: the field's
+/// value or its length.
 #[inline(always)]
 fn field_after(
     bytes: &[u8],
@@ -150,20 +178,13 @@ fn field_after(
     requires leading { SpellsVarint bytes.now (at + 1) start value }
     requires numbered { 8 ≤ key }
     requires short { key < 128 }
-    ensures { IfSome result (λ read.
-        GivesField (record { bytes = bytes.now; at = at })
-        (record { bytes = bytes.now; at = read.1 }) (entry_of read.0)
-        × (read.0.number ≡ key / 8)) }
+    ensures { IfSome result (IsNextField bytes.now at key) }
 {
     let number = u32::from(key / 8);
     match key % 8 {
         0 => {
             let body = Body::Varint { value, at: at + 1 };
             Some((Field { number, at, body }, start))
-        }
-        1 => {
-            let body = Body::Fixed64(bytes.get(at + 1..at + 9)?);
-            Some((Field { number, at, body }, at + 9))
         }
         2 => {
             if value > (bytes.len() - start) as u64 {
@@ -173,6 +194,25 @@ fn field_after(
             let slice = &bytes[start..next];
             let body = Body::Bytes { from: start, slice };
             Some((Field { number, at, body }, next))
+        }
+        _ => None,
+    }
+}
+
+/// The same for a field of four or eight bytes; None where it has another wire type.
+#[inline(always)]
+fn fixed_after(bytes: &[u8], at: usize, key: u8) -> Option<(Field<'_>, usize)>
+    requires within { at + 2 ≤ length bytes.now }
+    requires key { slice_index bytes.now at ≡ key }
+    requires numbered { 8 ≤ key }
+    requires short { key < 128 }
+    ensures { IfSome result (IsNextField bytes.now at key) }
+{
+    let number = u32::from(key / 8);
+    match key % 8 {
+        1 => {
+            let body = Body::Fixed64(bytes.get(at + 1..at + 9)?);
+            Some((Field { number, at, body }, at + 9))
         }
         5 => {
             let body = Body::Fixed32(bytes.get(at + 1..at + 5)?);
@@ -192,11 +232,13 @@ fn leading(bytes: &[u8], at: usize) -> Option<(u64, usize)>
     if first < 128 {
         return Some((u64::from(first), at + 1));
     }
-    match bytes.get(at + 1) {
-        Some(&second) if second < 128 => {
-            let value = u64::from(first % 128) + u64::from(second) * 128;
-            Some((value, at + 2))
-        }
+    let &second = bytes.get(at + 1)?;
+    let value = u64::from(first % 128) + u64::from(second % 128) * 128;
+    if second < 128 {
+        return Some((value, at + 2));
+    }
+    match bytes.get(at + 2) {
+        Some(&third) if third < 128 => Some((value + u64::from(third) * 16_384, at + 3)),
         _ => long_leading(bytes, at),
     }
 }
