@@ -8,7 +8,7 @@ ghost use Rattle.mvt_polygon.specs.Rings.{rings_of, AreProperRings};
 ghost use Rattle.mvt_polygon.specs.TurnVertices.{turn_count};
 ghost use Rattle.mvt_status.specs.Counts.{bits};
 
-use crate::sweep::{NoNotes, Pair, SweepVertices, Swept, sweep_over};
+use crate::sweep::{NoNotes, Pair, SweepVertices, Swept, list_of, sweep_over};
 use mvt_plane::{Count, Hpoint, Point};
 use mvt_status::{Status, TreeStatus};
 use std::alloc::{AllocError, Global};
@@ -82,7 +82,8 @@ pub fn find_meeting_with<S: Status>(
     ensures least { IfOk result (IsCounted (vertex_count (rings_of rings.now)) count.old
         count.new) }
 {
-    let vertices = SweepVertices::of_rings(alloc, rings)?;
+    let list = list_of(alloc, rings)?;
+    let vertices = SweepVertices::new(&list);
     meeting_by_sweep(alloc, rings, &vertices, status, count)
 }
 

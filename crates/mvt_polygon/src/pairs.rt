@@ -12,29 +12,23 @@ use crate::sweep::{Pair, SweepVertices, heights_apart};
 use arrayvec::ArrayVec;
 use mvt_plane::{Count, Edge, orient};
 
-/// The most edges of which all pairs are checked. A sweep over so few takes longer.
-const MOST_EDGES: usize = 16;
-
-/// Three pairs for each of `MOST_EDGES` edges.
+/// Three pairs for each of `FEW_VERTICES` edges.
 const MOST_PAIRS: usize = 48;
 
 /// Pairs of edges by their numbers, the lesser one first.
 pub(crate) type Pairs = ArrayVec<(usize, usize), MOST_PAIRS>;
 
 /// Finds the pairs of edges that may meet wrongly, and answers whether these are all. It gives up
-/// where the edges are many, or such pairs more than three times as many as the edges. Ticks a
-/// probe for each pair that it checks: for all pairs where it doesn't give up, and at most eight
-/// for each edge.
+/// where such pairs are more than three times as many as the edges. Ticks a probe for each pair
+/// that it checks: for all pairs where it doesn't give up, and at most eight for each edge.
 pub(crate) fn find_pairs(vertices: &SweepVertices, pairs: &mut Pairs, count: &mut Count) -> bool
+    requires few { sweep_count vertices.now ≤ 16 }
     requires empty { pairs.old.items ≡ [] }
     ensures enough { IsTrue result → AreEnoughForAll vertices.now pairs.new.items }
     ensures counted { AddsWork 0 (8 * sweep_count vertices.now) 0 count.old count.new }
     ensures probed { IsTrue result → raised (pairs_of (sweep_count vertices.now)) count.old.probes
         ≤ count.new.probes }
 {
-    if vertices.len() > MOST_EDGES {
-        return false;
-    }
     for second in 0..vertices.len() {
         if !add_pairs(vertices, second, pairs, count) {
             return false;

@@ -1,6 +1,6 @@
 //! The first fault of a polygon: edges that meet wrongly, or else a hole that isn't where it should
 //! be.
-ghost use Rattle.std.specs.Prelude.{◌≡◌, ◌+◌, ◌*◌, IfNone, IfOk, IfSome, option_map};
+ghost use Rattle.std.specs.Prelude.{◌≡◌, ◌+◌, ◌*◌, IfNone, IfOk, IfSome, length, option_map};
 ghost use Rattle.mvt_polygon.specs.Work.{AddsWork, IsCounted};
 ghost use Rattle.mvt_polygon.specs.Work.{vertex_count};
 ghost use Rattle.mvt_polygon.specs.Meeting.{IsMeetingOf, NoMeeting};
@@ -10,11 +10,11 @@ ghost use Rattle.mvt_polygon.specs.TurnVertices.{turn_count};
 ghost use Rattle.mvt_polygon.specs.declared.polygon.PolygonFault.TheVariants as faults;
 ghost use Rattle.mvt_status.specs.Counts.{bits};
 
-use crate::meeting::{Meeting, meeting_by_sweep, named_meeting};
+use crate::meeting::{Meeting, find_meeting, meeting_by_sweep, named_meeting};
 use crate::nesting::NestFault;
 use crate::nesting::noted::fault_of_holes;
 use crate::pairs::{Pairs, find_pairs, meeting_among};
-use crate::sweep::{SweepVertices, Swept, sweep_rings};
+use crate::sweep::{FEW_VERTICES, SweepVertices, Swept, list_of_few, sweep_rings};
 use mvt_plane::{Count, Point};
 use mvt_status::TreeStatus;
 use std::alloc::{AllocError, Global};
@@ -66,14 +66,15 @@ pub fn check_polygon(
     check_with_holes(alloc, rings, count)
 }
 
-/// The meeting of two edges of rings, as `find_meeting` answers. Of few edges all pairs are looked
-/// at, with no sweep unless too many of them need a test.
+/// The meeting of two edges of the only ring, as `find_meeting` answers. Of few edges all pairs are
+/// looked at, with no memory and no sweep unless too many of them need a test.
 fn meeting_in_ring(
     alloc: Global,
     rings: &[Vec<Point>],
     count: &mut Count,
 ) -> Result<Option<Meeting>, AllocError>
-    requires { AreProperRings (rings_of rings.now) }
+    requires proper { AreProperRings (rings_of rings.now) }
+    requires one { length rings.now ≡ 1 }
     ensures none { IfOk result (λ found. IfNone found (NoMeeting (rings_of rings.now))) }
     ensures some { IfOk result (λ found. IfSome found (IsMeetingOf (rings_of rings.now))) }
     ensures counted { let n = vertex_count (rings_of rings.now) in
@@ -83,7 +84,11 @@ fn meeting_in_ring(
     ensures least { IfOk result (IsCounted (vertex_count (rings_of rings.now)) count.old
         count.new) }
 {
-    let vertices = SweepVertices::of_rings(alloc, rings)?;
+    if rings[0].len() > FEW_VERTICES {
+        return find_meeting(alloc, rings, count);
+    }
+    let list = list_of_few(rings);
+    let vertices = SweepVertices::new(&list);
     let mut pairs = Pairs::new();
     if find_pairs(&vertices, &mut pairs, count) {
         return Ok(named_meeting(rings, meeting_among(&vertices, &pairs, count)));

@@ -104,7 +104,7 @@ rings_in_range rings vertices proper are number vertex ring position there here 
     let place : EdgeNumber = record { ring = number; edge = vertex } in
     let at = vertex_count (take number rings) + vertex in
     let is : IsNumbered rings at place = record { ring = ring; there = there; within = slice_get_within ring vertex position here; numbered = refl } in
-    let it = vertex_at rings vertices.list.items at place proper are is in
+    let it = vertex_at rings vertices.list.now at place proper are is in
     let same : position_at vertices at ≡ position = same_Some (position_at vertices at) position (sym it.here ∙ here) in
     subst IsPosition same (sweep_vertex_at vertices at).in_range
 

@@ -89,7 +89,7 @@ new_noted rings vertices key notes proper are first new = record {
   are = are;
   numbers = new.numbers;
   count = new.count;
-  there = λ number at is early. let late = first number (numbered_within rings vertices.list.items number at are is) in absurd (omega (arith, ints, early, late));
+  there = λ number at is early. let late = first number (numbered_within rings vertices.list.now number at are is) in absurd (omega (arith, ints, early, late));
   right = λ none ring around there. absurd (not_noted rings notes ring new (around, there));
   listed = λ ring found. absurd (not_noted rings notes ring new found);
   only = λ at ring there. absurd (none_listed rings notes at ring new there);
@@ -120,7 +120,7 @@ all_noted rings vertices key ring_of notes come_to none last noted = record {
         let at : EdgeNumber = record { ring = ring; edge = 0 } in
         let is : IsNumbered rings (vertex_count (take ring rings)) at =
         record { ring = positions; there = there; within = omega (arith, noted.proper.several ring positions there); numbered = omega arith } in
-        noted.there (vertex_count (take ring rings)) at is (last _ (numbered_within rings vertices.list.items (vertex_count (take ring rings)) at noted.are is))
+        noted.there (vertex_count (take ring rings)) at is (last _ (numbered_within rings vertices.list.now (vertex_count (take ring rings)) at noted.are is))
 
     right : (ring : ℕ) (within : ring < length rings) → IsNoteOf rings notes ring (note ring within).0
     right ring within = noted.right none ring (note ring within).0 (note ring within).1

@@ -38,7 +38,7 @@ noted_by_end : (rings : List (List Position)) (vertices : SweepVertices) (key : 
     → IsNoted notes at.ring
 noted_by_end rings vertices key ring_of notes come_to edge at noted within is begun = elim (low_is (position_at vertices edge) (position_at vertices (next_at vertices edge))) [
   | inl own ↦ noted.there edge at is (subst (λ (p : Position). key_of p ≤ℤ key) own begun)
-  | inr next ↦ noted.there (next_at vertices edge) _ (next_numbered rings vertices.list.items edge at noted.proper noted.are is) (subst (λ (p : Position). key_of p ≤ℤ key) next begun)
+  | inr next ↦ noted.there (next_at vertices edge) _ (next_numbered rings vertices.list.now edge at noted.proper noted.are is) (subst (λ (p : Position). key_of p ≤ℤ key) next begun)
 ]
 
 -- the edge in front of the place is the last one of those below
@@ -68,7 +68,7 @@ below_noted rings vertices key ring_of notes come_to number edge place edges not
     let has : Has front (slice_index front (place.point - 1)) = has_place front (place.point - 1) (omega (arith, long, last.0)) in
     let all : Has edges edge = subst (λ (list : List ℕ). Has list edge) (sym begun.cut.whole) (has_left front _ edge (subst (Has front) (sym last.1) has)) in
     let active = passed.swept.active edge all in
-    let vertex = sweep_vertex_there rings vertices.list.items edge noted.are active.known in
+    let vertex = sweep_vertex_there rings vertices.list.now edge noted.are active.known in
     (vertex.place, vertex.is, noted_by_end rings vertices key ring_of notes come_to edge vertex.place noted active.known vertex.is active.begun)
 
 -- One more ring
@@ -167,7 +167,7 @@ noted_on rings vertices key ring_of notes come_to number at noted ahead is found
   are = noted.are;
   numbers = noted.numbers;
   count = noted.count;
-  there = λ other its is_other up. elim (ahead other (numbered_within rings vertices.list.items other its noted.are is_other) up) [
+  there = λ other its is_other up. elim (ahead other (numbered_within rings vertices.list.now other its noted.are is_other) up) [
     | inl old ↦ noted.there other its is_other old
     | inr same ↦
         let own : slice_get ring_of number ≡ Some its.ring = ap (slice_get ring_of) (sym same) ∙ noted.numbers other its is_other in
@@ -189,15 +189,15 @@ first_there rings vertices key ring_of notes come_to number at noted ahead is no
   vertices = is.ring;
   there = is.there;
   vertex = at.edge;
-  here = (vertex_at rings vertices.list.items number at noted.proper noted.are is).here;
+  here = (vertex_at rings vertices.list.now number at noted.proper noted.are is).here;
   first = λ another other here. elim (le_or_lt (key_of (position_at vertices number)) (key_of other)) [
     | inl up ↦ up
     | inr down ↦
         let place : EdgeNumber = record { ring = at.ring; edge = another } in
         let it = vertex_count (take at.ring rings) + another in
         let its : IsNumbered rings it place = record { ring = is.ring; there = is.there; within = slice_get_within is.ring another other here; numbered = refl } in
-        let inside = numbered_within rings vertices.list.items it place noted.are its in
-        let same : position_at vertices it ≡ other = same_Some (position_at vertices it) other (sym (vertex_at rings vertices.list.items it place noted.proper noted.are its).here ∙ here) in
+        let inside = numbered_within rings vertices.list.now it place noted.are its in
+        let same : position_at vertices it ≡ other = same_Some (position_at vertices it) other (sym (vertex_at rings vertices.list.now it place noted.proper noted.are its).here ∙ here) in
         let keys = ap key_of same in
         elim (ahead it inside (omega (arith, ints, keys, down))) [
           | inl old ↦ absurd (not_both notes at.ring nothing (noted.there it place its old))
@@ -267,7 +267,7 @@ pub noted_after_an_end : (rings : List (List Position)) (vertices : SweepVertice
     → AreListsNotedTo rings vertices key ring_of notes come_to → IsPassed vertices key number None edges
     → AreListsNotedTo rings vertices (key_of (position_at vertices number)) ring_of notes come_to
 noted_after_an_end rings vertices key ring_of notes come_to number edges noted passed =
-    let vertex = sweep_vertex_there rings vertices.list.items number noted.are passed.known in
+    let vertex = sweep_vertex_there rings vertices.list.now number noted.are passed.known in
     let an_end = passed.has_begun in
     let less = an_end.before in
     let came : (neighbour : ℕ) (at : EdgeNumber) → an_end.neighbour ≡ neighbour → neighbour < sweep_count vertices → IsNumbered rings neighbour at → IsNoted notes at.ring = λ neighbour at same inside is.
@@ -278,9 +278,9 @@ noted_after_an_end rings vertices key ring_of notes come_to number edges noted p
     ] in
     noted_on rings vertices key ring_of notes come_to number vertex.place noted passed.ahead vertex.is
     (elim an_end.is [
-      | inl next ↦ came (next_at vertices number) _ next (vertices.linked.next_known number passed.known) (next_numbered rings vertices.list.items number vertex.place noted.proper noted.are vertex.is)
+      | inl next ↦ came (next_at vertices number) _ next (vertices.linked.next_known number passed.known) (next_numbered rings vertices.list.now number vertex.place noted.proper noted.are vertex.is)
       | inr previous ↦
-          came (previous_at vertices number) _ previous (vertices.linked.previous_known number passed.known) (previous_numbered rings vertices.list.items number vertex.place noted.proper noted.are vertex.is)
+          came (previous_at vertices number) _ previous (vertices.linked.previous_known number passed.known) (previous_numbered rings vertices.list.now number vertex.place noted.proper noted.are vertex.is)
     ])
 
 -- What the code reads and writes

@@ -92,11 +92,11 @@ turns_counted test (ring ∷ rest) from are =
 turns_there : (rings : List (List Position)) (vertices : SweepVertices) (number : ℕ) (place : EdgeNumber) → AreProperRings rings → AreSweepVertices rings vertices
     → (is : IsNumbered rings number place) → is_turn_at vertices number ≡ turns_in is.ring place.edge
 turns_there rings vertices number place proper are is =
-    let here : vertex_in is.ring place.edge ≡ position_at vertices number = get_or_from_slice_get is.ring place.edge (position_at vertices number) origin (vertex_at rings vertices.list.items number place proper are is).here in
+    let here : vertex_in is.ring place.edge ≡ position_at vertices number = get_or_from_slice_get is.ring place.edge (position_at vertices number) origin (vertex_at rings vertices.list.now number place proper are is).here in
     let next : vertex_in is.ring (next_round (length is.ring) place.edge) ≡ position_at vertices (next_at vertices number) =
-    get_or_from_slice_get is.ring (next_round (length is.ring) place.edge) (position_at vertices (next_at vertices number)) origin (next_vertex rings vertices.list.items number place proper are is).here in
+    get_or_from_slice_get is.ring (next_round (length is.ring) place.edge) (position_at vertices (next_at vertices number)) origin (next_vertex rings vertices.list.now number place proper are is).here in
     let previous : vertex_in is.ring (previous_round (length is.ring) place.edge) ≡ position_at vertices (previous_at vertices number) =
-    get_or_from_slice_get is.ring (previous_round (length is.ring) place.edge) (position_at vertices (previous_at vertices number)) origin (previous_vertex rings vertices.list.items number place proper are is).here in
+    get_or_from_slice_get is.ring (previous_round (length is.ring) place.edge) (position_at vertices (previous_at vertices number)) origin (previous_vertex rings vertices.list.now number place proper are is).here in
     rw (here, next, previous) refl
 
 -- so as many turn as there are turn vertices

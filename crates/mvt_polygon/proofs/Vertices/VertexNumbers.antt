@@ -88,6 +88,12 @@ count_up rings number other up = subst (λ (first : List (List Position)). verte
 pub count_whole : (rings : List (List Position)) (number : ℕ) → length rings ≤ number → vertex_count (take number rings) ≡ vertex_count rings
 count_whole rings number whole = ap (λ (first : List (List Position)). vertex_count first) (take_all number rings whole)
 
+-- those of the only ring are all
+pub count_only : (rings : List (List Position)) (ring : List Position) → length rings ≡ 1 → slice_get rings 0 ≡ Some ring → vertex_count rings ≡ length ring
+count_only [] ring one there = absurd (none-some ring there)
+count_only (first ∷ []) ring one there = omega (arith, ap length (same_Some first ring there))
+count_only (first ∷ (second ∷ rest)) ring one there = absurd (omega (arith, one))
+
 -- the vertices of a ring come before those of a later one
 pub count_after : (rings : List (List Position)) (number other : ℕ) (ring : List Position) → slice_get rings number ≡ Some ring → number < other
     → vertex_count (take number rings) + length ring ≤ vertex_count (take other rings)

@@ -262,8 +262,8 @@ pub edge_of_sweep_vertex : (rings : List (List Position)) (vertices : SweepVerti
     → IsNumbered rings number place
     → IsEdgeOf rings place (edge_at vertices number)
 edge_of_sweep_vertex rings vertices number place proper are is =
-    let here = (vertex_at rings vertices.list.items number place proper are is).here in
-    let following = (next_vertex rings vertices.list.items number place proper are is).here in
+    let here = (vertex_at rings vertices.list.now number place proper are is).here in
+    let following = (next_vertex rings vertices.list.now number place proper are is).here in
     let next = next_round (length is.ring) place.edge in
     let a = position_at vertices number in
     let b = position_at vertices (next_at vertices number) in
@@ -279,7 +279,7 @@ next_is_follower : (rings : List (List Position)) (vertices : SweepVertices) (fi
     → (is : IsNumbered rings first one)
     → IsNumbered rings second other → other.ring ≡ one.ring → other.edge ≡ next_round (length is.ring) one.edge → next_at vertices first ≡ second
 next_is_follower rings vertices first second one other proper are is its same follows =
-    (vertex_at rings vertices.list.items first one proper are is).next ∙ ap₂ (λ (r e : ℕ). vertex_count (take r rings) + e) (sym same) (sym follows) ∙ sym its.numbered
+    (vertex_at rings vertices.list.now first one proper are is).next ∙ ap₂ (λ (r e : ℕ). vertex_count (take r rings) + e) (sym same) (sym follows) ∙ sym its.numbered
 
 -- what vertices share is what the edges do
 sharing : (rings : List (List Position)) (vertices : SweepVertices) (first second : ℕ) (one other : EdgeNumber) → AreProperRings rings → AreSweepVertices rings vertices
@@ -290,7 +290,7 @@ sharing rings vertices first second one other proper are is its = either (shared
     follow : (from to : ℕ) (here following : EdgeNumber) → (there : IsNumbered rings from here) → IsNumbered rings to following → next_at vertices from ≡ to
         → Follows rings here following (position_at vertices to)
     follow from to here following there its_there next =
-        let moved = subst (λ (n : ℕ). IsNumbered rings n (next_place here there.ring)) next (next_numbered rings vertices.list.items from here proper are there) in
+        let moved = subst (λ (n : ℕ). IsNumbered rings n (next_place here there.ring)) next (next_numbered rings vertices.list.now from here proper are there) in
         let same : following ≡ next_place here there.ring = one_place rings to following (next_place here there.ring) its_there moved in
         follows_next rings here following (edge_at vertices to) there.ring (edge_of_sweep_vertex rings vertices to following proper are its_there) there.there
         (ap (λ (p : EdgeNumber). p.ring) same) (ap (λ (p : EdgeNumber). p.edge) same)
@@ -342,7 +342,7 @@ vertex_of_edge rings vertices number it proper are is =
     let numbered : IsNumbered rings at number = record { ring = is.ring; there = is.there; within = within_ring rings number it is.ring is is.there; numbered = refl } in
     record {
       at = at;
-      within = numbered_within rings vertices.list.items at number are numbered;
+      within = numbered_within rings vertices.list.now at number are numbered;
       numbered = numbered;
       its_edge = one_edge rings number (edge_at vertices at) it (edge_of_sweep_vertex rings vertices at number proper are numbered) is;
     }

@@ -46,29 +46,29 @@ pub record IsListOf (rings : List (List Position)) (list : List SweepVertex) : T
 
 -- these are all vertices of the rings
 abbrev pub AreSweepVertices : List (List Position) → SweepVertices → Type 0
-AreSweepVertices rings vertices = IsListOf rings vertices.list.items
+AreSweepVertices rings vertices = IsListOf rings vertices.list.now
 
 -- Vertices by themselves
 
 -- how many there are
 abbrev pub sweep_count : SweepVertices → ℕ
-sweep_count vertices = length vertices.list.items
+sweep_count vertices = length vertices.list.now
 
 -- the vertex of this number
 abbrev pub sweep_vertex_at : SweepVertices → ℕ → SweepVertex
-sweep_vertex_at vertices number = sweep_vertex_in vertices.list.items number
+sweep_vertex_at vertices number = sweep_vertex_in vertices.list.now number
 
 -- its position
 abbrev pub position_at : SweepVertices → ℕ → Position
-position_at vertices number = position_in vertices.list.items number
+position_at vertices number = position_in vertices.list.now number
 
 -- the number of the vertex after it in its ring, where its edge ends
 abbrev pub next_at : SweepVertices → ℕ → ℕ
-next_at vertices number = next_in vertices.list.items number
+next_at vertices number = next_in vertices.list.now number
 
 -- and of the vertex before it, whose edge ends in it
 abbrev pub previous_at : SweepVertices → ℕ → ℕ
-previous_at vertices number = previous_in vertices.list.items number
+previous_at vertices number = previous_in vertices.list.now number
 
 -- how its ring turns there: on which side of the line to the vertex before it the one after it is
 abbrev pub turn_at : SweepVertices → ℕ → ℤ

@@ -1,17 +1,24 @@
 //! The list of the vertices of rings.
-ghost use Rattle.std.specs.Prelude.{◌≡◌, ◌<◌, ◌^◌, IfOk, IfSome, OnOk, suc, length, take};
+ghost use Rattle.std.specs.Prelude.{◌≡◌, ◌<◌, ◌≤◌, ◌^◌, IfOk, IfSome, OnOk, suc, length, take};
+ghost use Rattle.mvt_polygon.specs.Calls.Links.{AreLinked};
 ghost use Rattle.mvt_polygon.specs.Calls.SweepVertices.{IsListOf, far_end_of};
 ghost use Rattle.mvt_polygon.specs.Work.{vertex_count};
-ghost use Rattle.mvt_polygon.specs.Rings.{rings_of};
+ghost use Rattle.mvt_polygon.specs.Rings.{rings_of, AreProperRings};
 
 use crate::sweep::vertex::SweepVertex;
+use arrayvec::ArrayVec;
 use mvt_plane::{GREATEST_COORDINATE, Point};
 use std::alloc::{AllocError, Global};
+
+/// The most vertices that are listed with no memory from the heap.
+pub(crate) const FEW_VERTICES: usize = 16;
 
 /// All vertices of rings, ring by ring. The only error is that memory was refused, or that a `u32`
 /// is too small for their number.
 pub(crate) fn list_of(alloc: Global, rings: &[Vec<Point>]) -> Result<Vec<SweepVertex>, AllocError>
+    requires { AreProperRings (rings_of rings.now) }
     ensures list { IfOk result (λ list. IsListOf (rings_of rings.now) list.items) }
+    ensures linked { IfOk result (λ list. AreLinked list.items) }
     ensures few { IfOk result (λ list. length list.items < 2 ^ 32) }
 {
     let count = count_of(rings).ok_or(AllocError)?;
@@ -20,6 +27,28 @@ pub(crate) fn list_of(alloc: Global, rings: &[Vec<Point>]) -> Result<Vec<SweepVe
         add_vertices(&mut list, rings, ring)?;
     }
     Ok(list)
+}
+
+/// The vertices of the only ring, of which there are few.
+pub(crate) fn list_of_few(rings: &[Vec<Point>]) -> ArrayVec<SweepVertex, FEW_VERTICES>
+    requires proper { AreProperRings (rings_of rings.now) }
+    requires one { length rings.now ≡ 1 }
+    requires few { vertex_count (rings_of rings.now) ≤ 16 }
+    ensures list { IsListOf (rings_of rings.now) result.items }
+    ensures linked { AreLinked result.items }
+{
+    let ring = &rings[0];
+    let mut list = ArrayVec::new();
+    for edge in 0..ring.len() {
+        let position = ring[edge];
+        // (all positions are in range)
+        prove!(position.x() <= GREATEST_COORDINATE);
+        list.push(SweepVertex {
+            position,
+            far_end: far_end_of(ring.len(), edge) as u32,
+        });
+    }
+    list
 }
 
 /// How many vertices rings have, or None where a `u32` is too small for their number.

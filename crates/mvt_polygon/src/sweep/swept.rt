@@ -9,6 +9,7 @@ ghost use Rattle.mvt_polygon.specs.TurnVertices.{turn_count};
 ghost use Rattle.mvt_status.specs.Counts.{bits};
 
 use crate::meeting::{Meeting, named_meeting};
+use crate::sweep::listing::list_of;
 use crate::sweep::notes::{Notes, RingNotes};
 use crate::sweep::order::{numbers_of, one_position, order_of};
 use crate::sweep::sweep;
@@ -81,6 +82,7 @@ pub(crate) fn sweep_rings(
     ensures least { IfOk result (λ swept.
         IsCounted (vertex_count (rings_of rings.now)) count.old count.new (met_in swept)) }
 {
-    let vertices = SweepVertices::of_rings(alloc, rings)?;
+    let list = list_of(alloc, rings)?;
+    let vertices = SweepVertices::new(&list);
     sweep_over(alloc, rings, &vertices, &mut TreeStatus::new(alloc), count)
 }

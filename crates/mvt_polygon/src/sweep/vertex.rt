@@ -13,3 +13,13 @@ pub(crate) struct SweepVertex {
     pub(crate) far_end: u32,
     ghost in_range: { IsPosition position },
 }
+
+/// What stands where a list has no vertex yet.
+impl Default for SweepVertex {
+    fn default() -> SweepVertex {
+        SweepVertex {
+            position: Point::origin(),
+            far_end: 0,
+        }
+    }
+}

@@ -3,10 +3,8 @@ ghost use Rattle.std.specs.Prelude.{◌<◌, ◌^◌, length};
 ghost use Rattle.mvt_polygon.specs.Calls.Links.{AreLinked};
 
 use crate::sweep::heights::heights_apart;
-use crate::sweep::listing::list_of;
 use crate::sweep::vertex::SweepVertex;
 use mvt_plane::{Count, Edge, Hpoint, Point, common};
-use std::alloc::{AllocError, Global};
 
 /// Two edges that meet wrongly, by their numbers, the lesser one first.
 #[derive(Clone, Copy)]
@@ -17,31 +15,29 @@ pub(crate) struct Pair {
     pub(crate) point: Hpoint,
 }
 
-/// The vertices of rings, ring by ring: next and previous lead round in each.
-#[derive(Drop)]
-pub(crate) struct SweepVertices {
-    list: Vec<SweepVertex>,
-    ghost linked: { AreLinked list.items },
-    ghost few: { length list.items < 2 ^ 32 },
+/// The vertices of rings, ring by ring: next and previous lead round in each. Their list is lent.
+#[derive(Clone, Copy)]
+pub(crate) struct SweepVertices<'a> {
+    list: &'a [SweepVertex],
+    ghost linked: { AreLinked list.now },
+    ghost few: { length list.now < 2 ^ 32 },
 }
 
-impl SweepVertices {
-    ghost use Rattle.std.specs.Prelude.{◌≡◌, ◌≢◌, ◌<◌, IfOk, IfNone, IfSome};
+impl<'a> SweepVertices<'a> {
+    ghost use Rattle.std.specs.Prelude.{◌≡◌, ◌≢◌, ◌<◌, IfNone, IfSome};
     ghost use Rattle.mvt_plane.specs.Counted.{ticked};
     ghost use Rattle.mvt_polygon.specs.Work.{AddsWork};
-    ghost use Rattle.mvt_polygon.specs.Calls.SweepVertices.{AreSweepVertices, IsMeetingAt, sweep_count, edge_at, next_at, plan_of, position_at, previous_at, shared_at};
-    ghost use Rattle.mvt_polygon.specs.Rings.{rings_of, AreProperRings};
+    ghost use Rattle.mvt_polygon.specs.Calls.SweepVertices.{IsMeetingAt, sweep_count, edge_at, next_at, plan_of, position_at, previous_at, shared_at};
     ghost use Rattle.mvt_polygon.specs.Calls.Sweep.{Tested};
 
-    /// The vertices of these rings. The only error is that memory was refused, or that a `u32` is
-    /// too small for their number.
-    pub(crate) fn of_rings(alloc: Global, rings: &[Vec<Point>]) -> Result<SweepVertices, AllocError>
-        requires { AreProperRings (rings_of rings.now) }
-        ensures { IfOk result (AreSweepVertices (rings_of rings.now)) }
+    /// The vertices of a list.
+    #[inline]
+    pub(crate) fn new(list: &'a [SweepVertex]) -> SweepVertices<'a>
+        requires linked { AreLinked list.now }
+        requires few { length list.now < 2 ^ 32 }
+        ensures { result.list.now ≡ list.now }
     {
-        Ok(SweepVertices {
-            list: list_of(alloc, rings)?,
-        })
+        SweepVertices { list }
     }
 
     /// How many there are.
@@ -54,7 +50,7 @@ impl SweepVertices {
 
     /// Where the vertex of this number is.
     #[inline]
-    pub(crate) fn position(&self, number: usize) -> &Point
+    pub(crate) fn position(&self, number: usize) -> &'a Point
         requires { number < sweep_count self.now }
         ensures { result.now ≡ position_at self.now number }
     {

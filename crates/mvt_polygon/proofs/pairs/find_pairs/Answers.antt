@@ -22,11 +22,11 @@ loop-second-preserved c =
 pub returns-then-not-add_pairs-clause-counted : goal.returns-then-not-add_pairs-clause-counted
 returns-then-not-add_pairs-clause-counted c =
     let next : ℕ = c.loop-second.second + 1 in
-    let few : pairs_of next ≤ 8 * next = few_pairs next (omega (arith, c.loop-second-test.true, c.if-len-gt-MOST_EDGES.false)) in
+    let few : pairs_of next ≤ 8 * next = few_pairs next (omega (arith, c.loop-second-test.true, c.requires.few)) in
     work_within (omega arith) (omega (arith, pairs_of_more c.loop-second.second, few, c.loop-second-test.true)) (omega arith)
     (work_then c.loop-second.invariant.counted c.add_pairs.ensures.counted)
 
 pub returns-clause-counted : goal.returns-clause-counted
 returns-clause-counted c =
-    let few = few_pairs c.loop-second.second (omega (arith, c.loop-second.auto.second-end, c.if-len-gt-MOST_EDGES.false)) in
+    let few = few_pairs c.loop-second.second (omega (arith, c.loop-second.auto.second-end, c.requires.few)) in
     work_within (omega arith) (omega (arith, few, c.loop-second.auto.second-end)) (omega arith) c.loop-second.invariant.counted

@@ -1,4 +1,4 @@
-use Rattle.std.proofs.Common.{◌≡◌, arith}
+use Rattle.std.proofs.Common.{rules, ◌≡◌, arith}
 use Rattle.mvt_polygon.specs.Calls.SweepVertices.{sweep_count}
 use Rattle.mvt_polygon.specs.Work.{vertex_count}
 use Rattle.mvt_polygon.specs.Rings.{rings_of}
@@ -7,8 +7,8 @@ use Rattle.mvt_polygon.proofs.sweep.swept.sweep_rings.Goals as goal
 
 pub returns-clause-answer : goal.returns-clause-answer
 returns-clause-answer c =
-    let vertices = c.in_ok-vertices.vertices in
-    let count : sweep_count vertices ≡ vertex_count (rings_of c.args.rings.now) = c.in_ok-vertices.ensures.count in
+    let vertices = c.new-vertices.result in
+    let count : sweep_count vertices ≡ vertex_count (rings_of c.args.rings.now) = search rules in
     ok_then _ _ c.sweep_over.result
-    (λ swept is. swept_answer (rings_of c.args.rings.now) vertices swept (omega (arith, count, vertices.list.ok.0, vertices.list.ok.1, vertices.list.small)) is)
+    (λ swept is. swept_answer (rings_of c.args.rings.now) vertices swept (omega (arith, count, vertices.few)) is)
     c.sweep_over.ensures.swept

@@ -18,28 +18,28 @@ returns-in_default c rings vertices key edges noted passed =
 pub index-ring-requires : goal.index-ring-requires
 index-ring-requires c =
     let (rings, vertices, key, edges, noted, passed) = c.requires in
-    let it = sweep_vertex_there rings vertices.list.items c.args.number noted.are passed.known in
+    let it = sweep_vertex_there rings vertices.list.now c.args.number noted.are passed.known in
     let within = ring_there c.args.number it.place noted it.is in
     omega (arith, within, c.args.self.now.ring_of.ok.0)
 
 pub index-requires : goal.index-requires
 index-requires c =
     let (rings, vertices, key, edges, noted, passed) = c.requires in
-    let it = sweep_vertex_there rings vertices.list.items c.args.number noted.are passed.known in
+    let it = sweep_vertex_there rings vertices.list.now c.args.number noted.are passed.known in
     let ring = ring_read c.args.number c.index-ring.result.now it.place noted it.is c.index-ring.ensures in
     omega (arith, ring.1, c.args.self.now.around.ok.0)
 
 pub index_mut-requires : goal.index_mut-requires
 index_mut-requires c =
     let (rings, vertices, key, edges, noted, passed) = c.requires in
-    let it = sweep_vertex_there rings vertices.list.items c.args.number noted.are passed.known in
+    let it = sweep_vertex_there rings vertices.list.now c.args.number noted.are passed.known in
     let ring = ring_read c.args.number c.index-ring.result.now it.place noted it.is c.index-ring.ensures in
     omega (arith, ring.1, c.args.self.now.around.ok.0)
 
 pub returns-then-is_some : goal.returns-then-is_some
 returns-then-is_some c rings vertices key edges noted passed =
     let notes = c.args.self.now.around.items in
-    let it = sweep_vertex_there rings vertices.list.items c.args.number noted.are passed.known in
+    let it = sweep_vertex_there rings vertices.list.now c.args.number noted.are passed.known in
     let ring = ring_read c.args.number c.index-ring.result.now it.place noted it.is c.index-ring.ensures in
     let read : slice_get notes c.index-ring.result.now ≡ Some c.index.result.now = slice_get_read notes (length notes) c.index-ring.result.now c.index.result.now refl ring.1 c.index.ensures in
     let (note, some) = something_there c.index.result.now (sym c.is_some.ensures ∙ c.if-is_some.true) in
@@ -70,7 +70,7 @@ returns c rings vertices key edges noted passed_so =
     let number = c.args.number in
     let place = c.in-Some.place in
     let passed : IsPassed vertices key number (Some place) edges = rw c.in-Some.is at passed_so in
-    let it = sweep_vertex_there rings vertices.list.items number noted.are passed.known in
+    let it = sweep_vertex_there rings vertices.list.now number noted.are passed.known in
     let ring = ring_read number c.index-ring.result.now it.place noted it.is c.index-ring.ensures in
     let read : slice_get notes c.index-ring.result.now ≡ Some c.index.result.now = slice_get_read notes (length notes) c.index-ring.result.now c.index.result.now refl ring.1 c.index.ensures in
     let nothing : slice_get notes it.place.ring ≡ Some None =
