@@ -10,7 +10,6 @@ ghost use Rattle.mvt_polygon.specs.Polygons.{ArePolygons};
 ghost use Rattle.mvt_polygon.specs.Rings.{rings_of, AreProperRings};
 ghost use Rattle.mvt_status.specs.Counts.{bits, raised};
 
-mod bounds;
 mod crowded;
 mod front;
 mod gathered;

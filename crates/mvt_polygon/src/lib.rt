@@ -4,6 +4,7 @@
 #![tactic(auto)]
 
 mod apart;
+mod bounds;
 mod feature;
 mod meeting;
 mod nesting;

@@ -1,22 +1,22 @@
 //! Few edges: of all their pairs those are found that may meet, and only these are tested. It takes
 //! no memory, and no order of the vertices.
 ghost use Rattle.std.specs.Prelude.{◌≡◌, ◌*◌, ◌<◌, ◌≤◌, IfNone, IfSome, IsTrue, false, [], length};
-ghost use Rattle.mvt_plane.specs.Counted.{ticked};
 ghost use Rattle.mvt_polygon.specs.Work.{AddsWork, IsCounted};
 ghost use Rattle.mvt_polygon.specs.Calls.SweepVertices.{IsMeetingAt, NoneWrong, sweep_count, edge_at, plan_of};
-ghost use Rattle.mvt_polygon.specs.Calls.Pairs.{AreBoxesApart, AreEnough, AreEnoughForAll, AreLess, pairs_of};
+ghost use Rattle.mvt_polygon.specs.Calls.Pairs.{AreEdgeBounds, AreEndsWithin, AreEnough, AreEnoughForAll, pairs_of};
 ghost use Rattle.mvt_polygon.specs.Calls.Sweep.{Tested};
 ghost use Rattle.mvt_status.specs.Counts.{raised};
 
-use crate::sweep::{Pair, SweepVertices, heights_apart};
+use crate::bounds::Bounds;
+use crate::sweep::{FEW_VERTICES, Pair, SweepVertices};
 use arrayvec::ArrayVec;
-use mvt_plane::{Count, Edge, orient};
+use mvt_plane::{Count, orient};
 
 /// Three pairs for each of `FEW_VERTICES` edges.
 const MOST_PAIRS: usize = 48;
 
 /// Pairs of edges by their numbers, the lesser one first.
-pub(crate) type Pairs = ArrayVec<(usize, usize), MOST_PAIRS>;
+pub(crate) type Pairs = ArrayVec<(u8, u8), MOST_PAIRS>;
 
 /// Finds the pairs of edges that may meet wrongly, and answers whether these are all. It gives up
 /// where such pairs are more than three times as many as the edges. Ticks a probe for each pair
@@ -29,62 +29,82 @@ pub(crate) fn find_pairs(vertices: &SweepVertices, pairs: &mut Pairs, count: &mu
     ensures probed { IsTrue result → raised (pairs_of (sweep_count vertices.now)) count.old.probes
         ≤ count.new.probes }
 {
+    let bounds = bounds_of(vertices);
     for second in 0..vertices.len() {
-        if !add_pairs(vertices, second, pairs, count) {
+        if !add_pairs(vertices, &bounds, second, pairs, count) {
             return false;
         }
     }
     true
 }
 
+/// The bounds of all edges.
+fn bounds_of(vertices: &SweepVertices) -> ArrayVec<Bounds, FEW_VERTICES>
+    requires few { sweep_count vertices.now ≤ 16 }
+    ensures { AreEdgeBounds vertices.now (sweep_count vertices.now) result.items }
+{
+    let mut bounds = ArrayVec::new();
+    for number in 0..vertices.len() {
+        bounds.push(Bounds::of_edge(&vertices.edge(number)));
+    }
+    bounds
+}
+
 /// Adds the pairs of an edge with those of lesser numbers that it may meet wrongly, and answers
 /// whether there was room. Ticks a probe for each pair that it checks.
-fn add_pairs(vertices: &SweepVertices, second: usize, pairs: &mut Pairs, count: &mut Count) -> bool
-    requires few { sweep_count vertices.now < 17 }
+fn add_pairs(
+    vertices: &SweepVertices,
+    bounds: &[Bounds],
+    second: usize,
+    pairs: &mut Pairs,
+    count: &mut Count,
+) -> bool
+    requires few { sweep_count vertices.now ≤ 16 }
+    requires bounds { AreEdgeBounds vertices.now (sweep_count vertices.now) bounds.now }
     requires known { second < sweep_count vertices.now }
     requires before { AreEnough vertices.now pairs.old.items second 0 }
     ensures enough { IsTrue result → AreEnough vertices.now pairs.new.items second second }
     ensures counted { AddsWork 0 second 0 count.old count.new }
     ensures probed { IsTrue result → raised second count.old.probes ≤ count.new.probes }
 {
-    let other = vertices.edge(second);
+    let other = bounds[second];
     // (a count of its own stays in a register)
     let mut looked = *count;
     for first in 0..second {
-        if may_meet(vertices, first, second, &other, &mut looked) {
+        looked.tick_probe();
+        if may_meet(vertices, first, second, &bounds[first], &other) {
             if pairs.len() >= 3 * vertices.len() {
                 *count = looked;
                 return false;
             }
-            pairs.push((first, second));
+            pairs.push((first as u8, second as u8));
         }
     }
     *count = looked;
     true
 }
 
-/// Whether two edges may meet wrongly: the boxes around them overlap, and if they are neighbours in
-/// a ring, they lie along one line. `other` is the second one. Ticks a probe.
+/// Whether two edges, of which these are the bounds, may meet wrongly: the bounds overlap, and if
+/// they are neighbours in a ring, they lie along one line.
 #[inline]
 fn may_meet(
     vertices: &SweepVertices,
     first: usize,
     second: usize,
-    other: &Edge,
-    count: &mut Count,
+    bounds: &Bounds,
+    others: &Bounds,
 ) -> bool
     requires first { first < sweep_count vertices.now }
     requires second { second < sweep_count vertices.now }
-    requires other { other.now ≡ edge_at vertices.now second }
-    ensures clear { result ≡ false → Tested (plan_of vertices.now) first second }
-    ensures counted { AddsWork 0 1 0 count.old count.new }
-    ensures probed { count.new.probes ≡ ticked count.old.probes }
+    requires bounds { AreEndsWithin bounds.now (edge_at vertices.now first) }
+    requires others { AreEndsWithin others.now (edge_at vertices.now second) }
+    ensures { result ≡ false → Tested (plan_of vertices.now) first second }
 {
-    count.tick_probe();
-    let one = vertices.edge(first);
-    if boxes_apart(&one, other) {
+    if bounds.are_apart(others) {
         return false;
     }
+    let one = vertices.edge(first);
+    let other = vertices.edge(second);
     if vertices.next(first) == second {
         orient(one.a, one.b, other.b) == 0
     } else if vertices.next(second) == first {
@@ -94,27 +114,11 @@ fn may_meet(
     }
 }
 
-/// Whether the boxes around two edges have nothing in common.
-#[inline]
-fn boxes_apart(one: &Edge, other: &Edge) -> bool
-    ensures { IsTrue result → AreBoxesApart one.now other.now }
-{
-    is_left(one, other) || is_left(other, one) || heights_apart(one, other)
-}
-
-/// Whether all x of one edge are less than all of another.
-#[inline]
-fn is_left(one: &Edge, other: &Edge) -> bool
-    ensures { IsTrue result → AreLess one.now.a.x one.now.b.x other.now.a.x other.now.b.x }
-{
-    one.a.x().max(one.b.x()) < other.a.x().min(other.b.x())
-}
-
 /// The first wrong meeting of edges of which these pairs are to be tested. Makes one test for each
 /// pair, up to the one that it answers.
 pub(crate) fn meeting_among(
     vertices: &SweepVertices,
-    pairs: &[(usize, usize)],
+    pairs: &[(u8, u8)],
     count: &mut Count,
 ) -> Option<Pair>
     requires pairs { AreEnoughForAll vertices.now pairs.now }
@@ -126,7 +130,7 @@ pub(crate) fn meeting_among(
 {
     for at in 0..pairs.len() {
         let (first, second) = pairs[at];
-        if let Some(pair) = vertices.meeting_in_order(first, second, count) {
+        if let Some(pair) = vertices.meeting_in_order(first as usize, second as usize, count) {
             return Some(pair);
         }
     }

@@ -14,7 +14,7 @@ use Rattle.std.proofs.lemmas.Option.{slice_get_within, get_or_from_slice_get}
 use Rattle.mvt_fault.proofs.Swaps.{place_before, place_twice, swap_get}
 use Rattle.mvt_plane.proofs.Orders.Order.{le_or_lt, zs}
 use Rattle.mvt_polygon.specs.Calls.Bounds.{AreInOrder, AreReaches, IsNumbering}
-use Rattle.mvt_polygon.specs.declared.feature.bounds.Bounds.{Bounds}
+use Rattle.mvt_polygon.specs.declared.bounds.Bounds.{Bounds}
 use Rattle.mvt_polygon.proofs.Chains.ChainParts.{in_longer}
 use Rattle.mvt_polygon.proofs.Placed.PolygonList.{is_last, stays}
 use Rattle.mvt_polygon.proofs.Cells.WiderBounds.{at_least, upper}

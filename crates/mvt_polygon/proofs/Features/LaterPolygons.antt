@@ -15,7 +15,7 @@ use Rattle.mvt_polygon.specs.Calls.FeatureParts.{IsFirstInLater, IsInNoLater, li
 use Rattle.mvt_polygon.specs.Polygons.{ArePolygons}
 use Rattle.mvt_polygon.specs.Rings.{AreProperRings}
 use Rattle.mvt_polygon.specs.declared.apart.ApartFault.{ApartFault}
-use Rattle.mvt_polygon.specs.declared.feature.bounds.Bounds.{Bounds}
+use Rattle.mvt_polygon.specs.declared.bounds.Bounds.{Bounds}
 use Rattle.mvt_polygon.proofs.Holes.ApartFaults.{around_vertex, rings_at, rings_listed}
 use Rattle.mvt_polygon.proofs.Chains.ChainParts.{in_longer, take_there}
 use Rattle.mvt_polygon.proofs.Holes.OutsideBounds.{outside_polygon}

@@ -13,7 +13,7 @@ use Rattle.mvt_plane.specs.Geometry.RationalPoint.{RationalPoint, LiesOn, IsBetw
 use Rattle.mvt_plane.specs.declared.geometry.edge.Edge.{Edge}
 use Rattle.mvt_polygon.specs.Calls.Bounds.{IsWithin, AreBoundsApart, AreBoundsOfPolygon, AreFarApart}
 use Rattle.mvt_polygon.specs.Calls.Islands.{AreRingsFarApart}
-use Rattle.mvt_polygon.specs.declared.feature.bounds.Bounds.{Bounds}
+use Rattle.mvt_polygon.specs.declared.bounds.Bounds.{Bounds}
 use Rattle.mvt_polygon.proofs.Holes.OutsideBounds.{outside_bounds}
 
 -- One coordinate

@@ -17,7 +17,7 @@ use Rattle.mvt_plane.proofs.Orders.Order.{zs, le_or_lt, le_decide, mono_le, mono
 use Rattle.mvt_plane.proofs.Orders.Polynomials.{◌⊕◌, ◌⊖◌, ◌⊗◌, identity}
 use Rattle.mvt_plane.proofs.Rings.RingEdges.{ends_of_edge}
 use Rattle.mvt_polygon.specs.Calls.Bounds.{AreBoundsOf, IsWithin}
-use Rattle.mvt_polygon.specs.declared.feature.bounds.Bounds.{Bounds}
+use Rattle.mvt_polygon.specs.declared.bounds.Bounds.{Bounds}
 use Rattle.mvt_polygon.proofs.Notes.RingParities.{alike_tests, none_odd}
 
 -- ---- orders

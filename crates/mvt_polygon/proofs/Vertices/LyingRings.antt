@@ -13,7 +13,7 @@ use Rattle.mvt_plane.proofs.Insides.InsideAsAWhole.{one_vertex_decides}
 use Rattle.mvt_plane.proofs.Rings.RingEdges.{count_of_edges, ends_of_edge}
 use Rattle.mvt_polygon.specs.Calls.Bounds.{AreBoundsApart, AreBoundsOf, IsWithin}
 use Rattle.mvt_polygon.specs.Calls.Islands.{AreBeside, AreClearBefore, IsClearOfEdge, LiesIn}
-use Rattle.mvt_polygon.specs.declared.feature.bounds.Bounds.{Bounds}
+use Rattle.mvt_polygon.specs.declared.bounds.Bounds.{Bounds}
 use Rattle.mvt_polygon.proofs.Holes.FarApart.{no_common_point}
 
 -- a side that is none of the line's

@@ -1,5 +1,5 @@
 -- Pairs of edges that need no test, and those that are left.
-use Rattle.std.proofs.Common.{◌≡◌, ◌≢◌, ◌⊎◌, inl, inr, ℕ, Some, false, of_z, ◌==◌, ◌+◌, ◌*◌, ◌<◌, All, List, [], ◌∷◌, ◌++◌, length, ℤ, pos, ◌*ℤ◌, ◌<ℤ◌, ◌≤ℤ◌, refl, sym, ◌∙◌, subst, arith}
+use Rattle.std.proofs.Common.{◌≡◌, ◌≢◌, ◌⊎◌, inl, inr, ℕ, Some, false, of_z, ◌==◌, ◌+◌, ◌*◌, ◌<◌, All, List, [], ◌∷◌, ◌++◌, length, slice_get, ℤ, pos, ◌*ℤ◌, ◌<ℤ◌, ◌≤ℤ◌, refl, sym, ◌∙◌, ap, subst, arith}
 use Rattle.std.specs.Int.{w128}
 use Rattle.std.proofs.lemmas.Bool.{cases_order}
 use Rattle.std.proofs.lemmas.List.{length_push}
@@ -14,9 +14,13 @@ use Rattle.mvt_plane.proofs.Orders.Order.{mono_lt_right, zs}
 use Rattle.mvt_plane.proofs.Orders.Polynomials.{◌⊖◌, ◌⊗◌, identity}
 use Rattle.mvt_plane.proofs.Points.RationalPoints.{begin_lies_on, end_lies_on, times_one}
 use Rattle.mvt_polygon.specs.Calls.SweepVertices.{NoneWrong, sweep_count, edge_at, next_at, plan_of, position_at, previous_at, shared_at, turn_at}
-use Rattle.mvt_polygon.specs.Calls.Pairs.{AreBoxesApart, left, right, below, above, AreEnough, AreEnoughForAll, AreLess, IsPair}
+use Rattle.mvt_polygon.specs.Calls.Pairs.{AreEdgeBounds, AreEndsWithin, AreHeightsApart, below, above, AreEnough, AreEnoughForAll, AreLess, IsPair}
+use Rattle.mvt_polygon.specs.Calls.Bounds.{AreBoundsApart}
 use Rattle.mvt_polygon.specs.Calls.Sweep.{Tested}
+use Rattle.mvt_polygon.specs.declared.bounds.Bounds.{Bounds}
 use Rattle.mvt_polygon.specs.declared.sweep.vertices.SweepVertices.{SweepVertices}
+use Rattle.mvt_polygon.proofs.Chains.ChainParts.{in_longer}
+use Rattle.mvt_polygon.proofs.Holes.FarApart.{no_common_point}
 use Rattle.mvt_polygon.proofs.Vertices.VertexPlans.{tested_by_name, tested_either_way, when_ahead, when_back}
 
 -- Neighbours
@@ -83,7 +87,7 @@ turning_apart vertices number within turns =
     (subst (λ (n : ℕ). LiesOn point (between (at previous) (at n))) next common.on_first) common.on_second))) in
     (tested, tested_either_way vertices previous number (vertices.linked.previous_known number within) within tested)
 
--- Boxes
+-- Heights
 
 -- all numbers that are between two are less than those that are between two greater ones
 less_between : (a b c d z : ℤ) → AreLess a b c d → IsBetween a b z → ¬ IsBetween c d z
@@ -99,31 +103,45 @@ less_multiples a b c d z w positive less =
     less_between (a *ℤ w) (b *ℤ w) (c *ℤ w) (d *ℤ w) z
     (record { a_c = mono_lt_right less.a_c some; a_d = mono_lt_right less.a_d some; b_c = mono_lt_right less.b_c some; b_d = mono_lt_right less.b_d some })
 
--- so edges whose boxes are apart need no test
-pub no_test_apart : (vertices : SweepVertices) (first second : ℕ) → AreBoxesApart (edge_at vertices first) (edge_at vertices second) → Tested (plan_of vertices) first second
+-- so edges that have no height in common need no test
+no_test_apart : (vertices : SweepVertices) (first second : ℕ) → AreHeightsApart (edge_at vertices first) (edge_at vertices second) → Tested (plan_of vertices) first second
 no_test_apart vertices first second apart = tested_by_name vertices first second (none refl (nothing_common (edge_at vertices first) (edge_at vertices second) apart))
   where
-    nothing_common : (one other : Edge) → AreBoxesApart one other → (point : RationalPoint) → ¬ IsCommon (shared_at vertices first second) one other point
-    nothing_common one other (left less) point common =
-        less_multiples one.a.x one.b.x other.a.x other.b.x point.x point.w common.on_first.positive less common.on_first.x_between common.on_second.x_between
-    nothing_common one other (right less) point common =
-        less_multiples other.a.x other.b.x one.a.x one.b.x point.x point.w common.on_first.positive less common.on_second.x_between common.on_first.x_between
+    nothing_common : (one other : Edge) → AreHeightsApart one other → (point : RationalPoint) → ¬ IsCommon (shared_at vertices first second) one other point
     nothing_common one other (below less) point common =
         less_multiples one.a.y one.b.y other.a.y other.b.y point.y point.w common.on_first.positive less common.on_first.y_between common.on_second.y_between
     nothing_common one other (above less) point common =
         less_multiples other.a.y other.b.y one.a.y one.b.y point.y point.w common.on_first.positive less common.on_second.y_between common.on_first.y_between
 
 -- of two edges it doesn't matter which is the first
-apart_either_way : (one other : Edge) → AreBoxesApart one other → AreBoxesApart other one
-apart_either_way one other (left less) = right less
-apart_either_way one other (right less) = left less
+apart_either_way : (one other : Edge) → AreHeightsApart one other → AreHeightsApart other one
 apart_either_way one other (below less) = above less
 apart_either_way one other (above less) = below less
 
-pub no_test_either_way : (vertices : SweepVertices) (first second : ℕ) → AreBoxesApart (edge_at vertices first) (edge_at vertices second)
+pub no_test_either_way : (vertices : SweepVertices) (first second : ℕ) → AreHeightsApart (edge_at vertices first) (edge_at vertices second)
     → Tested (plan_of vertices) first second × Tested (plan_of vertices) second first
 no_test_either_way vertices first second apart =
     (no_test_apart vertices first second apart, no_test_apart vertices second first (apart_either_way (edge_at vertices first) (edge_at vertices second) apart))
+
+-- Bounds
+
+-- the bounds of one edge more
+pub bounds_more : (vertices : SweepVertices) (many : ℕ) (before items : List Bounds) (its : Bounds) → items ≡ before ++ its ∷ [] → AreEdgeBounds vertices many before
+    → AreEndsWithin its (edge_at vertices many) → AreEdgeBounds vertices (many + 1) items
+bounds_more vertices many before items its pushed are ends = record {
+  count = omega (arith, ap length pushed, are.count, length_push before its);
+  each = λ number it there. elim (in_longer before its number it (ap (λ (list : List Bounds). slice_get list number) (sym pushed) ∙ there)) [
+    | inl earlier ↦ are.each number it earlier
+    | inr last ↦ subst (λ (n : ℕ). AreEndsWithin it (edge_at vertices n)) (sym (last.0 ∙ are.count)) (subst (λ (b : Bounds). AreEndsWithin b (edge_at vertices many)) last.1 ends)
+  ];
+}
+
+-- edges whose bounds are apart need no test
+pub no_test_far : (vertices : SweepVertices) (first second : ℕ) (one other : Bounds) → AreEndsWithin one (edge_at vertices first) → AreEndsWithin other (edge_at vertices second) → AreBoundsApart one other
+    → Tested (plan_of vertices) first second
+no_test_far vertices first second one other ends its_ends apart =
+    tested_by_name vertices first second (none refl (λ point common. no_common_point one other (edge_at vertices first) (edge_at vertices second) point apart
+    ends.begin ends.end its_ends.begin its_ends.end common.on_first common.on_second))
 
 -- The pairs that are left
 

@@ -6,7 +6,7 @@ use Rattle.mvt_plane.specs.Position.{Position}
 use Rattle.mvt_polygon.specs.Apart.{IsApartFault}
 use Rattle.mvt_polygon.specs.Calls.FeatureParts.{listed_at}
 use Rattle.mvt_polygon.specs.declared.apart.ApartFault.{ApartFault}
-use Rattle.mvt_polygon.specs.declared.feature.bounds.Bounds.{Bounds}
+use Rattle.mvt_polygon.specs.declared.bounds.Bounds.{Bounds}
 use Rattle.mvt_polygon.specs.declared.feature.later.spread.Spread.{Spread}
 
 -- the position is within the bounds

@@ -3,7 +3,7 @@ use Rattle.std.specs.Prelude.{◌≡◌, ◌≢◌, ◌⊎◌, ℕ, ◌<◌, ◌
 use Rattle.mvt_plane.specs.Position.{Position}
 use Rattle.mvt_polygon.specs.Calls.Bounds.{AreBoundsOf, AreBoundsOfPolygon}
 use Rattle.mvt_polygon.specs.Calls.FeatureParts.{listed_at}
-use Rattle.mvt_polygon.specs.declared.feature.bounds.Bounds.{Bounds}
+use Rattle.mvt_polygon.specs.declared.bounds.Bounds.{Bounds}
 
 -- Spans: from the least to the greatest coordinate along an axis
 

@@ -15,7 +15,7 @@ use Rattle.mvt_plane.specs.Geometry.Ring.{edges}
 use Rattle.mvt_plane.specs.declared.geometry.edge.Edge.{Edge}
 use Rattle.mvt_polygon.specs.Calls.Bounds.{AreBoundsOf, AreBoundsApart, AreFarApart}
 use Rattle.mvt_polygon.specs.Calls.FeatureParts.{listed_at}
-use Rattle.mvt_polygon.specs.declared.feature.bounds.Bounds.{Bounds}
+use Rattle.mvt_polygon.specs.declared.bounds.Bounds.{Bounds}
 
 -- Two rings
 

@@ -1,8 +1,10 @@
 -- Pairs of edges that are to be tested, in place of all that there are.
-use Rattle.std.specs.Prelude.{◌≡◌, ◌⊎◌, ℕ, zero, suc, ◌+◌, ◌*◌, ◌<◌, ◌≤◌, All, List, length, ℤ, ◌<ℤ◌}
+use Rattle.std.specs.Prelude.{◌≡◌, ◌⊎◌, ℕ, zero, suc, ◌+◌, ◌*◌, ◌<◌, ◌≤◌, All, List, length, slice_get, Some, ℤ, ◌<ℤ◌}
 use Rattle.mvt_plane.specs.declared.geometry.edge.Edge.{Edge}
-use Rattle.mvt_polygon.specs.Calls.SweepVertices.{sweep_count, plan_of}
+use Rattle.mvt_polygon.specs.Calls.Bounds.{IsWithin}
+use Rattle.mvt_polygon.specs.Calls.SweepVertices.{sweep_count, edge_at, plan_of}
 use Rattle.mvt_polygon.specs.Calls.Sweep.{Tested}
+use Rattle.mvt_polygon.specs.declared.bounds.Bounds.{Bounds}
 use Rattle.mvt_polygon.specs.declared.sweep.vertices.SweepVertices.{SweepVertices}
 
 -- how many pairs so many edges have
@@ -34,9 +36,17 @@ pub record AreLess (a b c d : ℤ) : Type 0 where
   pub b_c : b <ℤ c
   pub b_d : b <ℤ d
 
--- the boxes around two edges have nothing in common: the first is left of the second, right of it, below it or above it
-pub data AreBoxesApart (one other : Edge) : Type 0 where
-  left : AreLess one.a.x one.b.x other.a.x other.b.x → AreBoxesApart one other
-  right : AreLess other.a.x other.b.x one.a.x one.b.x → AreBoxesApart one other
-  below : AreLess one.a.y one.b.y other.a.y other.b.y → AreBoxesApart one other
-  above : AreLess other.a.y other.b.y one.a.y one.b.y → AreBoxesApart one other
+-- two edges have no height in common: the first is below the second, or above it
+pub data AreHeightsApart (one other : Edge) : Type 0 where
+  below : AreLess one.a.y one.b.y other.a.y other.b.y → AreHeightsApart one other
+  above : AreLess other.a.y other.b.y one.a.y one.b.y → AreHeightsApart one other
+
+-- both ends of the edge are within the bounds
+pub record AreEndsWithin (bounds : Bounds) (edge : Edge) : Type 0 where
+  pub begin : IsWithin bounds edge.a
+  pub end : IsWithin bounds edge.b
+
+-- the bounds of so many edges, by their numbers
+pub record AreEdgeBounds (vertices : SweepVertices) (many : ℕ) (list : List Bounds) : Type 0 where
+  pub count : length list ≡ many
+  pub each : (number : ℕ) (its : Bounds) → slice_get list number ≡ Some its → AreEndsWithin its (edge_at vertices number)

@@ -6,7 +6,7 @@ ghost use Rattle.mvt_polygon.specs.Calls.Cells.{AreAllMarked, AreCells, AreCells
 ghost use Rattle.mvt_polygon.specs.Polygons.{ArePolygons};
 ghost use Rattle.mvt_polygon.specs.Rings.{rings_of, AreProperRings};
 
-use crate::feature::bounds::Bounds;
+use crate::bounds::Bounds;
 use crate::feature::islands::still_crowded;
 use crate::feature::lands::{beside, have_lakes, lands};
 use mvt_plane::Point;

@@ -10,9 +10,9 @@ ghost use Rattle.mvt_polygon.specs.Rings.{rings_of, AreProperRings};
 #[cfg(test)]
 mod tests;
 
-use super::bounds::Bounds;
 use super::lakes::lakes;
 use super::lies_in::lies_in;
+use crate::bounds::Bounds;
 use mvt_plane::{Point, inside};
 use std::alloc::{AllocError, Global};
 

@@ -12,7 +12,7 @@ mod spread;
 
 use super::{FeatureCause, FeatureFault};
 use crate::apart::{ApartFault, is_in_polygon};
-use crate::feature::bounds::Bounds;
+use crate::bounds::Bounds;
 use mvt_plane::Point;
 use spread::Spread;
 use std::alloc::{AllocError, Global};

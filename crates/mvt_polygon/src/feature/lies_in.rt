@@ -7,7 +7,7 @@ ghost use Rattle.mvt_plane.specs.Geometry.Ring.{edges};
 ghost use Rattle.mvt_polygon.specs.Calls.Bounds.{AreBoundsOf};
 ghost use Rattle.mvt_polygon.specs.Calls.Islands.{AreBeside, LiesIn};
 
-use super::bounds::Bounds;
+use crate::bounds::Bounds;
 use mvt_plane::{Edge, Point, inside, side};
 use std::cmp::Ordering;
 

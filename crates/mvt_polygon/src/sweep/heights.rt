@@ -1,13 +1,13 @@
 //! Edges that have no height in common.
 ghost use Rattle.std.specs.Prelude.{IsTrue};
-ghost use Rattle.mvt_polygon.specs.Calls.Pairs.{AreBoxesApart, AreLess};
+ghost use Rattle.mvt_polygon.specs.Calls.Pairs.{AreHeightsApart, AreLess};
 
 use mvt_plane::Edge;
 
 /// Whether all y of one of the edges are less than all of the other.
 #[inline]
 pub(crate) fn heights_apart(one: &Edge, other: &Edge) -> bool
-    ensures { IsTrue result → AreBoxesApart one.now other.now }
+    ensures { IsTrue result → AreHeightsApart one.now other.now }
 {
     is_under(one, other) || is_under(other, one)
 }

@@ -4,7 +4,7 @@ ghost use Rattle.mvt_polygon.specs.Calls.Bounds.{AreInOrder, AreLaterBounds, Are
 ghost use Rattle.mvt_polygon.specs.Polygons.{ArePolygons};
 ghost use Rattle.mvt_polygon.specs.Rings.{rings_of, AreProperRings};
 
-use crate::feature::bounds::Bounds;
+use crate::bounds::Bounds;
 use mvt_plane::Point;
 use std::alloc::{AllocError, Global};
 

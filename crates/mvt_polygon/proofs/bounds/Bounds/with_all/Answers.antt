@@ -1,7 +1,7 @@
 use Rattle.std.proofs.Common.{below_more, refl, sym, ◌∙◌, subst, arith}
 use Rattle.std.proofs.lemmas.Option.{slice_get_within, slice_get_read, same_Some}
 use Rattle.mvt_polygon.specs.Calls.Bounds.{IsWithin}
-use Rattle.mvt_polygon.proofs.feature.bounds.Bounds.with_all.Goals as goal
+use Rattle.mvt_polygon.proofs.bounds.Bounds.with_all.Goals as goal
 
 pub loop-vertex-init : goal.loop-vertex-init
 loop-vertex-init c = record { own = λ vertex within. within; more = λ number below. absurd (omega arith) }

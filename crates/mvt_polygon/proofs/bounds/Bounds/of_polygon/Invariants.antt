@@ -2,7 +2,7 @@ use Rattle.std.proofs.Common.{◌≡◌, ◌<◌, ◌≤◌, ℕ, List, slice_ge
 use Rattle.mvt_plane.specs.Position.{Position}
 use Rattle.mvt_polygon.specs.Calls.Bounds.{AreBoundsOf}
 use Rattle.mvt_polygon.specs.Rings.{rings_of}
-use Rattle.mvt_polygon.proofs.feature.bounds.Bounds.of_polygon.Given as goal
+use Rattle.mvt_polygon.proofs.bounds.Bounds.of_polygon.Given as goal
 
 -- the vertices of the rings so far are within the bounds
 abbrev pub invariant-loop-hole : goal.invariant-loop-hole

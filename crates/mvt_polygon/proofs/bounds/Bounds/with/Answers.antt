@@ -1,6 +1,6 @@
 use Rattle.std.proofs.Common.{rules}
 use Rattle.mvt_polygon.proofs.Cells.WiderBounds.{lower, upper, at_most, at_least}
-use Rattle.mvt_polygon.proofs.feature.bounds.Bounds.with.Goals as goal
+use Rattle.mvt_polygon.proofs.bounds.Bounds.with.Goals as goal
 
 pub returns-clause-own : goal.returns-clause-own
 returns-clause-own c = λ vertex within.

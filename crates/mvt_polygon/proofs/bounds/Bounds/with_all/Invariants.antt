@@ -1,7 +1,7 @@
 use Rattle.std.proofs.Common.{◌≡◌, ◌<◌, ℕ, slice_get, Some}
 use Rattle.mvt_plane.specs.Position.{Position}
 use Rattle.mvt_polygon.specs.Calls.Bounds.{IsWithin}
-use Rattle.mvt_polygon.proofs.feature.bounds.Bounds.with_all.Given as goal
+use Rattle.mvt_polygon.proofs.bounds.Bounds.with_all.Given as goal
 
 -- what was within the bounds is, and so are the vertices so far
 abbrev pub invariant-loop-vertex : goal.invariant-loop-vertex

@@ -1,4 +1,4 @@
-//! The least and the greatest coordinates of rings.
+//! The least and the greatest coordinates of edges and rings.
 ghost use Rattle.std.specs.Prelude.{◌<◌, ◌≤◌, ◌↔◌, IsTrue, length};
 ghost use Rattle.mvt_plane.specs.Position.{Position};
 ghost use Rattle.mvt_polygon.specs.Calls.Bounds.{AreBoundsOf, AreBoundsOfPolygon, AreBoundsApart, IsWithin};
@@ -6,17 +6,18 @@ ghost use Rattle.mvt_polygon.specs.Rings.{rings_of, AreProperRings};
 
 use mvt_plane::{Edge, Point};
 
-/// The least and the greatest coordinates of a ring, or of several.
-#[derive(Clone, Copy)]
-pub(super) struct Bounds {
-    pub(super) left: i32,
-    pub(super) low: i32,
-    pub(super) right: i32,
-    pub(super) high: i32,
+/// The least and the greatest coordinates of an edge, of a ring, or of several.
+#[derive(Clone, Copy, Default)]
+pub(crate) struct Bounds {
+    pub(crate) left: i32,
+    pub(crate) low: i32,
+    pub(crate) right: i32,
+    pub(crate) high: i32,
 }
 
 impl Bounds {
     /// Those of a position.
+    #[inline]
     fn at(position: Point) -> Bounds
         ensures { IsWithin result position }
     {
@@ -29,7 +30,8 @@ impl Bounds {
     }
 
     /// Those of an edge.
-    pub(super) fn of_edge(edge: &Edge) -> Bounds
+    #[inline]
+    pub(crate) fn of_edge(edge: &Edge) -> Bounds
         ensures begin { IsWithin result edge.now.a }
         ensures end { IsWithin result edge.now.b }
     {
@@ -37,7 +39,7 @@ impl Bounds {
     }
 
     /// Those of a ring, which has a vertex.
-    pub(super) fn of(ring: &[Point]) -> Bounds
+    pub(crate) fn of(ring: &[Point]) -> Bounds
         requires { 0 < length ring.now }
         ensures { AreBoundsOf ring.now result }
     {
@@ -45,7 +47,7 @@ impl Bounds {
     }
 
     /// Those of all rings of a polygon.
-    pub(super) fn of_polygon(rings: &[Vec<Point>], exterior: usize, after: usize) -> Bounds
+    pub(crate) fn of_polygon(rings: &[Vec<Point>], exterior: usize, after: usize) -> Bounds
         requires drawn { AreProperRings (rings_of rings.now) }
         requires further { exterior < after }
         requires within { after ≤ length rings.now }
@@ -72,6 +74,7 @@ impl Bounds {
     }
 
     /// Those that also have this position within them.
+    #[inline]
     fn with(self, position: Point) -> Bounds
         ensures own { (vertex : Position) → IsWithin self vertex → IsWithin result vertex }
         ensures more { IsWithin result position }
@@ -85,7 +88,8 @@ impl Bounds {
     }
 
     /// Whether no position is within both.
-    pub(super) fn are_apart(&self, other: &Bounds) -> bool
+    #[inline]
+    pub(crate) fn are_apart(&self, other: &Bounds) -> bool
         ensures { IsTrue result → AreBoundsApart self.now other.now }
     {
         self.right < other.left
@@ -95,7 +99,7 @@ impl Bounds {
     }
 
     /// Whether the position is within them.
-    pub(super) fn contain(&self, position: Point) -> bool
+    pub(crate) fn contain(&self, position: Point) -> bool
         ensures { IsTrue result ↔ IsWithin self.now position }
     {
         self.left <= position.x()

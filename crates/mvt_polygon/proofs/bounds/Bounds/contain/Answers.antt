@@ -1,7 +1,7 @@
 use Rattle.std.proofs.Common.{arith}
 use Rattle.std.proofs.lemmas.Int.{ints}
-use Rattle.mvt_polygon.proofs.feature.bounds.Bounds.contain.Goals as goal
-use Rattle.mvt_polygon.proofs.feature.bounds.Bounds.contain.Goals.{then-self-x, else-self-x, then-x-self, else-x-self}
+use Rattle.mvt_polygon.proofs.bounds.Bounds.contain.Goals as goal
+use Rattle.mvt_polygon.proofs.bounds.Bounds.contain.Goals.{then-self-x, else-self-x, then-x-self, else-x-self}
 
 pub returns-then-self-y : goal.returns-then-self-y
 returns-then-self-y c = elim c.if-x-self.branch [

@@ -4,7 +4,7 @@ use Rattle.mvt_plane.specs.Position.{Position}
 use Rattle.mvt_polygon.specs.Calls.Bounds.{AreBoundsOf}
 use Rattle.mvt_polygon.specs.Rings.{rings_of}
 use Rattle.mvt_polygon.proofs.Vertices.RingReads.{vertices_there}
-use Rattle.mvt_polygon.proofs.feature.bounds.Bounds.of_polygon.Goals as goal
+use Rattle.mvt_polygon.proofs.bounds.Bounds.of_polygon.Goals as goal
 
 pub of-bounds-requires : goal.of-bounds-requires
 of-bounds-requires c =
