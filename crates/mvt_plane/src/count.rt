@@ -26,7 +26,7 @@ impl Model for Count {
 }
 
 impl Count {
-    ghost use Rattle.std.specs.Prelude.{◌≡◌, ◌≤◌};
+    ghost use Rattle.std.specs.Prelude.{◌≡◌, ◌+◌, ◌-◌, ◌^◌, ◌≤◌, min};
     ghost use Rattle.mvt_plane.specs.Counted.{Counted, ticked};
 
     /// Nothing is counted yet.
@@ -79,6 +79,16 @@ impl Count {
         ensures visits { self.new.visits ≡ self.old.visits }
     {
         self.probes = self.probes.saturating_add(1);
+    }
+
+    /// Counts so many comparisons of an edge with a position or with another edge.
+    pub fn tick_probes(&mut self, many: u64)
+        ensures tests { self.new.tests ≡ self.old.tests }
+        ensures probes { self.new.probes ≡ min (self.old.probes + many) (2 ^ 64 - 1) }
+        ensures no_fewer { self.old.probes ≤ self.new.probes }
+        ensures visits { self.new.visits ≡ self.old.visits }
+    {
+        self.probes = self.probes.saturating_add(many);
     }
 
     /// Counts a visit of a node.

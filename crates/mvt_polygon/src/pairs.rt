@@ -2,8 +2,9 @@
 //! no memory, and no order of the vertices.
 ghost use Rattle.std.specs.Prelude.{◌≡◌, ◌*◌, ◌<◌, ◌≤◌, IfNone, IfSome, IsTrue, false, [], length};
 ghost use Rattle.mvt_polygon.specs.Work.{AddsWork, IsCounted};
+ghost use Rattle.mvt_polygon.specs.Calls.Bounds.{AreEndsWithin};
 ghost use Rattle.mvt_polygon.specs.Calls.SweepVertices.{IsMeetingAt, NoneWrong, sweep_count, edge_at, plan_of};
-ghost use Rattle.mvt_polygon.specs.Calls.Pairs.{AreEdgeBounds, AreEndsWithin, AreEnough, AreEnoughForAll, pairs_of};
+ghost use Rattle.mvt_polygon.specs.Calls.Pairs.{AreEdgeBounds, AreEnough, AreEnoughForAll, pairs_of};
 ghost use Rattle.mvt_polygon.specs.Calls.Sweep.{Tested};
 ghost use Rattle.mvt_status.specs.Counts.{raised};
 
@@ -18,6 +19,9 @@ const MOST_PAIRS: usize = 48;
 /// Pairs of edges by their numbers, the lesser one first.
 pub(crate) type Pairs = ArrayVec<(u8, u8), MOST_PAIRS>;
 
+/// The bounds of edges, by their numbers.
+type EdgeBounds = ArrayVec<Bounds, FEW_VERTICES>;
+
 /// Finds the pairs of edges that may meet wrongly, and answers whether these are all. It gives up
 /// where such pairs are more than three times as many as the edges. Ticks a probe for each pair
 /// that it checks: for all pairs where it doesn't give up, and at most eight for each edge.
@@ -29,7 +33,8 @@ pub(crate) fn find_pairs(vertices: &SweepVertices, pairs: &mut Pairs, count: &mu
     ensures probed { IsTrue result → raised (pairs_of (sweep_count vertices.now)) count.old.probes
         ≤ count.new.probes }
 {
-    let bounds = bounds_of(vertices);
+    let mut bounds = EdgeBounds::new();
+    list_bounds(vertices, &mut bounds);
     for second in 0..vertices.len() {
         if !add_pairs(vertices, &bounds, second, pairs, count) {
             return false;
@@ -38,16 +43,15 @@ pub(crate) fn find_pairs(vertices: &SweepVertices, pairs: &mut Pairs, count: &mu
     true
 }
 
-/// The bounds of all edges.
-fn bounds_of(vertices: &SweepVertices) -> ArrayVec<Bounds, FEW_VERTICES>
+/// Lists the bounds of all edges.
+fn list_bounds(vertices: &SweepVertices, bounds: &mut EdgeBounds)
     requires few { sweep_count vertices.now ≤ 16 }
-    ensures { AreEdgeBounds vertices.now (sweep_count vertices.now) result.items }
+    requires empty { bounds.old.items ≡ [] }
+    ensures { AreEdgeBounds vertices.now (sweep_count vertices.now) bounds.new.items }
 {
-    let mut bounds = ArrayVec::new();
     for number in 0..vertices.len() {
         bounds.push(Bounds::of_edge(&vertices.edge(number)));
     }
-    bounds
 }
 
 /// Adds the pairs of an edge with those of lesser numbers that it may meet wrongly, and answers
@@ -67,20 +71,16 @@ fn add_pairs(
     ensures counted { AddsWork 0 second 0 count.old count.new }
     ensures probed { IsTrue result → raised second count.old.probes ≤ count.new.probes }
 {
+    count.tick_probes(second as u64);
     let other = bounds[second];
-    // (a count of its own stays in a register)
-    let mut looked = *count;
     for first in 0..second {
-        looked.tick_probe();
         if may_meet(vertices, first, second, &bounds[first], &other) {
             if pairs.len() >= 3 * vertices.len() {
-                *count = looked;
                 return false;
             }
             pairs.push((first as u8, second as u8));
         }
     }
-    *count = looked;
     true
 }
 

@@ -14,7 +14,7 @@ use crate::meeting::{Meeting, find_meeting, meeting_by_sweep, named_meeting};
 use crate::nesting::NestFault;
 use crate::nesting::noted::fault_of_holes;
 use crate::pairs::{Pairs, find_pairs, meeting_among};
-use crate::sweep::{FEW_VERTICES, SweepVertices, Swept, list_of_few, sweep_rings};
+use crate::sweep::{FEW_VERTICES, FewVertices, SweepVertices, Swept, list_few, sweep_rings};
 use mvt_plane::{Count, Point};
 use mvt_status::TreeStatus;
 use std::alloc::{AllocError, Global};
@@ -87,7 +87,8 @@ fn meeting_in_ring(
     if rings[0].len() > FEW_VERTICES {
         return find_meeting(alloc, rings, count);
     }
-    let list = list_of_few(rings);
+    let mut list = FewVertices::new();
+    list_few(rings, &mut list);
     let vertices = SweepVertices::new(&list);
     let mut pairs = Pairs::new();
     if find_pairs(&vertices, &mut pairs, count) {

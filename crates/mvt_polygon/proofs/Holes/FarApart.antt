@@ -11,7 +11,7 @@ use Rattle.mvt_plane.specs.Geometry.Polygon.{PolygonRings, IsRingOf}
 use Rattle.mvt_plane.specs.Position.{Position}
 use Rattle.mvt_plane.specs.Geometry.RationalPoint.{RationalPoint, LiesOn, IsBetween}
 use Rattle.mvt_plane.specs.declared.geometry.edge.Edge.{Edge}
-use Rattle.mvt_polygon.specs.Calls.Bounds.{IsWithin, AreBoundsApart, AreBoundsOfPolygon, AreFarApart}
+use Rattle.mvt_polygon.specs.Calls.Bounds.{AreEndsWithin, IsWithin, AreBoundsApart, AreBoundsOfPolygon, AreFarApart}
 use Rattle.mvt_polygon.specs.Calls.Islands.{AreRingsFarApart}
 use Rattle.mvt_polygon.specs.declared.bounds.Bounds.{Bounds}
 use Rattle.mvt_polygon.proofs.Holes.OutsideBounds.{outside_bounds}
@@ -101,16 +101,11 @@ far_rings ring other far = λ number another one two point here its_here on_one.
 
 -- Polygons
 
--- the ends of an edge of a polygon are within its bounds
-record AreEndsWithin (bounds : Bounds) (edge : Edge) : Type 0 where
-  a : IsWithin bounds edge.a
-  b : IsWithin bounds edge.b
-
--- so are those of the edge of this number
+-- the ends of the edge of this number are within a polygon's bounds
 ends_within : (rings : List (List Position)) (it : PolygonRings) (bounds : Bounds) (number : EdgeNumber) (edge : Edge) → AreBoundsOfPolygon rings it bounds → IsRingOf it number.ring → IsEdgeOf rings number edge → AreEndsWithin bounds edge
 ends_within rings it bounds number edge are of_it there =
     let ends = ends_of_edge there.ring number.edge edge there.here in
-    record { a = are number.ring there.ring of_it there.there _ edge.a ends.0; b = are number.ring there.ring of_it there.there _ edge.b ends.1 }
+    record { begin = are number.ring there.ring of_it there.there _ edge.a ends.0; end = are number.ring there.ring of_it there.there _ edge.b ends.1 }
 
 -- the other way round
 pub far_back : (rings : List (List Position)) (it its : PolygonRings) → AreFarApart rings it its → AreFarApart rings its it
@@ -127,7 +122,7 @@ pub far_edges : (rings : List (List Position)) (it its : PolygonRings) (first se
 far_edges rings it its first second point far of_it of_its meets =
     let one = ends_within rings it far.one first meets.one far.of_one of_it meets.one_there in
     let other = ends_within rings its far.other second meets.other far.of_other of_its meets.other_there in
-    no_common_point far.one far.other meets.one meets.other point far.apart one.a one.b other.a other.b meets.on_one meets.on_other
+    no_common_point far.one far.other meets.one meets.other point far.apart one.begin one.end other.begin other.end meets.on_one meets.on_other
 
 -- no vertex of the one is inside a ring of the other
 pub far_inside : (rings : List (List Position)) (it its : PolygonRings) (ring vertex other : ℕ) (position : Position) (around : List Position) → AreFarApart rings it its → IsRingOf it ring → IsVertexOf rings ring vertex position

@@ -14,8 +14,8 @@ use Rattle.mvt_plane.proofs.Orders.Order.{mono_lt_right, zs}
 use Rattle.mvt_plane.proofs.Orders.Polynomials.{◌⊖◌, ◌⊗◌, identity}
 use Rattle.mvt_plane.proofs.Points.RationalPoints.{begin_lies_on, end_lies_on, times_one}
 use Rattle.mvt_polygon.specs.Calls.SweepVertices.{NoneWrong, sweep_count, edge_at, next_at, plan_of, position_at, previous_at, shared_at, turn_at}
-use Rattle.mvt_polygon.specs.Calls.Pairs.{AreEdgeBounds, AreEndsWithin, AreHeightsApart, below, above, AreEnough, AreEnoughForAll, AreLess, IsPair}
-use Rattle.mvt_polygon.specs.Calls.Bounds.{AreBoundsApart}
+use Rattle.mvt_polygon.specs.Calls.Pairs.{AreEdgeBounds, AreHeightsApart, below, above, AreEnough, AreEnoughForAll, AreLess, IsPair}
+use Rattle.mvt_polygon.specs.Calls.Bounds.{AreBoundsApart, AreEndsWithin}
 use Rattle.mvt_polygon.specs.Calls.Sweep.{Tested}
 use Rattle.mvt_polygon.specs.declared.bounds.Bounds.{Bounds}
 use Rattle.mvt_polygon.specs.declared.sweep.vertices.SweepVertices.{SweepVertices}

@@ -3,6 +3,7 @@ use Rattle.std.specs.Prelude.{◌≡◌, ℕ, ◌+◌, ◌<◌, ◌≤◌, ◌�
 use Rattle.mvt_plane.specs.Geometry.Nesting.{IsInsidePolygon}
 use Rattle.mvt_plane.specs.Geometry.Polygon.{PolygonRings, IsRingOf}
 use Rattle.mvt_plane.specs.Position.{Position}
+use Rattle.mvt_plane.specs.declared.geometry.edge.Edge.{Edge}
 use Rattle.mvt_polygon.specs.Apart.{IsApartFault}
 use Rattle.mvt_polygon.specs.Calls.FeatureParts.{listed_at}
 use Rattle.mvt_polygon.specs.declared.apart.ApartFault.{ApartFault}
@@ -15,6 +16,11 @@ pub record IsWithin (bounds : Bounds) (position : Position) : Type 0 where
   pub right : position.x ≤ℤ bounds.right
   pub low : bounds.low ≤ℤ position.y
   pub high : position.y ≤ℤ bounds.high
+
+-- both ends of the edge are
+pub record AreEndsWithin (bounds : Bounds) (edge : Edge) : Type 0 where
+  pub begin : IsWithin bounds edge.a
+  pub end : IsWithin bounds edge.b
 
 -- all vertices of the ring are within the bounds
 abbrev pub AreBoundsOf : List Position → Bounds → Type 0

@@ -1,7 +1,7 @@
 -- Pairs of edges that are to be tested, in place of all that there are.
 use Rattle.std.specs.Prelude.{◌≡◌, ◌⊎◌, ℕ, zero, suc, ◌+◌, ◌*◌, ◌<◌, ◌≤◌, All, List, length, slice_get, Some, ℤ, ◌<ℤ◌}
 use Rattle.mvt_plane.specs.declared.geometry.edge.Edge.{Edge}
-use Rattle.mvt_polygon.specs.Calls.Bounds.{IsWithin}
+use Rattle.mvt_polygon.specs.Calls.Bounds.{AreEndsWithin}
 use Rattle.mvt_polygon.specs.Calls.SweepVertices.{sweep_count, edge_at, plan_of}
 use Rattle.mvt_polygon.specs.Calls.Sweep.{Tested}
 use Rattle.mvt_polygon.specs.declared.bounds.Bounds.{Bounds}
@@ -40,11 +40,6 @@ pub record AreLess (a b c d : ℤ) : Type 0 where
 pub data AreHeightsApart (one other : Edge) : Type 0 where
   below : AreLess one.a.y one.b.y other.a.y other.b.y → AreHeightsApart one other
   above : AreLess other.a.y other.b.y one.a.y one.b.y → AreHeightsApart one other
-
--- both ends of the edge are within the bounds
-pub record AreEndsWithin (bounds : Bounds) (edge : Edge) : Type 0 where
-  pub begin : IsWithin bounds edge.a
-  pub end : IsWithin bounds edge.b
 
 -- the bounds of so many edges, by their numbers
 pub record AreEdgeBounds (vertices : SweepVertices) (many : ℕ) (list : List Bounds) : Type 0 where

@@ -1,5 +1,5 @@
 //! The list of the vertices of rings.
-ghost use Rattle.std.specs.Prelude.{◌≡◌, ◌<◌, ◌≤◌, ◌^◌, IfOk, IfSome, OnOk, suc, length, take};
+ghost use Rattle.std.specs.Prelude.{◌≡◌, ◌<◌, ◌≤◌, ◌^◌, IfOk, IfSome, OnOk, suc, [], length, take};
 ghost use Rattle.mvt_polygon.specs.Calls.Links.{AreLinked};
 ghost use Rattle.mvt_polygon.specs.Calls.SweepVertices.{IsListOf, far_end_of};
 ghost use Rattle.mvt_polygon.specs.Work.{vertex_count};
@@ -12,6 +12,9 @@ use std::alloc::{AllocError, Global};
 
 /// The most vertices that are listed with no memory from the heap.
 pub(crate) const FEW_VERTICES: usize = 16;
+
+/// A list of so few.
+pub(crate) type FewVertices = ArrayVec<SweepVertex, FEW_VERTICES>;
 
 /// All vertices of rings, ring by ring. The only error is that memory was refused, or that a `u32`
 /// is too small for their number.
@@ -29,16 +32,16 @@ pub(crate) fn list_of(alloc: Global, rings: &[Vec<Point>]) -> Result<Vec<SweepVe
     Ok(list)
 }
 
-/// The vertices of the only ring, of which there are few.
-pub(crate) fn list_of_few(rings: &[Vec<Point>]) -> ArrayVec<SweepVertex, FEW_VERTICES>
+/// Lists the vertices of the only ring, of which there are few. (An answer would be copied.)
+pub(crate) fn list_few(rings: &[Vec<Point>], list: &mut FewVertices)
     requires proper { AreProperRings (rings_of rings.now) }
     requires one { length rings.now ≡ 1 }
     requires few { vertex_count (rings_of rings.now) ≤ 16 }
-    ensures list { IsListOf (rings_of rings.now) result.items }
-    ensures linked { AreLinked result.items }
+    requires empty { list.old.items ≡ [] }
+    ensures list { IsListOf (rings_of rings.now) list.new.items }
+    ensures linked { AreLinked list.new.items }
 {
     let ring = &rings[0];
-    let mut list = ArrayVec::new();
     for edge in 0..ring.len() {
         let position = ring[edge];
         // (all positions are in range)
@@ -48,7 +51,6 @@ pub(crate) fn list_of_few(rings: &[Vec<Point>]) -> ArrayVec<SweepVertex, FEW_VER
             far_end: far_end_of(ring.len(), edge) as u32,
         });
     }
-    list
 }
 
 /// How many vertices rings have, or None where a `u32` is too small for their number.

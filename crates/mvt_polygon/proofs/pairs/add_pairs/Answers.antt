@@ -1,39 +1,29 @@
-use Rattle.std.proofs.Common.{rules, ◌≡◌, ℕ, ◌+◌, ◌<◌, List, length, sym, ap, ◌∙◌, subst, arith}
+use Rattle.std.proofs.Common.{◌≡◌, ℕ, ◌+◌, ◌<◌, List, length, sym, ap, ◌∙◌, subst, arith}
 use Rattle.std.proofs.lemmas.Option.{slice_get-get_or}
-use Rattle.mvt_polygon.specs.Work.{AddsWork}
 use Rattle.mvt_polygon.specs.Calls.Pairs.{AreEnough}
 use Rattle.mvt_polygon.proofs.Vertices.PairsEnough.{enough_with_clear, enough_with_pair}
-use Rattle.mvt_polygon.proofs.Sweeps.StatusCounts.{no_work, work_then}
 use Rattle.mvt_polygon.proofs.pairs.add_pairs.Goals as goal
 use Rattle.mvt_polygon.proofs.pairs.add_pairs.Goals.{then-may_meet+else-len, else-may_meet}
-
-pub loop-first-init : goal.loop-first-init
-loop-first-init c = record { enough = c.requires.before; counted = no_work c.args.count.now; probed = omega arith }
 
 pub loop-first-preserved : goal.loop-first-preserved
 loop-first-preserved c =
     let vertices = c.args.vertices.now in
     let so_far = c.loop-first.invariant in
-    let probe : AddsWork 0 1 0 c.loop-first.looked c.tick_probe.new.self = search rules in
     let enough = λ (pairs : List (ℕ × ℕ)). AreEnough vertices pairs c.args.second (c.loop-first.first + 1) in
-    record {
-      enough = elim c.if-may_meet.branch [
-        | then-may_meet+else-len w ↦
-            subst enough (sym w.push.ensures.items ∙ ap (λ pairs. pairs.items) (sym w.pairs-is))
-            (enough_with_pair vertices c.loop-first.pairs.items c.args.second c.loop-first.first so_far.enough c.loop-first-test.true c.requires.known
-            (omega (arith, w.len.ensures.value, w.if-len.false)))
-        | else-may_meet w ↦
-            subst enough (ap (λ pairs. pairs.items) (sym w.pairs-is))
-            (enough_with_clear vertices c.loop-first.pairs.items c.args.second c.loop-first.first so_far.enough (c.may_meet.ensures w.if-may_meet.false))
-      ];
-      counted = work_then so_far.counted probe;
-      probed = omega (arith, so_far.probed, c.tick_probe.ensures.probes);
-    }
+    elim c.if-may_meet.branch [
+      | then-may_meet+else-len w ↦
+          subst enough (sym w.push.ensures.items ∙ ap (λ pairs. pairs.items) (sym w.pairs-is))
+          (enough_with_pair vertices c.loop-first.pairs.items c.args.second c.loop-first.first so_far c.loop-first-test.true c.requires.known
+          (omega (arith, w.len.ensures.value, w.if-len.false)))
+      | else-may_meet w ↦
+          subst enough (ap (λ pairs. pairs.items) (sym w.pairs-is))
+          (enough_with_clear vertices c.loop-first.pairs.items c.args.second c.loop-first.first so_far (c.may_meet.ensures w.if-may_meet.false))
+    ]
 
 pub returns-clause-enough : goal.returns-clause-enough
 returns-clause-enough c = λ yes.
     let all : c.loop-first.first ≡ c.args.second = omega (arith, c.loop-first-test.false, c.loop-first.auto.first-end) in
-    subst (λ (at : ℕ). AreEnough c.args.vertices.now c.loop-first.pairs.items c.args.second at) all c.loop-first.invariant.enough
+    subst (λ (at : ℕ). AreEnough c.args.vertices.now c.loop-first.pairs.items c.args.second at) all c.loop-first.invariant
 
 pub may_meet-requires-clause-bounds : goal.may_meet-requires-clause-bounds
 may_meet-requires-clause-bounds c =

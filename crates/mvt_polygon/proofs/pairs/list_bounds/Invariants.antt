@@ -1,5 +1,5 @@
 use Rattle.mvt_polygon.specs.Calls.Pairs.{AreEdgeBounds}
-use Rattle.mvt_polygon.proofs.pairs.bounds_of.Given as goal
+use Rattle.mvt_polygon.proofs.pairs.list_bounds.Given as goal
 
 -- the bounds of the edges so far are there
 abbrev pub invariant-loop-number : goal.invariant-loop-number

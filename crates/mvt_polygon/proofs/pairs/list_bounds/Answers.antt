@@ -1,8 +1,8 @@
 use Rattle.std.proofs.Common.{subst}
 use Rattle.mvt_plane.specs.declared.geometry.edge.Edge.{Edge}
-use Rattle.mvt_polygon.specs.Calls.Pairs.{AreEndsWithin}
+use Rattle.mvt_polygon.specs.Calls.Bounds.{AreEndsWithin}
 use Rattle.mvt_polygon.proofs.Vertices.PairsEnough.{bounds_more}
-use Rattle.mvt_polygon.proofs.pairs.bounds_of.Goals as goal
+use Rattle.mvt_polygon.proofs.pairs.list_bounds.Goals as goal
 
 pub loop-number-preserved : goal.loop-number-preserved
 loop-number-preserved c =

@@ -5,7 +5,7 @@ use Rattle.mvt_polygon.specs.Rings.{rings_of}
 use Rattle.mvt_polygon.proofs.Vertices.RingReads.{count_of_rings, ring_there}
 use Rattle.mvt_polygon.proofs.Vertices.VertexNumbers.{AreFirst, count_only, first_more, sweep_vertex_of_ring}
 use Rattle.mvt_polygon.proofs.Vertices.VertexPlans.{linked_vertices}
-use Rattle.mvt_polygon.proofs.sweep.listing.list_of_few.Goals as goal
+use Rattle.mvt_polygon.proofs.sweep.listing.list_few.Goals as goal
 
 pub loop-edge-preserved : goal.loop-edge-preserved
 loop-edge-preserved c =

@@ -1,6 +1,6 @@
 use Rattle.mvt_polygon.specs.Rings.{rings_of}
 use Rattle.mvt_polygon.proofs.Vertices.VertexNumbers.{AreFirst}
-use Rattle.mvt_polygon.proofs.sweep.listing.list_of_few.Given as goal
+use Rattle.mvt_polygon.proofs.sweep.listing.list_few.Given as goal
 
 -- the vertices of the ring so far are added
 abbrev pub invariant-loop-edge : goal.invariant-loop-edge
