@@ -4,7 +4,7 @@ ghost use Rattle.mvt_wire.specs.Field.{entry_of, content_of, wire_type_of, IsFie
 ghost use Rattle.mvt_wire.specs.Schema.{rule_of};
 ghost use Rattle.mvt_wire.specs.Varint.{SpellsVarint};
 ghost use Rattle.mvt_wire.specs.Walk.{GivesField};
-ghost use Rattle.mvt_tile.specs.Calls.FieldScan.{PassesNext, IsFirstFrom};
+ghost use Rattle.mvt_tile.specs.Calls.FieldScan.{PassesNext, IsFirstFrom, IsNextField};
 
 use crate::read::walk::whole_field;
 use crate::wire::message::defect_or;
