@@ -18,6 +18,9 @@ use crate::record::Kind;
 use mvt_wire::Field;
 use mvt_wire::field_number::{FEATURE_ID, GEOMETRY, GEOMETRY_TYPE, TAGS};
 
+/// What an id, tags, a type and a geometry begin with: the field's number and its wire type.
+const USUAL_KEYS: [u8; 4] = [0x12, 0x18, 0x22, 0x08];
+
 /// A feature of a tile without wire fault (Mapbox Vector Tile Specification 2.1, section 4.2), as
 /// it stands in the tile's bytes: its numbers are decoded from them, and no list of them is made.
 #[derive(Clone, Copy)]
@@ -41,7 +44,7 @@ impl<'a> FeatureBytes<'a> {
     {
         let mut parts = FeatureParts::none(part.from);
         let mut fields = WholeFields::new(part.bytes, part.from, part.to);
-        'walk: while let Some(field) = fields.next_field() {
+        'walk: while let Some(field) = fields.next_usual(USUAL_KEYS) {
             parts.add(&field, fields.at());
         }
         let bytes = &part.bytes[..part.to];

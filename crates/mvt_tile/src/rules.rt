@@ -12,6 +12,7 @@ ghost use Rattle.mvt_tile.specs.RuleFaults.{IsAfterTags, BreaksAnyRule, KeepsRul
 
 mod features;
 mod key_marks;
+mod layer_names;
 mod layer_rules;
 mod layer_scan;
 mod layers;

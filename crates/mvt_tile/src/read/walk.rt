@@ -1,5 +1,5 @@
 //! A walk over the fields of a message that is known to be whole.
-ghost use Rattle.std.specs.Prelude.{◌≡◌, ◌/◌, ◌<◌, ◌≤◌, ℕ, length, take, IfNone, IfSome};
+ghost use Rattle.std.specs.Prelude.{◌≡◌, ◌/◌, ◌<◌, ◌≤◌, ℕ, length, slice_index, take, IfNone, IfSome};
 ghost use Rattle.mvt_wire.specs.Field.{Content, Entry, FieldDefect, IsField, IsPayload, content_of, entry_of, wire_type_of};
 ghost use Rattle.mvt_wire.specs.Varint.{SpellsVarint};
 ghost use Rattle.mvt_wire.specs.Walk.{Walk, IsOver, GivesField};
@@ -59,6 +59,31 @@ impl<'a> WholeFields<'a> {
         let (field, next) = whole_field(self.bytes, self.at);
         self.at = next;
         Some(field)
+    }
+
+    /// The next field, or None at the message's end. Fields that begin with one of these keys have
+    /// paths of their own, in which their number and wire type are constants.
+    #[inline(always)]
+    pub(crate) fn next_usual(&mut self, keys: [u8; 4]) -> Option<Field<'a>>
+        requires whole { (cause : WireCause) → self.old.at < length self.old.bytes
+            → ¬ FieldDefect self.old.bytes self.old.at cause }
+        requires short { (place : ℕ) → slice_index keys place < 128 }
+        ensures over { IfNone result (IsOver self.old self.new) }
+        ensures field { IfSome result (λ field. GivesField self.old self.new (entry_of field)) }
+    {
+        if let Some(field) = self.next_of(keys[0]) {
+            return Some(field);
+        }
+        if let Some(field) = self.next_of(keys[1]) {
+            return Some(field);
+        }
+        if let Some(field) = self.next_of(keys[2]) {
+            return Some(field);
+        }
+        if let Some(field) = self.next_of(keys[3]) {
+            return Some(field);
+        }
+        self.next_field()
     }
 
     /// The next field where it begins with this key, which has one byte: eight times the field's

@@ -7,7 +7,7 @@ ghost use Rattle.mvt_fault.specs.declared.fault.Fault.{Fault};
 ghost use Rattle.mvt_wire.specs.Tile.{TileRecord};
 ghost use Rattle.mvt_tile.specs.Calls.PassedLayers.{passed, EndsLayers, PassesLayers, IsNextLayer};
 
-use super::names::LayerNames;
+use super::layer_names::LayerNames;
 use mvt_fault::Fault;
 use std::alloc::{AllocError, Global};
 

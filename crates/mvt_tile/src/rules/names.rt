@@ -5,9 +5,9 @@ ghost use Rattle.mvt_tile.specs.Calls.Names.{IsFirstRepeated, IsRepeated, key_of
 use std::alloc::{AllocError, Global};
 use std::marker::Model;
 
-/// The names of a tile's first layers, in their order.
+/// The names of several layers, in their order.
 #[derive(Drop)]
-pub(crate) struct LayerNames<'a> {
+pub(crate) struct SeveralNames<'a> {
     names: Vec<NamedLayer<'a>>,
 }
 
@@ -20,7 +20,7 @@ struct NamedLayer<'a> {
     ordinal: usize,
 }
 
-impl<'a> Model for LayerNames<'a> {
+impl<'a> Model for SeveralNames<'a> {
     ghost use Rattle.std.specs.Prelude.{◌≡◌, ℕ, List, map, All};
     ghost use Rattle.mvt_tile.specs.Calls.Names.{AreNumbered, key_of};
 
@@ -32,12 +32,12 @@ impl<'a> Model for LayerNames<'a> {
         × All (λ named. named.key ≡ key_of named.name.now) names.names.items };
 }
 
-impl<'a> LayerNames<'a> {
+impl<'a> SeveralNames<'a> {
     /// No names. It takes no memory.
-    pub(crate) fn new(alloc: Global) -> LayerNames<'a>
+    pub(crate) fn new(alloc: Global) -> SeveralNames<'a>
         ensures { result ≡ [] }
     {
-        LayerNames {
+        SeveralNames {
             names: Vec::new(alloc),
         }
     }

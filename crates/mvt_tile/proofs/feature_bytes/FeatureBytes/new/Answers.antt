@@ -11,8 +11,8 @@ use Rattle.mvt_tile.proofs.feature_bytes.FeatureBytes.new.Goals.{In_default}
 pub walk-init : goal.walk-init
 walk-init c = ([], IsWalking-none c.new-fields.ensures, rw c.new-fields.ensures (c.none-parts.ensures _))
 
-pub next_field-requires : goal.next_field-requires
-next_field-requires c = let there = c.requires.1 in IsWalking-defectless there.entries c.walk.invariant.1 there.whole
+pub next_usual-requires-clause-whole : goal.next_usual-requires-clause-whole
+next_usual-requires-clause-whole c = let there = c.requires.1 in IsWalking-defectless there.entries c.walk.invariant.1 there.whole
 
 pub add-requires : goal.add-requires
 add-requires c =

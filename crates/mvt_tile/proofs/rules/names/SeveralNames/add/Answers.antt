@@ -4,7 +4,7 @@ use Rattle.std.proofs.lemmas.List.Elements.{All-push}
 use Rattle.mvt_tile.specs.Calls.Names.{key_of}
 use Rattle.mvt_tile.specs.declared.rules.names.NamedLayer.{NamedLayer}
 use Rattle.mvt_tile.proofs.RuleFaults.Names.{numbered_pushed}
-use Rattle.mvt_tile.proofs.rules.names.LayerNames.add.Goals as goal
+use Rattle.mvt_tile.proofs.rules.names.SeveralNames.add.Goals as goal
 
 pub invariant_of-self-2 : goal.invariant_of-self-2
 invariant_of-self-2 c = (

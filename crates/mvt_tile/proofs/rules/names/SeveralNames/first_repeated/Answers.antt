@@ -6,8 +6,8 @@ use Rattle.std.proofs.lemmas.Slice.Eq.{bytes_eq-Decides}
 use Rattle.mvt_tile.specs.Calls.Names.{key_of}
 use Rattle.mvt_tile.specs.declared.rules.names.NamedLayer.{NamedLayer}
 use Rattle.mvt_tile.proofs.RuleFaults.Names.{IsNamed, IsLeastPair, IsLeastPair-none, pair_kept, pair_taken, one_key, IsNaming-numbered, grouped_by_sort, IsNaming, if_none, if_some}
-use Rattle.mvt_tile.proofs.rules.names.LayerNames.first_repeated.Goals.{then-layer-next+then-eq+then-comes_first, else-layer-next, else-layer-next-via-then-layer-next+then-eq+else-comes_first, else-layer-next-via-then-layer-next+else-eq, else-layer-next-via-else-layer-next}
-use Rattle.mvt_tile.proofs.rules.names.LayerNames.first_repeated.Goals as goal
+use Rattle.mvt_tile.proofs.rules.names.SeveralNames.first_repeated.Goals.{then-layer-next+then-eq+then-comes_first, else-layer-next, else-layer-next-via-then-layer-next+then-eq+else-comes_first, else-layer-next-via-then-layer-next+else-eq, else-layer-next-via-else-layer-next}
+use Rattle.mvt_tile.proofs.rules.names.SeveralNames.first_repeated.Goals as goal
 
 abbrev key : NamedLayer → ℕ
 key named = named.key

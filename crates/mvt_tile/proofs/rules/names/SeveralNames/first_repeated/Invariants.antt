@@ -1,6 +1,6 @@
 use Rattle.mvt_tile.specs.declared.rules.names.NamedLayer.{NamedLayer}
 use Rattle.mvt_tile.proofs.RuleFaults.Names.{IsLeastPair}
-use Rattle.mvt_tile.proofs.rules.names.LayerNames.first_repeated.Given as goal
+use Rattle.mvt_tile.proofs.rules.names.SeveralNames.first_repeated.Given as goal
 
 -- the least pair of neighbours of one name that were passed
 abbrev pub invariant-loop-at : goal.invariant-loop-at
