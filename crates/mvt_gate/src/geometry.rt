@@ -82,7 +82,9 @@ impl GeometryRule {
         Ok(())
     }
 
-    /// The same of a feature of the type of polygons.
+    /// The same of a feature of the type of polygons. (By itself, so that points and lines, which need
+    /// little room, don't pay for its locals.)
+    #[inline(never)]
     fn fault_of_polygons(
         &mut self,
         alloc: Global,

@@ -7,7 +7,7 @@ ghost use Rattle.mvt_tile.specs.Calls.Part.{Holds};
 ghost use Rattle.mvt_tile.specs.Calls.RuleFaults.{AreAfterTags, IsLike, IsSummary};
 
 use super::features::{FeatureRoom, FeatureRule, find_in_feature};
-use super::summary::{LayerSummary, add_next, empty_summary};
+use super::summary::{LayerSummary, add_field, empty_summary};
 use super::tags::TagNeeds;
 use crate::feature_bytes::FeatureBytes;
 use crate::part::Part;
@@ -16,6 +16,9 @@ use crate::read::walk::WholeFields;
 use mvt_fault::Fault;
 use mvt_wire::field_number::FEATURES;
 use std::alloc::AllocError;
+
+/// What a key, a value, a feature and a name begin with: the field's number and its wire type.
+const USUAL_KEYS: [u8; 4] = [0x1a, 0x22, 0x12, 0x0a];
 
 /// What one walk over a layer finds.
 #[derive(Clone, Copy)]
@@ -85,7 +88,8 @@ fn scan_layer<'a, R: FeatureRule>(
     let mut needs = TagNeeds::none();
     let mut feature_index = 0;
     let mut fields = WholeFields::new(part.bytes, part.from, part.to);
-    'walk: while let Some(field) = add_next(&mut summary, &mut fields) {
+    'walk: while let Some(field) = fields.next_usual(USUAL_KEYS) {
+        add_field(&mut summary, field);
         if field.number == FEATURES && found.is_none() {
             let (from, to) = payload_span(field.body);
             let bytes = part.bytes;

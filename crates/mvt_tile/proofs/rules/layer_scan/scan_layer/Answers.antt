@@ -39,18 +39,23 @@ walk-init over c = record {
   few = omega arith;
 }
 
-pub add_next-requires-clause-whole : goal.add_next-requires-clause-whole
-add_next-requires-clause-whole over c = let there = c.requires.stands.1 in IsWalking-defectless there.entries c.walk.invariant.walking there.whole
+pub next_usual-requires-clause-whole : goal.next_usual-requires-clause-whole
+next_usual-requires-clause-whole over c = let there = c.requires.stands.1 in IsWalking-defectless there.entries c.walk.invariant.walking there.whole
 
-pub add_next-requires-clause-fits : goal.add_next-requires-clause-fits
-add_next-requires-clause-fits over c = λ next entry given.
+pub add_field-requires-clause-fits : goal.add_field-requires-clause-fits
+add_field-requires-clause-fits over c =
     let there = c.requires.stands.1 in
-    All-given there.entries c.walk.invariant.walking there.whole given (FitsRule messages.Layer) there.keeps.fits
+    All-given there.entries c.walk.invariant.walking there.whole c.in-Some.ensures.field (FitsRule messages.Layer) there.keeps.fits
 
-pub add_next-requires-clause-few : goal.add_next-requires-clause-few
-add_next-requires-clause-few over c = λ next entry given.
-    let few = few_counted c.args.part.bytes.now c.args.part.to c.walk.invariant.walking given c.walk.invariant.gives in
-    (omega (arith, few.0), omega (arith, few.1))
+pub add_field-requires-clause-keys : goal.add_field-requires-clause-keys
+add_field-requires-clause-keys over c =
+    let few = few_counted c.args.part.bytes.now c.args.part.to c.walk.invariant.walking c.in-Some.ensures.field c.walk.invariant.gives in
+    omega (arith, few.0)
+
+pub add_field-requires-clause-values : goal.add_field-requires-clause-values
+add_field-requires-clause-values over c =
+    let few = few_counted c.args.part.bytes.now c.args.part.to c.walk.invariant.walking c.in-Some.ensures.field c.walk.invariant.gives in
+    omega (arith, few.1)
 
 pub payload_span-from-requires-clause-own : goal.payload_span-from-requires-clause-own
 payload_span-from-requires-clause-own over c =
@@ -81,7 +86,7 @@ walk-preserved-then-is_none over c =
     record {
       entries = _;
       walking = IsWalking-more _ _ _ _ _ _ so_far.walking given;
-      gives = c.in-Some.ensures.added so_far.entries so_far.gives;
+      gives = c.add_field.ensures so_far.entries so_far.gives;
       kept = λ some. let both : true ≡ false = sym some ∙ ap is_some (sym (so_far.kept some)) ∙ c.if-is_none.ensures in absurd (cc);
       features = λ none.
           IsScanned-more (nothing_found _ c.walk.found c.if-is_none.ensures (so_far.features none).first) given c.if-field-eq-FEATURES.true _ c.payload_span-from.ensures
@@ -97,7 +102,7 @@ walk-preserved over c =
     record {
       entries = _;
       walking = IsWalking-more _ _ _ _ _ _ so_far.walking given;
-      gives = c.in-Some.ensures.added so_far.entries so_far.gives;
+      gives = c.add_field.ensures so_far.entries so_far.gives;
       kept = so_far.kept;
       features = λ none. elim c.else-field-eq-FEATURES.branch [
         | else-field-eq-FEATURES-via-then-field-eq-FEATURES+else-is_none w ↦ record { first = still_found _ _ _ c.walk.found w.if-is_none.ensures (so_far.features none).first }
@@ -110,7 +115,7 @@ pub returns-clause-summary : goal.returns-clause-summary
 returns-clause-summary over c = λ layer there.
     let so_far = c.walk.invariant in
     IsSummary-from_told there
-    (subst (λ (entries : List Entry). GivesSummary entries c.add_next.new.summary) (IsWalking-over there.entries so_far.walking there.whole c.in_default.ensures.over) (subst (GivesSummary so_far.entries) (sym c.in_default.ensures.same) so_far.gives))
+    (subst (λ (entries : List Entry). GivesSummary entries c.walk.summary) (IsWalking-over there.entries so_far.walking there.whole c.in_default.ensures.over) so_far.gives)
 
 pub returns-clause-finds : goal.returns-clause-finds
 returns-clause-finds over c = λ none. IsScanned-finds c.requires.after_tags c.walk.found c.in_default.ensures.over (c.walk.invariant.features none)
