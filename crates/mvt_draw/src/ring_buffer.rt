@@ -125,8 +125,7 @@ impl RingBuffer {
             (path_command drawn (position_of cursor.old)) → IsFaultAhead polygon numbers stop) }
     {
         if self.count == self.parts.len() {
-            // a ring has three vertices or more, so one of three takes no more memory than that
-            let room = Vec::with_capacity(alloc, 3)?;
+            let room = Vec::with_capacity(alloc, room_of_ring(self.count))?;
             self.parts.push(room)?;
         }
         let ring = &mut self.parts[self.count];
@@ -135,4 +134,13 @@ impl RingBuffer {
         self.count += 1;
         Ok(())
     }
+}
+
+/// For how many vertices a new list has room at first, by the ordinal of its ring. A ring has three
+/// or more. The first list serves the first ring of each feature, so it begins with more.
+fn room_of_ring(ring: usize) -> usize
+    ensures least { 3 ≤ result }
+    ensures most { result ≤ 16 }
+{
+    if ring == 0 { 16 } else { 3 }
 }

@@ -102,10 +102,10 @@ impl FieldScan {
         ensures unchanged { IfNone result (self.new ≡ self.old) }
     {
         let (field, next) = fixed_after(bytes, at, key)?;
-        if self.pass(message, &field).is_some() {
-            return None;
+        match self.pass(message, &field) {
+            None => Some((field, next)),
+            Some(_fault) => None,
         }
-        Some((field, next))
     }
 
     /// The same for a field of a number that the message doesn't know.
