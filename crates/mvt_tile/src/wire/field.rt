@@ -55,7 +55,15 @@ fn payload_fault(rule: FieldRule, field: &Field<'_>) -> Option<WireCause>
 fn is_text(part: &[u8]) -> bool
     ensures { IsTrue result ↔ IsUtf8 part.now }
 {
-    is_ascii(part) || text(part).is_some()
+    is_ascii(part) || is_utf8(part)
+}
+
+/// The same of other texts.
+#[inline(never)]
+fn is_utf8(part: &[u8]) -> bool
+    ensures { IsTrue result ↔ IsUtf8 part.now }
+{
+    text(part).is_some()
 }
 
 /// The cause with a code at the key of a field.
