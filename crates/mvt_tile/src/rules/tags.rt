@@ -99,7 +99,7 @@ impl TagNeeds {
 /// over at the end needs nothing: a list of odd length has no fault but its length, in whatever
 /// layer. `marks` keeps marks of keys, and is used again for each feature. The only error is that
 /// memory was refused.
-#[inline]
+#[inline(always)]
 pub(crate) fn scan_tags<N: NumberSource + Drop>(
     marks: &mut KeyMarks,
     mut tags: N,
