@@ -24,6 +24,9 @@ use mvt_tile::NumberSource;
 use std::alloc::Global;
 use std::marker::Model;
 
+/// The list of a ring keeps room for as many vertices more than it has.
+const MOST_SPARE: usize = 32;
+
 /// The rings of one polygon geometry at a time. It serves one feature after another: the memory
 /// that one took is used again for the next.
 #[derive(Drop)]
@@ -131,6 +134,7 @@ impl RingBuffer {
         let ring = &mut self.parts[self.count];
         ring.clear();
         read_path(ring, first, source, cursor, true)?;
+        give_back(ring, self.count);
         self.count += 1;
         Ok(())
     }
@@ -143,4 +147,14 @@ fn room_of_ring(ring: usize) -> usize
     ensures most { result ≤ 16 }
 {
     if ring == 0 { 16 } else { 3 }
+}
+
+/// Gives room back that the list of a ring with an ordinal doesn't need, where it is much: lists
+/// grow to twice their size. The first list keeps its room, for the first rings of later features.
+fn give_back(vertices: &mut Vec<Point>, ring: usize)
+    ensures { vertices.new.items ≡ vertices.old.items }
+{
+    if ring > 0 && vertices.len() + MOST_SPARE < vertices.capacity() {
+        vertices.shrink_to_fit();
+    }
 }

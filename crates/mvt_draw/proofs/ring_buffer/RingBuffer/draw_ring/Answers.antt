@@ -23,9 +23,9 @@ returns-clause-drawn g c = λ numbers given ring rest ahead.
           )
       | else-self-len w ↦ subst HasRoom (sym w.self-inside-is) (c.self.view_is, omega (arith, c.self.invariant, c.len.ensures))
     ] in (
-      ap (map (λ ring. ring.items)) (take_more_set inside.parts.items inside.count c.read_path.new.sink room.1)
-          ∙ map-append (λ ring. ring.items) (take inside.count inside.parts.items) (c.read_path.new.sink ∷ [])
-          ∙ (ap (λ (it : List (List Position)). it ++ c.read_path.new.sink.items ∷ []) room.0
-          ∙ ap (λ (it : List Position). c.args.self.now ++ it ∷ []) (told.0 ∙ ap (λ (it : List Position). it ++ ring) c.clear.ensures.items)),
+      ap (map (λ ring. ring.items)) (take_more_set inside.parts.items inside.count c.give_back.new.vertices room.1)
+          ∙ map-append (λ ring. ring.items) (take inside.count inside.parts.items) (c.give_back.new.vertices ∷ [])
+          ∙ (ap (λ (it : List (List Position)). it ++ c.give_back.new.vertices.items ∷ []) room.0
+          ∙ ap (λ (it : List Position). c.args.self.now ++ it ∷ []) (c.give_back.ensures ∙ told.0 ∙ ap (λ (it : List Position). it ++ ring) c.clear.ensures.items)),
       told.1,
     )
