@@ -34,7 +34,8 @@ is_newest() {
 # prove_library: proves and compiles the static library where it is missing or older than a source. `say` is the caller's.
 prove_library() {
     local folder=${proved%/*} log=${proved%/*}/library.log
-    is_newest "$proved" && return
+    # (newer than `began`, it was left by a run that was cut off, and sources may have changed meanwhile)
+    is_newest "$proved" && [ ! "$proved" -nt "$folder/began" ] && return
     say "proving ${folder%/out} first, which takes some minutes more than the proof of the program; the log is $log"
     mkdir -p "$folder"
     touch "$folder/began"
