@@ -88,7 +88,7 @@ pub fn find_meeting_with<S: Status>(
 }
 
 /// The same, where the vertices of the rings are given.
-pub(crate) fn meeting_by_sweep<S: Status>(
+fn meeting_by_sweep<S: Status>(
     alloc: Global,
     rings: &[Vec<Point>],
     vertices: &SweepVertices,

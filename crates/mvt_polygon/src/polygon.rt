@@ -10,13 +10,12 @@ ghost use Rattle.mvt_polygon.specs.TurnVertices.{turn_count};
 ghost use Rattle.mvt_polygon.specs.declared.polygon.PolygonFault.TheVariants as faults;
 ghost use Rattle.mvt_status.specs.Counts.{bits};
 
-use crate::meeting::{Meeting, find_meeting, meeting_by_sweep, named_meeting};
+use crate::meeting::{Meeting, find_meeting, named_meeting};
 use crate::nesting::NestFault;
 use crate::nesting::noted::fault_of_holes;
 use crate::pairs::{Pairs, find_pairs, meeting_among};
 use crate::sweep::{FEW_VERTICES, FewVertices, SweepVertices, Swept, list_few, sweep_rings};
 use mvt_plane::{Count, Point};
-use mvt_status::TreeStatus;
 use std::alloc::{AllocError, Global};
 
 #[cfg(test)]
@@ -94,7 +93,7 @@ fn meeting_in_ring(
     if find_pairs(&vertices, &mut pairs, count) {
         return Ok(named_meeting(rings, meeting_among(&vertices, &pairs, count)));
     }
-    meeting_by_sweep(alloc, rings, &vertices, &mut TreeStatus::new(alloc), count)
+    find_meeting(alloc, rings, count)
 }
 
 /// What `check_polygon` answers, by notes of the rings.
