@@ -8,7 +8,7 @@ use mvt_draw::{DrawFault, RingBuffer};
 use mvt_plane::{Count, Point};
 use mvt_polygon::{check_polygon, check_rings, find_meeting, find_meeting_with, groups};
 use mvt_status::{TreeStatus, VecStatus};
-use mvt_tile::ListedNumbers;
+use mvt_wire::ListedNumbers;
 
 /// A call on rings.
 #[derive(Clone, Copy)]

@@ -3,7 +3,7 @@ use Rattle.std.proofs.Common.{◌≡◌, ℕ, ◌<◌, List, [], ◌∷◌, leng
 use Rattle.std.specs.Option.{IfSome, IfNone}
 use Rattle.std.proofs.lemmas.List.{length-drop}
 use Rattle.std.proofs.lemmas.Option.{same_Some}
-use Rattle.mvt_tile.proofs.Reading.Sources.{at_end}
+use Rattle.mvt_wire.proofs.FieldNumbers.Sources.{at_end}
 use Rattle.mvt_draw.specs.Calls.Given.{IsAt, IsGivenAt}
 use Rattle.mvt_draw.proofs.Courses.{one_ahead}
 

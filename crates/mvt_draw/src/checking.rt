@@ -17,7 +17,8 @@ use crate::drawing::DrawFault;
 use crate::reading::{read_path, read_points};
 use crate::sink::Nothing;
 use mvt_fault::CommandCode;
-use mvt_tile::{Kind, NumberSource};
+use mvt_tile::Kind;
+use mvt_wire::NumberSource;
 
 /// What keeps the numbers of a geometry from drawing a figure of the kind: the cause and the place
 /// among them, counted from 0 (Mapbox Vector Tile Specification 2.1, section 4.3). None where they

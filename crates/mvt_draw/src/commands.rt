@@ -15,8 +15,7 @@ ghost use Rattle.mvt_plane.specs.Commands.Figure.{GeometryType, command_integer}
 
 use mvt_fault::CommandCode;
 use mvt_plane::{GREATEST_COORDINATE, GREATEST_COUNT, LINE_TO, MOVE_TO};
-use mvt_tile::NumberSource;
-use mvt_wire::unzigzag32;
+use mvt_wire::{NumberSource, unzigzag32};
 
 /// Where a reader of a geometry is.
 #[derive(Clone, Copy, Debug, PartialEq, Eq)]

@@ -15,7 +15,8 @@ use crate::figure::Figure;
 use crate::reading::{read_path, read_points};
 use mvt_fault::CommandCode;
 use mvt_plane::Point;
-use mvt_tile::{Kind, ListedNumbers, NumberSource};
+use mvt_tile::Kind;
+use mvt_wire::{ListedNumbers, NumberSource};
 use std::alloc::{AllocError, AllocFailed, Global};
 
 /// Why a geometry wasn't drawn.

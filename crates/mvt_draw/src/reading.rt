@@ -19,7 +19,7 @@ use crate::drawing::DrawFault;
 use crate::sink::PositionSink;
 use mvt_fault::CommandCode;
 use mvt_plane::{CLOSE_PATH, GREATEST_COUNT, MOVE_TO};
-use mvt_tile::NumberSource;
+use mvt_wire::NumberSource;
 
 /// Reads the numbers as points, to which one MoveTo leads (section 4.3.4.2).
 pub(crate) fn read_points<S: PositionSink, N: NumberSource + Drop>(

@@ -20,7 +20,7 @@ use crate::drawing::DrawFault;
 use crate::reading::read_path;
 use mvt_fault::CommandCode;
 use mvt_plane::Point;
-use mvt_tile::NumberSource;
+use mvt_wire::NumberSource;
 use std::alloc::Global;
 use std::marker::Model;
 
@@ -128,7 +128,7 @@ impl RingBuffer {
             (path_command drawn (position_of cursor.old)) → IsFaultAhead polygon numbers stop) }
     {
         if self.count == self.parts.len() {
-            let room = Vec::with_capacity(alloc, room_of_ring(self.count))?;
+            let room = Vec::with_capacity(alloc, room_after(&self.parts))?;
             self.parts.push(room)?;
         }
         let ring = &mut self.parts[self.count];
@@ -140,13 +140,17 @@ impl RingBuffer {
     }
 }
 
-/// For how many vertices a new list has room at first, by the ordinal of its ring. A ring has three
-/// or more. The first list serves the first ring of each feature, so it begins with more.
-fn room_of_ring(ring: usize) -> usize
+/// For how many vertices the list of a new ring has room at first, after those of the rings before
+/// it: as many as the last one has, since rings of one feature are often alike, but three at least
+/// and 16 at most. The first list serves the first ring of each feature, so it begins with 16.
+fn room_after(rings: &[Vec<Point>]) -> usize
     ensures least { 3 ≤ result }
     ensures most { result ≤ 16 }
 {
-    if ring == 0 { 16 } else { 3 }
+    match rings.last() {
+        Some(ring) => ring.len().clamp(3, 16),
+        None => 16,
+    }
 }
 
 /// Gives room back that the list of a ring with an ordinal doesn't need, where it is much: lists

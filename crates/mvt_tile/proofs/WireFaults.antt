@@ -1,19 +1,15 @@
 -- The first fault of a tile's spelling.
-pub mod Ascii
 pub mod Causes
 pub mod CleanWalk
 pub mod EmbeddedSpans
 pub mod EndFaults
 pub mod FieldFaults
+pub mod FieldPlaces
 pub mod FieldScans
 pub mod LayerWalk
 pub mod Layers
-pub mod NextFields
 pub mod OneMoreField
 pub mod SchemaRules
-pub mod ShortNumbers
-pub mod SmallNumbers
-pub mod Spans
 pub mod TileWalk
 pub mod Tiles
 pub mod Walking

@@ -1,25 +1,12 @@
 -- Definitions that only state contracts of private functions. No public contract rests on them.
-pub mod Ascii
 pub mod Embedded
 pub mod Equal
 pub mod FeatureBytes
 pub mod FeatureRules
-pub mod FieldPlace
 pub mod FieldScan
-pub mod FieldsLeft
-pub mod First
-pub mod KeyMarks
-pub mod LayerFault
-pub mod LayersFound
 pub mod Least
 pub mod Names
-pub mod NumberSpan
-pub mod Numbers
-pub mod Packed
-pub mod Part
 pub mod PassedLayers
 pub mod PassedTags
 pub mod Reading
 pub mod RuleFaults
-pub mod TagNeeds
-pub mod Varints

@@ -1,10 +1,6 @@
 pub mod Advice
 pub mod Calls
 pub mod FeatureBytes
-pub mod FeatureRules
-pub mod NumberSpan
-pub mod Numbers
 pub mod ReadFault
 pub mod RuleFaults
-pub mod Varints
 pub mod View

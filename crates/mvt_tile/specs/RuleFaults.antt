@@ -1,10 +1,17 @@
--- The first fault of the rules between a tile's parts, and what is kept of a layer to search for it.
+-- The rules between a tile's parts, and a further one on its features.
 use Rattle.std.specs.Prelude.{◌≡◌, ℕ, ◌≤◌, ◌⊎◌, List, ◌∷◌}
 use Rattle.mvt_fault.specs.TrueFaults.{BreaksRule, OneFeatureHas}
 use Rattle.mvt_fault.specs.declared.fault.Fault.{Fault}
 use Rattle.mvt_wire.specs.Rules.{IsFeatureOf}
 use Rattle.mvt_wire.specs.Tile.{FeatureRecord, LayerRecord, TileRecord}
-use Rattle.mvt_tile.specs.FeatureRules.{Breaks, Keeps}
+
+-- what a further rule says of a feature, of the ordinals of its layer and of its own, and of a fault that it has
+abbrev pub Breaks : Type 1
+Breaks = FeatureRecord → ℕ → ℕ → Fault → Type 0
+
+-- what it says of a feature that keeps it
+abbrev pub Keeps : Type 1
+Keeps = FeatureRecord → Type 0
 
 -- a place of the feature with these ordinals, after the places of its tags
 abbrev pub IsAfterTags : ℕ → ℕ → List ℕ → Type 0

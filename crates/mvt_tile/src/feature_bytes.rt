@@ -1,22 +1,17 @@
 //! A feature as it stands in the bytes of a tile.
-ghost use Rattle.std.specs.Prelude.{◌≡◌, ◌≤◌, ◌<◌, ◌^◌, ℕ, true, List, [], ◌∷◌, ◌++◌, length};
+ghost use Rattle.std.specs.Prelude.{◌≡◌, ◌<◌, ◌^◌, ℕ, true, List, [], ◌∷◌, ◌++◌};
 ghost use Rattle.mvt_wire.specs.Field.{Entry, IsField, entry_of};
 ghost use Rattle.mvt_wire.specs.Tile.{FeatureRecord, IsFeature};
 ghost use Rattle.mvt_wire.specs.Calls.Tile.{FitsRule};
 ghost use Rattle.mvt_wire.specs.declared.schema.Message.TheVariants as messages;
-ghost use Rattle.mvt_tile.specs.Numbers.{AreLeft, most_bytes};
-ghost use Rattle.mvt_tile.specs.NumberSpan.{LiesIn};
-ghost use Rattle.mvt_tile.specs.Calls.Part.{Holds};
+ghost use Rattle.mvt_wire.specs.NumberSources.{AreLeft, most_bytes, StandIn};
+ghost use Rattle.mvt_wire.specs.Embedded.{Holds};
 ghost use Rattle.mvt_tile.specs.View.{kind_number};
 
-use crate::number_span::NumberSpan;
-use crate::numbers::{FeatureNumbers, varints_in};
-use crate::part::Part;
-use crate::read::payload::number_in;
-use crate::read::walk::WholeFields;
 use crate::record::Kind;
-use mvt_wire::Field;
 use mvt_wire::field_number::{FEATURE_ID, GEOMETRY, GEOMETRY_TYPE, TAGS};
+use mvt_wire::payload::number_in;
+use mvt_wire::{Field, Fields, NumberSpan, Part, WholeNumbers};
 
 /// What an id, tags, a type and a geometry begin with: the field's number and its wire type.
 const USUAL_KEYS: [u8; 4] = [0x12, 0x18, 0x22, 0x08];
@@ -28,8 +23,8 @@ pub struct FeatureBytes<'a> {
     /// The bytes up to the feature's end.
     bytes: &'a [u8],
     parts: FeatureParts,
-    ghost tags_stand: { LiesIn bytes.now 2 parts.tags },
-    ghost geometry_stands: { LiesIn bytes.now 4 parts.geometry },
+    ghost tags_stand: { StandIn bytes.now 2 parts.tags },
+    ghost geometry_stands: { StandIn bytes.now 4 parts.geometry },
 }
 
 impl<'a> FeatureBytes<'a> {
@@ -43,7 +38,7 @@ impl<'a> FeatureBytes<'a> {
             → Shows result feature_record }
     {
         let mut parts = FeatureParts::none(part.from);
-        let mut fields = WholeFields::new(part.bytes, part.from, part.to);
+        let mut fields = Fields::new(part.bytes, part.from, part.to);
         'walk: while let Some(field) = fields.next_usual(USUAL_KEYS) {
             parts.add(&field, fields.at());
         }
@@ -69,12 +64,12 @@ impl<'a> FeatureBytes<'a> {
 
     /// The index of a key, that of its value, and so on (section 4.4), of all the feature's fields
     /// of tags.
-    pub(crate) fn tags(&self) -> FeatureNumbers<'a>
+    pub(crate) fn tags(&self) -> WholeNumbers<'a>
         ensures all { (feature_record : FeatureRecord) → Shows self.now feature_record
             → AreLeft result feature_record.tags }
         ensures few { most_bytes result < 2 ^ 63 }
     {
-        FeatureNumbers::new(self.bytes, self.parts.tags, TAGS)
+        WholeNumbers::new(self.bytes, self.parts.tags, TAGS)
     }
 
     /// Whether the feature has no tags.
@@ -87,13 +82,13 @@ impl<'a> FeatureBytes<'a> {
     }
 
     /// Command and parameter integers (section 4.3), of all the feature's geometry fields.
-    pub fn geometry(&self) -> FeatureNumbers<'a>
+    pub fn geometry(&self) -> WholeNumbers<'a>
         ensures shows { (feature_record : FeatureRecord) × Shows self.now feature_record }
         ensures all { (feature_record : FeatureRecord) → Shows self.now feature_record
             → AreLeft result feature_record.geometry }
         ensures few { most_bytes result < 2 ^ 63 }
     {
-        FeatureNumbers::new(self.bytes, self.parts.geometry, GEOMETRY)
+        WholeNumbers::new(self.bytes, self.parts.geometry, GEOMETRY)
     }
 }
 
@@ -132,9 +127,9 @@ impl FeatureParts {
     {
         match field.number {
             FEATURE_ID => self.id = Some(number_in(field.body)),
-            TAGS => self.tags.add(varints_in(field.body), to),
+            TAGS => self.tags.add(field.body, to),
             GEOMETRY_TYPE => self.kind = kind_of(number_in(field.body)),
-            GEOMETRY => self.geometry.add(varints_in(field.body), to),
+            GEOMETRY => self.geometry.add(field.body, to),
             _ => {}
         }
     }

@@ -6,9 +6,6 @@ mod advice;
 mod feature_bytes;
 pub mod laws;
 mod lists;
-mod number_span;
-mod numbers;
-mod part;
 mod read;
 mod record;
 mod rules;
@@ -16,7 +13,6 @@ mod wire;
 
 pub use advice::{Advice, advise};
 pub use feature_bytes::FeatureBytes;
-pub use numbers::{FeatureNumbers, ListedNumbers, NumberSource};
 pub use read::{ReadFault, read_tile};
 pub use record::{Feature, Kind, Layer, Tile, Value};
 pub use rules::{FeatureRule, check_layers, check_tags, rule_fault};

@@ -1,33 +1,30 @@
 //! A tile's records, read from its bytes.
 ghost use Rattle.std.specs.Prelude.{◌≡◌, ◌≤◌, ℕ, List, ◌∷◌, [], ◌++◌, length, map, IfOk, IfErr, OnOk};
+ghost use Rattle.mvt_wire.specs.Embedded.{LiesIn};
 ghost use Rattle.mvt_wire.specs.Field.{Entry, entry_of};
 ghost use Rattle.mvt_wire.specs.Tile.{TileRecord, IsTile, LayerRecord, IsLayer};
 ghost use Rattle.mvt_wire.specs.Calls.Tile.{FitsRule};
 ghost use Rattle.mvt_wire.specs.declared.schema.Message.TheVariants as messages;
 ghost use Rattle.mvt_tile.specs.ReadFault.{IsReadFault};
 ghost use Rattle.mvt_wire.specs.Calls.Scope.{Embeds};
-ghost use Rattle.mvt_tile.specs.Calls.Reading.{LiesIn, GivesTile};
+ghost use Rattle.mvt_tile.specs.Calls.Reading.{GivesTile};
 ghost use Rattle.mvt_tile.specs.View.{layer_of, tile_of};
 
-pub(crate) mod feature;
+mod feature;
 mod layer;
-pub(crate) mod payload;
 #[cfg(test)]
 mod tests;
 mod value;
-pub(crate) mod walk;
 
 use crate::lists::push_item;
-use crate::part::Part;
 use crate::record::{Layer, Tile};
 use crate::wire::wire_fault;
 use layer::read_layer;
 use mvt_fault::Fault;
-use mvt_wire::Field;
 use mvt_wire::field_number::LAYERS;
-use payload::payload_span;
+use mvt_wire::payload::payload_span;
+use mvt_wire::{Field, Fields, Part};
 use std::alloc::{AllocError, Global};
-use walk::WholeFields;
 
 /// Why a tile wasn't read.
 #[derive(Clone, Copy, Debug, PartialEq, Eq)]
@@ -64,8 +61,8 @@ fn read_layers(alloc: Global, bytes: &[u8]) -> Result<Vec<Layer<'_>>, AllocError
         IsTile bytes.now (record { layers = map layer_of layers.items })) }
 {
     let mut layers = Vec::new(alloc);
-    let mut fields = WholeFields::new(bytes, 0, bytes.len());
-    'walk: while let Some(field) = fields.next_field() {
+    let mut fields = Fields::new(bytes, 0, bytes.len());
+    'walk: while let Some(field) = fields.next_whole() {
         add_field(alloc, bytes, &mut layers, field)?;
     }
     Ok(layers)

@@ -22,9 +22,6 @@ mod tags;
 #[cfg(test)]
 mod tests;
 
-use crate::part::Part;
-use crate::read::payload::payload_span;
-use crate::read::walk::WholeFields;
 use features::FeatureRoom;
 pub use features::FeatureRule;
 use layer_rules::LayerRules;
@@ -32,6 +29,8 @@ use layer_scan::check_layer;
 pub use layers::check_layers;
 use mvt_fault::Fault;
 use mvt_wire::field_number::LAYERS;
+use mvt_wire::payload::payload_span;
+use mvt_wire::{Fields, Part};
 use std::alloc::{AllocError, Global};
 pub use tags::check_tags;
 
@@ -93,8 +92,8 @@ fn walk_layers<'a, R: FeatureRule>(
 {
     let mut room = FeatureRoom::new(alloc);
     let mut layer_index = 0;
-    let mut fields = WholeFields::new(bytes, 0, bytes.len());
-    'walk: while let Some(field) = fields.next_field() {
+    let mut fields = Fields::new(bytes, 0, bytes.len());
+    'walk: while let Some(field) = fields.next_whole() {
         if field.number == LAYERS {
             let (from, to) = payload_span(field.body);
             let part = Part { bytes, from, to };

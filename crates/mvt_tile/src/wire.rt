@@ -1,31 +1,24 @@
 //! The first wire fault of a tile.
-ghost use Rattle.std.specs.Prelude.{◌≡◌, ℕ, ◌+◌, ◌<◌, ◌≤◌, List, [], ◌∷◌, ◌++◌, length, IfNone, IfSome};
-ghost use Rattle.mvt_wire.specs.Field.{Entry, entry_of};
+ghost use Rattle.std.specs.Prelude.{◌<◌, IfNone, IfSome};
 ghost use Rattle.mvt_wire.specs.WireFault.{WireFault};
 ghost use Rattle.mvt_wire.specs.declared.cause.WireCause.{WireCause};
 ghost use Rattle.mvt_wire.specs.declared.scope.Scope.{Scope};
 ghost use Rattle.mvt_fault.specs.Place.{IsLeast};
 ghost use Rattle.mvt_fault.specs.TrueFaults.{IsWireFault};
-ghost use Rattle.mvt_tile.specs.Calls.FieldPlace.{IsPlaced};
 
-mod ascii;
-mod embedded;
 mod field;
 mod layer;
 mod message;
-mod packed;
 mod scan;
 #[cfg(test)]
 mod tests;
 pub(crate) mod usual;
 
-use crate::part::Part;
-use crate::wire::embedded::{Check, EmbeddedScan};
 use crate::wire::layer::layer_fault;
 use crate::wire::scan::FieldScan;
 use mvt_fault::{Fault, wire_fault_in};
 use mvt_wire::field_number::LAYERS;
-use mvt_wire::{Message, Scope};
+use mvt_wire::{EmbeddedCheck, EmbeddedScan, Message, Part, Scope};
 
 /// The first wire fault of the bytes of a tile, or None where there is none: a fault of the wire
 /// encoding (Protocol Buffers encoding, "Message Structure"), or a field that the tile's schema
@@ -65,8 +58,8 @@ pub fn wire_fault(bytes: &[u8]) -> Option<Fault>
 #[derive(Drop)]
 struct Layers;
 
-impl Check for Layers {
-    ghost use Rattle.mvt_tile.specs.Calls.LayersFound.{IsFaultless, IsFirstOf};
+impl EmbeddedCheck for Layers {
+    ghost use Rattle.mvt_tile.specs.Calls.Embedded.{IsFaultless, IsFirstOf};
 
     type Found = Fault;
 

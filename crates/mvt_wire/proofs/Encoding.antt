@@ -1,4 +1,5 @@
 -- Varints, fields and messages, and their defects.
+pub mod Ascii
 pub mod Defects
 pub mod Entries
 pub mod FieldSpellings
@@ -8,4 +9,5 @@ pub mod PackedLists
 pub mod Payloads
 pub mod VarintLists
 pub mod Varints
+pub mod WholeFields
 pub mod Zigzags

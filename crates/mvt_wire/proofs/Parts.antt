@@ -1,5 +1,6 @@
 -- Tiles, layers, features and values, as their messages state them.
 pub mod Contents
+pub mod EmbeddedSpans
 pub mod Judgements
 pub mod LastFields
 pub mod PairedLists

@@ -1,8 +1,10 @@
 pub mod Calls
 pub mod Code
+pub mod Embedded
 pub mod Field
 pub mod Message
 pub mod Number
+pub mod NumberSources
 pub mod Numbers
 pub mod Rules
 pub mod Schema

@@ -152,3 +152,11 @@ pub record EndsNumbers (old new : NumberWalk) (ending : Option WireCause) : Type
   pub none : NumbersLeft old [] ending
   pub only : (numbers : List ℕ) (other : Option WireCause) → NumbersLeft old numbers other → (numbers ≡ []) × (other ≡ ending)
   pub over : HasEnded new
+
+-- no field states numbers from a place on
+abbrev pub HasNoNumber : List ℕ → ℕ → ℕ → Type 0
+HasNoNumber message from field_number = (number : ℕ) (given : List ℕ) → ¬ NumbersEnd message from field_number (number ∷ given) None
+
+-- no fault ends those that a walk has left
+abbrev pub IsFaultless : NumberWalk → Type 0
+IsFaultless walk = (given : List ℕ) (cause : WireCause) → ¬ NumbersLeft walk given (Some cause)

@@ -2,13 +2,16 @@ ghost use Rattle.std.specs.Prelude.{◌≡◌, ◌+◌, ◌<◌, ◌≤◌, leng
 ghost use Rattle.mvt_wire.specs.Field.{IsField, IsPayload, FieldDefect, HasLeadingVarint, PayloadEnd, content_of, entry_of, wire_type_of};
 ghost use Rattle.mvt_wire.specs.Calls.Key.{IsKeyOf, number_of};
 ghost use Rattle.mvt_wire.specs.Varint.{SpellsVarint};
-ghost use Rattle.mvt_wire.specs.Walk.{Walk, IsOver, GivesField, FindsDefect};
+ghost use Rattle.mvt_wire.specs.Walk.{Walk, IsOver, GivesField, FindsDefect, IsDefectOr};
 
 use crate::cause::{WireCause, WireCode};
 use crate::field::{Body, Field};
 use crate::key::{Key, WireType, read_key};
 use crate::varint::read_varint;
 use std::marker::Model;
+
+pub(crate) mod short_keys;
+pub(crate) mod whole;
 
 /// A cursor over the fields of one message, in their order in it.
 #[derive(Drop)]
@@ -39,6 +42,14 @@ impl<'a> Fields<'a> {
         }
     }
 
+    /// The offset after the fields that were given.
+    #[inline(always)]
+    pub fn at(&self) -> usize
+        ensures { result ≡ self.now.at }
+    {
+        self.at
+    }
+
     /// The next field, or None at the message's end (Protocol Buffers encoding, "Message
     /// Structure").
     ///
@@ -65,6 +76,21 @@ impl<'a> Fields<'a> {
             }
         }
     }
+}
+
+/// The defect of a field that is left, or else the cause: a message that isn't whole has no other
+/// fault than its defect.
+#[cold]
+#[inline(never)]
+pub fn defect_or(mut fields: Fields<'_>, cause: WireCause) -> WireCause
+    ensures { IsDefectOr fields.entry cause result }
+{
+    'walk: while let Some(item) = fields.next_field() {
+        if let Err(defect) = item {
+            return defect;
+        }
+    }
+    cause
 }
 
 /// The field at an offset, and the offset after it.

@@ -11,8 +11,12 @@ use crate::fields::read_field;
 use crate::varint::read_varint;
 use std::marker::Model;
 
+pub(crate) mod packed;
+pub(crate) mod source;
+pub(crate) mod span;
 #[cfg(test)]
 mod tests;
+pub(crate) mod whole;
 
 /// Varints one after another: the offset of the first, and the one after the last.
 #[derive(Clone, Copy)]

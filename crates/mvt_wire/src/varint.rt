@@ -20,22 +20,18 @@ pub fn read_varint(bytes: &[u8], at: usize) -> Result<(u64, usize), WireCode>
     if let Some(read) = short_varint(bytes, at) {
         return Ok(read);
     }
-    let rest = &bytes[at..];
-    match long_varint(rest) {
-        Some((value, size)) => Ok((value, at + size)),
-        None => Err(varint_defect(rest)),
+    match long_varint(bytes, at) {
+        Some(read) => Ok(read),
+        None => Err(varint_defect(&bytes[at..])),
     }
 }
 
 /// The varint at an offset, and the offset after it, where it has one byte or two, as nearly all
-/// have in a tile.
+/// have in a tile, or three to five and five bytes are left.
 #[inline(always)]
 fn short_varint(bytes: &[u8], at: usize) -> Option<(u64, usize)>
     requires { at ≤ length bytes.now }
-    ensures found { IfSome result (λ read. SpellsVarint bytes.now at read.1 read.0) }
-    ensures long { IfNone result ((n to : ℕ) → SpellsVarint bytes.now at to n → at + 2 < to) }
-    ensures continued { IfNone result (at + 2 ≤ length bytes.now
-        → (128 ≤ slice_index bytes.now at) × (128 ≤ slice_index bytes.now (at + 1))) }
+    ensures { IfSome result (λ read. SpellsVarint bytes.now at read.1 read.0) }
 {
     let &first = bytes.get(at)?;
     if first < 128 {
@@ -45,51 +41,50 @@ fn short_varint(bytes: &[u8], at: usize) -> Option<(u64, usize)>
     if second < 128 {
         return Some((u64::from(first % 128) + u64::from(second) * 128, at + 2));
     }
-    None
-}
-
-/// The varint that the bytes begin with, and how many bytes it has, at least three; None where they
-/// begin with none.
-#[inline(always)]
-fn long_varint(rest: &[u8]) -> Option<(u64, usize)>
-    requires { 2 ≤ length rest.now → (128 ≤ slice_index rest.now 0)
-        × (128 ≤ slice_index rest.now 1) }
-    ensures within { IfSome result (λ read. read.1 ≤ length rest.now) }
-    ensures found { IfSome result (λ read. IsVarint (take read.1 rest.now) read.0) }
-    ensures refused { IfNone result (EndsEarly rest.now ⊎ IsTooLong rest.now) }
-{
-    if let Some(read) = middle_varint(rest) {
-        return Some(read);
-    }
-    let size = varint_size(rest)?;
-    Some((varint_value(&rest[..size]), size))
-}
-
-/// The same, where it has three to five bytes, as those of 32-bit numbers have.
-#[inline(always)]
-fn middle_varint(rest: &[u8]) -> Option<(u64, usize)>
-    requires { 2 ≤ length rest.now → (128 ≤ slice_index rest.now 0)
-        × (128 ≤ slice_index rest.now 1) }
-    ensures within { IfSome result (λ read. read.1 ≤ length rest.now) }
-    ensures found { IfSome result (λ read. IsVarint (take read.1 rest.now) read.0) }
-{
-    if rest.len() < 5 {
+    if bytes.len() - at < 5 {
         return None;
     }
-    let two = u64::from(rest[0] % 128) + u64::from(rest[1] % 128) * 128;
-    let three = two + u64::from(rest[2] % 128) * 16_384;
-    if rest[2] < 128 {
-        return Some((three, 3));
+    middle_varint(bytes, at)
+}
+
+/// The varint at an offset, and the offset after it, where it has three to five bytes, as those of
+/// 32-bit numbers have. Each byte is there unless an earlier one ends the varint.
+#[inline(always)]
+fn middle_varint(bytes: &[u8], at: usize) -> Option<(u64, usize)>
+    requires long { (128 ≤ slice_index bytes.now at) × (128 ≤ slice_index bytes.now (at + 1)) }
+    requires third { at + 2 < length bytes.now }
+    requires fourth { 128 ≤ slice_index bytes.now (at + 2) → at + 3 < length bytes.now }
+    requires fifth { 128 ≤ slice_index bytes.now (at + 2) → 128 ≤ slice_index bytes.now (at + 3)
+        → at + 4 < length bytes.now }
+    ensures { IfSome result (λ read. SpellsVarint bytes.now at read.1 read.0) }
+{
+    let two = u64::from(bytes[at] % 128) + u64::from(bytes[at + 1] % 128) * 128;
+    let three = two + u64::from(bytes[at + 2] % 128) * 16_384;
+    if bytes[at + 2] < 128 {
+        return Some((three, at + 3));
     }
-    let four = three + u64::from(rest[3] % 128) * 2_097_152;
-    if rest[3] < 128 {
-        return Some((four, 4));
+    let four = three + u64::from(bytes[at + 3] % 128) * 2_097_152;
+    if bytes[at + 3] < 128 {
+        return Some((four, at + 4));
     }
-    let five = four + u64::from(rest[4] % 128) * 268_435_456;
-    if rest[4] < 128 {
-        return Some((five, 5));
+    let five = four + u64::from(bytes[at + 4] % 128) * 268_435_456;
+    if bytes[at + 4] < 128 {
+        return Some((five, at + 5));
     }
     None
+}
+
+/// The varint at an offset, of any size, and the offset after it; None where none is there.
+#[inline(always)]
+fn long_varint(bytes: &[u8], at: usize) -> Option<(u64, usize)>
+    requires { at ≤ length bytes.now }
+    ensures found { IfSome result (λ read. SpellsVarint bytes.now at read.1 read.0) }
+    ensures refused { IfNone result (EndsEarly (drop at bytes.now)
+        ⊎ IsTooLong (drop at bytes.now)) }
+{
+    let rest = &bytes[at..];
+    let size = varint_size(rest)?;
+    Some((varint_value(&rest[..size]), at + size))
 }
 
 /// How many bytes the varint has that the bytes begin with, or None where they begin with none.
@@ -135,5 +130,83 @@ fn varint_defect(rest: &[u8]) -> WireCode
         WireCode::Ends
     } else {
         WireCode::TooLong
+    }
+}
+
+/// The varint at an offset, and the offset after it; None where none is there.
+#[inline(always)]
+pub fn leading_varint(bytes: &[u8], at: usize) -> Option<(u64, usize)>
+    requires { at < length bytes.now }
+    ensures found { IfSome result (λ read. SpellsVarint bytes.now at read.1 read.0) }
+    ensures refused { IfNone result (EndsEarly (drop at bytes.now)
+        ⊎ IsTooLong (drop at bytes.now)) }
+{
+    let first = bytes[at];
+    if first < 128 {
+        return Some((u64::from(first), at + 1));
+    }
+    let &second = bytes.get(at + 1)?;
+    let value = u64::from(first % 128) + u64::from(second % 128) * 128;
+    if second < 128 {
+        return Some((value, at + 2));
+    }
+    match bytes.get(at + 2) {
+        Some(&third) if third < 128 => Some((value + u64::from(third) * 16_384, at + 3)),
+        _ => longer_leading(bytes, at),
+    }
+}
+
+/// The same for one of more bytes.
+#[inline(never)]
+fn longer_leading(bytes: &[u8], at: usize) -> Option<(u64, usize)>
+    requires { at < length bytes.now }
+    ensures found { IfSome result (λ read. SpellsVarint bytes.now at read.1 read.0) }
+    ensures refused { IfNone result (EndsEarly (drop at bytes.now)
+        ⊎ IsTooLong (drop at bytes.now)) }
+{
+    read_varint(bytes, at).ok()
+}
+
+/// The varint that stands at an offset, and the offset after it. Nearly all have one byte or two in
+/// a tile.
+#[inline(always)]
+pub(crate) fn whole_varint(bytes: &[u8], at: usize) -> (u64, usize)
+    requires { (n next : ℕ) × SpellsVarint bytes.now at next n }
+    ensures { SpellsVarint bytes.now at result.1 result.0 }
+{
+    let first = bytes[at];
+    if first < 128 {
+        return (u64::from(first), at + 1);
+    }
+    let second = bytes[at + 1];
+    if second < 128 {
+        return (u64::from(first % 128) + u64::from(second) * 128, at + 2);
+    }
+    longer_varint(bytes, at)
+}
+
+/// The same for one of three bytes or more.
+#[inline(never)]
+fn longer_varint(bytes: &[u8], at: usize) -> (u64, usize)
+    requires stands { (n next : ℕ) × SpellsVarint bytes.now at next n }
+    requires long { (128 ≤ slice_index bytes.now at) × (128 ≤ slice_index bytes.now (at + 1)) }
+    ensures { SpellsVarint bytes.now at result.1 result.0 }
+{
+    match middle_varint(bytes, at) {
+        Some(read) => read,
+        None => longest_varint(bytes, at),
+    }
+}
+
+/// The same for one of any size.
+#[cold]
+#[inline(never)]
+fn longest_varint(bytes: &[u8], at: usize) -> (u64, usize)
+    requires { (n next : ℕ) × SpellsVarint bytes.now at next n }
+    ensures { SpellsVarint bytes.now at result.1 result.0 }
+{
+    match long_varint(bytes, at) {
+        Some(read) => read,
+        None => unreachable!(),
     }
 }

@@ -1,6 +1,7 @@
 use crate::command_fault;
 use mvt_fault::CommandCode;
-use mvt_tile::{Kind, ListedNumbers};
+use mvt_tile::Kind;
+use mvt_wire::ListedNumbers;
 
 /// Whether the numbers have no command fault.
 fn draw(kind: Kind, numbers: &[u32]) -> bool {

@@ -2,7 +2,7 @@ use super::RingBuffer;
 use crate::DrawFault;
 use crate::tests::are_parts;
 use mvt_fault::CommandCode;
-use mvt_tile::ListedNumbers;
+use mvt_wire::ListedNumbers;
 
 // The example of a polygon with a hole and of another one (Mapbox Vector Tile Specification 2.1,
 // section 4.3.5.6), then that of a single polygon, a geometry that ends too early, and again a good

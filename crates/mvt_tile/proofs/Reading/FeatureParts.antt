@@ -6,20 +6,19 @@ use Rattle.mvt_wire.specs.Scope.{Span}
 use Rattle.mvt_wire.specs.Tile.{number_in, numbers_of, FeatureRecord, IsFeature}
 use Rattle.mvt_wire.specs.Walk.{Walk, IsOver}
 use Rattle.mvt_wire.proofs.FieldNumbers.SmallNumbers.{tags_end, geometry_end}
-use Rattle.mvt_wire.proofs.Walking.{IsWalking}
+use Rattle.mvt_wire.proofs.Walking.{IsWalking, IsWalking-over}
 use Rattle.mvt_tile.specs.FeatureBytes.{Shows}
 use Rattle.mvt_tile.specs.Calls.FeatureBytes.{GivesParts}
-use Rattle.mvt_tile.specs.NumberSpan.{LiesIn}
-use Rattle.mvt_tile.specs.Calls.NumberSpan.{StandBefore}
+use Rattle.mvt_wire.specs.NumberSources.{StandIn, StandBefore}
 use Rattle.mvt_tile.specs.Calls.Reading.{last_of}
 use Rattle.mvt_tile.specs.View.{kind_number}
 use Rattle.mvt_tile.specs.declared.feature_bytes.FeatureBytes.{FeatureBytes}
 use Rattle.mvt_tile.specs.declared.feature_bytes.FeatureParts.{FeatureParts}
-use Rattle.mvt_tile.specs.declared.number_span.NumberSpan.{NumberSpan}
+use Rattle.mvt_wire.specs.declared.numbers.span.NumberSpan.{NumberSpan}
 use Rattle.mvt_tile.specs.declared.record.Kind.{Kind}
-use Rattle.mvt_tile.proofs.Reading.Filters.{few_picked, last_of-push, picked-other, picked-push}
-use Rattle.mvt_tile.proofs.Reading.NumberSpans.{LiesIn-whole, StandBefore-other, all_in, left_whole}
-use Rattle.mvt_tile.proofs.Reading.ReadingWalk.{IsWalking-over}
+use Rattle.mvt_wire.proofs.Encoding.Payloads.{few_picked, picked-other, picked-push}
+use Rattle.mvt_tile.proofs.Reading.ReadingRules.{last_of-push}
+use Rattle.mvt_wire.proofs.FieldNumbers.NumberSpans.{StandIn-whole, StandBefore-other, all_in, left_whole}
 
 module _ (message : List ℕ) (from to : ℕ) (entries : List Entry) (entry : Entry) (field : IsField message to entry) (parts : FeatureParts) (gives : GivesParts message from entries entry.at parts) where
   -- what a field of another number leaves
@@ -100,11 +99,11 @@ module _ {bytes : List ℕ} {span : Span} {feature : FeatureRecord} (is : IsFeat
     geometry = rw (same_bytes, same_parts) (left_whole message span.from 4 parts.geometry feature.geometry all.geometry (geometry_end bytes span feature is));
   }
 
-  pub tags_lie : LiesIn message 2 parts.tags
-  tags_lie = LiesIn-whole message span.from 2 parts.tags feature.tags all.tags (tags_end bytes span feature is)
+  pub tags_lie : StandIn message 2 parts.tags
+  tags_lie = StandIn-whole message span.from 2 parts.tags feature.tags all.tags (tags_end bytes span feature is)
 
-  pub geometry_lies : LiesIn message 4 parts.geometry
-  geometry_lies = LiesIn-whole message span.from 4 parts.geometry feature.geometry all.geometry (geometry_end bytes span feature is)
+  pub geometry_lies : StandIn message 4 parts.geometry
+  geometry_lies = StandIn-whole message span.from 4 parts.geometry feature.geometry all.geometry (geometry_end bytes span feature is)
 
 -- the bytes of a feature show one
 pub shown : (feature : FeatureBytes) → (it : FeatureRecord) × Shows feature it

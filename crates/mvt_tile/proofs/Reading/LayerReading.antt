@@ -4,7 +4,8 @@ use Rattle.mvt_wire.specs.Field.{Entry}
 use Rattle.mvt_wire.specs.Scope.{Span, span_of, spans_of}
 use Rattle.mvt_wire.specs.Tile.{number_in, numbers_of, bytes_in, texts_of, Each, FeatureRecord, IsFeature, ValueRecord, IsValue, LayerRecord, IsLayer}
 use Rattle.mvt_tile.specs.Calls.Reading.{GivesLayer, last_of}
-use Rattle.mvt_tile.proofs.Reading.Filters.{picked-push, picked-other, few_picked, last_of-push}
+use Rattle.mvt_wire.proofs.Encoding.Payloads.{picked-push, picked-other, few_picked}
+use Rattle.mvt_tile.proofs.Reading.ReadingRules.{last_of-push}
 use Rattle.mvt_tile.proofs.WireFaults.EmbeddedSpans.{Each-picked, Each-other}
 
 module _ (bytes : List ℕ) (entries : List Entry) (entry : Entry) (layer : LayerRecord) (gives : GivesLayer bytes entries layer) where

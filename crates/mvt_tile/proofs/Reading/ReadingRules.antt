@@ -1,5 +1,5 @@
--- What the payload of a field is that fits the rule for its number.
-use Rattle.std.proofs.Common.{◌≡◌, ℕ, ◌<◌, ◌==◌, nat_le, Some, sym, ◌∙◌, ap}
+-- What the payload of a field is that fits the rule for its number, and the last of a list.
+use Rattle.std.proofs.Common.{◌≡◌, ℕ, ◌<◌, ◌==◌, nat_le, List, [], ◌∷◌, ◌++◌, Some, refl, sym, ◌∙◌, ap}
 use Rattle.std.proofs.lemmas.Bool.{eqb-true, leb-false}
 use Rattle.mvt_wire.specs.Field.{content_of, entry_of, Content, varint, eight_bytes, delimited, four_bytes, Entry, wire_type_of}
 use Rattle.mvt_wire.specs.Schema.{rule_of, is_own, is_out_of_range}
@@ -8,6 +8,7 @@ use Rattle.mvt_wire.specs.Calls.Tile.{FitsRule}
 use Rattle.mvt_wire.specs.declared.field.Field.{Field}
 use Rattle.mvt_wire.specs.declared.schema.FieldRule.{FieldRule}
 use Rattle.mvt_wire.specs.declared.schema.Message.{Message}
+use Rattle.mvt_tile.specs.Calls.Reading.{last_of}
 
 -- the rule for a number that is known
 pub fits_at : (message : Message) (entry : Entry) (field_number : ℕ) (rule : FieldRule)
@@ -34,3 +35,8 @@ pub below_limit : (rule : FieldRule) (content : Content) (limit n : ℕ)
 below_limit rule content limit n fits out told =
     let place = varint_from content n told in
     leb-false limit n (sym (out n) ∙ fits.in_range n place.0 place.1)
+
+-- the last of a list is the one that was added last
+pub last_of-push : {A : Type 0} (otherwise x : A) (xs : List A) → last_of otherwise (xs ++ x ∷ []) ≡ x
+last_of-push otherwise x [] = refl
+last_of-push otherwise x (y ∷ ys) = last_of-push y x ys

@@ -12,7 +12,7 @@ use Rattle.mvt_tile.specs.declared.advice.Advice.{Advice}
 use Rattle.mvt_tile.specs.declared.advice.Advice.TheVariants.{NoFeature}
 use Rattle.mvt_tile.specs.declared.advice.Equal.{Equal}
 use Rattle.mvt_tile.specs.declared.advice.Equal.TheVariants.{Keys, Ids}
-use Rattle.mvt_tile.proofs.WireFaults.Spans.{slice_get-append, slice_get-push}
+use Rattle.mvt_wire.proofs.Parts.EmbeddedSpans.{slice_get-append, slice_get-push}
 
 -- at the second place, which is in front of an end, stands the first
 abbrev pub StandsBefore : List (Option ℕ) → ℕ → ℕ → ℕ → Type 0

@@ -11,12 +11,11 @@ use Rattle.mvt_fault.specs.declared.fault.Fault.TheVariants.{Tag}
 use Rattle.mvt_fault.specs.declared.tag.TagCode.{TagCode}
 use Rattle.mvt_fault.specs.declared.tag.TagCode.TheVariants.{OddLength, NoKey, NoValue, Repeated}
 use Rattle.mvt_wire.proofs.Parts.PairedLists.{each_here, each_there}
-use Rattle.mvt_tile.specs.FeatureRules.{Breaks, Keeps}
+use Rattle.mvt_tile.specs.RuleFaults.{Breaks, Keeps, IsAfterTags}
 use Rattle.mvt_tile.specs.Calls.FeatureRules.{IsFaultOfFeature, IsFaultInLayer, IsSound, AllSoundInLayer, AllSound, FindsInFeature}
-use Rattle.mvt_tile.specs.Calls.First.{AreClean}
+use Rattle.mvt_wire.specs.Embedded.{AreClean}
 use Rattle.mvt_tile.specs.Calls.RuleFaults.{AreAfterTags, IsFirstTagFault, IsLike}
-use Rattle.mvt_tile.specs.RuleFaults.{IsAfterTags}
-use Rattle.mvt_tile.specs.Calls.TagNeeds.{AreMetBy}
+use Rattle.mvt_tile.specs.Calls.PassedTags.{AreMetBy}
 use Rattle.mvt_tile.specs.declared.rules.tags.TagNeeds.{TagNeeds}
 use Rattle.mvt_tile.proofs.WireFaults.CleanWalk.{IsNext}
 use Rattle.mvt_tile.proofs.RuleFaults.TagFaults.{IsLeast-first, no_tag_broken}

@@ -7,7 +7,7 @@ use Rattle.mvt_wire.specs.Walk.{Walk, IsOver, GivesField}
 use Rattle.mvt_wire.proofs.Walking.{IsWalking}
 use Rattle.mvt_fault.specs.Place.{IsLeast}
 use Rattle.mvt_fault.specs.declared.fault.Fault.{Fault}
-use Rattle.mvt_tile.specs.FeatureRules.{Breaks, Keeps}
+use Rattle.mvt_tile.specs.RuleFaults.{Breaks, Keeps}
 use Rattle.mvt_tile.specs.Calls.FeatureRules.{IsFaultInLayer, FindsInFeature, FindsInLayer}
 use Rattle.mvt_tile.specs.Calls.Reading.{GivesSummary}
 use Rattle.mvt_tile.specs.Calls.RuleFaults.{AreAfterTags, IsLike, IsSummary}

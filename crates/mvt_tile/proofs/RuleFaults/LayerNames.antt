@@ -11,9 +11,9 @@ use Rattle.mvt_fault.specs.declared.fault.Fault.{Fault}
 use Rattle.mvt_fault.specs.declared.fault.Fault.TheVariants.{Version, Name}
 use Rattle.mvt_fault.proofs.Places.{ComesFirst-reflexive}
 use Rattle.mvt_tile.specs.Calls.Names.{IsRepeated, IsFirstRepeated}
-use Rattle.mvt_tile.specs.Calls.PassedLayers.{passed, ArePassed, PassesLayers, IsNextLayer, IsOtherNext, EndsLayers}
+use Rattle.mvt_tile.specs.Calls.PassedLayers.{passed, ArePassed, PassesLayers, IsNextLayer, EndsLayers}
 use Rattle.mvt_tile.specs.declared.rules.layer_rules.LayerRules.{LayerRules}
-use Rattle.mvt_tile.proofs.WireFaults.Spans.{slice_get-append}
+use Rattle.mvt_wire.proofs.Parts.EmbeddedSpans.{slice_get-append}
 use Rattle.mvt_wire.proofs.Encoding.Payloads.{slice_get-last}
 
 -- the last numbers of the place of a wrong version, after its layer
@@ -81,9 +81,9 @@ module _ (rules : LayerRules) (tile : TileRecord) (layers : ArePassed rules tile
         absurd (none first second (repeated_from first second holds (omega arith)))
 
     -- where the next layer has another version, that is the first fault
-    pub IsLeast-version : IsOtherNext rules tile → IsLeast (IsFaultOfLayers tile) (Version (passed rules))
+    pub IsLeast-version : OtherVersion tile (passed rules) → IsLeast (IsFaultOfLayers tile) (Version (passed rules))
     IsLeast-version next = record {
-      holds = faults.version (passed rules) (record { layer_record = next.layer_record; there = next.there; other = next.other });
+      holds = faults.version (passed rules) next;
       least = least;
     }
       where

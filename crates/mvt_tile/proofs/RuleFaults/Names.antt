@@ -16,7 +16,7 @@ use Rattle.std.proofs.lemmas.List.Sorted.{All-permutation, IsPermutation-keeps, 
 use Rattle.std.proofs.lemmas.Option.{slice_get_within, slice_get-get_or, same_Some, get_or_from_slice_get, slice_get_cases, slice_get_read, slice_get-map}
 use Rattle.mvt_fault.proofs.Places.{equal_decides}
 use Rattle.mvt_fault.proofs.Swaps.{place_before, place_twice, swap_get}
-use Rattle.mvt_tile.proofs.WireFaults.Spans.{slice_get-push}
+use Rattle.mvt_wire.proofs.Parts.EmbeddedSpans.{slice_get-push}
 use Rattle.mvt_tile.specs.Calls.Names.{AreNumbered, IsRepeated, IsFirstRepeated}
 
 -- names are compared byte by byte, and those that are the same by their ordinals

@@ -7,7 +7,7 @@ use Rattle.mvt_wire.proofs.Encoding.Payloads.{slice_get-last}
 use Rattle.mvt_tile.specs.Advice.{IsRepetition}
 use Rattle.mvt_tile.specs.Calls.Equal.{AreFirstPlaces}
 use Rattle.mvt_tile.proofs.RuleFaults.Names.{IsNaming, AreGrouped}
-use Rattle.mvt_tile.proofs.WireFaults.Spans.{slice_get-append, slice_get-push}
+use Rattle.mvt_wire.proofs.Parts.EmbeddedSpans.{slice_get-append, slice_get-push}
 
 -- no place
 abbrev nowhere : Option ℕ

@@ -12,7 +12,8 @@ use Rattle.mvt_wire.proofs.Parts.PairedLists.{same_length}
 use Rattle.mvt_tile.specs.Calls.Reading.{GivesSummary, last_of}
 use Rattle.mvt_tile.specs.Calls.RuleFaults.{IsSummary}
 use Rattle.mvt_tile.specs.declared.rules.summary.LayerSummary.{LayerSummary}
-use Rattle.mvt_tile.proofs.Reading.Filters.{picked-push, picked-other, length-filter_map, last_of-push}
+use Rattle.mvt_wire.proofs.Encoding.Payloads.{picked-push, picked-other, length-filter_map}
+use Rattle.mvt_tile.proofs.Reading.ReadingRules.{last_of-push}
 use Rattle.mvt_wire.proofs.Walking.{IsWalking}
 
 -- one more is picked out of the payloads of a number

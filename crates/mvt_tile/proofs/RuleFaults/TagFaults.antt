@@ -11,9 +11,8 @@ use Rattle.mvt_fault.specs.declared.tag.TagCode.{TagCode}
 use Rattle.mvt_fault.specs.declared.tag.TagCode.TheVariants.{OddLength, NoKey, NoValue, Repeated}
 use Rattle.mvt_wire.specs.Rules.{OddTags, IsKeyAt, NoSuchKey, NoSuchValue}
 use Rattle.mvt_wire.specs.Tile.{FeatureRecord, LayerRecord}
-use Rattle.mvt_tile.specs.Calls.PassedTags.{AreCleanBefore, IsMetBefore, IsPassed}
+use Rattle.mvt_tile.specs.Calls.PassedTags.{AreCleanBefore, IsMetBefore, IsPassed, AreMetBy}
 use Rattle.mvt_tile.specs.Calls.RuleFaults.{IsFirstTagFault}
-use Rattle.mvt_tile.specs.Calls.TagNeeds.{AreMetBy}
 use Rattle.mvt_tile.specs.View.{feature_of}
 use Rattle.mvt_tile.specs.declared.record.Feature.{Feature}
 use Rattle.mvt_tile.specs.declared.rules.tags.TagNeeds.{TagNeeds}

@@ -1,14 +1,13 @@
 -- One pass over the pairs of tags.
 use Rattle.std.proofs.Common.{◌≡◌, ℕ, ◌+◌, ◌*◌, ◌<◌, ◌≤◌, List, [], ◌∷◌, length, drop, slice_get, Option, Some, None, sym, ◌∙◌, ap, subst, arith}
 use Rattle.std.proofs.lemmas.Option.{slice_get_within}
-use Rattle.mvt_tile.specs.Calls.PassedTags.{HasFoundBefore, IsScanned}
+use Rattle.mvt_tile.specs.Calls.PassedTags.{HasFoundBefore, IsScanned, AreMetBy}
 use Rattle.mvt_tile.specs.Calls.RuleFaults.{IsFirstTagFault, FindsFirstTagFault}
-use Rattle.mvt_tile.specs.Calls.TagNeeds.{AreMetBy}
 use Rattle.mvt_tile.specs.declared.rules.key_marks.KeyMarks.{KeyMarks}
 use Rattle.mvt_tile.specs.declared.rules.tags.TagNeeds.{TagNeeds}
 use Rattle.mvt_fault.specs.declared.tag.TagCode.{TagCode}
 use Rattle.mvt_fault.specs.declared.tag.TagCode.TheVariants.{OddLength}
-use Rattle.mvt_tile.proofs.Reading.Sources.{at_end, number_at}
+use Rattle.mvt_wire.proofs.FieldNumbers.Sources.{at_end, number_at}
 use Rattle.mvt_tile.proofs.RuleFaults.TagFaults.{AreMetBy-all, IsMetBefore-pair, IsFirstTagFault-odd, no_tag_fault}
 
 -- a pair that a source gives, one number after the other: it stands at the place, and the rest is left

@@ -9,7 +9,7 @@ use Rattle.mvt_wire.proofs.Parts.PairedLists.{each_there, same_length}
 use Rattle.mvt_fault.specs.Place.{IsLeast}
 use Rattle.mvt_fault.specs.TrueFaults.{OneFeatureHas}
 use Rattle.mvt_fault.specs.declared.fault.Fault.{Fault}
-use Rattle.mvt_tile.specs.FeatureRules.{Breaks, Keeps}
+use Rattle.mvt_tile.specs.RuleFaults.{Breaks, Keeps}
 use Rattle.mvt_tile.specs.Calls.FeatureRules.{IsFaultOfFeature, FindsInLayer, FindsInTile}
 use Rattle.mvt_tile.specs.Calls.PassedLayers.{passed, EndsLayers, IsNextLayer, PassesLayers}
 use Rattle.mvt_tile.specs.declared.rules.layer_rules.LayerRules.{LayerRules}
@@ -17,7 +17,7 @@ use Rattle.mvt_tile.specs.Calls.RuleFaults.{AreAfterTags, IsSummary}
 use Rattle.mvt_tile.specs.declared.rules.summary.LayerSummary.{LayerSummary}
 use Rattle.mvt_tile.proofs.WireFaults.CleanWalk.{CleanWalk, CleanWalk-other, CleanWalk-more, CleanWalk-next, CleanWalk-over}
 use Rattle.mvt_tile.proofs.RuleFaults.FeatureFaults.{IsGoodLayer, first_in_tile, good_tile}
-use Rattle.mvt_tile.proofs.Reading.ReadingWalk.{IsWalking-over}
+use Rattle.mvt_wire.proofs.Walking.{IsWalking-over}
 
 -- so many layers were passed, of which nothing is required
 abbrev pub PassedLayers : List ℕ → Walk → ℕ → Type 0

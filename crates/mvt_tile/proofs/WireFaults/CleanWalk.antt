@@ -5,13 +5,11 @@ use Rattle.mvt_wire.specs.Field.{Entry}
 use Rattle.mvt_wire.specs.Message.{IsMessage}
 use Rattle.mvt_wire.specs.Scope.{Span, span_of, spans_of}
 use Rattle.mvt_wire.specs.Walk.{Walk, IsOver, GivesField}
-use Rattle.mvt_tile.specs.Calls.First.{AreClean}
-use Rattle.mvt_tile.proofs.Reading.Filters.{picked-push, picked-other}
-use Rattle.mvt_tile.proofs.Reading.ReadingWalk.{IsWalking-none, IsWalking-over}
+use Rattle.mvt_wire.specs.Embedded.{AreClean}
+use Rattle.mvt_wire.proofs.Encoding.Payloads.{picked-push, picked-other, slice_get-last}
+use Rattle.mvt_wire.proofs.Walking.{IsWalking-none, IsWalking-over, IsWalking, IsWalking-more}
 use Rattle.mvt_tile.proofs.WireFaults.EmbeddedSpans.{spans_front}
-use Rattle.mvt_tile.proofs.WireFaults.Spans.{AreClean-push, slice_get-append, slice_get-some}
-use Rattle.mvt_wire.proofs.Walking.{IsWalking, IsWalking-more}
-use Rattle.mvt_wire.proofs.Encoding.Payloads.{slice_get-last}
+use Rattle.mvt_wire.proofs.Parts.EmbeddedSpans.{AreClean-push, slice_get-append, slice_get-some}
 
 -- the fields that were passed, and how many messages they hold, all of them clean
 pub record CleanWalk (Clean : ℕ → Span → Type 0) (field_number : ℕ) (message : List ℕ) (from : ℕ) (walk : Walk) (count : ℕ) : Type 0 where

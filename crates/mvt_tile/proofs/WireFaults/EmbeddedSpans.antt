@@ -1,16 +1,14 @@
 -- Where the messages lie that a message embeds, and their records.
-use Rattle.std.proofs.Common.{◌≡◌, ◌≢◌, ℕ, List, [], ◌∷◌, ◌++◌, take, Some, sym, ◌∙◌, ap, subst, arith, length-take}
+use Rattle.std.proofs.Common.{◌≡◌, ◌≢◌, ℕ, List, [], ◌∷◌, ◌++◌, take, Some, sym, ◌∙◌, ap, subst}
 use Rattle.mvt_wire.specs.Field.{Entry, IsField}
 use Rattle.mvt_wire.specs.Message.{IsMessage}
+use Rattle.mvt_wire.specs.Embedded.{LiesIn}
 use Rattle.mvt_wire.specs.Scope.{Span, span_of, spans_of}
 use Rattle.mvt_wire.specs.Calls.Scope.{Embeds}
 use Rattle.mvt_wire.specs.Tile.{Each}
 use Rattle.mvt_wire.specs.Walk.{Walk, GivesField}
-use Rattle.mvt_tile.specs.Calls.Reading.{LiesIn}
-use Rattle.mvt_tile.proofs.Reading.Filters.{picked-push, picked-other}
-use Rattle.mvt_tile.proofs.Reading.ReadingWalk.{IsWalking-front}
-use Rattle.mvt_wire.proofs.Walking.{IsWalking}
-use Rattle.mvt_wire.proofs.Encoding.Payloads.{payload_within, spans_of-append}
+use Rattle.mvt_wire.proofs.Encoding.Payloads.{LiesIn-field, picked-push, picked-other, spans_of-append}
+use Rattle.mvt_wire.proofs.Walking.{IsWalking-front, IsWalking}
 
 -- one more span, and its record
 Each-push : {A B : Type 0} (R : A → B → Type 0) (xs : List A) (ys : List B) (x : A) (y : B) → Each R xs ys → R x y → Each R (xs ++ x ∷ []) (ys ++ y ∷ [])
@@ -61,8 +59,5 @@ module _ {message : List ℕ} {from : ℕ} {old new : Walk} {entries : List Entr
 
 -- it lies within the bytes
 pub LiesIn-given : (bytes : List ℕ) (end : ℕ) {from : ℕ} {old new : Walk} {entries : List Entry} {entry : Entry} → IsWalking (take end bytes) from old entries → GivesField old new entry → LiesIn bytes entry
-LiesIn-given bytes end {from} {old} {new} {entries} {entry} so_far given = λ span there.
-    let spelled : IsField (take end bytes) new.at entry = subst (λ (message : List ℕ). IsField message new.at entry) so_far.same_bytes given.spelled in
-    let inside = payload_within (take end bytes) spelled.key_end new.at entry.content span spelled.payload there in
-    let shorter = length-take end bytes in
-    (inside.0, omega arith)
+LiesIn-given bytes end {new = new} {entry = entry} so_far given =
+    LiesIn-field bytes end new.at entry (subst (λ (message : List ℕ). IsField message new.at entry) so_far.same_bytes given.spelled)

@@ -1,5 +1,5 @@
 -- The faults of one field: where they lie, and which of them comes first.
-use Rattle.std.proofs.Common.{◌≡◌, ℕ, ◌+◌, ◌<◌, ◌≤◌, Bool, true, List, length, Option, Some, None, refl, sym, ◌∙◌, ap, subst, arith, IsUtf8}
+use Rattle.std.proofs.Common.{◌≡◌, ℕ, ◌+◌, ◌<◌, ◌≤◌, Bool, true, List, length, Option, Some, None, IfNone, IfSome, ◌⊎◌, refl, sym, ◌∙◌, ap, subst, arith, IsUtf8}
 use Rattle.std.proofs.lemmas.Bool.{both_ways}
 use Rattle.mvt_wire.specs.Field.{Content, varint, delimited, Entry, wire_type_of, cause_at}
 use Rattle.mvt_wire.specs.Number.{PackedFault}
@@ -11,9 +11,9 @@ use Rattle.mvt_wire.specs.declared.schema.FieldRule.{FieldRule}
 use Rattle.mvt_wire.specs.declared.schema.Shape.TheVariants.{Text, Numbers}
 use Rattle.mvt_fault.specs.Place.{ComesFirst}
 use Rattle.mvt_tile.specs.Calls.Least.{cause_place, IsLeastCause, FindsLeastCause}
-use Rattle.mvt_tile.specs.Calls.FieldPlace.{LiesWithin, IsPlaced}
-use Rattle.mvt_tile.proofs.WireFaults.Causes.{same_cause}
-use Rattle.mvt_tile.proofs.WireFaults.SmallNumbers.{fault_in_part}
+use Rattle.mvt_tile.proofs.WireFaults.FieldPlaces.{LiesWithin, IsPlaced}
+use Rattle.mvt_tile.proofs.WireFaults.Causes.{by_place, same_cause}
+use Rattle.mvt_wire.proofs.FieldNumbers.PackedNumbers.{fault_in_part}
 
 -- where a number lies
 varint_place : (entry : Entry) (next value at : ℕ) → IsPlaced entry next → entry.content ≡ varint value at → (entry.at < at) × (at < next)
@@ -87,10 +87,12 @@ packed-only rule occurred entry from part fault own may shape content (packed f 
     subst (λ (place : ℕ). PackedFault place part entry.number fault) places (subst (λ (bytes : List ℕ). PackedFault f bytes entry.number fault) parts inner)
 
 pub packed-first : (rule : FieldRule) (occurred : Bool) (entry : Entry) (from : ℕ) (part : List ℕ) (found : Option WireCause) → is_own rule.shape (wire_type_of entry.content) ≡ true → MayOccur rule occurred
-    → rule.shape ≡ Numbers → entry.content ≡ delimited from part → FindsLeastCause (PackedFault from part entry.number) found
+    → rule.shape ≡ Numbers → entry.content ≡ delimited from part
+    → IfNone found ((cause : WireCause) → ¬ PackedFault from part entry.number cause) → IfSome found (PackedFault from part entry.number)
+    → IfSome found (λ cause. (other : WireCause) → PackedFault from part entry.number other → (cause.at < other.at) ⊎ (cause ≡ other))
     → FindsLeastCause (EntryFault rule occurred entry) found
-packed-first rule occurred entry from part None own may shape content none = λ fault bad. none fault (packed-only rule occurred entry from part fault own may shape content bad)
-packed-first rule occurred entry from part (Some cause) own may shape content first = record {
-  holds = packed from part shape content first.holds;
-  least = λ fault bad. first.least fault (packed-only rule occurred entry from part fault own may shape content bad);
+packed-first rule occurred entry from part None own may shape content none fault first = λ cause bad. none cause (packed-only rule occurred entry from part cause own may shape content bad)
+packed-first rule occurred entry from part (Some cause) own may shape content none fault first = record {
+  holds = packed from part shape content fault;
+  least = λ other bad. by_place cause other (first other (packed-only rule occurred entry from part other own may shape content bad));
 }

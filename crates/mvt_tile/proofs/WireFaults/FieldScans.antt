@@ -9,7 +9,7 @@ use Rattle.mvt_wire.specs.declared.schema.FieldRule.{FieldRule}
 use Rattle.mvt_wire.specs.declared.schema.Message.{Message}
 use Rattle.mvt_wire.specs.declared.schema.Message.TheVariants.{Value}
 use Rattle.mvt_tile.specs.Calls.Least.{IsLeastCause}
-use Rattle.mvt_tile.specs.Calls.FieldPlace.{IsPlaced}
+use Rattle.mvt_tile.proofs.WireFaults.FieldPlaces.{IsPlaced}
 use Rattle.mvt_tile.specs.Calls.FieldScan.{was_seen, Passes, IsFirstFault}
 use Rattle.mvt_tile.specs.declared.wire.scan.FieldScan.{FieldScan}
 use Rattle.mvt_wire.proofs.Parts.Schemas.{stands_in-own, stands_in-other}

@@ -13,58 +13,58 @@ use Rattle.mvt_wire.specs.declared.schema.Message.TheVariants as messages
 use Rattle.mvt_wire.specs.declared.scope.Scope.TheVariants as scopes
 use Rattle.mvt_fault.specs.Place.{IsLeast}
 use Rattle.mvt_fault.specs.declared.fault.Fault.{Fault}
-use Rattle.mvt_tile.specs.Calls.Embedded.{HasNone, HasFirst}
-use Rattle.mvt_tile.specs.Calls.First.{FindsFirst}
-use Rattle.mvt_tile.specs.Calls.LayerFault.{IsLayerFault}
+use Rattle.mvt_tile.specs.Calls.Embedded.{HasNone, HasFirst, IsLayerFault}
+use Rattle.mvt_wire.specs.Embedded.{FindsFirst}
 use Rattle.mvt_tile.specs.Calls.Least.{FindsLeastCause}
 use Rattle.mvt_tile.specs.Calls.FieldScan.{Passes, PassesNext, IsFirstFrom}
-use Rattle.mvt_tile.specs.declared.wire.embedded.EmbeddedScan.{EmbeddedScan}
+use Rattle.mvt_wire.specs.declared.embedded.EmbeddedScan.{EmbeddedScan}
+use Rattle.mvt_tile.specs.declared.wire.message.MessageCheck.{MessageCheck}
 use Rattle.mvt_tile.specs.declared.wire.scan.FieldScan.{FieldScan}
 use Rattle.mvt_fault.specs.TrueFaults.{wire_fault_in}
 use Rattle.mvt_tile.proofs.WireFaults.Layers.{IsLeast-own, IsLeast-value, IsLeast-feature, IsLayerFault-none}
 use Rattle.mvt_tile.proofs.WireFaults.Walking.{IsScanning, IsScanning-more, IsScanning-whole}
 
 -- the scan has passed these fields
-abbrev pub ScansEmbedded : List ℕ → EmbeddedScan Message (ℕ × WireCause) → List Entry → Type 0
-ScansEmbedded bytes scan entries = FindsFirst (HasNone scan.check bytes) (HasFirst scan.check bytes) (spans_of scan.number entries) scan.count scan.first
+abbrev pub ScansEmbedded : List ℕ → EmbeddedScan MessageCheck (ℕ × WireCause) → List Entry → Type 0
+ScansEmbedded bytes scan entries = FindsFirst (HasNone scan.check.0 bytes) (HasFirst scan.check.0 bytes) (spans_of scan.number entries) scan.count scan.first
 
 -- the fields that were passed, and what the three scans keep of them
-pub record LayerWalk (bytes : List ℕ) (from to at : ℕ) (own : FieldScan) (value_scan feature_scan : EmbeddedScan Message (ℕ × WireCause)) : Type 0 where
+pub record LayerWalk (bytes : List ℕ) (from to at : ℕ) (own : FieldScan) (value_scan feature_scan : EmbeddedScan MessageCheck (ℕ × WireCause)) : Type 0 where
   pub within : at ≤ to
   pub entries : List Entry
   pub scanning : IsScanning messages.Layer (take to bytes) from at own entries
   pub values : ScansEmbedded bytes value_scan entries
   pub features : ScansEmbedded bytes feature_scan entries
-  pub value_message : value_scan.check ≡ messages.Value
+  pub value_message : value_scan.check.0 ≡ messages.Value
   pub value_number : value_scan.number ≡ 4
-  pub feature_message : feature_scan.check ≡ messages.Feature
+  pub feature_message : feature_scan.check.0 ≡ messages.Feature
   pub feature_number : feature_scan.number ≡ 2
   pub few_values : value_scan.count ≤ at
   pub few_features : feature_scan.count ≤ at
 
 -- what a scan of embedded messages has found, by its message and number
-scan_finds : (bytes : List ℕ) (scan : EmbeddedScan Message (ℕ × WireCause)) (entries : List Entry) (message : Message) (field_number : ℕ) (found : Option (ℕ × WireCause)) → scan.check ≡ message → scan.number ≡ field_number → scan.first ≡ found
+scan_finds : (bytes : List ℕ) (scan : EmbeddedScan MessageCheck (ℕ × WireCause)) (entries : List Entry) (message : Message) (field_number : ℕ) (found : Option (ℕ × WireCause)) → scan.check.0 ≡ message → scan.number ≡ field_number → scan.first ≡ found
     → ScansEmbedded bytes scan entries → FindsFirst (HasNone message bytes) (HasFirst message bytes) (spans_of field_number entries) scan.count found
 scan_finds bytes scan entries message field_number found kind number first scans =
     subst (λ (m : Message). FindsFirst (HasNone m bytes) (HasFirst m bytes) (spans_of field_number entries) scan.count found) kind
-    (subst (λ (n : ℕ). FindsFirst (HasNone scan.check bytes) (HasFirst scan.check bytes) (spans_of n entries) scan.count found) number
-    (subst (λ (f : Option (ℕ × WireCause)). FindsFirst (HasNone scan.check bytes) (HasFirst scan.check bytes) (spans_of scan.number entries) scan.count f) first scans))
+    (subst (λ (n : ℕ). FindsFirst (HasNone scan.check.0 bytes) (HasFirst scan.check.0 bytes) (spans_of n entries) scan.count found) number
+    (subst (λ (f : Option (ℕ × WireCause)). FindsFirst (HasNone scan.check.0 bytes) (HasFirst scan.check.0 bytes) (spans_of scan.number entries) scan.count f) first scans))
 
 -- what a scan of embedded messages keeps of the field that it passes
-pub record Notes (bytes : List ℕ) (before after : EmbeddedScan Message (ℕ × WireCause)) (entry : Entry) : Type 0 where
-  pub message : after.check ≡ before.check
+pub record Notes (bytes : List ℕ) (before after : EmbeddedScan MessageCheck (ℕ × WireCause)) (entry : Entry) : Type 0 where
+  pub message : after.check.0 ≡ before.check.0
   pub number : after.number ≡ before.number
   pub count : after.count ≤ before.count + 1
   pub noted : (entries : List Entry) → ScansEmbedded bytes before entries → ScansEmbedded bytes after (entries ++ entry ∷ [])
 
 -- where the layer's own field wasn't passed the quick way, nothing has changed
-pub LayerWalk-unchanged : {bytes : List ℕ} {from to at : ℕ} {own next_own : FieldScan} {value_scan feature_scan : EmbeddedScan Message (ℕ × WireCause)} → LayerWalk bytes from to at own value_scan feature_scan → next_own ≡ own
+pub LayerWalk-unchanged : {bytes : List ℕ} {from to at : ℕ} {own next_own : FieldScan} {value_scan feature_scan : EmbeddedScan MessageCheck (ℕ × WireCause)} → LayerWalk bytes from to at own value_scan feature_scan → next_own ≡ own
     → LayerWalk bytes from to at next_own value_scan feature_scan
 LayerWalk-unchanged {bytes} {from} {to} {at} {value_scan = value_scan} {feature_scan = feature_scan} so_far same = subst (λ (scan : FieldScan). LayerWalk bytes from to at scan value_scan feature_scan) (sym same) so_far
 
-module _ (bytes : List ℕ) (from to at : ℕ) (own : FieldScan) (value_scan feature_scan : EmbeddedScan Message (ℕ × WireCause)) (within : to ≤ length bytes) (so_far : LayerWalk bytes from to at own value_scan feature_scan) where
+module _ (bytes : List ℕ) (from to at : ℕ) (own : FieldScan) (value_scan feature_scan : EmbeddedScan MessageCheck (ℕ × WireCause)) (within : to ≤ length bytes) (so_far : LayerWalk bytes from to at own value_scan feature_scan) where
   -- one more field is passed
-  pub LayerWalk-more : (read : Field × ℕ) (next_own : FieldScan) (next_values next_features : EmbeddedScan Message (ℕ × WireCause)) → PassesNext messages.Layer (take to bytes) at own next_own read
+  pub LayerWalk-more : (read : Field × ℕ) (next_own : FieldScan) (next_values next_features : EmbeddedScan MessageCheck (ℕ × WireCause)) → PassesNext messages.Layer (take to bytes) at own next_own read
       → Notes bytes value_scan next_values (entry_of read.0) → Notes bytes feature_scan next_features (entry_of read.0)
       → LayerWalk bytes from to read.1 next_own next_values next_features
   LayerWalk-more read next_own next_values next_features next values features =

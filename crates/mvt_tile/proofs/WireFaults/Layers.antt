@@ -12,9 +12,8 @@ use Rattle.mvt_wire.proofs.Parts.Tiles.{part_here}
 use Rattle.mvt_fault.specs.Place.{ComesFirst, IsLeast, place_of}
 use Rattle.mvt_fault.specs.TrueFaults.{wire_fault_in}
 use Rattle.mvt_fault.specs.declared.fault.Fault.{Fault}
-use Rattle.mvt_tile.specs.Calls.Embedded.{HasFault, HasNone, HasFirst}
-use Rattle.mvt_tile.specs.Calls.First.{AreClean, IsFirst}
-use Rattle.mvt_tile.specs.Calls.LayerFault.{FaultInLayer, IsLayerFault, wire}
+use Rattle.mvt_tile.specs.Calls.Embedded.{HasFault, HasNone, HasFirst, FaultInLayer, IsLayerFault, wire}
+use Rattle.mvt_wire.specs.Embedded.{AreClean, IsFirst}
 use Rattle.mvt_tile.specs.Calls.Least.{cause_place, IsLeastCause}
 
 -- where all are clean, none of them has a fault

@@ -9,7 +9,7 @@ use Rattle.mvt_wire.specs.declared.cause.WireCause.{WireCause}
 use Rattle.mvt_wire.specs.declared.schema.FieldRule.{FieldRule}
 use Rattle.mvt_wire.specs.declared.schema.Message.{Message}
 use Rattle.mvt_tile.specs.Calls.Least.{IsLeastCause}
-use Rattle.mvt_tile.specs.Calls.FieldPlace.{IsPlaced}
+use Rattle.mvt_tile.proofs.WireFaults.FieldPlaces.{IsPlaced}
 use Rattle.mvt_tile.specs.Calls.FieldScan.{IsFirstFault}
 use Rattle.mvt_tile.proofs.WireFaults.Causes.{by_offset}
 use Rattle.mvt_tile.proofs.WireFaults.FieldFaults.{fault_within}

@@ -14,12 +14,12 @@ use Rattle.mvt_wire.specs.declared.schema.Message.TheVariants.{Tile}
 use Rattle.mvt_fault.specs.Place.{IsLeast}
 use Rattle.mvt_fault.specs.TrueFaults.{IsWireFault, wire_fault_in}
 use Rattle.mvt_fault.specs.declared.fault.Fault.{Fault}
-use Rattle.mvt_tile.specs.Calls.First.{FindsFirst}
-use Rattle.mvt_tile.specs.Calls.LayersFound.{IsFaultless, IsFirstOf}
+use Rattle.mvt_wire.specs.Embedded.{FindsFirst}
+use Rattle.mvt_tile.specs.Calls.Embedded.{IsFaultless, IsFirstOf}
 use Rattle.mvt_tile.specs.Calls.Least.{IsLeastCause, FindsLeastCause}
 use Rattle.mvt_tile.specs.Calls.FieldScan.{Passes, PassesNext, IsFirstFrom}
 use Rattle.mvt_tile.specs.declared.wire.Layers.{Layers}
-use Rattle.mvt_tile.specs.declared.wire.embedded.EmbeddedScan.{EmbeddedScan}
+use Rattle.mvt_wire.specs.declared.embedded.EmbeddedScan.{EmbeddedScan}
 use Rattle.mvt_tile.specs.declared.wire.scan.FieldScan.{FieldScan}
 use Rattle.mvt_tile.proofs.WireFaults.Tiles.{IsLeast-tile, IsLeast-layer, WireFault-none}
 use Rattle.mvt_tile.proofs.WireFaults.Walking.{IsScanning, IsScanning-more, IsScanning-whole}

@@ -13,11 +13,9 @@ use Rattle.mvt_wire.proofs.Parts.Tiles.{tile_or_fault, part_here}
 use Rattle.mvt_fault.specs.Place.{ComesFirst, IsLeast, place_of}
 use Rattle.mvt_fault.specs.TrueFaults.{IsWireFault, wire, wire_fault_in}
 use Rattle.mvt_fault.specs.declared.fault.Fault.{Fault}
-use Rattle.mvt_tile.specs.Calls.Embedded.{HasFault}
-use Rattle.mvt_tile.specs.Calls.First.{IsFirst, FindsFirst}
-use Rattle.mvt_tile.specs.Calls.LayerFault.{FaultInLayer, IsLayerFault}
-use Rattle.mvt_tile.specs.Calls.LayerFault as layer_faults
-use Rattle.mvt_tile.specs.Calls.LayersFound.{IsFaultless, IsFirstOf}
+use Rattle.mvt_tile.specs.Calls.Embedded.{HasFault, FaultInLayer, IsLayerFault, IsFaultless, IsFirstOf}
+use Rattle.mvt_wire.specs.Embedded.{IsFirst, FindsFirst}
+use Rattle.mvt_tile.specs.Calls.Embedded as layer_faults
 use Rattle.mvt_tile.specs.Calls.Least.{cause_place, IsLeastCause}
 
 -- bytes with no wire fault are a tile

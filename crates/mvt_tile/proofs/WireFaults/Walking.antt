@@ -1,49 +1,23 @@
 -- A walk over the fields of a message, and what the faults of its fields say of the message.
-use Rattle.std.proofs.Common.{◌≡◌, ℕ, ◌-◌, ◌<◌, ◌≤◌, ◌⊎◌, inl, inr, List, [], ◌∷◌, ◌++◌, length, take, Option, Some, None, sym, ◌∙◌, ap, subst, arith, append-nil, append_assoc}
+use Rattle.std.proofs.Common.{◌≡◌, ℕ, ◌≤◌, ◌⊎◌, inl, inr, List, [], ◌∷◌, ◌++◌, length, take, Option, Some, None, sym, ◌∙◌, subst, arith, append-nil, append_assoc}
 use Rattle.std.proofs.lemmas.List.{length-take-le}
-use Rattle.std.proofs.lemmas.List.Edits.{length-between}
-use Rattle.mvt_wire.specs.Field.{Content, varint, eight_bytes, delimited, four_bytes, Entry, entry_of, IsPayload, IsField}
+use Rattle.mvt_wire.specs.Field.{Entry, entry_of}
 use Rattle.mvt_wire.specs.Message.{FieldList, IsMessage, HasDefect}
-use Rattle.mvt_wire.specs.Walk.{Walk, GivesField}
+use Rattle.mvt_wire.specs.Walk.{Walk}
 use Rattle.mvt_wire.specs.WireFault.{FieldFault, EndFault, MessageFault}
 use Rattle.mvt_wire.specs.declared.cause.WireCause.{WireCause}
 use Rattle.mvt_wire.specs.declared.field.Field.{Field}
 use Rattle.mvt_wire.specs.declared.schema.Message.{Message}
-use Rattle.mvt_wire.proofs.Encoding.Entries.{field_extent}
 use Rattle.mvt_wire.proofs.Encoding.Messages.{FieldList-push, one_list, whole_or_defect, one_defect}
 use Rattle.mvt_tile.specs.Calls.Least.{IsLeastCause, FindsLeastCause}
-use Rattle.mvt_tile.specs.Calls.FieldPlace.{LiesWithin, IsPlaced}
-use Rattle.mvt_tile.specs.Calls.FieldsLeft.{IsDefectOr}
+use Rattle.mvt_wire.specs.Walk.{IsDefectOr}
 use Rattle.mvt_tile.specs.Calls.FieldScan.{Passes, PassesNext, IsFirstFault}
 use Rattle.mvt_tile.specs.declared.wire.scan.FieldScan.{FieldScan}
 use Rattle.mvt_tile.proofs.WireFaults.Causes.{by_offset, same_cause}
 use Rattle.mvt_tile.proofs.WireFaults.EndFaults.{end_place}
+use Rattle.mvt_tile.proofs.WireFaults.FieldPlaces.{IsPlaced-field}
 use Rattle.mvt_tile.proofs.WireFaults.OneMoreField.{IsFirstFault-kept}
 use Rattle.mvt_wire.proofs.Walking.{IsWalking}
-
--- where a payload lies
-payload_place : (bytes : List ℕ) (at key_end to : ℕ) (content : Content) → at < key_end → IsPayload bytes key_end to content → LiesWithin at to content
-payload_place bytes at key_end to (varint value place) forward p = let ahead = p.1.forward in (omega (arith, p.0), omega (arith, p.0))
-payload_place bytes at key_end to (eight_bytes part) forward p = tt
-payload_place bytes at key_end to (delimited start part) forward p =
-    let ahead = p.1.forward in
-    let size : length part ≡ to - start = ap length p.4 ∙ length-between bytes start to p.3 in
-    (omega arith, omega (arith, p.2))
-payload_place bytes at key_end to (four_bytes part) forward p = tt
-
--- a field lies before the next
-pub IsPlaced-field : (bytes : List ℕ) (next : ℕ) (entry : Entry) → IsField bytes next entry → IsPlaced entry next
-IsPlaced-field bytes next entry field = record {
-  forward = (field_extent bytes next entry field).0;
-  payload = payload_place bytes entry.at field.key_end next entry.content field.key.spelled.forward field.payload;
-}
-
--- a field of a front of the bytes lies within it
-pub IsPlaced-within : (bytes : List ℕ) (to : ℕ) {at next : ℕ} {entry : Entry} → to ≤ length bytes → GivesField (record { bytes = take to bytes; at = at }) (record { bytes = take to bytes; at = next }) entry
-    → (end : ℕ) × IsPlaced entry end × (end ≤ to)
-IsPlaced-within bytes to {next = next} {entry = entry} within given =
-    let size = length-take-le to bytes within in
-    (next, IsPlaced-field (take to bytes) next entry given.spelled, omega (arith, given.within))
 
 -- a defect is the only fault of its message
 pub defect_alone : (message : Message) (bytes : List ℕ) (from : ℕ) (cause : WireCause) → HasDefect bytes from cause → IsLeastCause (MessageFault message bytes from) cause

@@ -2,7 +2,7 @@
 use Rattle.std.specs.Prelude.{◌≡◌, ℕ, List, map, None, Some}
 use Rattle.mvt_wire.specs.Field.{Entry}
 use Rattle.mvt_wire.specs.Tile.{numbers_of}
-use Rattle.mvt_tile.specs.Calls.NumberSpan.{StandBefore}
+use Rattle.mvt_wire.specs.NumberSources.{StandBefore}
 use Rattle.mvt_tile.specs.Calls.Reading.{last_of}
 use Rattle.mvt_tile.specs.View.{kind_number}
 use Rattle.mvt_tile.specs.declared.feature_bytes.FeatureParts.{FeatureParts}

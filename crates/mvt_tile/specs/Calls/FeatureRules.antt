@@ -5,7 +5,7 @@ use Rattle.mvt_fault.specs.TrueFaults.{FeatureFault, IsFaultOfTags, OneFeatureHa
 use Rattle.mvt_fault.specs.declared.fault.Fault.{Fault}
 use Rattle.mvt_wire.specs.Rules.{IsFeatureOf}
 use Rattle.mvt_wire.specs.Tile.{FeatureRecord, LayerRecord, TileRecord}
-use Rattle.mvt_tile.specs.FeatureRules.{Breaks, Keeps}
+use Rattle.mvt_tile.specs.RuleFaults.{Breaks, Keeps}
 
 -- the feature has this fault, of its tags or of the further rule
 abbrev pub IsFaultOfFeature : Breaks → FeatureFault

@@ -1,5 +1,5 @@
 -- What a walk over the fields of a message keeps of them.
-use Rattle.std.specs.Prelude.{◌≡◌, ℕ, ◌/◌, ◌<◌, nat_lt, Bool, true, false, List, [], ◌∷◌, ◌++◌, Some, slice_index_or}
+use Rattle.std.specs.Prelude.{◌≡◌, ℕ, ◌<◌, nat_lt, Bool, true, false, List, [], ◌∷◌, ◌++◌, Some, slice_index_or}
 use Rattle.mvt_wire.specs.Field.{Entry, entry_of}
 use Rattle.mvt_wire.specs.Message.{FieldList}
 use Rattle.mvt_wire.specs.Schema.{rule_of, is_required}
@@ -28,10 +28,6 @@ pub record Passes (message : Message) (scan : FieldScan) (entries : List Entry) 
 pub record IsFirstFault (message : Message) (entries : List Entry) (to : ℕ) (cause : WireCause) : Type 0 where
   pub before : cause.at < to
   pub least : IsLeastCause (FieldFault message entries) cause
-
--- the field at a place, which begins with a key of one byte, is read, with the place after it
-abbrev pub IsNextField : List ℕ → ℕ → ℕ → Field × ℕ → Type 0
-IsNextField bytes at key read = GivesField (record { bytes = bytes; at = at }) (record { bytes = bytes; at = read.1 }) (entry_of read.0) × (read.0.number ≡ key / 8)
 
 -- the field at a place is read, with the place after it, and the scan has passed it
 pub record PassesNext (message : Message) (bytes : List ℕ) (at : ℕ) (old new : FieldScan) (read : Field × ℕ) : Type 0 where

@@ -1,9 +1,8 @@
--- Of several causes or faults, those with the least place.
+-- Of several causes, those with the least place.
 use Rattle.std.specs.Prelude.{ℕ, List, [], ◌∷◌, Option, MatchOption}
 use Rattle.mvt_wire.specs.Code.{code_of}
 use Rattle.mvt_wire.specs.declared.cause.WireCause.{WireCause}
-use Rattle.mvt_fault.specs.Place.{ComesFirst, IsLeast}
-use Rattle.mvt_fault.specs.declared.fault.Fault.{Fault}
+use Rattle.mvt_fault.specs.Place.{ComesFirst}
 
 -- the place of a cause within its message: the last five numbers of a fault's place
 abbrev pub cause_place : WireCause → List ℕ
@@ -17,7 +16,3 @@ pub record IsLeastCause (Holds : WireCause → Type 0) (cause : WireCause) : Typ
 -- the cause of least place is found, or none exactly where none holds
 abbrev pub FindsLeastCause : (WireCause → Type 0) → Option WireCause → Type 0
 FindsLeastCause Holds found = MatchOption found ((cause : WireCause) → ¬ Holds cause) (IsLeastCause Holds)
-
--- the fault of least place is found, or none exactly where none holds
-abbrev pub FindsLeastFault : (Fault → Type 0) → Option Fault → Type 0
-FindsLeastFault Holds found = MatchOption found ((fault : Fault) → ¬ Holds fault) (IsLeast Holds)

@@ -1,6 +1,7 @@
 -- What is kept of the layers of a tile that were passed, to find the first that breaks a rule (Mapbox Vector Tile
 -- Specification 2.1, section 4.1).
-use Rattle.std.specs.Prelude.{◌≡◌, ◌≢◌, ℕ, ◌<◌, ◌⊎◌, true, false, List, length, slice_get, Some}
+use Rattle.std.specs.Prelude.{◌≡◌, ℕ, ◌<◌, ◌⊎◌, true, false, List, length, slice_get, Some}
+use Rattle.mvt_wire.specs.Rules.{OtherVersion}
 use Rattle.mvt_wire.specs.Tile.{LayerRecord, TileRecord}
 use Rattle.mvt_tile.specs.declared.rules.layer_rules.LayerRules.{LayerRules}
 
@@ -26,13 +27,7 @@ pub record IsNextLayer (rules : LayerRules) (tile : TileRecord) (version : ℕ) 
   pub of_version : version ≡ layer_record.version
   pub of_name : name ≡ layer_record.name
 
--- the layer after those that were passed has another version
-pub record IsOtherNext (rules : LayerRules) (tile : TileRecord) : Type 0 where
-  pub layer_record : LayerRecord
-  pub there : slice_get tile.layers (passed rules) ≡ Some layer_record
-  pub other : layer_record.version ≢ 2
-
 -- all layers were passed, or all in front of the first of another version
 pub record EndsLayers (rules : LayerRules) (tile : TileRecord) : Type 0 where
   pub layers : ArePassed rules tile
-  pub end : ((rules.other_version ≡ true) × IsOtherNext rules tile) ⊎ ((rules.other_version ≡ false) × (length tile.layers ≡ passed rules))
+  pub end : ((rules.other_version ≡ true) × OtherVersion tile (passed rules)) ⊎ ((rules.other_version ≡ false) × (length tile.layers ≡ passed rules))

@@ -1,12 +1,24 @@
--- Tags that a pass over their pairs has gone over (Mapbox Vector Tile Specification 2.1, section 4.4).
-use Rattle.std.specs.Prelude.{◌≡◌, ℕ, ◌+◌, ◌*◌, ◌<◌, ◌≤◌, Bool, true, List, length, slice_get, Option, Some, MatchOption}
+-- Tags that a pass over their pairs has gone over, and what is kept of them (Mapbox Vector Tile Specification 2.1, section 4.4).
+use Rattle.std.specs.Prelude.{◌≡◌, ◌==◌, ℕ, ◌+◌, ◌-◌, ◌*◌, ◌<◌, ◌≤◌, nat_lt, Bool, true, cond, List, length, slice_get, slice_index_or, Option, Some, MatchOption}
 use Rattle.mvt_fault.specs.TrueFaults.{TagsBreak}
 use Rattle.mvt_fault.specs.declared.tag.TagCode.{TagCode}
-use Rattle.mvt_wire.specs.Rules.{IsKeyAt}
-use Rattle.mvt_tile.specs.Calls.KeyMarks.{has_key}
+use Rattle.mvt_wire.specs.Rules.{IsKeyAt, NoSuchKey, NoSuchValue}
 use Rattle.mvt_tile.specs.Calls.RuleFaults.{IsFirstTagFault}
 use Rattle.mvt_tile.specs.declared.rules.key_marks.KeyMarks.{KeyMarks}
 use Rattle.mvt_tile.specs.declared.rules.tags.TagNeeds.{TagNeeds}
+
+-- the mark of a key
+abbrev pub mark_of : KeyMarks → ℕ → ℕ
+mark_of set key = cond (nat_lt key 32) (slice_index_or set.first key 0) (slice_index_or set.further.items (key - 32) 0)
+
+-- the key is in the set: its mark is the current one
+abbrev pub has_key : KeyMarks → ℕ → Bool
+has_key set key = mark_of set key == set.current
+
+-- in a layer of so many keys and values, or more, each of the tags has its key and its value
+pub record AreMetBy (needs : TagNeeds) (tags : List ℕ) : Type 0 where
+  pub keys : (count place : ℕ) → needs.keys ≤ count → ¬ NoSuchKey count tags place
+  pub values : (count place : ℕ) → needs.values ≤ count → ¬ NoSuchValue count tags place
 
 -- in a list of pairs, this one is at a place
 pub record IsPairAt (tags : List ℕ) (at key value : ℕ) : Type 0 where

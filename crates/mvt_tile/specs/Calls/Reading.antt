@@ -1,7 +1,7 @@
 -- What is known of the fields of a message while they are read one by one.
-use Rattle.std.specs.Prelude.{◌≡◌, ℕ, ◌≤◌, List, [], ◌∷◌, length, Some}
+use Rattle.std.specs.Prelude.{◌≡◌, ℕ, List, [], ◌∷◌, length}
 use Rattle.mvt_wire.specs.Field.{Entry}
-use Rattle.mvt_wire.specs.Scope.{Span, span_of, spans_of}
+use Rattle.mvt_wire.specs.Scope.{spans_of}
 use Rattle.mvt_wire.specs.Tile.{numbers_of, texts_of, IsFeature, IsValue, LayerRecord, IsLayer, TileRecord, Each}
 use Rattle.mvt_tile.specs.declared.rules.summary.LayerSummary.{LayerSummary}
 
@@ -9,10 +9,6 @@ use Rattle.mvt_tile.specs.declared.rules.summary.LayerSummary.{LayerSummary}
 abbrev pub last_of : {A : Type 0} → A → List A → A
 last_of otherwise [] = otherwise
 last_of otherwise (x ∷ xs) = last_of x xs
-
--- a payload of wire type 2 lies within the bytes
-abbrev pub LiesIn : List ℕ → Entry → Type 0
-LiesIn bytes entry = (span : Span) → span_of entry.content ≡ Some span → (span.from ≤ span.to) × (span.to ≤ length bytes)
 
 -- the layer has the content of these fields of it, and extent 4096 where none of them is its extent
 pub record GivesLayer (bytes : List ℕ) (entries : List Entry) (layer : LayerRecord) : Type 0 where

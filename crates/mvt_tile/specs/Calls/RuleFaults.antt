@@ -6,10 +6,9 @@ use Rattle.mvt_fault.specs.TrueFaults.{TagsBreak}
 use Rattle.mvt_fault.specs.declared.fault.Fault.{Fault}
 use Rattle.mvt_fault.specs.declared.tag.TagCode.{TagCode}
 use Rattle.mvt_wire.specs.Tile.{FeatureRecord, LayerRecord}
-use Rattle.mvt_tile.specs.FeatureRules.{Breaks}
+use Rattle.mvt_tile.specs.RuleFaults.{Breaks, IsAfterTags}
 use Rattle.mvt_tile.specs.declared.rules.summary.LayerSummary.{LayerSummary}
 use Rattle.mvt_tile.specs.declared.rules.tags.TagNeeds.{TagNeeds}
-use Rattle.mvt_tile.specs.RuleFaults.{IsAfterTags}
 
 -- what the layer has, as far as the rules need it
 pub record IsSummary (summary : LayerSummary) (layer : LayerRecord) : Type 0 where

@@ -1,12 +1,12 @@
 ghost use Rattle.std.specs.Prelude.{IfOk};
 ghost use Rattle.mvt_wire.specs.Tile.{FeatureRecord, IsFeature};
-ghost use Rattle.mvt_tile.specs.Calls.Part.{Holds};
+ghost use Rattle.mvt_wire.specs.Embedded.{Holds};
 ghost use Rattle.mvt_tile.specs.View.{feature_of};
 
 use crate::feature_bytes::FeatureBytes;
-use crate::numbers::list_of;
-use crate::part::Part;
+use crate::lists::list_of;
 use crate::record::Feature;
+use mvt_wire::Part;
 use std::alloc::{AllocError, Global};
 
 /// The feature that a part of the bytes holds (Mapbox Vector Tile Specification 2.1, section 4.2).

@@ -4,19 +4,17 @@ ghost use Rattle.mvt_wire.specs.Tile.{FeatureRecord, IsFeature, ValueRecord, IsV
 ghost use Rattle.mvt_wire.specs.Calls.Tile.{FitsRule};
 ghost use Rattle.mvt_wire.specs.declared.schema.Message.TheVariants as messages;
 ghost use Rattle.mvt_wire.specs.Calls.Scope.{Embeds};
-ghost use Rattle.mvt_tile.specs.Calls.Part.{Holds};
-ghost use Rattle.mvt_tile.specs.Calls.Reading.{LiesIn, GivesLayer};
+ghost use Rattle.mvt_wire.specs.Embedded.{LiesIn, Holds};
+ghost use Rattle.mvt_tile.specs.Calls.Reading.{GivesLayer};
 ghost use Rattle.mvt_tile.specs.View.{layer_of};
 
 use super::feature::read_feature;
-use super::payload::{number_in, payload_span, text_in};
 use super::value::read_value;
-use super::walk::WholeFields;
 use crate::lists::push_item;
-use crate::part::Part;
 use crate::record::Layer;
-use mvt_wire::Field;
 use mvt_wire::field_number::{EXTENT, FEATURES, KEYS, LAYER_NAME, VALUES, VERSION};
+use mvt_wire::payload::{number_in, payload_span, text_in};
+use mvt_wire::{Field, Fields, Part};
 use std::alloc::{AllocError, Global};
 
 /// The extent of a layer that has no field for it (Mapbox Vector Tile Specification 2.1,
@@ -36,8 +34,8 @@ pub(crate) fn read_layer(alloc: Global, part: Part<'_>) -> Result<Layer<'_>, All
         values: Vec::new(alloc),
         extent: DEFAULT_EXTENT,
     };
-    let mut fields = WholeFields::new(part.bytes, part.from, part.to);
-    'walk: while let Some(field) = fields.next_field() {
+    let mut fields = Fields::new(part.bytes, part.from, part.to);
+    'walk: while let Some(field) = fields.next_whole() {
         add_field(alloc, part.bytes, &mut layer, field)?;
     }
     Ok(layer)

@@ -4,19 +4,17 @@ ghost use Rattle.mvt_wire.specs.Schema.{rule_of};
 ghost use Rattle.mvt_wire.specs.Tile.{ValueRecord, IsValue, Says};
 ghost use Rattle.mvt_wire.specs.Calls.Tile.{FitsRule};
 ghost use Rattle.mvt_wire.specs.declared.schema.Message.TheVariants as messages;
-ghost use Rattle.mvt_tile.specs.Calls.Part.{Holds};
+ghost use Rattle.mvt_wire.specs.Embedded.{Holds};
 ghost use Rattle.mvt_tile.specs.View.{value_of};
 
-use super::payload::{
-    eight_bytes_in, four_bytes_in, int_in, number_in, sint_in, text_in, truth_in,
-};
-use super::walk::WholeFields;
-use crate::part::Part;
 use crate::record::Value;
-use mvt_wire::Field;
 use mvt_wire::field_number::{
     BOOL_VALUE, DOUBLE_VALUE, FLOAT_VALUE, INT_VALUE, SINT_VALUE, STRING_VALUE, UINT_VALUE,
 };
+use mvt_wire::payload::{
+    eight_bytes_in, four_bytes_in, int_in, number_in, sint_in, text_in, truth_in,
+};
+use mvt_wire::{Field, Fields, Part};
 
 /// The value that a part of the bytes holds: what its one known field says (Mapbox Vector Tile
 /// Specification 2.1, section 4.4).
@@ -24,8 +22,8 @@ pub(crate) fn read_value(part: Part<'_>) -> Value<'_>
     requires { (value : ValueRecord) × Holds IsValue part value }
     ensures { Holds IsValue part.entry (value_of result) }
 {
-    let mut fields = WholeFields::new(part.bytes, part.from, part.to);
-    'walk: while let Some(field) = fields.next_field() {
+    let mut fields = Fields::new(part.bytes, part.from, part.to);
+    'walk: while let Some(field) = fields.next_whole() {
         if let Some(value) = value_in(field) {
             return value;
         }

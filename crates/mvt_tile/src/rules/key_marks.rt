@@ -24,7 +24,7 @@ pub(crate) struct KeyMarks {
 
 impl KeyMarks {
     ghost use Rattle.std.specs.Prelude.{◌==◌, ◌||◌, false, not, IfOk, OnErr};
-    ghost use Rattle.mvt_tile.specs.Calls.KeyMarks.{has_key};
+    ghost use Rattle.mvt_tile.specs.Calls.PassedTags.{has_key};
 
     /// No keys. It takes no memory.
     pub(crate) fn new(alloc: Global) -> Self

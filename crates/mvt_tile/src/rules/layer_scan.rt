@@ -3,18 +3,17 @@
 ghost use Rattle.std.specs.Prelude.{◌≡◌, true, false, is_some, IfOk};
 ghost use Rattle.mvt_wire.specs.Tile.{LayerRecord, IsLayer};
 ghost use Rattle.mvt_tile.specs.Calls.FeatureRules.{FindsInLayer};
-ghost use Rattle.mvt_tile.specs.Calls.Part.{Holds};
+ghost use Rattle.mvt_wire.specs.Embedded.{Holds};
 ghost use Rattle.mvt_tile.specs.Calls.RuleFaults.{AreAfterTags, IsLike, IsSummary};
 
 use super::features::{FeatureRoom, FeatureRule, find_in_feature};
 use super::summary::{LayerSummary, add_field, empty_summary};
 use super::tags::TagNeeds;
 use crate::feature_bytes::FeatureBytes;
-use crate::part::Part;
-use crate::read::payload::payload_span;
-use crate::read::walk::WholeFields;
 use mvt_fault::Fault;
 use mvt_wire::field_number::FEATURES;
+use mvt_wire::payload::payload_span;
+use mvt_wire::{Fields, Part};
 use std::alloc::AllocError;
 
 /// What a key, a value, a feature and a name begin with: the field's number and its wire type.
@@ -87,7 +86,7 @@ fn scan_layer<'a, R: FeatureRule>(
     let mut summary = empty_summary();
     let mut needs = TagNeeds::none();
     let mut feature_index = 0;
-    let mut fields = WholeFields::new(part.bytes, part.from, part.to);
+    let mut fields = Fields::new(part.bytes, part.from, part.to);
     'walk: while let Some(field) = fields.next_usual(USUAL_KEYS) {
         add_field(&mut summary, field);
         if field.number == FEATURES && found.is_none() {

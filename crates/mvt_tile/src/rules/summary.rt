@@ -5,9 +5,9 @@ ghost use Rattle.mvt_wire.specs.Calls.Tile.{FitsRule};
 ghost use Rattle.mvt_wire.specs.declared.schema.Message.TheVariants as messages;
 ghost use Rattle.mvt_tile.specs.Calls.Reading.{GivesSummary};
 
-use crate::read::payload::{bytes_in, number_in};
 use mvt_wire::Field;
 use mvt_wire::field_number::{KEYS, LAYER_NAME, VALUES, VERSION};
+use mvt_wire::payload::{bytes_in, number_in};
 
 /// What the rules need to know of a layer: its version, its name, and how many keys and values it
 /// has.

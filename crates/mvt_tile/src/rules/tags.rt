@@ -5,8 +5,7 @@ ghost use Rattle.mvt_fault.specs.TrueFaults.{IsFaultOfTags};
 ghost use Rattle.mvt_fault.specs.declared.fault.Fault.{Fault};
 ghost use Rattle.mvt_wire.specs.Tile.{FeatureRecord};
 ghost use Rattle.mvt_tile.specs.Calls.RuleFaults.{FindsFirstTagFault};
-ghost use Rattle.mvt_tile.specs.Calls.PassedTags.{ArePassed, HasFoundBefore, IsPairAt, IsScanned};
-ghost use Rattle.mvt_tile.specs.Calls.TagNeeds.{AreMetBy};
+ghost use Rattle.mvt_tile.specs.Calls.PassedTags.{ArePassed, HasFoundBefore, IsPairAt, IsScanned, AreMetBy};
 ghost use Rattle.mvt_tile.specs.View.{layer_of};
 ghost use Rattle.mvt_tile.specs.declared.rules.key_marks.KeyMarks.{KeyMarks};
 
@@ -14,9 +13,9 @@ ghost use Rattle.mvt_tile.specs.declared.rules.key_marks.KeyMarks.{KeyMarks};
 mod tests;
 
 use super::key_marks::KeyMarks;
-use crate::numbers::{ListedNumbers, NumberSource};
 use crate::record::Layer;
 use mvt_fault::{Fault, TagCode};
+use mvt_wire::{ListedNumbers, NumberSource};
 use std::alloc::{AllocError, Global};
 
 /// The first fault of the tags of a layer's feature, or None where there is none (section 4.4).

@@ -1,20 +1,18 @@
 //! The faults of a field that its message knows.
-ghost use Rattle.std.specs.Prelude.{◌≡◌, ℕ, ◌<◌, ◌^◌, Bool, true, ◌↔◌, IsTrue, IsUtf8};
-ghost use Rattle.mvt_wire.specs.Field.{entry_of, content_of, wire_type_of, cause_at};
+ghost use Rattle.std.specs.Prelude.{◌≡◌, ℕ, ◌<◌, ◌^◌, Bool, true, List};
+ghost use Rattle.mvt_wire.specs.Field.{IsField, entry_of, content_of, wire_type_of, cause_at};
 ghost use Rattle.mvt_wire.specs.Schema.{is_own, is_singular};
 ghost use Rattle.mvt_wire.specs.WireFault.{EntryFault};
 ghost use Rattle.mvt_tile.specs.Calls.Least.{FindsLeastCause};
-ghost use Rattle.mvt_tile.specs.Calls.FieldPlace.{IsPlaced};
 
-use crate::wire::ascii::is_ascii;
-use crate::wire::packed::packed_fault;
-use mvt_wire::{Body, Field, FieldRule, Shape, WireCause, WireCode, text};
+use mvt_wire::{Body, Field, FieldRule, Shape, WireCause, WireCode, is_text, packed_fault};
 
 /// The first fault of a field by the rule for its number. `occurred` says whether a field of that
 /// number comes before it.
 #[inline(always)]
 pub(crate) fn field_fault(rule: FieldRule, occurred: bool, field: &Field<'_>) -> Option<WireCause>
-    requires { (next : ℕ) × IsPlaced (entry_of field.now) next × (next < 2 ^ 64) }
+    requires { (bytes : List ℕ) × (next : ℕ) × IsField bytes next (entry_of field.now)
+        × (next < 2 ^ 64) }
     ensures { FindsLeastCause (EntryFault rule occurred (entry_of field.now)) result }
 {
     if !rule.shape.is_own(field.body.wire_type()) {
@@ -29,7 +27,8 @@ pub(crate) fn field_fault(rule: FieldRule, occurred: bool, field: &Field<'_>) ->
 /// The first fault in the payload of a field of its own wire type that may occur here.
 #[inline(always)]
 fn payload_fault(rule: FieldRule, field: &Field<'_>) -> Option<WireCause>
-    requires placed { (next : ℕ) × IsPlaced (entry_of field.now) next × (next < 2 ^ 64) }
+    requires placed { (bytes : List ℕ) × (next : ℕ) × IsField bytes next (entry_of field.now)
+        × (next < 2 ^ 64) }
     requires own { is_own rule.shape (wire_type_of (content_of field.now.body)) ≡ true }
     ensures { (occurred : Bool) → (is_singular rule.occurrence ≡ true → ¬ (occurred ≡ true))
         → FindsLeastCause (EntryFault rule occurred (entry_of field.now)) result }
@@ -48,22 +47,6 @@ fn payload_fault(rule: FieldRule, field: &Field<'_>) -> Option<WireCause>
         }
         _ => None,
     }
-}
-
-/// Whether the bytes are UTF-8. Most texts are ASCII, which is quicker to see.
-#[inline(never)]
-fn is_text(part: &[u8]) -> bool
-    ensures { IsTrue result ↔ IsUtf8 part.now }
-{
-    is_ascii(part) || is_utf8(part)
-}
-
-/// The same of other texts.
-#[inline(never)]
-fn is_utf8(part: &[u8]) -> bool
-    ensures { IsTrue result ↔ IsUtf8 part.now }
-{
-    text(part).is_some()
 }
 
 /// The cause with a code at the key of a field.

@@ -1,25 +1,25 @@
 //! The faults of a layer and of the messages in it.
-ghost use Rattle.mvt_tile.specs.Calls.LayerFault.{IsLayerFault};
-ghost use Rattle.mvt_tile.specs.Calls.Least.{FindsLeastFault};
-ghost use Rattle.mvt_tile.specs.Calls.Part.{span_in};
+ghost use Rattle.std.specs.Prelude.{MatchOption};
+ghost use Rattle.mvt_wire.specs.Embedded.{span_in};
+ghost use Rattle.mvt_tile.specs.Calls.Embedded.{IsFaultless, IsFirstOf};
 
-use crate::part::Part;
-use crate::wire::embedded::EmbeddedScan;
+use crate::wire::message::MessageCheck;
 use crate::wire::scan::FieldScan;
 use mvt_fault::{Fault, wire_fault_in};
 use mvt_wire::field_number::{FEATURES, VALUES};
-use mvt_wire::{Message, Scope};
+use mvt_wire::{EmbeddedScan, Message, Part, Scope};
 
 /// The first fault of the layer with an ordinal, which a part of the bytes holds: that of its own
 /// fields, or else of its values, or else of its features (Mapbox Vector Tile Specification 2.1,
 /// section 4.1). The layer is walked once.
 pub(crate) fn layer_fault(part: Part<'_>, layer: usize) -> Option<Fault>
-    ensures { FindsLeastFault (IsLayerFault part.entry.bytes.now (span_in part.entry) layer) result }
+    ensures { MatchOption result (IsFaultless part.entry.bytes.now layer (span_in part.entry))
+        (λ fault. IsFirstOf part.entry.bytes.now fault layer (span_in part.entry)) }
 {
     let front = &part.bytes[..part.to];
     let mut own = FieldScan::new();
-    let mut values = EmbeddedScan::new(Message::Value, VALUES);
-    let mut features = EmbeddedScan::new(Message::Feature, FEATURES);
+    let mut values = EmbeddedScan::new(MessageCheck(Message::Value), VALUES);
+    let mut features = EmbeddedScan::new(MessageCheck(Message::Feature), FEATURES);
     let mut at = part.from;
     'walk: loop {
         let (field, next) = match own.pass_usual::<1>(Message::Layer, front, at) {

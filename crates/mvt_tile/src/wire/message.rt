@@ -1,12 +1,10 @@
 //! The first fault of one message.
-ghost use Rattle.mvt_tile.specs.Calls.Embedded.{HasFault};
-ghost use Rattle.mvt_tile.specs.Calls.FieldsLeft.{IsDefectOr};
+ghost use Rattle.mvt_tile.specs.Calls.Embedded.{HasFault, HasNone, HasFirst};
 ghost use Rattle.mvt_tile.specs.Calls.Least.{FindsLeastCause};
-ghost use Rattle.mvt_tile.specs.Calls.Part.{span_in};
+ghost use Rattle.mvt_wire.specs.Embedded.{span_in};
 
-use crate::part::Part;
 use crate::wire::scan::FieldScan;
-use mvt_wire::{Fields, Message, WireCause};
+use mvt_wire::{EmbeddedCheck, Message, Part, WireCause};
 
 /// The first fault of the message that a part of the bytes holds, without those of the messages in
 /// it. The message is walked once. Each message has a COPY of its own, so that its rules are
@@ -34,17 +32,25 @@ pub(crate) fn message_fault<const COPY: usize>(
     }
 }
 
-/// The defect of a field that is left, or else the cause: a message that isn't whole has no other
-/// fault than its defect.
-#[cold]
-#[inline(never)]
-pub(crate) fn defect_or(mut fields: Fields<'_>, cause: WireCause) -> WireCause
-    ensures { IsDefectOr fields.entry cause result }
-{
-    'walk: while let Some(item) = fields.next_field() {
-        if let Err(defect) = item {
-            return defect;
-        }
+/// The first fault of each message that another one holds.
+#[derive(Drop)]
+pub(crate) struct MessageCheck(pub(crate) Message);
+
+impl EmbeddedCheck for MessageCheck {
+    type Found = (usize, WireCause);
+
+    ghost IsClean = { λ check. HasNone check.0 };
+
+    ghost IsFound = { λ check. HasFirst check.0 };
+
+    #[inline(always)]
+    fn check(&self, part: Part<'_>, ordinal: usize) -> Option<(usize, WireCause)> {
+        // (the copies differ only in what the compiler knows of the message)
+        let cause = match self.0 {
+            Message::Value => message_fault::<2>(self.0, part)?,
+            Message::Feature => message_fault::<3>(self.0, part)?,
+            _ => message_fault::<4>(self.0, part)?,
+        };
+        Some((ordinal, cause))
     }
-    cause
 }

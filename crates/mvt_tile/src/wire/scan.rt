@@ -1,10 +1,9 @@
 //! The faults of a message's own fields, as one walk over them finds them.
 ghost use Rattle.std.specs.Prelude.{◌≡◌, ℕ, ◌<◌, ◌≤◌, ◌^◌, List, [], ◌∷◌, ◌++◌, IfNone, IfSome, ◌&&◌, not};
-ghost use Rattle.mvt_wire.specs.Field.{Entry, entry_of};
+ghost use Rattle.mvt_wire.specs.Field.{Entry, IsField, entry_of};
 ghost use Rattle.mvt_wire.specs.Schema.{is_required};
 ghost use Rattle.mvt_wire.specs.WireFault.{EndFault};
 ghost use Rattle.mvt_tile.specs.Calls.Least.{FindsLeastCause};
-ghost use Rattle.mvt_tile.specs.Calls.FieldPlace.{IsPlaced};
 
 use crate::wire::field::field_fault;
 use mvt_wire::{Field, FieldRule, Message, WireCause, WireCode};
@@ -37,12 +36,13 @@ impl FieldScan {
     /// Passes the next field, or returns its first fault.
     #[inline(always)]
     pub(crate) fn pass(&mut self, message: Message, field: &Field<'_>) -> Option<WireCause>
-        requires { (next : ℕ) × IsPlaced (entry_of field.now) next × (next < 2 ^ 64) }
+        requires { (bytes : List ℕ) × (next : ℕ) × IsField bytes next (entry_of field.now)
+            × (next < 2 ^ 64) }
         ensures passed { IfNone result ((entries : List Entry)
             → Passes message self.old entries
             → Passes message self.new (entries ++ entry_of field.now ∷ [])) }
-        ensures fault { IfSome result (λ cause. (entries : List Entry) (next : ℕ)
-            → IsPlaced (entry_of field.now) next
+        ensures fault { IfSome result (λ cause. (bytes : List ℕ) (entries : List Entry) (next : ℕ)
+            → IsField bytes next (entry_of field.now)
             → Passes message self.old entries
             → IsFirstFault message (entries ++ entry_of field.now ∷ []) next cause) }
         ensures unchanged { IfSome result (λ cause. self.new ≡ self.old) }

@@ -1,15 +1,12 @@
 //! The next field of a message, read and passed at once.
-ghost use Rattle.std.specs.Prelude.{◌≡◌, ℕ, ◌+◌, ◌/◌, ◌<◌, ◌≤◌, length, slice_index, Some, IfNone, IfSome, IfOk, IfErr};
-ghost use Rattle.mvt_wire.specs.Field.{entry_of, content_of, wire_type_of, IsField, IsPayload};
-ghost use Rattle.mvt_wire.specs.Schema.{rule_of};
+ghost use Rattle.std.specs.Prelude.{◌≡◌, ◌+◌, ◌<◌, ◌≤◌, length, slice_index, IfNone, IfSome, IfOk, IfErr};
 ghost use Rattle.mvt_wire.specs.Varint.{SpellsVarint};
-ghost use Rattle.mvt_wire.specs.Walk.{GivesField};
-ghost use Rattle.mvt_tile.specs.Calls.FieldScan.{PassesNext, IsFirstFrom, IsNextField};
+ghost use Rattle.mvt_tile.specs.Calls.FieldScan.{PassesNext, IsFirstFrom};
 
-use crate::read::walk::whole_field;
-use crate::wire::message::defect_or;
 use crate::wire::scan::FieldScan;
-use mvt_wire::{Body, Field, Fields, Message, WireCause, read_varint};
+use mvt_wire::{
+    Field, Fields, Message, WireCause, defect_or, field_after, fixed_after, leading_varint,
+};
 
 impl FieldScan {
     /// Passes the field at an offset if its key has one byte, it has no fault, and a varint is
@@ -41,7 +38,7 @@ impl FieldScan {
                 _ => {}
             }
         }
-        let (value, start) = leading(bytes, at + 1)?;
+        let (value, start) = leading_varint(bytes, at + 1)?;
         match bytes[at] {
             0x08 => self.pass_key(message, bytes, at, 0x08, value, start),
             0x0a => self.pass_key(message, bytes, at, 0x0a, value, start),
@@ -150,104 +147,15 @@ impl FieldScan {
         ensures fault { IfErr result (IsFirstFrom message bytes.now at self.old) }
     {
         let mut fields = Fields::new(bytes, at, bytes.len());
-        let (field, next) = match fields.next_field() {
-            Some(Ok(_)) => whole_field(bytes, at),
+        let field = match fields.next_field() {
+            Some(Ok(field)) => field,
             Some(Err(cause)) => return Err(cause),
             None => unreachable!(),
         };
+        let next = fields.at();
         if let Some(cause) = self.pass(message, &field) {
-            return Err(defect_or(Fields::new(bytes, next, bytes.len()), cause));
+            return Err(defect_or(fields, cause));
         }
         Ok((field, next))
     }
-}
-
-/// The field at an offset whose key has one byte, and the offset after it; None where it has a
-/// defect, or four or eight bytes. After the key is a varint up to an offset `start`: the field's
-/// value or its length.
-#[inline(always)]
-fn field_after(
-    bytes: &[u8],
-    at: usize,
-    key: u8,
-    value: u64,
-    start: usize,
-) -> Option<(Field<'_>, usize)>
-    requires within { at + 2 ≤ length bytes.now }
-    requires key { slice_index bytes.now at ≡ key }
-    requires leading { SpellsVarint bytes.now (at + 1) start value }
-    requires numbered { 8 ≤ key }
-    requires short { key < 128 }
-    ensures { IfSome result (IsNextField bytes.now at key) }
-{
-    let number = u32::from(key / 8);
-    match key % 8 {
-        0 => {
-            let body = Body::Varint { value, at: at + 1 };
-            Some((Field { number, at, body }, start))
-        }
-        2 => {
-            if value > (bytes.len() - start) as u64 {
-                return None;
-            }
-            let next = start + value as usize;
-            let slice = &bytes[start..next];
-            let body = Body::Bytes { from: start, slice };
-            Some((Field { number, at, body }, next))
-        }
-        _ => None,
-    }
-}
-
-/// The same for a field of four or eight bytes; None where it has another wire type.
-#[inline(always)]
-fn fixed_after(bytes: &[u8], at: usize, key: u8) -> Option<(Field<'_>, usize)>
-    requires within { at + 2 ≤ length bytes.now }
-    requires key { slice_index bytes.now at ≡ key }
-    requires numbered { 8 ≤ key }
-    requires short { key < 128 }
-    ensures { IfSome result (IsNextField bytes.now at key) }
-{
-    let number = u32::from(key / 8);
-    match key % 8 {
-        1 => {
-            let body = Body::Fixed64(bytes.get(at + 1..at + 9)?);
-            Some((Field { number, at, body }, at + 9))
-        }
-        5 => {
-            let body = Body::Fixed32(bytes.get(at + 1..at + 5)?);
-            Some((Field { number, at, body }, at + 5))
-        }
-        _ => None,
-    }
-}
-
-/// The varint at an offset, and the offset after it; None where none is there.
-#[inline(always)]
-fn leading(bytes: &[u8], at: usize) -> Option<(u64, usize)>
-    requires { at < length bytes.now }
-    ensures { IfSome result (λ read. SpellsVarint bytes.now at read.1 read.0) }
-{
-    let first = bytes[at];
-    if first < 128 {
-        return Some((u64::from(first), at + 1));
-    }
-    let &second = bytes.get(at + 1)?;
-    let value = u64::from(first % 128) + u64::from(second % 128) * 128;
-    if second < 128 {
-        return Some((value, at + 2));
-    }
-    match bytes.get(at + 2) {
-        Some(&third) if third < 128 => Some((value + u64::from(third) * 16_384, at + 3)),
-        _ => long_leading(bytes, at),
-    }
-}
-
-/// The same for one of more bytes.
-#[inline(never)]
-fn long_leading(bytes: &[u8], at: usize) -> Option<(u64, usize)>
-    requires { at < length bytes.now }
-    ensures { IfSome result (λ read. SpellsVarint bytes.now at read.1 read.0) }
-{
-    read_varint(bytes, at).ok()
 }

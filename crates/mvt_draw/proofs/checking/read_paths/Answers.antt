@@ -3,7 +3,7 @@ use Rattle.mvt_plane.specs.Commands.Drawing.{start, path_command}
 use Rattle.mvt_plane.specs.Commands.Reading.{path_type}
 use Rattle.mvt_draw.specs.Calls.Cursor.{position_of}
 use Rattle.mvt_plane.proofs.Spelling.Readers.{whole_there}
-use Rattle.mvt_tile.proofs.Reading.Sources.{at_end}
+use Rattle.mvt_wire.proofs.FieldNumbers.Sources.{at_end}
 use Rattle.mvt_draw.proofs.Sources.{number_left}
 use Rattle.mvt_draw.proofs.checking.read_paths.Goals as goal
 

@@ -3,7 +3,7 @@ use Rattle.std.proofs.lemmas.Int.{ints}
 use Rattle.mvt_plane.specs.Commands.Drawing.{start}
 use Rattle.mvt_plane.proofs.Spelling.Readers.{unfinished_coordinate, greatest_there, outside_there, is_parameter}
 use Rattle.mvt_draw.proofs.Parameters.{unzigzag_wire}
-use Rattle.mvt_tile.proofs.Reading.Sources.{at_end}
+use Rattle.mvt_wire.proofs.FieldNumbers.Sources.{at_end}
 use Rattle.mvt_draw.proofs.Sources.{number_left}
 use Rattle.mvt_draw.proofs.commands.coordinate.Goals as goal
 use Rattle.mvt_draw.proofs.commands.coordinate.Goals.{then-to-greatest-via-then-to-greatest, then-to-greatest-via-else-to-greatest+then-to-greatest-2}

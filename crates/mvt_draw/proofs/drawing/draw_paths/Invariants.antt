@@ -1,8 +1,7 @@
 use Rattle.std.proofs.Common.{◌≤◌, ◌+◌, List, length, map, drop}
 use Rattle.mvt_plane.specs.Position.{Position, origin}
 use Rattle.mvt_plane.specs.Commands.Course.{ArePathsAhead}
-use Rattle.mvt_tile.specs.Numbers.{AreListed}
-use Rattle.mvt_tile.specs.Calls.Numbers.{most_listed}
+use Rattle.mvt_wire.specs.NumberSources.{AreListed, most_listed}
 use Rattle.mvt_draw.specs.Calls.Cursor.{course_of}
 use Rattle.mvt_draw.proofs.Paths.{IsAmidPaths}
 use Rattle.mvt_draw.proofs.drawing.draw_paths.Given as goal

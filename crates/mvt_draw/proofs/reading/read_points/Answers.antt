@@ -5,7 +5,7 @@ use Rattle.mvt_plane.specs.Commands.Figure.{point, command_integer, move_to}
 use Rattle.mvt_plane.specs.Calls.Reading.{StandsAt}
 use Rattle.mvt_plane.specs.Commands.Reading.{of_points}
 use Rattle.mvt_plane.proofs.Spelling.Readers.{points_left, blamed_there, whole_there}
-use Rattle.mvt_tile.proofs.Reading.Sources.{at_end}
+use Rattle.mvt_wire.proofs.FieldNumbers.Sources.{at_end}
 use Rattle.mvt_draw.proofs.Sources.{number_left, given_there}
 use Rattle.mvt_draw.proofs.reading.read_points.Goals as goal
 

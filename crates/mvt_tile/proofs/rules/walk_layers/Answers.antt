@@ -4,7 +4,7 @@ use Rattle.mvt_wire.specs.Calls.Tile.{FitsRule}
 use Rattle.mvt_wire.specs.declared.schema.Message.TheVariants as messages
 use Rattle.mvt_tile.proofs.WireFaults.CleanWalk.{CleanWalk-nothing, CleanWalk-other, CleanWalk-more}
 use Rattle.mvt_tile.proofs.Reading.ReadingRules.{own_type}
-use Rattle.mvt_tile.proofs.Reading.ReadingWalk.{IsWalking-defectless, All-given}
+use Rattle.mvt_wire.proofs.Walking.{IsWalking-defectless, All-given}
 use Rattle.mvt_tile.proofs.WireFaults.EmbeddedSpans.{Embeds-given, LiesIn-given}
 use Rattle.mvt_tile.proofs.RuleFaults.TileScan.{AreScanned-other, AreScanned-next, AreScanned-finds, IsNextLayer-given, EndsLayers-over, not_all_passed}
 use Rattle.mvt_tile.proofs.rules.walk_layers.Goals as goal
@@ -17,8 +17,8 @@ walk-init over c = record {
   features = record { first = rw c.requires.nothing (CleanWalk-nothing c.new-fields.ensures) };
 }
 
-pub next_field-requires : goal.next_field-requires
-next_field-requires over c = let there = c.requires.tile.1 in IsWalking-defectless there.entries c.walk.invariant.layers.walking there.whole
+pub next_whole-requires : goal.next_whole-requires
+next_whole-requires over c = let there = c.requires.tile.1 in IsWalking-defectless there.entries c.walk.invariant.layers.walking there.whole
 
 pub payload_span-from-requires-clause-own : goal.payload_span-from-requires-clause-own
 payload_span-from-requires-clause-own over c =

@@ -2,9 +2,10 @@ use Rattle.std.proofs.Common.{[], refl, sym, subst, arith}
 use Rattle.mvt_fault.specs.Place.{IsLeast}
 use Rattle.mvt_fault.specs.TrueFaults.{IsWireFault}
 use Rattle.mvt_wire.specs.declared.schema.Message.TheVariants.{Tile}
+use Rattle.mvt_wire.proofs.Encoding.Payloads.{payload_within}
 use Rattle.mvt_tile.specs.Calls.FieldScan.{PassesNext}
 use Rattle.mvt_tile.proofs.WireFaults.TileWalk.{TileWalk-unchanged, TileWalk-more, TileWalk-fault, TileWalk-own, TileWalk-layers}
-use Rattle.mvt_tile.proofs.WireFaults.Walking.{PassesNext-as, IsPlaced-field}
+use Rattle.mvt_tile.proofs.WireFaults.Walking.{PassesNext-as}
 use Rattle.mvt_tile.proofs.wire.wire_fault.Goals as goal
 use Rattle.mvt_tile.proofs.wire.wire_fault.Goals.{in-Some, in-None-2+in-Ok}
 
@@ -18,13 +19,13 @@ walk-init c = record {
   few = omega arith;
 }
 
-pub pass-requires-clause-placed : goal.pass-requires-clause-placed
-pass-requires-clause-placed c =
+pub pass-requires-clause-inside : goal.pass-requires-clause-inside
+pass-requires-clause-inside c =
     let passed : PassesNext Tile c.args.bytes.now c.walk.at c.walk.own c.match-pass_usual.own c.match-pass_usual.next = elim c.match-pass_usual.branch [
       | in-Some w ↦ PassesNext-as w.in-Some.ensures.passed refl w.own-is w.next-is
       | in-None-2+in-Ok w ↦ PassesNext-as w.in-Ok.ensures.passed w.in-None-2.ensures.unchanged w.own-is w.next-is
     ] in
-    (c.match-pass_usual.next.1, IsPlaced-field c.args.bytes.now c.match-pass_usual.next.1 _ passed.given.spelled, passed.given.within)
+    λ span there. let field = passed.given.spelled in payload_within c.args.bytes.now field.key_end c.match-pass_usual.next.1 _ span field.payload there
 
 pub walk-preserved : goal.walk-preserved
 walk-preserved c =

@@ -1,9 +1,9 @@
-use crate::numbers::ListedNumbers;
 use crate::record::Layer;
 use crate::rules::key_marks::KeyMarks;
 use crate::rules::tags::scan_tags;
 use crate::{check_tags, read_tile};
 use mvt_fault::{Fault, TagCode};
+use mvt_wire::ListedNumbers;
 use std::alloc::Global;
 
 /// Whether this feature of a layer has this fault of tags, where the layer counts as number 4.

@@ -8,7 +8,7 @@ use Rattle.mvt_plane.specs.Commands.Figure.{Figure, Spells, polygon, rings}
 use Rattle.mvt_draw.specs.Calls.Cursor.{position_of, course_of}
 use Rattle.mvt_draw.proofs.Paths.{IsAmidPaths-next, IsAmidPaths-over}
 use Rattle.mvt_draw.proofs.ReadGeometries.{rings_fault}
-use Rattle.mvt_tile.proofs.Reading.Sources.{at_end}
+use Rattle.mvt_wire.proofs.FieldNumbers.Sources.{at_end}
 use Rattle.mvt_draw.proofs.Sources.{some_left, number_left}
 use Rattle.mvt_draw.proofs.ring_buffer.RingBuffer.draw.Goals as goal
 

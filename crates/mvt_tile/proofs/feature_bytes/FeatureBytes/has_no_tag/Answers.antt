@@ -1,5 +1,5 @@
 use Rattle.std.proofs.lemmas.Bool.{eqb-true}
-use Rattle.mvt_tile.proofs.Reading.NumberSpans.{none_in}
+use Rattle.mvt_wire.proofs.FieldNumbers.NumberSpans.{none_in}
 use Rattle.mvt_tile.proofs.feature_bytes.FeatureBytes.has_no_tag.Goals as goal
 
 pub returns : goal.returns

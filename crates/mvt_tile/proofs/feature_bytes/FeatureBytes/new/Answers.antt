@@ -1,10 +1,9 @@
 use Rattle.std.proofs.Common.{[], refl}
 use Rattle.mvt_wire.specs.Calls.Tile.{FitsRule}
 use Rattle.mvt_wire.specs.declared.schema.Message.TheVariants as messages
-use Rattle.mvt_wire.proofs.Walking.{IsWalking-more}
+use Rattle.mvt_wire.proofs.Walking.{IsWalking-more, IsWalking-none, IsWalking-defectless, All-given}
 use Rattle.mvt_tile.proofs.Reading.FeatureParts.{Shows-all, tags_lie, geometry_lies}
-use Rattle.mvt_tile.proofs.Reading.FaultlessNumbers.{given_in}
-use Rattle.mvt_tile.proofs.Reading.ReadingWalk.{IsWalking-none, IsWalking-defectless, All-given}
+use Rattle.mvt_wire.proofs.FieldNumbers.FaultlessNumbers.{given_in}
 use Rattle.mvt_tile.proofs.feature_bytes.FeatureBytes.new.Goals as goal
 use Rattle.mvt_tile.proofs.feature_bytes.FeatureBytes.new.Goals.{In_default}
 

@@ -11,11 +11,11 @@ number_in-requires c = own_type messages.Feature c.args.field.now 1 0 c.requires
 pub number_in-requires-in-3 : goal.number_in-requires-in-3
 number_in-requires-in-3 c = own_type messages.Feature c.args.field.now 3 0 c.requires c.in-3.is refl (λ t. refl)
 
-pub varints_in-requires : goal.varints_in-requires
-varints_in-requires c = (fits_at messages.Feature (entry_of c.args.field.now) 2 _ c.requires c.in-2.is refl).own
+pub add-requires : goal.add-requires
+add-requires c = (fits_at messages.Feature (entry_of c.args.field.now) 2 _ c.requires c.in-2.is refl).own
 
-pub varints_in-requires-in-4 : goal.varints_in-requires-in-4
-varints_in-requires-in-4 c = (fits_at messages.Feature (entry_of c.args.field.now) 4 _ c.requires c.in-4.is refl).own
+pub add-requires-in-4 : goal.add-requires-in-4
+add-requires-in-4 c = (fits_at messages.Feature (entry_of c.args.field.now) 4 _ c.requires c.in-4.is refl).own
 
 pub kind_of-self-requires : goal.kind_of-self-requires
 kind_of-self-requires c =
@@ -29,7 +29,7 @@ returns-in-1 c = λ message from entries field gives.
 pub returns-in-2 : goal.returns-in-2
 returns-in-2 c = λ message from entries field gives.
     let entry = entry_of c.args.field.now in
-    gives_tags message from c.args.to entries entry field c.args.self.now gives c.add.new.self c.in-2.is (c.add.ensures message from 2 entry field c.in-2.is c.varints_in.ensures gives.tags)
+    gives_tags message from c.args.to entries entry field c.args.self.now gives c.add.new.self c.in-2.is (c.add.ensures message from 2 entry field c.in-2.is refl gives.tags)
 
 pub returns-in-3 : goal.returns-in-3
 returns-in-3 c = λ message from entries field gives.
@@ -38,7 +38,7 @@ returns-in-3 c = λ message from entries field gives.
 pub returns-in-4 : goal.returns-in-4
 returns-in-4 c = λ message from entries field gives.
     let entry = entry_of c.args.field.now in
-    gives_geometry message from c.args.to entries entry field c.args.self.now gives c.add-in-4.new.self c.in-4.is (c.add-in-4.ensures message from 4 entry field c.in-4.is c.varints_in-in-4.ensures gives.geometry)
+    gives_geometry message from c.args.to entries entry field c.args.self.now gives c.add-in-4.new.self c.in-4.is (c.add-in-4.ensures message from 4 entry field c.in-4.is refl gives.geometry)
 
 pub returns-in_default : goal.returns-in_default
 returns-in_default c = λ message from entries field gives.

@@ -7,12 +7,11 @@ use Rattle.mvt_tile.specs.Calls.Reading.{GivesLayer}
 use Rattle.mvt_tile.specs.View.{layer_of}
 use Rattle.mvt_tile.proofs.Reading.LayerReading.{IsLayer-from_told}
 use Rattle.mvt_tile.proofs.WireFaults.EmbeddedSpans.{Embeds-given, LiesIn-given}
-use Rattle.mvt_tile.proofs.Reading.ReadingWalk.{IsWalking-defectless, IsWalking-over, All-given}
+use Rattle.mvt_wire.proofs.Walking.{IsWalking-defectless, IsWalking-over, All-given, IsWalking-more}
 use Rattle.mvt_tile.proofs.read.layer.read_layer.Goals as goal
-use Rattle.mvt_wire.proofs.Walking.{IsWalking-more}
 
-pub next_field-requires : goal.next_field-requires
-next_field-requires c = let there = c.requires.1 in IsWalking-defectless there.entries c.walk.invariant.1 there.whole
+pub next_whole-requires : goal.next_whole-requires
+next_whole-requires c = let there = c.requires.1 in IsWalking-defectless there.entries c.walk.invariant.1 there.whole
 
 pub add_field-requires-clause-fits : goal.add_field-requires-clause-fits
 add_field-requires-clause-fits c =

@@ -2,12 +2,11 @@ use Rattle.mvt_wire.specs.Field.{entry_of}
 use Rattle.mvt_wire.specs.declared.schema.Message.TheVariants as messages
 use Rattle.mvt_wire.specs.Calls.Tile.{FitsRule}
 use Rattle.mvt_tile.proofs.Reading.ValueReading.{IsValue-from_known, none_known-more, none_known-over}
-use Rattle.mvt_tile.proofs.Reading.ReadingWalk.{IsWalking-front, IsWalking-defectless, IsWalking-over, All-given}
+use Rattle.mvt_wire.proofs.Walking.{IsWalking-front, IsWalking-defectless, IsWalking-over, All-given, IsWalking-more}
 use Rattle.mvt_tile.proofs.read.value.read_value.Goals as goal
-use Rattle.mvt_wire.proofs.Walking.{IsWalking-more}
 
-pub next_field-requires : goal.next_field-requires
-next_field-requires c = let there = c.requires.1 in IsWalking-defectless there.entries c.walk.invariant.1 there.whole
+pub next_whole-requires : goal.next_whole-requires
+next_whole-requires c = let there = c.requires.1 in IsWalking-defectless there.entries c.walk.invariant.1 there.whole
 
 pub value_in-requires : goal.value_in-requires
 value_in-requires c =

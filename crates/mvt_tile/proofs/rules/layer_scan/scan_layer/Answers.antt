@@ -8,12 +8,11 @@ use Rattle.mvt_tile.specs.Calls.Reading.{GivesSummary}
 use Rattle.mvt_tile.proofs.WireFaults.CleanWalk.{CleanWalk-nothing}
 use Rattle.mvt_tile.proofs.RuleFaults.FeatureScan.{IsScanned-other, IsScanned-more, IsScanned-finds}
 use Rattle.mvt_tile.proofs.Reading.ReadingRules.{own_type}
-use Rattle.mvt_tile.proofs.Reading.ReadingWalk.{IsWalking-none, IsWalking-defectless, IsWalking-over, All-given}
+use Rattle.mvt_wire.proofs.Walking.{IsWalking-none, IsWalking-defectless, IsWalking-over, All-given, IsWalking-more}
 use Rattle.mvt_tile.proofs.WireFaults.EmbeddedSpans.{Embeds-given, LiesIn-given}
 use Rattle.mvt_tile.proofs.RuleFaults.SummaryReading.{few_counted, IsSummary-from_told}
 use Rattle.mvt_tile.proofs.rules.layer_scan.scan_layer.Goals as goal
 use Rattle.mvt_tile.proofs.rules.layer_scan.scan_layer.Goals.{else-field-eq-FEATURES-via-then-field-eq-FEATURES+else-is_none, else-field-eq-FEATURES-via-else-field-eq-FEATURES}
-use Rattle.mvt_wire.proofs.Walking.{IsWalking-more}
 
 -- what was found stays found
 still_found : {F : Type 0} (X Y : Type 0) (First : F → Type 0) (found : Option F) → is_some found ≡ true → MatchOption found X First → MatchOption found Y First

@@ -1,6 +1,6 @@
 use Rattle.std.proofs.Common.{◌≡◌, ℕ, Bool, true, false, sym, ◌∙◌}
 use Rattle.std.proofs.lemmas.Bool.{not-true, not-false}
-use Rattle.mvt_tile.specs.Calls.KeyMarks.{has_key}
+use Rattle.mvt_tile.specs.Calls.PassedTags.{has_key}
 use Rattle.mvt_tile.proofs.RuleFaults.TagFaults.{IsFirstTagFault-no_key, IsFirstTagFault-repeated, IsFirstTagFault-no_value, AreCleanBefore-pair, IsPassed-pair}
 use Rattle.mvt_tile.proofs.rules.tags.fault_of_pair.Goals as goal
 

@@ -1,11 +1,13 @@
-use Rattle.std.proofs.Common.{[], take, refl, sym, subst, arith}
+use Rattle.std.proofs.Common.{[], take, refl, sym, ap, subst, arith}
 use Rattle.mvt_fault.specs.Place.{IsLeast}
 use Rattle.mvt_wire.specs.Calls.Scope.{span_between}
 use Rattle.mvt_wire.specs.declared.schema.Message.TheVariants.{Layer}
+use Rattle.mvt_wire.proofs.Encoding.Payloads.{LiesIn-field}
 use Rattle.mvt_tile.specs.Calls.FieldScan.{PassesNext}
-use Rattle.mvt_tile.specs.Calls.LayerFault.{IsLayerFault}
+use Rattle.mvt_tile.specs.declared.wire.message.MessageCheck.{MessageCheck}
+use Rattle.mvt_tile.specs.Calls.Embedded.{IsLayerFault}
 use Rattle.mvt_tile.proofs.WireFaults.LayerWalk.{LayerWalk-unchanged, LayerWalk-more, LayerWalk-fault, LayerWalk-own, LayerWalk-value, LayerWalk-feature, LayerWalk-none}
-use Rattle.mvt_tile.proofs.WireFaults.Walking.{PassesNext-as, IsPlaced-within}
+use Rattle.mvt_tile.proofs.WireFaults.Walking.{PassesNext-as}
 use Rattle.mvt_tile.proofs.wire.layer.layer_fault.Goals as goal
 use Rattle.mvt_tile.proofs.wire.layer.layer_fault.Goals.{in-Some, in-None-2+in-Ok}
 
@@ -16,31 +18,29 @@ walk-init c = record {
   scanning = record { passed = refl; passes = c.new-own.ensures Layer };
   values = c.new-values.ensures.nothing c.args.part.bytes.now;
   features = c.new-features.ensures.nothing c.args.part.bytes.now;
-  value_message = c.new-values.ensures.check;
+  value_message = ap (λ (check : MessageCheck). check.0) c.new-values.ensures.check;
   value_number = c.new-values.ensures.number;
-  feature_message = c.new-features.ensures.check;
+  feature_message = ap (λ (check : MessageCheck). check.0) c.new-features.ensures.check;
   feature_number = c.new-features.ensures.number;
   few_values = omega arith;
   few_features = omega arith;
 }
 
-pub pass-requires-clause-placed : goal.pass-requires-clause-placed
-pass-requires-clause-placed c =
+pub pass-requires-clause-inside : goal.pass-requires-clause-inside
+pass-requires-clause-inside c =
     let passed : PassesNext Layer (take c.args.part.to c.args.part.bytes.now) c.walk.at c.walk.own c.match-pass_usual.own c.match-pass_usual.next = elim c.match-pass_usual.branch [
       | in-Some w ↦ PassesNext-as w.in-Some.ensures.passed refl w.own-is w.next-is
       | in-None-2+in-Ok w ↦ PassesNext-as w.in-Ok.ensures.passed w.in-None-2.ensures.unchanged w.own-is w.next-is
     ] in
-    let placed = IsPlaced-within c.args.part.bytes.now c.args.part.to c.args.part.within passed.given in
-    (placed.0, placed.1, omega (arith, placed.2))
+    LiesIn-field c.args.part.bytes.now c.args.part.to c.match-pass_usual.next.1 _ passed.given.spelled
 
-pub pass-requires-in-walk-clause-placed : goal.pass-requires-in-walk-clause-placed
-pass-requires-in-walk-clause-placed c =
+pub pass-requires-in-walk-clause-inside : goal.pass-requires-in-walk-clause-inside
+pass-requires-in-walk-clause-inside c =
     let passed : PassesNext Layer (take c.args.part.to c.args.part.bytes.now) c.walk.at c.walk.own c.match-pass_usual.own c.match-pass_usual.next = elim c.match-pass_usual.branch [
       | in-Some w ↦ PassesNext-as w.in-Some.ensures.passed refl w.own-is w.next-is
       | in-None-2+in-Ok w ↦ PassesNext-as w.in-Ok.ensures.passed w.in-None-2.ensures.unchanged w.own-is w.next-is
     ] in
-    let placed = IsPlaced-within c.args.part.bytes.now c.args.part.to c.args.part.within passed.given in
-    (placed.0, placed.1, omega (arith, placed.2))
+    LiesIn-field c.args.part.bytes.now c.args.part.to c.match-pass_usual.next.1 _ passed.given.spelled
 
 pub walk-preserved : goal.walk-preserved
 walk-preserved c =
@@ -50,8 +50,8 @@ walk-preserved c =
     ] in
     LayerWalk-more c.args.part.bytes.now c.args.part.from c.args.part.to c.walk.at c.walk.own c.walk.values c.walk.features c.args.part.within c.walk.invariant
     c.match-pass_usual.next c.match-pass_usual.own c.pass.new.self c.pass-in-walk.new.self passed
-    (record { message = c.pass.ensures.check; number = c.pass.ensures.number; count = c.pass.ensures.count; noted = c.pass.ensures.noted })
-    (record { message = c.pass-in-walk.ensures.check; number = c.pass-in-walk.ensures.number; count = c.pass-in-walk.ensures.count; noted = c.pass-in-walk.ensures.noted })
+    (record { message = ap (λ (check : MessageCheck). check.0) c.pass.ensures.check; number = c.pass.ensures.number; count = c.pass.ensures.count; noted = c.pass.ensures.noted })
+    (record { message = ap (λ (check : MessageCheck). check.0) c.pass-in-walk.ensures.check; number = c.pass-in-walk.ensures.number; count = c.pass-in-walk.ensures.count; noted = c.pass-in-walk.ensures.noted })
 
 pub returns-in-Err : goal.returns-in-Err
 returns-in-Err c =

@@ -1,5 +1,6 @@
 use Rattle.std.proofs.Common.{◌<◌, length, refl, sym, arith, rules}
 use Rattle.mvt_wire.specs.Field.{entry_of}
+use Rattle.mvt_tile.proofs.WireFaults.FieldPlaces.{IsPlaced-field}
 use Rattle.mvt_tile.proofs.WireFaults.SchemaRules.{known_number}
 use Rattle.mvt_tile.proofs.WireFaults.FieldScans.{Passes-unknown, Passes-known, Passes-fault}
 use Rattle.mvt_tile.proofs.wire.scan.FieldScan.pass.Goals as goal
@@ -11,8 +12,8 @@ pub returns-in_default-clause-passed : goal.returns-in_default-clause-passed
 returns-in_default-clause-passed c = λ entries so_far. Passes-unknown c.args.message c.args.self.now entries (entry_of c.args.field.now) (sym c.in_default.ensures) so_far
 
 pub returns-in-Some-field_fault-clause-fault : goal.returns-in-Some-field_fault-clause-fault
-returns-in-Some-field_fault-clause-fault c = λ entries next placed so_far.
-    Passes-fault c.args.message c.args.self.now entries (entry_of c.args.field.now) next c.in-Some.rule c.in-Some-field_fault.cause placed
+returns-in-Some-field_fault-clause-fault c = λ bytes entries next field so_far.
+    Passes-fault c.args.message c.args.self.now entries (entry_of c.args.field.now) next c.in-Some.rule c.in-Some-field_fault.cause (IsPlaced-field bytes next _ field)
     (sym c.in-Some.ensures) c.in-Some-field_fault.ensures so_far
 
 pub returns-then-eq-clause-passed : goal.returns-then-eq-clause-passed

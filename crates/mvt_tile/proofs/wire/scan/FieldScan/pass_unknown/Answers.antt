@@ -9,7 +9,7 @@ use Rattle.mvt_tile.proofs.wire.scan.FieldScan.pass_unknown.Goals as goal
 pub returns-in-None-clause-passed : goal.returns-in-None-clause-passed
 returns-in-None-clause-passed c =
     let scan = c.args.self.now in
-    IfSome_then c.field_after.result {Q = PassesNext c.args.message c.args.bytes.now c.args.at scan scan} c.field_after.ensures (λ read given. record {
+    IfSome_then c.field_after.result {Q = PassesNext c.args.message c.args.bytes.now c.args.at scan scan} c.field_after.ensures.field (λ read given. record {
       given = given.0;
       passed = λ entries.
           let unknown : rule_of c.args.message read.0.number ≡ None = ap (rule_of c.args.message) (given.1 ∙ sym c.from.ensures) ∙ sym c.in-None.ensures in

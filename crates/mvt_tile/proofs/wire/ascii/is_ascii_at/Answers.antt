@@ -1,6 +1,0 @@
-use Rattle.std.proofs.lemmas.Bool.{not-false, not-true}
-use Rattle.mvt_tile.proofs.WireFaults.Ascii.{IsAsciiWithin-lanes}
-use Rattle.mvt_tile.proofs.wire.ascii.is_ascii_at.Goals as goal
-
-pub returns : goal.returns
-returns g c none = IsAsciiWithin-lanes c.args.part.now c.args.at g.row.WIDTH c.requires.within c.requires.lanes (not-false _ (not-true _ none))
