@@ -100,4 +100,14 @@ impl Count {
     {
         self.visits = self.visits.saturating_add(1);
     }
+
+    /// Counts so many visits of nodes.
+    pub fn tick_visits(&mut self, many: u64)
+        ensures tests { self.new.tests ≡ self.old.tests }
+        ensures probes { self.new.probes ≡ self.old.probes }
+        ensures visits { self.new.visits ≡ min (self.old.visits + many) (2 ^ 64 - 1) }
+        ensures no_fewer { self.old.visits ≤ self.new.visits }
+    {
+        self.visits = self.visits.saturating_add(many);
+    }
 }

@@ -156,17 +156,6 @@ visits_below below visit down within = record {
   visits_added = omega (arith, visit.visits_added, down.visits_added, within);
 }
 
--- a visit and a probe more
-pub one_more_level : {levels : ℕ} {start before visited after : Counted} → AddsAtMost levels levels start before → AddsAtMost 0 1 before visited → AddsAtMost 1 0 visited after
-    → AddsAtMost (levels + 1) (levels + 1) start after
-one_more_level so_far visit probe = record {
-  tests = probe.tests ∙ visit.tests ∙ so_far.tests;
-  no_fewer_probes = omega (arith, so_far.no_fewer_probes, visit.no_fewer_probes, probe.no_fewer_probes);
-  probes_added = omega (arith, so_far.probes_added, visit.probes_added, probe.probes_added);
-  no_fewer_visits = omega (arith, so_far.no_fewer_visits, visit.no_fewer_visits, probe.no_fewer_visits);
-  visits_added = omega (arith, so_far.visits_added, visit.visits_added, probe.visits_added);
-}
-
 -- a side of no level is none
 pub level_of_none : (side : Option (Box (List ℕ × ℕ) Global)) → IfSome side (λ _. 0 < height_of side) → height_of side ≡ 0 → side ≡ None
 level_of_none None some none = refl

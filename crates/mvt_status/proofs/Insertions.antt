@@ -1,10 +1,8 @@
 -- Edges put into a list that is made of two parts or of three.
-use Rattle.std.proofs.Common.{◌≡◌, ℕ, suc, max, ◌+◌, ◌-◌, ◌<◌, ◌≤◌, inl, inr, Box, Global, Option, List, ◌++◌, length, length-append, take, drop, ap, sym, subst, ◌∙◌, append_assoc, refl, arith}
+use Rattle.std.proofs.Common.{◌≡◌, ℕ, ◌+◌, ◌-◌, ◌<◌, ◌≤◌, Box, Global, Option, List, ◌++◌, length, length-append, take, drop, ap, sym, subst, ◌∙◌, append_assoc, refl, arith}
 use Rattle.std.proofs.lemmas.List.{take-append-drop, take-append-le, drop-append-le}
 use Rattle.std.proofs.Math.Seq.{take-append-add, drop-append-add}
-use Rattle.mvt_plane.specs.Counted.{Counted}
-use Rattle.mvt_status.specs.Calls.Tree.{DifferByAtMost, IsHeightOfBoth, IsNode, edges_of, height_of}
-use Rattle.mvt_status.proofs.Levels.{IsHigher, height_of_both}
+use Rattle.mvt_status.specs.Calls.Tree.{IsNode, edges_of}
 
 -- put into the first of two parts
 pub put_in_front : (front rest part all new : List ℕ) (at : ℕ) → front ++ rest ≡ all → at ≤ length front → part ≡ take at front ++ (new ++ drop at front)
@@ -89,6 +87,13 @@ pub put_in_left : (left own right part : List ℕ) (size : ℕ) (all new : List 
 put_in_left left own right part size all new at before node many within is =
     has_put_in part own right (size + length new) all new at (put_in_front left (own ++ right) part all new at node.edges (omega arith) is) node.some (omega (arith, node.counted))
 
+-- where they were put between the sides
+pub put_in_own : (left own right part : List ℕ) (size : ℕ) (all new : List ℕ) (at before : ℕ) → HasBetween left own right size all → before ≡ length left → before ≤ at → at ≤ before + length own
+    → part ≡ take (at - before) own ++ (new ++ drop (at - before) own) → HasPutIn left part right (size + length new) all new at
+put_in_own left own right part size all new at before node many following within is =
+    has_put_in left part right (size + length new) all new at (put_in_middle left own right part all new at before node.edges many following within is)
+    (omega (arith, node.some, length_put_in own part new (at - before) is)) (omega (arith, node.counted))
+
 -- where the upper edges of the node went to the right side
 pub put_in_upper : (left own right lower upper part : List ℕ) (size : ℕ) (all new : List ℕ) (at before : ℕ) → HasBetween left own right size all → before ≡ length left → before ≤ at
     → at ≤ before + length own → 0 < length lower → lower ++ upper ≡ take (at - before) own ++ (new ++ drop (at - before) own) → part ≡ upper ++ right
@@ -101,23 +106,3 @@ pub put_in_right : (left own right part : List ℕ) (size : ℕ) (all new : List
     → part ≡ take (at - following) right ++ (new ++ drop (at - following) right) → HasPutIn left own part (size + length new) all new at
 put_in_right left own right part size all new at following node many within is =
     has_put_in left own part (size + length new) all new at (put_in_last left own right part all new at following node.edges many within is) node.some (omega (arith, node.counted))
-
--- a node with more edges, whose sides are as high as before
-pub node_with_more : (left right new_left new_right : Option (Box (List ℕ × ℕ) Global)) (own new_own : List ℕ) (size height new_size new_height more : ℕ) → IsNode left own right size height
-    → 0 < length new_own → length new_own ≤ length own + more → new_size ≡ size + more → new_size ≡ length (edges_of new_left) + length new_own + length (edges_of new_right)
-    → new_height ≡ height → height_of new_left ≡ height_of left → height_of new_right ≡ height_of right → IsNode new_left new_own new_right new_size new_height
-node_with_more left right new_left new_right own new_own size height new_size new_height more node some few grown counted as_high left_level right_level = record {
-  some = some;
-  counted = counted;
-  measured = omega (arith, node.measured, as_high, left_level, right_level);
-  near = record {
-    first = omega (arith, node.near.first, left_level, right_level);
-    second = omega (arith, node.near.second, left_level, right_level);
-  };
-  filled = rw as_high (omega (arith, node.filled));
-}
-
--- a node that is put together of its sides is no lower, where one of them is higher
-pub higher_both : {left right new_left new_right most spare out_left out_right height : ℕ} {before after : Counted} → DifferByAtMost 1 left right → IsHigher left right new_left new_right most spare before after
-    → out_left ≡ new_left → out_right ≡ new_right → IsHeightOfBoth out_left out_right height → suc (max left right) ≤ height
-higher_both near up left_is right_is both = elim (height_of_both both) [ inl exact ↦ omega (arith, exact, left_is, right_is, up.left, up.right) | inr far ↦ omega (arith, far, left_is, right_is, near.first, near.second, up.left, up.right, up.at_most_one, both.not_lower) ]

@@ -1,5 +1,5 @@
 -- Edges that are taken out of what two sides and the edges between them have, or put in the place of others.
-use Rattle.std.proofs.Common.{◌≡◌, ℕ, max, ◌+◌, ◌-◌, ◌<◌, ◌≤◌, inl, inr, List, [], ◌∷◌, ◌++◌, length, length-append, insert, remove, slice_index, slice_set, refl, ap, sym, ◌∙◌, append_assoc, arith}
+use Rattle.std.proofs.Common.{◌≡◌, ℕ, zero, suc, max, ◌+◌, ◌-◌, ◌<◌, ◌≤◌, inl, inr, List, [], ◌∷◌, ◌++◌, drop, take, length, length-append, insert, remove, slice_index, slice_set, refl, ap, sym, ◌∙◌, append_assoc, arith}
 use Rattle.std.proofs.lemmas.List.{get_or_append_left, get_or-append_right, set-append_left, set-append_right}
 use Rattle.std.proofs.lemmas.List.Edits.{insert-append_right, length-remove, remove-append_left, remove-append_right}
 use Rattle.mvt_plane.specs.Counted.{Counted}
@@ -128,3 +128,89 @@ without_own left own right new part all size at before out same counted some man
 pub lower_both : {left right new_left new_right most spare out_left out_right height : ℕ} {before after : Counted} → DifferByAtMost 1 left right → IsHigher new_left new_right left right most spare before after
     → out_left ≡ new_left → out_right ≡ new_right → IsHeightOfBoth out_left out_right height → max left right ≤ height
 lower_both near down left_is right_is both = elim (height_of_both both) [ inl exact ↦ omega (arith, exact, left_is, right_is, down.at_most_one, down.left, down.right) | inr far ↦ omega (arith, far, left_is, right_is, near.first, near.second, down.left, down.right, down.at_most_one, both.not_lower) ]
+
+-- two edges taken out, one after the other, as one stretch of the list
+both_cut : (list : List ℕ) (at : ℕ) → take at list ++ drop (suc (suc at)) list ≡ remove (remove list at) at
+both_cut [] zero = refl
+both_cut [] (suc at) = refl
+both_cut (first ∷ []) zero = refl
+both_cut (first ∷ next ∷ rest) zero = refl
+both_cut (first ∷ rest) (suc at) = ap (λ (back : List ℕ). first ∷ back) (both_cut rest at)
+
+pub both_out : (list : List ℕ) (at : ℕ) → take at list ++ drop (at + 2) list ≡ remove (remove list at) at
+both_out list at =
+    let two : at + 2 ≡ suc (suc at) = omega arith in
+    ap (λ (many : ℕ). take at list ++ drop many list) two ∙ both_cut list at
+
+-- the edge after one that is taken out
+next_left : (list : List ℕ) (at : ℕ) → slice_index (remove list at) at ≡ slice_index list (suc at)
+next_left [] zero = refl
+next_left [] (suc at) = refl
+next_left (first ∷ rest) zero = refl
+next_left (first ∷ rest) (suc at) = next_left rest at
+
+pub next_out : (list : List ℕ) (at : ℕ) → slice_index (remove list at) at ≡ slice_index list (at + 1)
+next_out list at =
+    let one : suc at ≡ at + 1 = omega arith in
+    next_left list at ∙ ap (slice_index list) one
+
+-- what is left of a node is as it has to be without the edge at a place and the one after it, which go out
+pub record IsWithoutTwo (left own right all : List ℕ) (size at one other : ℕ) : Type 0 where
+  pub some : 0 < length own
+  pub counted : size - 2 ≡ length left + length own + length right
+  pub edges : left ++ (own ++ right) ≡ remove (remove all at) at
+  pub lower : one ≡ slice_index all at
+  pub upper : other ≡ slice_index all (at + 1)
+  pub within : at + 1 < length all
+
+-- how many edges are left
+two_fewer : (list part : List ℕ) (at : ℕ) → at + 1 < length list → part ≡ remove (remove list at) at → length part + 2 ≡ length list
+two_fewer list part at within is =
+    let one = length-remove list at (omega arith) in
+    omega (arith, one, ap length is, length-remove (remove list at) at (omega (arith, one)))
+
+-- a node with two edges less on the left
+pub without_two_left : (left own right part all : List ℕ) (size at lower upper : ℕ) → left ++ (own ++ right) ≡ all → size ≡ length left + length own + length right → 0 < length own → at + 1 < length left
+    → part ≡ remove (remove left at) at → lower ≡ slice_index left at → upper ≡ slice_index left (at + 1) → IsWithoutTwo part own right all size at lower upper
+without_two_left left own right part all size at lower upper same counted some within is low high = record {
+  some = some;
+  counted = omega (arith, counted, two_fewer left part at within is);
+  edges = taken_left (remove left at) own right part (remove all at) at (taken_left left own right (remove left at) all at same (omega arith) refl) (omega (arith, length-remove left at (omega arith))) is;
+  lower = found_left left own right all at lower same (omega arith) low;
+  upper = found_left left own right all (at + 1) upper same within high;
+  within = omega (arith, all_counted left own right all same);
+}
+
+-- a node with two edges less between the sides
+pub without_two_between : (left own right part all : List ℕ) (size at before lower upper : ℕ) → left ++ (own ++ right) ≡ all → size ≡ length left + length own + length right → 2 < length own
+    → before ≡ length left → before ≤ at → at - before + 1 < length own → part ≡ remove (remove own (at - before)) (at - before) → lower ≡ slice_index own (at - before)
+    → upper ≡ slice_index own (at - before + 1) → IsWithoutTwo left part right all size at lower upper
+without_two_between left own right part all size at before lower upper same counted some many following within is low high =
+    let place : at - before + 1 ≡ at + 1 - before = omega (arith, following) in
+    let fewer = two_fewer own part (at - before) within is in
+    record {
+      some = omega (arith, fewer, some);
+      counted = omega (arith, counted, fewer);
+      edges = taken_between left (remove own (at - before)) right part (remove all at) at before
+          (taken_between left own right (remove own (at - before)) all at before same many following (omega (arith, within, following)) refl) many following
+          (omega (arith, within, following, length-remove own (at - before) (omega (arith, within)))) is;
+      lower = found_between left own right all at before lower same many following (omega (arith, within, following)) low;
+      upper = found_between left own right all (at + 1) before upper same many (omega (arith, following)) (omega (arith, within, following)) (high ∙ ap (slice_index own) place);
+      within = omega (arith, all_counted left own right all same, many, within, following);
+    }
+
+-- a node with two edges less on the right
+pub without_two_right : (left own right part all : List ℕ) (size at following lower upper : ℕ) → left ++ (own ++ right) ≡ all → size ≡ length left + length own + length right → 0 < length own
+    → following ≡ length left + length own → following ≤ at → at - following + 1 < length right → part ≡ remove (remove right (at - following)) (at - following)
+    → lower ≡ slice_index right (at - following) → upper ≡ slice_index right (at - following + 1) → IsWithoutTwo left own part all size at lower upper
+without_two_right left own right part all size at following lower upper same counted some many further within is low high =
+    let place : at - following + 1 ≡ at + 1 - following = omega (arith, further) in
+    record {
+      some = some;
+      counted = omega (arith, counted, two_fewer right part (at - following) within is);
+      edges = taken_right left own (remove right (at - following)) part (remove all at) at following
+          (taken_right left own right (remove right (at - following)) all at following same many further refl) many further is;
+      lower = found_right left own right all at following lower same many further low;
+      upper = found_right left own right all (at + 1) following upper same many (omega (arith, further)) (high ∙ ap (slice_index right) place);
+      within = omega (arith, all_counted left own right all same, many, within, further);
+    }

@@ -13,7 +13,7 @@ use arrayvec::ArrayVec;
 pub(crate) use insert::insert_into;
 pub(crate) use lookup::{edge_at, split_of};
 use mvt_plane::Count;
-pub(crate) use remove::{remove_from, replace_in};
+pub(crate) use remove::{remove_from, replace_in, take_two};
 use std::alloc::{AllocError, Global};
 use std::marker::Model;
 
@@ -297,6 +297,7 @@ fn settle(left: &mut Side, right: &mut Side, node_height: &mut u8) -> Option<(Si
 
 /// Puts two sides, of which one may be two levels higher than the other, on both sides of a node
 /// that has none.
+#[inline(never)]
 fn join_over(left: Side, side: &mut Side, right: Side)
     requires low { height_of side.old ≡ 1 }
     requires near { DifferByAtMost 2 (height_of left) (height_of right) }

@@ -1,4 +1,4 @@
-ghost use Rattle.std.specs.Prelude.{◌≡◌, ℕ, suc, ◌*◌, ◌<◌, ◌≤◌, List, All, if◌then◌else◌, insert, is_ok, length, remove, slice_index};
+ghost use Rattle.std.specs.Prelude.{◌≡◌, ℕ, suc, ◌+◌, ◌*◌, ◌<◌, ◌≤◌, List, All, if◌then◌else◌, insert, is_ok, length, remove, slice_index};
 ghost use Rattle.mvt_plane.specs.Counted.{ticked};
 ghost use Rattle.mvt_status.specs.Counts.{AddsAtMost, bits};
 ghost use Rattle.mvt_status.specs.Split.{AreBeside, IsSplit};
@@ -21,8 +21,9 @@ pub struct Split {
 /// the work of each call. No call tests two edges for a common point, and only `split_point` and
 /// `split_around` compare edges with a position. A call visits at most twice as many nodes, and
 /// makes at most twice as many comparisons, as the length of the list at the call has binary digits
-/// (`bits`). `replace` may visit twice as many nodes as the others, `split_around` three times as
-/// many, and `insert_two` three times as many as the others of a list with one edge more.
+/// (`bits`). `replace` may visit twice as many nodes as the others, `split_around` and `remove_two`
+/// three times as many, and `insert_two` three times as many as the others of a list with one edge
+/// more.
 pub trait Status {
     ghost edges: { Self → List ℕ };
 
@@ -74,6 +75,20 @@ pub trait Status {
         ensures value { result ≡ slice_index (edges self.old) at }
         ensures list { edges self.new ≡ remove (edges self.old) at }
         ensures counted { AddsAtMost 0 (2 * bits (length (edges self.old))) count.old count.new };
+
+    /// Takes the edge at a place and the one after it out of the list, and answers them in this
+    /// order.
+    fn remove_two(&mut self, at: usize, count: &mut Count) -> (usize, usize)
+        requires { at + 1 < length (edges self.old) }
+        ensures lower { result.0 ≡ slice_index (edges self.old) at }
+        ensures upper { result.1 ≡ slice_index (edges self.old) (at + 1) }
+        ensures list { edges self.new ≡ remove (remove (edges self.old) at) at }
+        ensures counted { AddsAtMost 0 (6 * bits (length (edges self.old))) count.old count.new }
+    {
+        let lower = self.remove(at, count);
+        let upper = self.remove(at, count);
+        (lower, upper)
+    }
 
     /// Puts an edge in the place of the one that is there. The only error is that memory was
     /// refused. The list is then without the edge that was there.

@@ -55,6 +55,10 @@ pub(crate) fn edges_come_and_go<S: Status>(
     status.insert_two(1, 5, 6, &mut count)?;
     let edges = list(alloc, status, &mut count)?;
     assert_eq!(rt; edges.as_slice(), [4, 5, 6, 8].as_slice());
+    let two = status.remove_two(1, &mut count);
+    let edges = list(alloc, status, &mut count)?;
+    assert_eq!(rt; two, (5, 6));
+    assert_eq!(rt; edges.as_slice(), [4, 8].as_slice());
     Ok(count)
 }
 
@@ -150,4 +154,25 @@ pub(crate) fn visits_at_ends<S: Status>(status: &mut S, many: usize) -> Result<[
     let end = status.len();
     let following = visits_to_insert_two(status, end)?;
     Ok([to_first, to_last, in_front, following])
+}
+
+/// Counts up in a status that is empty at first, and takes two edges out at each place that is a
+/// multiple of a step, the greatest first. Answers whether they were the ones there.
+pub(crate) fn are_right_pairs<S: Status>(
+    status: &mut S,
+    many: usize,
+    step: usize,
+) -> Result<bool, AllocError>
+    requires empty { S.edges status.old ≡ [] }
+    requires some { 1 < step }
+{
+    let mut count = Count::new();
+    count_up(status, many, &mut count)?;
+    for pair in (0..many / step).rev() {
+        let at = pair * step;
+        if at + 1 < status.len() && status.remove_two(at, &mut count) != (at, at + 1) {
+            return Ok(false);
+        }
+    }
+    Ok(true)
 }

@@ -1,10 +1,12 @@
 //! The status as a height-balanced tree; its nodes are in `node`.
-ghost use Rattle.std.specs.Prelude.{◌≡◌, ℕ, suc, ◌*◌, ◌<◌, ◌≤◌, All, [], IsOk, OnOk, if◌then◌else◌, insert, is_ok, length, remove, slice_index};
+ghost use Rattle.std.specs.Prelude.{◌≡◌, ℕ, suc, ◌+◌, ◌*◌, ◌<◌, ◌≤◌, All, [], IsOk, OnOk, if◌then◌else◌, insert, is_ok, length, remove, slice_index};
 ghost use Rattle.mvt_plane.specs.Counted.{ticked};
 ghost use Rattle.mvt_status.specs.Counts.{AddsAtMost, bits};
 ghost use Rattle.mvt_status.specs.Split.{AreBeside, IsSplit};
 
-use crate::node::{Side, edge_at, insert_into, provide, remove_from, replace_in, size, split_of};
+use crate::node::{
+    Side, edge_at, insert_into, provide, remove_from, replace_in, size, split_of, take_two,
+};
 use crate::{Split, Status};
 use mvt_plane::Count;
 use std::alloc::{AllocError, Global};
@@ -108,6 +110,23 @@ impl Status for TreeStatus {
         ensures visited { ticked count.old.visits ≤ count.new.visits }
     {
         remove_from(&mut self.root, at, &mut self.spare, count)
+    }
+
+    fn remove_two(&mut self, at: usize, count: &mut Count) -> (usize, usize)
+        requires { at + 1 < length self.old }
+        ensures lower { result.0 ≡ slice_index self.old at }
+        ensures upper { result.1 ≡ slice_index self.old (at + 1) }
+        ensures list { self.new ≡ remove (remove self.old at) at }
+        ensures counted { AddsAtMost 0 (6 * bits (length self.old)) count.old count.new }
+        ensures visited { ticked count.old.visits ≤ count.new.visits }
+    {
+        let mut out = (0, 0);
+        if take_two(&mut self.root, at, &mut out, count) {
+            return out;
+        }
+        let lower = self.remove(at, count);
+        let upper = self.remove(at, count);
+        (lower, upper)
     }
 
     fn replace(&mut self, at: usize, edge: usize, count: &mut Count) -> Result<(), AllocError>

@@ -1,5 +1,5 @@
 //! The status as a vector, with binary search.
-ghost use Rattle.std.specs.Prelude.{◌≡◌, ℕ, ◌-◌, ◌<◌, ◌≤◌, suc, All, [], IsOk, if◌then◌else◌, insert, is_ok, length, remove, slice_index};
+ghost use Rattle.std.specs.Prelude.{◌≡◌, ℕ, ◌+◌, ◌-◌, ◌<◌, ◌≤◌, suc, All, [], IsOk, if◌then◌else◌, insert, is_ok, length, remove, slice_index};
 ghost use Rattle.mvt_plane.specs.Counted.{ticked};
 ghost use Rattle.mvt_status.specs.Counts.{AddsAtMost, bits, raised};
 ghost use Rattle.mvt_status.specs.Split.{AreBeside, IsSplit};
@@ -90,6 +90,18 @@ impl Status for VecStatus {
         ensures counted { AddsAtMost 0 0 _count.old _count.new }
     {
         self.edges.remove(at)
+    }
+
+    fn remove_two(&mut self, at: usize, _count: &mut Count) -> (usize, usize)
+        requires { at + 1 < length self.old }
+        ensures lower { result.0 ≡ slice_index self.old at }
+        ensures upper { result.1 ≡ slice_index self.old (at + 1) }
+        ensures list { self.new ≡ remove (remove self.old at) at }
+        ensures counted { AddsAtMost 0 0 _count.old _count.new }
+    {
+        let lower = self.edges.remove(at);
+        let upper = self.edges.remove(at);
+        (lower, upper)
     }
 
     fn replace(&mut self, at: usize, edge: usize, _count: &mut Count) -> Result<(), AllocError>

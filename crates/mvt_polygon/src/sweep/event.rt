@@ -74,8 +74,7 @@ pub(crate) fn end<S: Status>(
     ensures least { IsCounted 1 count.old count.new result }
 {
     let place = place_of(vertices, number, chains, status, count);
-    let lower = status.remove(place.point, count);
-    let upper = status.remove(place.point, count);
+    let (lower, upper) = status.remove_two(place.point, count);
     let below = chains.edge_below(lower);
     let above = chains.edge_above(upper);
     chains.end_two(lower, upper);

@@ -1,5 +1,5 @@
 //! Edges that are put into a tree.
-ghost use Rattle.std.specs.Prelude.{◌≡◌, ◌+◌, ◌^◌, ◌<◌, ◌≤◌, suc, IfSome, None, ◌++◌, drop, length, take};
+ghost use Rattle.std.specs.Prelude.{◌≡◌, ◌+◌, ◌^◌, ◌<◌, ◌≤◌, suc, IfSome, IsFalse, None, ◌++◌, drop, length, take};
 ghost use Rattle.mvt_plane.specs.Counted.{ticked};
 ghost use Rattle.mvt_status.specs.Counts.{AddsAtMost};
 ghost use Rattle.mvt_status.specs.Calls.Tree.{edges_of, fewest, height_of};
@@ -14,14 +14,15 @@ use mvt_plane::Count;
 const HALF: usize = ROOM / 2;
 
 /// Inserts up to four edges in front of the one at a place. Where the nodes there have no room, the
-/// spare node is used; it is None then. Ticks a visit for each node on the way there.
+/// spare node is used; it is None then. Ticks a visit for each node on the way there. Answers
+/// whether the side has another height now, so that the node above needn't look.
 pub(crate) fn insert_into(
     side: &mut Side,
     at: usize,
     new: &[usize],
     spare: &mut Side,
     count: &mut Count,
-)
+) -> bool
     requires within { at ≤ length (edges_of side.old) }
     requires some { 0 < length new.now }
     requires few { length new.now ≤ 4 }
@@ -29,6 +30,7 @@ pub(crate) fn insert_into(
     requires room { length (edges_of side.old) + length new.now < 2 ^ 64 }
     ensures edges { edges_of side.new ≡ take at (edges_of side.old) ++
         (new.now ++ drop at (edges_of side.old)) }
+    ensures level { IsFalse result → height_of side.new ≡ height_of side.old }
     ensures not_lower { height_of side.old ≤ height_of side.new }
     ensures at_most_one_higher { height_of side.new ≤ height_of side.old + 1 }
     ensures spare { height_of spare.new ≤ 1 }
@@ -38,43 +40,43 @@ pub(crate) fn insert_into(
 {
     let Some(node) = side else {
         *side = filled_with(spare, new);
-        return;
+        return true;
     };
     visit(count);
     let top: &mut Node = node;
     let before = size(&top.left);
     let following = before + top.own.len();
-    let fits = top.own.len() + new.len() <= ROOM;
     top.size += new.len();
-    if fits && before <= at && at <= following {
+    let is_changed = if at < before {
+        insert_into(&mut top.left, at, new, spare, count)
+    } else if following < at {
+        insert_into(&mut top.right, at - following, new, spare, count)
+    } else if top.own.len() + new.len() <= ROOM {
         put_in(&mut top.own, at - before, new);
-        return;
-    }
-    if at <= before {
-        let level = height(&top.left);
-        insert_into(&mut top.left, at, new, spare, count);
-        if height(&top.left) == level {
-            return;
-        }
+        false
+    } else if at == before {
+        insert_into(&mut top.left, at, new, spare, count)
+    } else if at < following {
+        let upper = halved(&mut top.own, at - before, new, spare);
+        put_first(&mut top.right, upper, count)
     } else {
-        let level = height(&top.right);
-        if at < following {
-            let upper = halved(&mut top.own, at - before, new, spare);
-            put_first(&mut top.right, upper, count);
-        } else {
-            insert_into(&mut top.right, at - following, new, spare, count);
-        }
-        if height(&top.right) == level {
-            return;
-        }
+        insert_into(&mut top.right, 0, new, spare, count)
+    };
+    is_filled(&top.left);
+    is_filled(&top.right);
+    if !is_changed {
+        return false;
     }
+    let level = top.height;
     if let Some((left, right)) = settle(&mut top.left, &mut top.right, &mut top.height) {
         top.size = top.own.len();
         join_over(left, side, right);
     }
+    height(side) != level
 }
 
 /// A spare node with other edges.
+#[inline(never)]
 fn filled_with(spare: &mut Side, edges: &[usize]) -> Side
     requires spare { height_of spare.old ≡ 1 }
     requires some { 0 < length edges.now }
@@ -90,16 +92,17 @@ fn filled_with(spare: &mut Side, edges: &[usize]) -> Side
 }
 
 /// Puts edges among those of a node, in front of the one at a place.
+#[inline(never)]
 fn put_in(own: &mut Own, at: usize, new: &[usize])
     requires within { at ≤ length own.old.items }
     requires room { length own.old.items + length new.now ≤ 16 }
     ensures { own.new.items ≡ take at own.old.items ++ (new.now ++ drop at own.old.items) }
 {
-    let mut joined = ArrayVec::new();
-    append(&mut joined, &own[..at]);
-    append(&mut joined, new);
-    append(&mut joined, &own[at..]);
-    *own = joined;
+    let end = own.len();
+    append(own, new);
+    let edges = own.as_mut_slice();
+    edges.copy_within(at..end, at + new.len());
+    edges[at..at + new.len()].copy_from_slice(new);
 }
 
 /// The same, in a node with nothing on either side.
@@ -119,6 +122,7 @@ fn put_in_alone(mut node: Box<Node>, at: usize, new: &[usize]) -> Box<Node>
 
 /// Puts edges among those of a node that has no room for them. It keeps the lower ones, and the
 /// others go into the spare node, which is the answer.
+#[inline(never)]
 fn halved(own: &mut Own, at: usize, new: &[usize], spare: &mut Side) -> Box<Node>
     requires within { at ≤ length own.old.items }
     requires many { 8 < length own.old.items }
@@ -143,30 +147,36 @@ fn halved(own: &mut Own, at: usize, new: &[usize], spare: &mut Side) -> Box<Node
     }
 }
 
-/// Puts a node in front of all others. Ticks a visit for each node on the way there.
-fn put_first(side: &mut Side, new: Box<Node>, count: &mut Count)
+/// Puts a node in front of all others. Ticks a visit for each node on the way there. Answers
+/// whether the side has another height now.
+#[inline(never)]
+fn put_first(side: &mut Side, new: Box<Node>, count: &mut Count) -> bool
     requires low { new.value.1 ≡ 1 }
     requires room { length (edges_of side.old) + length new.value.0 < 2 ^ 64 }
     ensures edges { edges_of side.new ≡ new.value.0 ++ edges_of side.old }
+    ensures level { IsFalse result → height_of side.new ≡ height_of side.old }
     ensures not_lower { height_of side.old ≤ height_of side.new }
     ensures at_most_one_higher { height_of side.new ≤ height_of side.old + 1 }
     ensures counted { AddsAtMost 0 (height_of side.old) count.old count.new }
 {
     let Some(node) = side else {
         *side = Some(new);
-        return;
+        return true;
     };
     visit(count);
     let top: &mut Node = node;
     let many = new.size;
-    let level = height(&top.left);
-    put_first(&mut top.left, new, count);
+    let is_changed = put_first(&mut top.left, new, count);
     top.size += many;
-    if height(&top.left) == level {
-        return;
+    is_filled(&top.left);
+    is_filled(&top.right);
+    if !is_changed {
+        return false;
     }
+    let level = top.height;
     if let Some((left, right)) = settle(&mut top.left, &mut top.right, &mut top.height) {
         top.size = top.own.len();
         join_over(left, side, right);
     }
+    height(side) != level
 }

@@ -7,7 +7,7 @@ ghost use Rattle.mvt_status.specs.Calls.Tree.{edges_of, fewest, height_of};
 
 use super::{Node, Side, is_filled, size, visit};
 use crate::Split;
-use crate::search::{probe, split_in};
+use crate::search::split_in;
 use mvt_plane::Count;
 
 /// The edge at a place. Ticks a visit for each node on the way there.
@@ -56,12 +56,12 @@ pub(crate) fn split_of<F: Fn(usize) -> bool>(side: &Side, below: &F, count: &mut
     let mut passed: usize = 0;
     let mut last: Option<&[usize]> = None;
     let mut following = None;
+    let mut depth: u64 = 0;
     'levels: while let Some(node) = part {
         let node: &Node = node;
         is_filled(&node.left);
         is_filled(&node.right);
-        visit(count);
-        probe(count);
+        depth += 1;
         let first = node.own[0];
         if below(first) {
             passed += size(&node.left) + node.own.len();
@@ -72,6 +72,7 @@ pub(crate) fn split_of<F: Fn(usize) -> bool>(side: &Side, below: &F, count: &mut
             part = &node.left;
         }
     }
+    pass(count, depth);
     let Some(own) = last else {
         return Split {
             point: 0,
@@ -85,6 +86,17 @@ pub(crate) fn split_of<F: Fn(usize) -> bool>(side: &Side, below: &F, count: &mut
         front: Some(own[point - 1]),
         following: edge_or(own, point, following),
     }
+}
+
+/// Counts a visit and a comparison for each level that a search went down.
+#[inline(always)]
+fn pass(count: &mut Count, levels: u64)
+    ensures counted { AddsAtMost levels levels count.old count.new }
+    ensures visited { 0 < levels → ticked count.old.visits ≤ count.new.visits }
+    ensures probed { 0 < levels → ticked count.old.probes ≤ count.new.probes }
+{
+    count.tick_visits(levels);
+    count.tick_probes(levels);
 }
 
 /// The edge at a place in a node, or another one after them all.

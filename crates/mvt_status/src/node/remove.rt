@@ -1,5 +1,5 @@
 //! Edges that are taken out of a tree, or put in the place of others.
-ghost use Rattle.std.specs.Prelude.{◌≡◌, ◌+◌, ◌<◌, ◌≤◌, suc, ◌++◌, insert, length, remove, slice_index};
+ghost use Rattle.std.specs.Prelude.{◌≡◌, ◌+◌, ◌<◌, ◌≤◌, suc, ◌++◌, IfSome, IsFalse, IsTrue, drop, insert, length, remove, slice_index, take};
 ghost use Rattle.mvt_plane.specs.Counted.{ticked};
 ghost use Rattle.mvt_status.specs.Counts.{AddsAtMost};
 ghost use Rattle.mvt_status.specs.Calls.Tree.{edges_of, fewest, height_of};
@@ -66,21 +66,91 @@ pub(crate) fn remove_from(side: &mut Side, at: usize, spare: &mut Side, count: &
 }
 
 /// Takes one of the edges of a node out.
+#[inline(never)]
 fn take_out(own: &mut Own, at: usize) -> usize
     requires { at < length own.old.items }
     ensures items { own.new.items ≡ remove own.old.items at }
     ensures out { result ≡ slice_index own.old.items at }
 {
     let out = own[at];
-    let mut others = ArrayVec::new();
-    append(&mut others, &own[..at]);
-    append(&mut others, &own[at + 1..]);
-    *own = others;
+    leave_out(own, at, 1);
     out
+}
+
+/// Takes so many of the edges of a node out, from a place on.
+#[inline(always)]
+fn leave_out(own: &mut Own, at: usize, many: usize)
+    requires { at + many ≤ length own.old.items }
+    ensures { own.new.items ≡ take at own.old.items ++ drop (at + many) own.old.items }
+{
+    let left = own.len() - many;
+    own.as_mut_slice().copy_within(at + many.., at);
+    own.truncate(left);
+}
+
+/// Takes the edge at a place and the one after it out and writes them to `out`, if both are in one
+/// node that has others, so that no node changes its height. Else it answers false, and nothing is
+/// changed. Ticks a visit for each node on the way to the place.
+pub(crate) fn take_two(
+    side: &mut Side,
+    at: usize,
+    out: &mut (usize, usize),
+    count: &mut Count,
+) -> bool
+    ensures unchanged { IsFalse result → edges_of side.new ≡ edges_of side.old }
+    ensures edges { IsTrue result → edges_of side.new ≡ remove (remove (edges_of side.old) at) at }
+    ensures lower { IsTrue result → out.new.0 ≡ slice_index (edges_of side.old) at }
+    ensures upper { IsTrue result → out.new.1 ≡ slice_index (edges_of side.old) (at + 1) }
+    ensures within { IsTrue result → at + 1 < length (edges_of side.old) }
+    ensures height { height_of side.new ≡ height_of side.old }
+    ensures counted { AddsAtMost 0 (height_of side.old) count.old count.new }
+    ensures visited { IfSome side.old (λ _. ticked count.old.visits ≤ count.new.visits) }
+    ensures filled { fewest (height_of side.old) ≤ suc (length (edges_of side.old)) }
+{
+    is_filled(side);
+    let Some(node) = side else {
+        return false;
+    };
+    visit(count);
+    let top: &mut Node = node;
+    let before = size(&top.left);
+    let following = before + top.own.len();
+    let is_out = if at < before {
+        take_two(&mut top.left, at, out, count)
+    } else if at < following {
+        take_two_own(&mut top.own, at - before, out)
+    } else {
+        take_two(&mut top.right, at - following, out, count)
+    };
+    is_filled(&top.left);
+    is_filled(&top.right);
+    if is_out {
+        top.size -= 2;
+    }
+    is_out
+}
+
+/// The same among the edges of one node.
+#[inline(never)]
+fn take_two_own(own: &mut Own, at: usize, out: &mut (usize, usize)) -> bool
+    ensures unchanged { IsFalse result → own.new ≡ own.old }
+    ensures edges { IsTrue result → own.new.items ≡ remove (remove own.old.items at) at }
+    ensures lower { IsTrue result → out.new.0 ≡ slice_index own.old.items at }
+    ensures upper { IsTrue result → out.new.1 ≡ slice_index own.old.items (at + 1) }
+    ensures within { IsTrue result → at + 1 < length own.old.items }
+    ensures others { IsTrue result → 2 < length own.old.items }
+{
+    if own.len() < 3 || at >= own.len() - 1 {
+        return false;
+    }
+    *out = (own[at], own[at + 1]);
+    leave_out(own, at, 2);
+    true
 }
 
 /// Puts a side in the place of a node that has one edge and nothing on either side. The node is the
 /// spare one then, and the edge is the answer.
+#[inline(never)]
 fn lift_edge(side: &mut Side, left: Side, spare: &mut Side) -> usize
     requires low { height_of side.old ≡ 1 }
     requires some { 0 < length (edges_of side.old) }
@@ -99,6 +169,7 @@ fn lift_edge(side: &mut Side, left: Side, spare: &mut Side) -> usize
 
 /// Takes the first node of a side out, and its edges in the place of others. The node is the spare
 /// one then, and the first of the others is the answer.
+#[inline(never)]
 fn own_from(side: &mut Side, own: &mut Own, spare: &mut Side, count: &mut Count) -> usize
     requires within { 0 < length (edges_of side.old) }
     requires some { 0 < length own.old.items }

@@ -1,5 +1,5 @@
 use super::TreeStatus;
-use crate::tests::{edges_come_and_go, split_of_many, visits_at_ends};
+use crate::tests::{are_right_pairs, edges_come_and_go, split_of_many, visits_at_ends};
 use std::process::Abort;
 use std::test::Fail;
 
@@ -8,7 +8,7 @@ use std::test::Fail;
 #[test]
 fn few_edges(rt: HostRuntime) -> Result<(), Fail> {
     let count = edges_come_and_go(&rt, rt.alloc(), &mut TreeStatus::new(rt.alloc()))?;
-    assert_eq!(&rt; (count.tests(), count.probes(), count.visits()), (0, 3, 12));
+    assert_eq!(&rt; (count.tests(), count.probes(), count.visits()), (0, 3, 15));
     Ok(())
 }
 
@@ -39,6 +39,16 @@ fn both_ends(rt: HostRuntime) -> Result<(), Fail> {
         for visits in visits_at_ends(&mut TreeStatus::new(rt.alloc()), many)? {
             assert!(&rt; fewest <= visits && visits <= most);
         }
+    }
+    Ok(())
+}
+
+// Pairs of neighbours in one node and in two, and pairs that are all that a node has.
+#[test]
+fn pairs_go_out(rt: HostRuntime) -> Result<(), Fail> {
+    for step in [2, 3, 5, 15] {
+        let status = &mut TreeStatus::new(rt.alloc());
+        assert!(&rt; are_right_pairs(status, 1_000, step)?);
     }
     Ok(())
 }

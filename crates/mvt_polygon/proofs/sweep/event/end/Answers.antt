@@ -1,4 +1,4 @@
-use Rattle.std.proofs.Common.{◌≡◌, ◌≤◌, ℕ, List, length, remove, refl, sym, ap, subst, arith}
+use Rattle.std.proofs.Common.{◌≡◌, ◌≤◌, ℕ, List, length, remove, refl, sym, ap, subst, ◌∙◌, arith}
 use Rattle.std.proofs.lemmas.List.Edits.{length-remove}
 use Rattle.mvt_plane.specs.Geometry.Measure.{key_of}
 use Rattle.mvt_polygon.specs.Calls.Chains.{above_of, below_of, edges_of, outside_of}
@@ -11,9 +11,10 @@ use Rattle.mvt_polygon.proofs.Vertices.VertexPlans.{plan_of_vertices}
 use Rattle.mvt_polygon.proofs.Sweeps.NoMeetings.{none_map}
 use Rattle.mvt_polygon.proofs.Sweeps.StatusCounts.{work_then, work_within, work_of_edits}
 use Rattle.mvt_polygon.proofs.Sweeps.SweepSlabs.{split}
+use Rattle.mvt_status.proofs.Removals.{next_out}
 use Rattle.mvt_polygon.proofs.sweep.event.end.Given as given
 use Rattle.mvt_polygon.proofs.sweep.event.end.Goals as goal
-use Rattle.mvt_polygon.proofs.sweep.event.end.Goals.{After-place_of-place, After-remove-lower, After-remove-upper}
+use Rattle.mvt_polygon.proofs.sweep.event.end.Goals.{After-place_of-place, After-remove_two-lower}
 
 -- the list of the status
 abbrev list_of : (g : given.Over) → After-place_of-place g → List ℕ
@@ -36,105 +37,99 @@ there g c fewer removed =
     leaving_there c.args.vertices.now c.args.chains.now (list_of g c) fewer c.requires.next.key (position_at c.args.vertices.now c.args.number) (previous_at c.args.vertices.now c.args.number)
     c.args.number c.place_of-place.result.point c.requires.next.swept c.requires.next.event c.requires.ends c.place_of-place.ensures.cut c.place_of-place.ensures.within removed
 
-pub remove-lower-requires : goal.remove-lower-requires
-remove-lower-requires g c = (there g (goal.at.remove-lower-requires g c).After-place_of-place _ refl).one_there
-
-pub remove-upper-requires : goal.remove-upper-requires
-remove-upper-requires g c = (there g (goal.at.remove-upper-requires g c).After-place_of-place _ c.remove-lower.ensures.list).other_there
+pub remove_two-lower-requires : goal.remove_two-lower-requires
+remove_two-lower-requires g c =
+    let at = (goal.at.remove_two-lower-requires g c).After-place_of-place in
+    let places = there g at _ refl in
+    omega (arith, places.other_there, length-remove (list_of g at) c.place_of-place.result.point places.one_there)
 
 -- the chains that end, among the others
-gone : (g : given.Over) (c : After-remove-upper g)
-    → AreLeaving c.args.vertices.now c.args.chains.now (g.S.Status.edges c.args.status.now) (g.S.Status.edges c.remove-upper.new.self) (position_at c.args.vertices.now c.args.number)
-    c.remove-lower.result c.remove-upper.result
+gone : (g : given.Over) (c : After-remove_two-lower g)
+    → AreLeaving c.args.vertices.now c.args.chains.now (g.S.Status.edges c.args.status.now) (g.S.Status.edges c.remove_two-lower.new.self) (position_at c.args.vertices.now c.args.number)
+    c.remove_two-lower.result.0 c.remove_two-lower.result.1
 gone g c =
-    leaving c.args.vertices.now c.args.chains.now (g.S.Status.edges c.args.status.now) (g.S.Status.edges c.remove-lower.new.self) (g.S.Status.edges c.remove-upper.new.self) c.requires.next.key
-    (position_at c.args.vertices.now c.args.number) (previous_at c.args.vertices.now c.args.number) c.args.number c.place_of-place.result.point c.remove-lower.result c.remove-upper.result
-    c.requires.chains c.requires.next.swept c.requires.next.event c.requires.ends c.place_of-place.ensures.cut c.place_of-place.ensures.within c.remove-lower.ensures.list
-    c.remove-upper.ensures.list c.remove-lower.ensures.value c.remove-upper.ensures.value
+    leaving c.args.vertices.now c.args.chains.now (g.S.Status.edges c.args.status.now) (remove (g.S.Status.edges c.args.status.now) c.place_of-place.result.point) (g.S.Status.edges c.remove_two-lower.new.self) c.requires.next.key
+    (position_at c.args.vertices.now c.args.number) (previous_at c.args.vertices.now c.args.number) c.args.number c.place_of-place.result.point c.remove_two-lower.result.0 c.remove_two-lower.result.1
+    c.requires.chains c.requires.next.swept c.requires.next.event c.requires.ends c.place_of-place.ensures.cut c.place_of-place.ensures.within refl
+    c.remove_two-lower.ensures.list c.remove_two-lower.ensures.lower (c.remove_two-lower.ensures.upper ∙ sym (next_out (g.S.Status.edges c.args.status.now) c.place_of-place.result.point))
 
 -- what is beside them is in the list of links
-within : (g : given.Over) (c : After-remove-upper g)
-    → (below_of c.args.chains.now c.remove-lower.result ≤ outside_of c.args.chains.now) × (above_of c.args.chains.now c.remove-upper.result ≤ outside_of c.args.chains.now)
+within : (g : given.Over) (c : After-remove_two-lower g)
+    → (below_of c.args.chains.now c.remove_two-lower.result.0 ≤ outside_of c.args.chains.now) × (above_of c.args.chains.now c.remove_two-lower.result.1 ≤ outside_of c.args.chains.now)
 within g c =
-    across_within c.args.vertices.now c.args.chains.now (g.S.Status.edges c.args.status.now) (g.S.Status.edges c.remove-upper.new.self) (position_at c.args.vertices.now c.args.number)
-    c.remove-lower.result c.remove-upper.result c.requires.chains (gone g c)
+    across_within c.args.vertices.now c.args.chains.now (g.S.Status.edges c.args.status.now) (g.S.Status.edges c.remove_two-lower.new.self) (position_at c.args.vertices.now c.args.number)
+    c.remove_two-lower.result.0 c.remove_two-lower.result.1 c.requires.chains (gone g c)
 
 pub edge_below-below-requires-clause-within : goal.edge_below-below-requires-clause-within
 edge_below-below-requires-clause-within g c =
-    omega (arith, (gone g (goal.at.edge_below-below-requires-clause-within g c).After-remove-upper).lower_known, c.requires.chains.links)
+    omega (arith, (gone g (goal.at.edge_below-below-requires-clause-within g c).After-remove_two-lower).lower_known, c.requires.chains.links)
 
 pub edge_below-below-requires-clause-known : goal.edge_below-below-requires-clause-known
-edge_below-below-requires-clause-known g c = (within g (goal.at.edge_below-below-requires-clause-known g c).After-remove-upper).0
+edge_below-below-requires-clause-known g c = (within g (goal.at.edge_below-below-requires-clause-known g c).After-remove_two-lower).0
 
 pub edge_above-above-requires-clause-within : goal.edge_above-above-requires-clause-within
 edge_above-above-requires-clause-within g c =
-    omega (arith, (gone g (goal.at.edge_above-above-requires-clause-within g c).After-remove-upper).upper_known, c.requires.chains.links)
+    omega (arith, (gone g (goal.at.edge_above-above-requires-clause-within g c).After-remove_two-lower).upper_known, c.requires.chains.links)
 
 pub edge_above-above-requires-clause-known : goal.edge_above-above-requires-clause-known
-edge_above-above-requires-clause-known g c = (within g (goal.at.edge_above-above-requires-clause-known g c).After-remove-upper).1
+edge_above-above-requires-clause-known g c = (within g (goal.at.edge_above-above-requires-clause-known g c).After-remove_two-lower).1
 
 pub end_two-requires-clause-lower : goal.end_two-requires-clause-lower
-end_two-requires-clause-lower g c = omega (arith, (gone g (goal.at.end_two-requires-clause-lower g c).After-remove-upper).lower_known, c.requires.chains.links)
+end_two-requires-clause-lower g c = omega (arith, (gone g (goal.at.end_two-requires-clause-lower g c).After-remove_two-lower).lower_known, c.requires.chains.links)
 
 pub end_two-requires-clause-upper : goal.end_two-requires-clause-upper
-end_two-requires-clause-upper g c = omega (arith, (gone g (goal.at.end_two-requires-clause-upper g c).After-remove-upper).upper_known, c.requires.chains.links)
+end_two-requires-clause-upper g c = omega (arith, (gone g (goal.at.end_two-requires-clause-upper g c).After-remove_two-lower).upper_known, c.requires.chains.links)
 
 pub end_two-requires-clause-below : goal.end_two-requires-clause-below
 end_two-requires-clause-below g c =
-    omega (arith, (within g (goal.at.end_two-requires-clause-below g c).After-remove-upper).0, c.requires.chains.links, c.requires.chains.numbers)
+    omega (arith, (within g (goal.at.end_two-requires-clause-below g c).After-remove_two-lower).0, c.requires.chains.links, c.requires.chains.numbers)
 
 pub end_two-requires-clause-above : goal.end_two-requires-clause-above
 end_two-requires-clause-above g c =
-    omega (arith, (within g (goal.at.end_two-requires-clause-above g c).After-remove-upper).1, c.requires.chains.links, c.requires.chains.numbers)
+    omega (arith, (within g (goal.at.end_two-requires-clause-above g c).After-remove_two-lower).1, c.requires.chains.links, c.requires.chains.numbers)
 
 pub meeting_across-requires : goal.meeting_across-requires
 meeting_across-requires g c =
-    let at = (goal.at.meeting_across-requires g c).After-remove-upper in
+    let at = (goal.at.meeting_across-requires g c).After-remove_two-lower in
     rw (c.edge_below-below.ensures, c.edge_above-above.ensures)
-    (across_known c.args.vertices.now c.args.chains.now (g.S.Status.edges c.args.status.now) (g.S.Status.edges c.remove-upper.new.self) c.requires.next.key
-    (position_at c.args.vertices.now c.args.number) c.remove-lower.result c.remove-upper.result c.requires.next.swept (gone g at))
+    (across_known c.args.vertices.now c.args.chains.now (g.S.Status.edges c.args.status.now) (g.S.Status.edges c.remove_two-lower.new.self) c.requires.next.key
+    (position_at c.args.vertices.now c.args.number) c.remove_two-lower.result.0 c.remove_two-lower.result.1 c.requires.next.swept (gone g at))
 
 pub returns-clause-none : goal.returns-clause-none
 returns-clause-none g c =
-    let at = (goal.at.returns-clause-none g c).After-remove-upper in
+    let at = (goal.at.returns-clause-none g c).After-remove_two-lower in
     let vertices = c.args.vertices.now in
     let before = c.args.chains.now in
     let after = c.end_two.new.self in
     let vertex = position_at vertices c.args.number in
     let list = g.S.Status.edges c.args.status.now in
-    let fewest = g.S.Status.edges c.remove-upper.new.self in
+    let fewest = g.S.Status.edges c.remove_two-lower.new.self in
     let it = gone g at in
-    let chains = chains_end vertices before after list fewest vertex c.remove-lower.result c.remove-upper.result c.requires.chains it c.end_two.ensures.twins c.end_two.ensures.size
+    let chains = chains_end vertices before after list fewest vertex c.remove_two-lower.result.0 c.remove_two-lower.result.1 c.requires.chains it c.end_two.ensures.twins c.end_two.ensures.size
     c.end_two.ensures.above c.end_two.ensures.below in
     let tested = rw (c.edge_below-below.ensures, c.edge_above-above.ensures) at c.meeting_across.ensures.none in
     none_map c.meeting_across.result (λ across. (
       subst (IsSwept (plan_of vertices) (key_of vertex)) (sym (edges_kept before after fewest c.end_two.ensures.twins))
-          (it.over (joined_across vertices before list fewest vertex c.remove-lower.result c.remove-upper.result it across)),
+          (it.over (joined_across vertices before list fewest vertex c.remove_two-lower.result.0 c.remove_two-lower.result.1 it across)),
       chains,
     )) tested
 
 pub returns-clause-counted : goal.returns-clause-counted
 returns-clause-counted g c =
     let at = (goal.at.returns-clause-counted g c).After-place_of-place in
-    let list = g.S.Status.edges c.args.status.now in
-    let vertices = sweep_count c.args.vertices.now in
-    let few = chains_few c.args.vertices.now c.args.chains.now list c.requires.next.key c.requires.next.swept in
-    let fewer : length (g.S.Status.edges c.remove-lower.new.self) ≤ vertices =
-    omega (arith, few, ap length c.remove-lower.ensures.list, length-remove list c.place_of-place.result.point (there g at _ refl).one_there) in
-    let first = work_of_edits 2 (length list) vertices few c.remove-lower.ensures.counted in
-    let second = work_of_edits 2 (length (g.S.Status.edges c.remove-lower.new.self)) vertices fewer c.remove-upper.ensures.counted in
-    work_within (omega arith) (omega arith) (omega arith) (work_then c.place_of-place.ensures.counted (work_then first (work_then second c.meeting_across.ensures.counted)))
+    let few = chains_few c.args.vertices.now c.args.chains.now (list_of g at) c.requires.next.key c.requires.next.swept in
+    let out = work_of_edits 6 (length (list_of g at)) (sweep_count c.args.vertices.now) few c.remove_two-lower.ensures.counted in
+    work_within (omega arith) (omega arith) (omega arith) (work_then c.place_of-place.ensures.counted (work_then out c.meeting_across.ensures.counted))
 
 pub returns-clause-least : goal.returns-clause-least
 returns-clause-least g c =
     let at = (goal.at.returns-clause-least g c).After-place_of-place in
-    counted_by 1 c.args.count.now c.remove-upper.new.count c.meeting_across.new.count c.meeting_across.result
-    (omega (arith, c.place_of-place.ensures.counted.no_fewer_tests, c.remove-lower.ensures.counted.tests, c.remove-upper.ensures.counted.tests))
+    counted_by 1 c.args.count.now c.remove_two-lower.new.count c.meeting_across.new.count c.meeting_across.result
+    (omega (arith, c.place_of-place.ensures.counted.no_fewer_tests, c.remove_two-lower.ensures.counted.tests))
     (omega (
       arith,
       c.place_of-place.ensures.probed (omega (arith, (there g at _ refl).one_there)),
-      c.remove-lower.ensures.counted.no_fewer_probes,
-      c.remove-upper.ensures.counted.no_fewer_probes,
+      c.remove_two-lower.ensures.counted.no_fewer_probes,
       c.meeting_across.ensures.counted.no_fewer_probes,
     ))
     c.meeting_across.ensures.tested

@@ -2,7 +2,7 @@ use Rattle.std.proofs.Common.{◌≡◌, ℕ, ◌+◌, ◌*◌, ◌<◌, ◌≤�
 use Rattle.std.proofs.lemmas.Bool.{cases_lt}
 use Rattle.mvt_status.specs.Counts.{bits}
 use Rattle.mvt_status.specs.Calls.Tree.{edges_of, fewest, height_of}
-use Rattle.mvt_status.proofs.Heights.{filled_over_both, found_in_node, height_by_digits, one_more_level}
+use Rattle.mvt_status.proofs.Heights.{filled_over_both, found_in_node, height_by_digits, height_of_a_word}
 use Rattle.mvt_status.proofs.NodeSplits.{beside_in_node, beside_node, beside_none, edges_in, none_in_front, of_first, of_last, of_own, searched_all, searched_in, searched_left, searched_right, split_among, split_of_all}
 use Rattle.mvt_status.proofs.node.lookup.split_of.Goals as goal
 
@@ -12,10 +12,7 @@ levels-init g c = record {
   some = tt;
   high = tt;
   room = omega arith;
-  levels = 0;
-  counted = record { tests = refl; no_fewer_probes = omega arith; probes_added = omega arith; no_fewer_visits = omega arith; visits_added = omega arith };
-  visited = inl refl;
-  probed = inl refl;
+  begun = inl refl;
   left = omega arith;
   filled = omega arith;
   filled_there = omega (arith, c.is_filled.ensures.filled);
@@ -50,10 +47,7 @@ levels-preserved-then-below g c =
       some = omega (arith, its, c.node.invariant.some);
       high = omega (arith, so_far.left, high, c.node.invariant.measured);
       room = c.as_slice.ensures.fits;
-      levels = so_far.levels + 1;
-      counted = one_more_level so_far.counted c.visit.ensures.counted c.probe.ensures.counted;
-      visited = inr (omega (arith, so_far.counted.no_fewer_visits, c.visit.ensures.visited, c.probe.ensures.counted.no_fewer_visits));
-      probed = inr (omega (arith, so_far.counted.no_fewer_probes, c.visit.ensures.counted.no_fewer_probes, c.probe.ensures.probed));
+      begun = inr (omega arith);
       left = omega (arith, so_far.left, high, c.node.invariant.measured);
       filled = omega (arith, so_far.filled, many, both, level, c.node.invariant.some, c.is_filled-in-Some.ensures.filled);
       filled_there = omega (arith, so_far.filled, many, level, its, c.node.invariant.filled, c.node.invariant.counted);
@@ -75,10 +69,7 @@ levels-preserved g c =
       some = so_far.some;
       high = so_far.high;
       room = so_far.room;
-      levels = so_far.levels + 1;
-      counted = one_more_level so_far.counted c.visit.ensures.counted c.probe.ensures.counted;
-      visited = inr (omega (arith, so_far.counted.no_fewer_visits, c.visit.ensures.visited, c.probe.ensures.counted.no_fewer_visits));
-      probed = inr (omega (arith, so_far.counted.no_fewer_probes, c.visit.ensures.counted.no_fewer_probes, c.probe.ensures.probed));
+      begun = inr (omega arith);
       left = omega (arith, so_far.left, high, c.node.invariant.measured);
       filled = omega (arith, so_far.filled, many, both, level, c.node.invariant.some, c.is_filled-in-Some-2.ensures.filled);
       filled_there = so_far.filled_there;
@@ -96,12 +87,13 @@ pub returns-in_default-last-clause-counted : goal.returns-in_default-last-clause
 returns-in_default-last-clause-counted g c =
     let so_far = c.levels.invariant in
     let most : height_of c.args.side.now ≤ 2 * bits (length (edges_of c.args.side.now)) = height_by_digits _ _ c.is_filled.ensures.filled in
+    let passed = c.pass.ensures.counted in
     record {
-      tests = so_far.counted.tests;
-      no_fewer_probes = so_far.counted.no_fewer_probes;
-      probes_added = omega (arith, so_far.counted.probes_added, so_far.left, most);
-      no_fewer_visits = so_far.counted.no_fewer_visits;
-      visits_added = omega (arith, so_far.counted.visits_added, so_far.left);
+      tests = passed.tests;
+      no_fewer_probes = passed.no_fewer_probes;
+      probes_added = omega (arith, passed.probes_added, so_far.left, most);
+      no_fewer_visits = passed.no_fewer_visits;
+      visits_added = omega (arith, passed.visits_added, so_far.left);
     }
 
 pub split_after_first-point-requires-clause-callable : goal.split_after_first-point-requires-clause-callable
@@ -134,6 +126,11 @@ returns-clause-beside g c =
 
 pub returns-clause-counted : goal.returns-clause-counted
 returns-clause-counted g c =
-    found_in_node _ _ _ _ c.levels.invariant.counted c.split_after_first-point.ensures.counted c.levels.invariant.left
+    found_in_node _ _ _ _ c.pass.ensures.counted c.split_after_first-point.ensures.counted c.levels.invariant.left
     (of_last (λ _. 0 < height_of c.args.side.now) _ _ c.in-Some-last.is c.levels.invariant.high) (of_last (λ own. 0 < length own.now) _ _ c.in-Some-last.is c.levels.invariant.some)
     (omega (arith, c.levels.invariant.room, ap length (ap edges_in c.in-Some-last.is))) (omega (arith, c.levels.invariant.filled_there, ap length (ap edges_in c.in-Some-last.is)))
+
+pub overflow_add-depth : goal.overflow_add-depth
+overflow_add-depth g c =
+    let few : height_of c.args.side.now ≤ 128 = height_of_a_word _ (length (edges_of c.args.side.now)) c.is_filled.ensures.filled (omega (arith, c.size.ensures, c.size.auto)) in
+    omega (arith, few, c.levels.invariant.left)

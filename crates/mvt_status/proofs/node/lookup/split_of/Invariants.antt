@@ -1,6 +1,4 @@
-use Rattle.std.proofs.Common.{◌≡◌, ◌⊎◌, ℕ, ◌+◌, ◌<◌, ◌≤◌, IfSome, length}
-use Rattle.mvt_plane.specs.Counted.{ticked}
-use Rattle.mvt_status.specs.Counts.{AddsAtMost}
+use Rattle.std.proofs.Common.{◌≡◌, ◌⊎◌, ◌+◌, ◌<◌, ◌≤◌, IfSome, length}
 use Rattle.mvt_status.specs.Calls.Tree.{edges_of, fewest, height_of}
 use Rattle.mvt_status.proofs.NodeSplits.{IsSearched, edges_in}
 use Rattle.mvt_status.proofs.node.lookup.split_of.Given as goal
@@ -9,19 +7,16 @@ use Rattle.mvt_status.proofs.node.lookup.split_of.Given as goal
 abbrev pub decreases-levels : goal.decreases-levels
 decreases-levels g l = height_of l.part
 
--- the search has come to this part; so many levels were gone down, one at least where the part isn't all, and what was
--- passed has as many edges as are wanted for them
+-- the search has come to this part; one level at least was gone down where the part isn't all, and what was passed has
+-- as many edges as are wanted for them
 abbrev pub invariant-levels : goal.invariant-levels
 invariant-levels g l = record {
   searched : IsSearched (goal.F-post g l.below) (edges_of l.side) (edges_in l.last) (edges_of l.part) l.passed l.following;
   some : IfSome l.last (λ own. 0 < length own.now);
   high : IfSome l.last (λ _. 0 < height_of l.side);
   room : length (edges_in l.last) ≤ 16;
-  levels : ℕ;
-  counted : AddsAtMost levels levels l.fn.count l.count;
-  visited : (l.part ≡ l.side) ⊎ (ticked l.fn.count.visits ≤ l.count.visits);
-  probed : (l.part ≡ l.side) ⊎ (ticked l.fn.count.probes ≤ l.count.probes);
-  left : levels + height_of l.part ≤ height_of l.side;
+  begun : (l.part ≡ l.side) ⊎ (0 < l.depth);
+  left : l.depth + height_of l.part ≤ height_of l.side;
   filled : fewest (height_of l.side) + length (edges_of l.part) ≤ length (edges_of l.side) + fewest (height_of l.part);
   filled_there : fewest (height_of l.side) + length (edges_in l.last) ≤ length (edges_of l.side) + 2;
 }
