@@ -84,17 +84,17 @@ split_by_digits height edges all before after same added filled = record {
   visits_added = omega (arith, added.visits_added, height_by_digits height (length all) (omega (arith, filled, ap length same)));
 }
 
--- four more than the levels are no more than two for each digit, from six levels on
-four_more : (height digits : ℕ) → fewest (suc (suc (suc (suc (suc (suc height)))))) ≤ 2 ^ digits → height + 10 ≤ 2 * digits
+-- five more than the levels are no more than two for each digit, from nine levels on
+five_more : (height digits : ℕ) → fewest (suc (suc (suc (suc (suc (suc (suc (suc (suc height))))))))) ≤ 2 ^ digits → height + 14 ≤ 2 * digits
 unfolding fewest
-four_more zero digits filled = omega (arith, lesser_exponent 4 digits (omega (arith, filled)))
-four_more (suc zero) digits filled = omega (arith, lesser_exponent 5 digits (omega (arith, filled)))
-four_more (suc (suc height)) zero filled = absurd (omega (arith, filled, at_least_one (suc (suc (suc (suc (suc (suc height)))))), at_least_one (suc (suc (suc (suc (suc (suc (suc height)))))))))
-four_more (suc (suc height)) (suc digits) filled =
-    omega (arith, four_more height digits (omega (arith, filled, no_fewer (suc (suc (suc (suc (suc (suc height)))))), pow-suc 2 digits)))
+five_more zero digits filled = omega (arith, lesser_exponent 6 digits (omega (arith, filled)))
+five_more (suc zero) digits filled = omega (arith, lesser_exponent 7 digits (omega (arith, filled)))
+five_more (suc (suc height)) zero filled = absurd (omega (arith, filled, at_least_one (suc (suc (suc (suc (suc (suc (suc (suc (suc height))))))))), at_least_one (suc (suc (suc (suc (suc (suc (suc (suc (suc (suc height))))))))))))
+five_more (suc (suc height)) (suc digits) filled =
+    omega (arith, five_more height digits (omega (arith, filled, no_fewer (suc (suc (suc (suc (suc (suc (suc (suc (suc height))))))))), pow-suc 2 digits)))
 
 -- a probe for each level, and a search by halves among the edges of one node but its first
-pub probes_by_digits : (height own edges : ℕ) → 0 < height → 0 < own → own ≤ 16 → fewest height + own ≤ edges + 2 → height + bits (own - 1) ≤ 2 * bits edges
+pub probes_by_digits : (height own edges : ℕ) → 0 < height → 0 < own → own ≤ 32 → fewest height + own ≤ edges + 2 → height + bits (own - 1) ≤ 2 * bits edges
 unfolding fewest
 probes_by_digits zero own edges some filled few within = absurd (omega (arith, some))
 probes_by_digits (suc zero) own edges some filled few within =
@@ -112,20 +112,41 @@ probes_by_digits (suc (suc (suc (suc zero)))) own edges some filled few within =
     ]
 probes_by_digits (suc (suc (suc (suc (suc zero))))) own edges some filled few within =
     elim (cases_lt own 9) [
-      | inl few_own ↦
-          (let three : bits (own - 1) ≤ 3 = least_digits (own - 1) 3 (omega arith) in
-          omega (arith, three, lesser_exponent 3 (bits edges) (omega (arith, within_digits edges))))
+      | inl fewer ↦
+          (let digits : bits (own - 1) ≤ 3 = least_digits (own - 1) 3 (omega arith) in
+          omega (arith, digits, lesser_exponent 3 (bits edges) (omega (arith, within_digits edges))))
       | inr more ↦
-          (let four : bits (own - 1) ≤ 4 = least_digits (own - 1) 4 (omega arith) in
-          omega (arith, four, lesser_exponent 4 (bits edges) (omega (arith, within_digits edges))))
+          (let digits : bits (own - 1) ≤ 5 = least_digits (own - 1) 5 (omega arith) in
+          omega (arith, digits, lesser_exponent 4 (bits edges) (omega (arith, within_digits edges))))
     ]
-probes_by_digits (suc (suc (suc (suc (suc (suc height)))))) own edges some filled few within =
-    let most : bits (own - 1) ≤ 4 = least_digits (own - 1) 4 (omega arith) in
-    omega (arith, most, four_more height (bits edges) (omega (arith, within, within_digits edges)))
+probes_by_digits (suc (suc (suc (suc (suc (suc zero)))))) own edges some filled few within =
+    elim (cases_lt own 17) [
+      | inl fewer ↦
+          (let digits : bits (own - 1) ≤ 4 = least_digits (own - 1) 4 (omega arith) in
+          omega (arith, digits, lesser_exponent 4 (bits edges) (omega (arith, within_digits edges))))
+      | inr more ↦
+          (let digits : bits (own - 1) ≤ 5 = least_digits (own - 1) 5 (omega arith) in
+          omega (arith, digits, lesser_exponent 5 (bits edges) (omega (arith, within_digits edges))))
+    ]
+probes_by_digits (suc (suc (suc (suc (suc (suc (suc zero))))))) own edges some filled few within =
+    let digits : bits (own - 1) ≤ 5 = least_digits (own - 1) 5 (omega arith) in
+    omega (arith, digits, lesser_exponent 5 (bits edges) (omega (arith, within_digits edges)))
+probes_by_digits (suc (suc (suc (suc (suc (suc (suc (suc zero)))))))) own edges some filled few within =
+    elim (cases_lt own 17) [
+      | inl fewer ↦
+          (let digits : bits (own - 1) ≤ 4 = least_digits (own - 1) 4 (omega arith) in
+          omega (arith, digits, lesser_exponent 5 (bits edges) (omega (arith, within_digits edges))))
+      | inr more ↦
+          (let digits : bits (own - 1) ≤ 5 = least_digits (own - 1) 5 (omega arith) in
+          omega (arith, digits, lesser_exponent 6 (bits edges) (omega (arith, within_digits edges))))
+    ]
+probes_by_digits (suc (suc (suc (suc (suc (suc (suc (suc (suc height))))))))) own edges some filled few within =
+    let digits : bits (own - 1) ≤ 5 = least_digits (own - 1) 5 (omega arith) in
+    omega (arith, digits, five_more height (bits edges) (omega (arith, within, within_digits edges)))
 
 -- what a search counts that went down some of the levels, and then by halves among the edges of one node but its first
 pub found_in_node : {levels : ℕ} {start before after : Counted} (part height own edges : ℕ) → AddsAtMost levels levels start before → AddsAtMost (bits (own - 1)) 0 before after → levels + part ≤ height
-    → 0 < height → 0 < own → own ≤ 16 → fewest height + own ≤ edges + 2 → AddsAtMost (2 * bits edges) height start after
+    → 0 < height → 0 < own → own ≤ 32 → fewest height + own ≤ edges + 2 → AddsAtMost (2 * bits edges) height start after
 found_in_node part height own edges down among within high some few filled =
     let most = probes_by_digits height own edges high some few filled in
     record {

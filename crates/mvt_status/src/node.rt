@@ -18,7 +18,7 @@ use std::alloc::{AllocError, Global};
 use std::marker::Model;
 
 /// The most edges in a node.
-const ROOM: usize = 16;
+const ROOM: usize = 32;
 
 /// The edges in a node.
 type Own = ArrayVec<usize, ROOM>;
@@ -116,7 +116,7 @@ fn alone(alloc: Global, edge: usize) -> Result<Box<Node>, AllocError>
 fn refilled(mut node: Box<Node>, edges: &[usize]) -> Box<Node>
     requires low { node.value.1 ≡ 1 }
     requires some { 0 < length edges.now }
-    requires room { length edges.now ≤ 16 }
+    requires room { length edges.now ≤ 32 }
     ensures { result.value ≡ (edges.now, 1) }
 {
     let top: &mut Node = &mut node;
@@ -130,7 +130,7 @@ fn refilled(mut node: Box<Node>, edges: &[usize]) -> Box<Node>
 
 /// Puts edges after those of a node.
 fn append(own: &mut Own, edges: &[usize])
-    requires { length own.old.items + length edges.now ≤ 16 }
+    requires { length own.old.items + length edges.now ≤ 32 }
     ensures { own.new.items ≡ own.old.items ++ edges.now }
 {
     let Ok(()) = own.try_extend_from_slice(edges) else {

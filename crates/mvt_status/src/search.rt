@@ -18,17 +18,20 @@ pub(crate) fn split_in<F: Fn(usize) -> bool>(edges: &[usize], below: &F, count: 
     ensures probed { raised (bits (suc (length edges.now)) - 1) count.old.probes
         ≤ count.new.probes }
 {
+    // (while the search goes on, its count is in a register)
+    let mut counted = *count;
     let mut from = 0;
     let mut to = edges.len();
     'halves: while from < to {
         let middle = from + (to - from) / 2;
-        probe(count);
+        probe(&mut counted);
         if below(edges[middle]) {
             from = middle + 1;
         } else {
             to = middle;
         }
     }
+    *count = counted;
     from
 }
 

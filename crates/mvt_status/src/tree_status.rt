@@ -15,7 +15,7 @@ use std::marker::Model;
 #[cfg(test)]
 mod tests;
 
-/// A status in a height-balanced tree, whose nodes hold up to 16 edges each. Each call takes a
+/// A status in a height-balanced tree, whose nodes hold up to 32 edges each. Each call takes a
 /// number of steps that grows with the binary digits of the number of edges.
 #[derive(Drop)]
 pub struct TreeStatus {

@@ -80,7 +80,7 @@ pub(crate) fn insert_into(
 fn filled_with(spare: &mut Side, edges: &[usize]) -> Side
     requires spare { height_of spare.old ≡ 1 }
     requires some { 0 < length edges.now }
-    requires room { length edges.now ≤ 16 }
+    requires room { length edges.now ≤ 32 }
     ensures edges { edges_of result ≡ edges.now }
     ensures low { height_of result ≡ 1 }
     ensures used { spare.new ≡ None }
@@ -95,7 +95,7 @@ fn filled_with(spare: &mut Side, edges: &[usize]) -> Side
 #[inline(never)]
 fn put_in(own: &mut Own, at: usize, new: &[usize])
     requires within { at ≤ length own.old.items }
-    requires room { length own.old.items + length new.now ≤ 16 }
+    requires room { length own.old.items + length new.now ≤ 32 }
     ensures { own.new.items ≡ take at own.old.items ++ (new.now ++ drop at own.old.items) }
 {
     let end = own.len();
@@ -109,7 +109,7 @@ fn put_in(own: &mut Own, at: usize, new: &[usize])
 fn put_in_alone(mut node: Box<Node>, at: usize, new: &[usize]) -> Box<Node>
     requires low { node.value.1 ≡ 1 }
     requires within { at ≤ length node.value.0 }
-    requires room { length node.value.0 + length new.now ≤ 16 }
+    requires room { length node.value.0 + length new.now ≤ 32 }
     ensures { result.value ≡ (take at node.value.0 ++ (new.now ++ drop at node.value.0), 1) }
 {
     let top: &mut Node = &mut node;
@@ -125,7 +125,7 @@ fn put_in_alone(mut node: Box<Node>, at: usize, new: &[usize]) -> Box<Node>
 #[inline(never)]
 fn halved(own: &mut Own, at: usize, new: &[usize], spare: &mut Side) -> Box<Node>
     requires within { at ≤ length own.old.items }
-    requires many { 8 < length own.old.items }
+    requires many { 16 < length own.old.items }
     requires few { length new.now ≤ 4 }
     requires spare { height_of spare.old ≡ 1 }
     ensures edges { own.new.items ++ result.value.0

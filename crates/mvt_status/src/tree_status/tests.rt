@@ -12,26 +12,26 @@ fn few_edges(rt: HostRuntime) -> Result<(), Fail> {
     Ok(())
 }
 
-// Many edges, each put in at the end, which leaves full nodes: 63 of them. A balanced tree has
-// these on six to eight levels, and none of its nodes without a left or a right side is above the
-// third. So a call visits three to eight nodes, and a split makes at most four probes more, among
-// the edges of one of them.
+// Many edges, each put in at the end, which leaves full nodes: 32 of them. A balanced tree has
+// these on six levels, and none of its nodes without a left or a right side is above the third. So
+// a call visits three to six nodes, and a split makes at most five probes more, among the edges of
+// one of them.
 #[test]
 fn many_edges(rt: HostRuntime) -> Result<(), Fail> {
     let many = split_of_many(&mut TreeStatus::new(rt.alloc()), 700)?;
     assert_eq!(&rt; many.split, 700);
-    assert!(&rt; 3 <= many.visits && many.visits <= 8);
-    assert!(&rt; many.visits <= many.probes && many.probes <= many.visits + 4);
-    assert!(&rt; 6 <= many.visits_to_insert && many.visits_to_insert <= 8);
+    assert!(&rt; 3 <= many.visits && many.visits <= 6);
+    assert!(&rt; many.visits <= many.probes && many.probes <= many.visits + 5);
+    assert!(&rt; 3 <= many.visits_to_insert && many.visits_to_insert <= 6);
     Ok(())
 }
 
 // So many edges, and the fewest and the most visits of a call that goes to one end of the tree.
-// Counted up, they fill nodes of 16: 7, 63 and 6,250 of them. So many nodes have at least 3, 6 and
-// 13 levels, and a balanced tree of them at most 4, 8 and 17. The first node has nothing on its
+// Counted up, they fill nodes of 32: 4, 32 and 3,125 of them. So many nodes have at least 3, 6 and
+// 12 levels, and a balanced tree of them at most 3, 6 and 16. The first node has nothing on its
 // left and the last one nothing on its right, so each is two levels high at most. On the way there
 // each step goes down by at most two levels' height.
-const ENDS: [(usize, u64, u64); 3] = [(100, 2, 4), (1_000, 3, 8), (100_000, 7, 17)];
+const ENDS: [(usize, u64, u64); 3] = [(100, 2, 3), (1_000, 3, 6), (100_000, 6, 16)];
 
 #[test]
 fn both_ends(rt: HostRuntime) -> Result<(), Fail> {
@@ -46,7 +46,7 @@ fn both_ends(rt: HostRuntime) -> Result<(), Fail> {
 // Pairs of neighbours in one node and in two, and pairs that are all that a node has.
 #[test]
 fn pairs_go_out(rt: HostRuntime) -> Result<(), Fail> {
-    for step in [2, 3, 5, 15] {
+    for step in [2, 3, 5, 31] {
         let status = &mut TreeStatus::new(rt.alloc());
         assert!(&rt; are_right_pairs(status, 1_000, step)?);
     }

@@ -20,7 +20,7 @@ halves-preserved-then-below g c =
     record {
       part = split_after (goal.F-post g c.args.below.now) c.args.edges.now c.halves.from c.halves.to middle c.halves.invariant.part before
           _ c.below.result refl c.below.ensures c.if-below.true;
-      probes = probes_half (c.halves.to - c.halves.from) (c.halves.to - (middle + 1)) (length c.args.edges.now) c.args.count.now c.halves.count c.probe.new.count
+      probes = probes_half (c.halves.to - c.halves.from) (c.halves.to - (middle + 1)) (length c.args.edges.now) c.args.count.now c.halves.counted c.probe.new.count
           c.halves.invariant.probes c.probe.ensures.counted c.probe.ensures.probed (omega (arith, c.halves-test.true)) (omega (arith, c.halves-test.true)) (omega (arith, c.halves-test.true));
     }
 
@@ -31,7 +31,7 @@ halves-preserved g c =
     record {
       part = split_before (goal.F-post g c.args.below.now) c.args.edges.now c.halves.from c.halves.to middle c.halves.invariant.part before
           _ c.below.result refl c.below.ensures c.if-below.false;
-      probes = probes_half (c.halves.to - c.halves.from) (middle - c.halves.from) (length c.args.edges.now) c.args.count.now c.halves.count c.probe.new.count
+      probes = probes_half (c.halves.to - c.halves.from) (middle - c.halves.from) (length c.args.edges.now) c.args.count.now c.halves.counted c.probe.new.count
           c.halves.invariant.probes c.probe.ensures.counted c.probe.ensures.probed (omega (arith, c.halves-test.true)) (omega (arith, c.halves-test.true)) (omega (arith, c.halves-test.true));
     }
 
@@ -40,7 +40,7 @@ returns-clause-split g c =
     split_found (goal.F-post g c.args.below.now) c.args.edges.now c.halves.from c.halves.to c.requires.splits.0 c.halves.invariant.part c.halves-test.false c.requires.splits.1
 
 pub returns-clause-counted : goal.returns-clause-counted
-returns-clause-counted g c = added (c.halves.to - c.halves.from) (length c.args.edges.now) c.args.count.now c.halves.count c.halves.invariant.probes
+returns-clause-counted g c = added (c.halves.to - c.halves.from) (length c.args.edges.now) c.args.count.now c.halves.counted c.halves.invariant.probes
 
 pub returns-clause-probed : goal.returns-clause-probed
-returns-clause-probed g c = added_at_least (c.halves.to - c.halves.from) (length c.args.edges.now) c.args.count.now c.halves.count (omega (arith, c.halves-test.false)) c.halves.invariant.probes
+returns-clause-probed g c = added_at_least (c.halves.to - c.halves.from) (length c.args.edges.now) c.args.count.now c.halves.counted (omega (arith, c.halves-test.false)) c.halves.invariant.probes

@@ -6,7 +6,7 @@ use Rattle.mvt_status.proofs.search.split_in.Given as goal
 abbrev pub invariant-halves : goal.invariant-halves
 invariant-halves g l = record {
   part : SplitsWithin (goal.F-post g l.below) l.edges l.from l.to;
-  probes : ProbesLeft (l.to - l.from) (length l.edges) l.fn.count l.count;
+  probes : ProbesLeft (l.to - l.from) (length l.edges) l.fn.count l.counted;
 }
 
 -- places that are left

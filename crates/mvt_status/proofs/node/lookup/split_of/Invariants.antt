@@ -14,7 +14,7 @@ invariant-levels g l = record {
   searched : IsSearched (goal.F-post g l.below) (edges_of l.side) (edges_in l.last) (edges_of l.part) l.passed l.following;
   some : IfSome l.last (λ own. 0 < length own.now);
   high : IfSome l.last (λ _. 0 < height_of l.side);
-  room : length (edges_in l.last) ≤ 16;
+  room : length (edges_in l.last) ≤ 32;
   begun : (l.part ≡ l.side) ⊎ (0 < l.depth);
   left : l.depth + height_of l.part ≤ height_of l.side;
   filled : fewest (height_of l.side) + length (edges_of l.part) ≤ length (edges_of l.side) + fewest (height_of l.part);
