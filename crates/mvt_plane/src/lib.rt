@@ -14,6 +14,6 @@ pub use count::Count;
 pub use geometry::crossing::common;
 pub use geometry::edge::{Edge, on_edge};
 pub use geometry::hpoint::Hpoint;
-pub use geometry::measure::{area_part, orient, side, sweep_key, twice_area};
+pub use geometry::measure::{area_part, orient, passes_below, side, sweep_key, twice_area};
 pub use geometry::parity::inside;
 pub use geometry::point::{GREATEST_COORDINATE, Point};

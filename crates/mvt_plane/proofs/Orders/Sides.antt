@@ -1,10 +1,11 @@
 -- On which side of a line a position is, by the sign of a difference.
-use Rattle.std.proofs.Common.{◌≡◌, ◌↔◌, Bool, true, false, IsTrue, Option, Some, Ordering, is_eq, ℤ, pos, ◌-ℤ◌, ◌*ℤ◌, ◌<ℤ◌, int_cmp, refl, sym, ◌∙◌, ap₂, arith}
+use Rattle.std.proofs.Common.{◌≡◌, ◌↔◌, Bool, true, false, IsTrue, Option, Some, Ordering, is_eq, ℤ, pos, [], ◌∷◌, ◌+ℤ◌, ◌-ℤ◌, ◌*ℤ◌, ◌<ℤ◌, int_cmp, refl, sym, ◌∙◌, ap₂, arith}
 use Rattle.std.specs.Cmp.{int_cmp_is}
 use Rattle.std.specs.Ordering.{MatchOrdering}
 use Rattle.std.specs.declared.cmp.Ordering.TheVariants.{Less, Equal, Greater}
 use Rattle.std.proofs.lemmas.Cmp.{int_ranked}
 use Rattle.mvt_plane.proofs.Orders.Order.{zs}
+use Rattle.mvt_plane.proofs.Orders.Polynomials.{unknown, constant, ◌⊕◌, ◌⊖◌, ◌⊗◌, ring}
 use Rattle.mvt_plane.proofs.Points.CrossingLines.{on_line_by_side, side_by_line}
 use Rattle.mvt_plane.proofs.Points.RationalPoints.{times_one}
 use Rattle.mvt_plane.specs.Geometry.Measure.{orientation}
@@ -20,6 +21,18 @@ cmp_by_difference a b = int_cmp_is (a -ℤ b) (pos 0) (int_cmp a b) (ranks (int_
     ranks Less below = omega (arith, zs)
     ranks Equal same = omega (arith, zs)
     ranks Greater above = omega (arith, zs)
+
+-- a line has a position on the other side where it goes the other way
+pub turned_back : (from to it : Position) → orientation to from it +ℤ orientation from to it ≡ pos 0
+turned_back from to it =
+    let FX = unknown 0 in
+    let FY = unknown 1 in
+    let TX = unknown 2 in
+    let TY = unknown 3 in
+    let X = unknown 4 in
+    let Y = unknown 5 in
+    ring (from.x ∷ from.y ∷ to.x ∷ to.y ∷ it.x ∷ it.y ∷ [])
+    (((FX ⊖ TX) ⊗ (Y ⊖ TY) ⊖ (FY ⊖ TY) ⊗ (X ⊖ TX)) ⊕ ((TX ⊖ FX) ⊗ (Y ⊖ FY) ⊖ (TY ⊖ FY) ⊗ (X ⊖ FX))) (constant (pos 0)) tt
 
 -- a number that compares as equal to 0 is 0
 pub zero_by_side : (z : ℤ) (r : Ordering) → r ≡ int_cmp z (pos 0) → is_eq r ≡ true → z ≡ pos 0

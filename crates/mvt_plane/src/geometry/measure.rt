@@ -1,6 +1,8 @@
-ghost use Rattle.std.specs.Prelude.{◌≡◌, ◌^◌, ◌*ℤ◌, pos};
+ghost use Rattle.std.specs.Prelude.{◌≡◌, ◌↔◌, ◌^◌, ◌*ℤ◌, ◌<ℤ◌, IsTrue, pos};
+ghost use Rattle.std.specs.Int.Signed.{lt_z};
 ghost use Rattle.std.specs.Ordering.{int_cmp};
 ghost use Rattle.mvt_plane.specs.Bound.{IsWithin};
+ghost use Rattle.mvt_plane.specs.Geometry.EdgeOrder.{segment_between};
 ghost use Rattle.mvt_plane.specs.Geometry.Measure.{orientation, key_of};
 ghost use Rattle.mvt_plane.specs.Position.{IsPosition};
 ghost use Rattle.mvt_plane.specs.Geometry.Ring.{doubled_area, edge_area};
@@ -8,6 +10,10 @@ ghost use Rattle.mvt_plane.specs.Geometry.Ring.{doubled_area, edge_area};
 use crate::geometry::point::Point;
 use crate::geometry::step::{x_step, y_step};
 use std::cmp::Ordering;
+
+/// So much weighs a step along the x axis that it decides over each one along the y axis. (A
+/// difference of keys has up to 65 bits.)
+const X_WEIGHT: i64 = (1 << 31) + 1;
 
 /// Twice the area of the triangle from `a` through `b` to `c`, in square units of the tile's
 /// coordinates: positive where they go round as the vertices of an exterior do, negative where they
@@ -76,4 +82,31 @@ pub fn sweep_key(point: Point) -> i64
     ensures in_range { IsPosition point }
 {
     i64::from(point.x()) * (1 << 32) + i64::from(point.y())
+}
+
+/// Whether the line through the ends of an edge passes below a position: whether `orient` of the
+/// end of lesser key, the other end and the position is positive. No number of 128 bits is needed
+/// for that.
+#[inline]
+pub fn passes_below(from: Point, to: Point, position: Point) -> bool
+    ensures { IsTrue result ↔ (pos 0 <ℤ orientation (segment_between from to).low
+        (segment_between from to).high position) }
+{
+    let right = x_step(from, to) * y_step(from, position);
+    let left = y_step(from, to) * x_step(from, position);
+    // (to choose among numbers costs less than among comparisons)
+    let (greater, lesser) = if comes_before(from, to) {
+        (right, left)
+    } else {
+        (left, right)
+    };
+    greater > lesser
+}
+
+/// Whether the key of a position is less than that of another.
+#[inline(always)]
+fn comes_before(one: Point, other: Point) -> bool
+    ensures { result ≡ lt_z (key_of one) (key_of other) }
+{
+    x_step(one, other) * X_WEIGHT + y_step(one, other) > 0
 }

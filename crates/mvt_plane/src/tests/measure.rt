@@ -1,4 +1,4 @@
-use crate::{Point, orient, side, sweep_key, twice_area};
+use crate::{Point, orient, passes_below, side, sweep_key, twice_area};
 use std::cmp::Ordering;
 
 const GREATEST: i32 = 1_073_741_824;
@@ -40,6 +40,29 @@ fn keys_go_by_x_first(rt: HostRuntime) {
 /// The key of a position.
 fn key(x: i32, y: i32) -> Option<i64> {
     Some(sweep_key(Point::new(x, y)?))
+}
+
+// Of a diagonal, of an edge that falls and of one along a column: a position above, one below and
+// one on it.
+#[test]
+fn edges_pass_below_positions(rt: HostRuntime) {
+    assert!(rt; pass_below((0, 0), (10, 10), (5, 6)) == Some((true, true)));
+    assert!(rt; pass_below((0, 0), (10, 10), (5, 4)) == Some((false, false)));
+    assert!(rt; pass_below((0, 0), (10, 10), (5, 5)) == Some((false, false)));
+    assert!(rt; pass_below((3, GREATEST), (4, -GREATEST), (4, 0)) == Some((true, true)));
+    assert!(rt; pass_below((3, GREATEST), (4, -GREATEST), (3, 0)) == Some((false, false)));
+    assert!(rt; pass_below((3, GREATEST), (4, -GREATEST), (4, -GREATEST)) == Some((false, false)));
+    assert!(rt; pass_below((7, -1), (7, 1), (6, 0)) == Some((true, true)));
+    assert!(rt; pass_below((7, -1), (7, 1), (8, 0)) == Some((false, false)));
+    assert!(rt; pass_below((7, -1), (7, 1), (7, 0)) == Some((false, false)));
+}
+
+/// Whether an edge passes below a position, and so the other way round.
+fn pass_below(one: (i32, i32), other: (i32, i32), at: (i32, i32)) -> Option<(bool, bool)> {
+    let one = Point::new(one.0, one.1)?;
+    let other = Point::new(other.0, other.1)?;
+    let at = Point::new(at.0, at.1)?;
+    Some((passes_below(one, other, at), passes_below(other, one, at)))
 }
 
 #[test]

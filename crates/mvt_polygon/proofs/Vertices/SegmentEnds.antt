@@ -1,6 +1,6 @@
 -- The ends of an edge between two positions, from the lesser key on.
 use Rattle.std.proofs.Common.{◌≡◌, ◌≢◌, ◌↔◌, ◌⊎◌, inl, inr, [], ◌∷◌, Bool, true, false, IsTrue, Ordering, ℤ, pos, ◌+ℤ◌, ◌<ℤ◌, ◌≤ℤ◌, int_cmp, SFits, to_z, of_z, w64, refl, sym, ◌∙◌, ap, subst, arith}
-use Rattle.std.specs.Ordering.{MatchOrdering, is_gt, is_lt, is_ne}
+use Rattle.std.specs.Ordering.{MatchOrdering, is_gt, is_ne}
 use Rattle.std.specs.declared.cmp.Ordering.TheVariants.{Less, Equal, Greater}
 use Rattle.std.proofs.lemmas.Cmp.{int_ranked}
 use lib.Signed.{lt_z}
@@ -125,18 +125,6 @@ turned_round low one other =
     ring (low.x ∷ low.y ∷ one.x ∷ one.y ∷ other.x ∷ other.y ∷ [])
     (((AX ⊖ LX) ⊗ (BY ⊖ LY) ⊖ (AY ⊖ LY) ⊗ (BX ⊖ LX)) ⊕ ((BX ⊖ LX) ⊗ (AY ⊖ LY) ⊖ (BY ⊖ LY) ⊗ (AX ⊖ LX))) (constant (pos 0)) tt
 
--- and the same of the line the other way round
-pub turned_back : (from to it : Position) → orientation to from it +ℤ orientation from to it ≡ pos 0
-turned_back from to it =
-    let FX = unknown 0 in
-    let FY = unknown 1 in
-    let TX = unknown 2 in
-    let TY = unknown 3 in
-    let X = unknown 4 in
-    let Y = unknown 5 in
-    ring (from.x ∷ from.y ∷ to.x ∷ to.y ∷ it.x ∷ it.y ∷ [])
-    (((FX ⊖ TX) ⊗ (Y ⊖ TY) ⊖ (FY ⊖ TY) ⊗ (X ⊖ TX)) ⊕ ((TX ⊖ FX) ⊗ (Y ⊖ FY) ⊖ (TY ⊖ FY) ⊗ (X ⊖ FX))) (constant (pos 0)) tt
-
 -- a turn is positive where it compares so with 0
 pub positive_by_side : (turn : ℤ) (side : Ordering) → side ≡ int_cmp turn (pos 0) → IsTrue (is_gt side) ↔ (pos 0 <ℤ turn)
 positive_by_side turn side is = by_case side (int_ranked turn (pos 0) side is)
@@ -145,15 +133,6 @@ positive_by_side turn side is = by_case side (int_ranked turn (pos 0) side is)
     by_case Less below = ((λ yes. absurd (cc yes)), (λ above. absurd (omega (arith, ints))))
     by_case Equal same = ((λ yes. absurd (cc yes)), (λ above. absurd (omega (arith, ints))))
     by_case Greater above = ((λ yes. above), (λ above'. refl))
-
--- and negative where it compares so
-pub negative_by_side : (turn : ℤ) (side : Ordering) → side ≡ int_cmp turn (pos 0) → IsTrue (is_lt side) ↔ (turn <ℤ pos 0)
-negative_by_side turn side is = by_case side (int_ranked turn (pos 0) side is)
-  where
-    by_case : (side : Ordering) → MatchOrdering side (turn <ℤ pos 0) (turn ≡ pos 0) (pos 0 <ℤ turn) → IsTrue (is_lt side) ↔ (turn <ℤ pos 0)
-    by_case Less below = ((λ yes. below), (λ below'. refl))
-    by_case Equal same = ((λ yes. absurd (cc yes)), (λ below. absurd (omega (arith, ints))))
-    by_case Greater above = ((λ yes. absurd (cc yes)), (λ below. absurd (omega (arith, ints))))
 
 -- and not 0 where it doesn't compare as equal
 pub turning_by_side : (turn : ℤ) (side : Ordering) → side ≡ int_cmp turn (pos 0) → IsTrue (is_ne side) → ¬ (turn ≡ pos 0)

@@ -11,7 +11,7 @@ ghost use Rattle.mvt_status.specs.Split.{AreBeside};
 
 use crate::sweep::chains::Chains;
 use crate::sweep::vertices::SweepVertices;
-use mvt_plane::{Count, Point, side, sweep_key};
+use mvt_plane::{Count, Point, passes_below};
 use mvt_status::{Split, Status};
 
 /// How many chains of the status have edges below a vertex (they come before the others), and the
@@ -58,10 +58,5 @@ fn is_below(vertices: &SweepVertices, edge: usize, position: Point) -> bool
 {
     let from = *vertices.position(edge);
     let to = *vertices.position(vertices.next(edge));
-    let side = side(from, to, position);
-    if sweep_key(from) < sweep_key(to) {
-        side.is_gt()
-    } else {
-        side.is_lt()
-    }
+    passes_below(from, to, position)
 }
