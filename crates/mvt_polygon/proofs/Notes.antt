@@ -8,6 +8,7 @@ pub mod NoteWrites
 pub mod NotedHoles
 pub mod NotesBegun
 pub mod RightNotes
+pub mod RingIndexes
 pub mod RingParities
 pub mod RingsAround
 pub mod RingsNoted

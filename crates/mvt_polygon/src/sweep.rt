@@ -20,6 +20,7 @@ mod notes;
 mod order;
 mod parts;
 mod place;
+mod ring_index;
 mod step;
 mod swept;
 mod vertex;
@@ -71,7 +72,7 @@ fn sweep<S: Status, N: Notes>(
             Step::Begins(place) => Some(place),
             Step::Ends => None,
         };
-        notes.pass(number, begun)?;
+        notes.pass(vertices, number, begun)?;
     }
     Ok(None)
 }

@@ -1,12 +1,14 @@
 -- Lists of notes, as the code writes them.
-use Rattle.std.proofs.Common.{◌≡◌, ◌≢◌, ◌%◌, ◌==◌, ◌<◌, inl, inr, ◌⊎◌, ℕ, zero, suc, not, List, [], ◌∷◌, ◌++◌, length, set, slice_get, is_some, true, false, true≢false, Option, Some, None, refl, sym, ◌∙◌, ap, arith}
+use Rattle.std.proofs.Common.{◌≡◌, ◌≢◌, ◌%◌, ◌==◌, ◌<◌, inl, inr, ◌⊎◌, ℕ, zero, suc, Bool, not, List, [], ◌∷◌, ◌++◌, length, set, slice_get, true, false, Some, refl, sym, ◌∙◌, ap, arith}
 use Rattle.std.proofs.Math.Seq.{get_or-append_seam}
 use Rattle.std.proofs.lemmas.Bool.{cases_lt}
 use Rattle.std.proofs.lemmas.Bool.Decides.{nat_tests}
 use Rattle.std.proofs.lemmas.List.{length-append, length-set, get_or-set_other, get_or-set_same, get_or_append_left}
 use Rattle.std.proofs.lemmas.Option.{same_Some, slice_get_past, slice_get_within, slice_get-get_or}
 use Rattle.mvt_polygon.specs.Calls.RingsBelow.{is_odd_number}
-use Rattle.mvt_polygon.specs.declared.sweep.notes.Around.{Around}
+use Rattle.mvt_polygon.specs.Calls.RingNotes.{around_directly}
+use Rattle.mvt_polygon.specs.Calls.RingsAround.{nearest_in, odd_in}
+use Rattle.mvt_polygon.specs.declared.sweep.notes.Around.TheVariants.{Unknown}
 
 -- A note that is written
 
@@ -60,14 +62,19 @@ pub odd_by_two : (number : ℕ) → (number % 2 == 1) ≡ is_odd_number number
 odd_by_two zero = refl
 odd_by_two (suc number) = turned number ∙ ap not (odd_by_two number)
 
--- What is read
+-- A ring directly around
 
--- nothing
-pub nothing_there : (found : Option Around) → is_some found ≡ false → found ≡ None
-nothing_there None none = refl
-nothing_there (Some around) none = absurd (true≢false none)
+-- it is the nearest
+pub nearest_directly : (nearest : ℕ) (odd : Bool) → nearest_in (around_directly nearest odd) ≡ Some nearest
+nearest_directly nearest true = refl
+nearest_directly nearest false = refl
 
--- or something
-pub something_there : (found : Option Around) → is_some found ≡ true → (around : Around) × (found ≡ Some around)
-something_there None some = absurd (true≢false (sym some))
-something_there (Some around) some = (around, refl)
+-- and an odd number are around, or an even one
+pub odd_directly : (nearest : ℕ) (odd : Bool) → odd_in (around_directly nearest odd) ≡ odd
+odd_directly nearest true = refl
+odd_directly nearest false = refl
+
+-- which is known
+pub known_directly : (nearest : ℕ) (odd : Bool) → around_directly nearest odd ≢ Unknown
+known_directly nearest true same = cc
+known_directly nearest false same = cc

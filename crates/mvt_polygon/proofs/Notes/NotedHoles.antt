@@ -47,11 +47,11 @@ around_by_any rings outer inner vertex its ring other none differ there here its
 -- The exterior alone
 
 -- it is noted that the exterior is around the hole, and no other ring
-abbrev pub IsRight : List (Option Around) → ℕ → Type 0
+abbrev pub IsRight : List Around → ℕ → Type 0
 IsRight notes hole = (nearest_at notes hole ≡ Some 0) × (nearest_at notes 0 ≡ None)
 
 -- so no vertex of the hole has a fault
-pub hole_right : (rings : List (List Position)) (notes : List (Option Around)) (come_to : List ℕ) (hole : ℕ) → NoMeeting rings → AreNoted rings notes come_to → 0 < hole → hole < length rings
+pub hole_right : (rings : List (List Position)) (notes : List Around) (come_to : List ℕ) (hole : ℕ) → NoMeeting rings → AreNoted rings notes come_to → 0 < hole → hole < length rings
     → IsRight notes hole → (fault : NestFault) → IsOfHole hole fault → ¬ IsNestFault rings fault
 hole_right rings notes come_to hole none noted following within right _ is (outside ring vertex it) =
     let around : IsAround rings 0 hole = (noted.around hole 0 within right.0 0).1 (inl refl) in
@@ -71,7 +71,7 @@ nothing_or None = inl refl
 nothing_or (Some number) = inr (number, refl)
 
 -- where the exterior is around it, and no other hole, that is noted
-right_noted : (rings : List (List Position)) (notes : List (Option Around)) (come_to : List ℕ) (hole : ℕ) → AreNoted rings notes come_to → hole < length rings → IsAround rings 0 hole
+right_noted : (rings : List (List Position)) (notes : List Around) (come_to : List ℕ) (hole : ℕ) → AreNoted rings notes come_to → hole < length rings → IsAround rings 0 hole
     → ((other : ℕ) → 0 < other → ¬ IsAround rings other hole) → IsRight notes hole
 right_noted rings notes come_to hole noted within exterior alone = elim (nothing_or (nearest_at notes hole)) [
   | inl nothing ↦ absurd (noted.alone hole within nothing 0 exterior)
@@ -92,7 +92,7 @@ right_noted rings notes come_to hole noted within exterior alone = elim (nothing
 ]
 
 -- where it isn't noted, its first vertex has a fault
-pub hole_wrong : (rings : List (List Position)) (notes : List (Option Around)) (come_to : List ℕ) (hole : ℕ) (ring : List Position) (its : Position) → NoMeeting rings → AreNoted rings notes come_to
+pub hole_wrong : (rings : List (List Position)) (notes : List Around) (come_to : List ℕ) (hole : ℕ) (ring : List Position) (its : Position) → NoMeeting rings → AreNoted rings notes come_to
     → 0 < hole → slice_get rings hole ≡ Some ring → slice_get ring 0 ≡ Some its → ¬ IsRight notes hole → ¬ ((fault : NestFault) → IsOfVertex hole 0 fault → ¬ IsNestFault rings fault)
 hole_wrong rings notes come_to hole ring its none noted following there here not clear =
     let before : hole < length rings = slice_get_within rings hole ring there in

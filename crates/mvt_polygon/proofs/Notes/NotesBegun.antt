@@ -1,8 +1,7 @@
 -- Notes of rings at first, and at last.
-use Rattle.std.proofs.Common.{◌≡◌, ◌+◌, ◌^◌, ◌<◌, inl, inr, ℕ, suc, List, [], ◌++◌, length, get_or, replicate, slice_get, take, Option, Some, None, Result, Ok, Err, IfOk, ℤ, ◌<ℤ◌, ◌≤ℤ◌, sym, ◌∙◌, ap, subst, arith}
-use Rattle.std.proofs.lemmas.Bool.{cases_eq}
+use Rattle.std.proofs.Common.{◌≡◌, ◌^◌, ◌<◌, ℕ, List, [], length, get_or, replicate, slice_get, take, Some, Result, Ok, Err, IfOk, ℤ, ◌<ℤ◌, ◌≤ℤ◌, sym, ◌∙◌, ap, arith}
 use Rattle.std.proofs.lemmas.Int.{ints}
-use Rattle.std.proofs.lemmas.List.{length-append, length-replicate, get_or-append-add, get_or-replicate}
+use Rattle.std.proofs.lemmas.List.{length-replicate, get_or-replicate}
 use Rattle.std.proofs.lemmas.Option.{get_or_from_slice_get, same_Some, none-some, slice_get_past, slice_get_within, slice_get-get_or}
 use Rattle.mvt_plane.specs.Geometry.Measure.{key_of}
 use Rattle.mvt_plane.specs.Geometry.Meeting.{EdgeNumber}
@@ -10,71 +9,40 @@ use Rattle.mvt_plane.specs.Position.{Position}
 use Rattle.mvt_polygon.specs.Calls.SweepVertices.{AreSweepVertices, IsNumbered, sweep_count, position_at}
 use Rattle.mvt_polygon.specs.Work.{vertex_count}
 use Rattle.mvt_polygon.specs.Meeting.{NoMeeting}
-use Rattle.mvt_polygon.specs.Calls.RingNotes.{AreListsNotedTo, AreNotedTo, IsNew, IsNoted, IsNoteOf}
+use Rattle.mvt_polygon.specs.Calls.RingNotes.{AreListsNotedTo, AreNotedTo, AreRingsOf, IsNew, IsNoted, IsNoteOf}
 use Rattle.mvt_polygon.specs.Rings.{AreProperRings}
 use Rattle.mvt_polygon.specs.Calls.RingsAround.{AreNoted, nearest_at, nearest_in, odd_at, odd_in}
 use Rattle.mvt_polygon.specs.Calls.Swept.{IsNotedClear, IsSweptAnswer, IsSweptWith}
 use Rattle.mvt_polygon.specs.declared.sweep.vertices.SweepVertices.{SweepVertices}
 use Rattle.mvt_polygon.specs.declared.sweep.notes.Around.{Around}
+use Rattle.mvt_polygon.specs.declared.sweep.notes.Around.TheVariants.{Unknown}
 use Rattle.mvt_polygon.specs.declared.sweep.notes.RingNotes.{RingNotes}
 use Rattle.mvt_polygon.specs.declared.sweep.swept.Swept.{Swept}
 use Rattle.mvt_polygon.specs.declared.sweep.swept.Swept.TheVariants.{Meets, Clear}
-use Rattle.mvt_polygon.proofs.Vertices.VertexNumbers.{count_step, numbered_within}
-use Rattle.mvt_polygon.proofs.Notes.NoteWrites.{goes_on}
+use Rattle.mvt_polygon.proofs.Vertices.VertexNumbers.{numbered_within}
 use Rattle.mvt_polygon.proofs.Notes.RingsNoted.{nearest_noted}
 
 -- At first
 
--- by the number of each vertex of so many rings, its ring
-pub record AreFirstRings (rings : List (List Position)) (count : ℕ) (ring_of : List ℕ) : Type 0 where
-  pub size : length ring_of ≡ vertex_count (take count rings)
-  pub numbers : (number : ℕ) (at : EdgeNumber) → IsNumbered rings number at → at.ring < count → slice_get ring_of number ≡ Some at.ring
-
--- of none
-pub no_rings : (rings : List (List Position)) (ring_of : List ℕ) → ring_of ≡ [] → AreFirstRings rings 0 ring_of
-no_rings rings ring_of empty = record { size = ap length empty; numbers = λ number at is less. absurd (omega (arith, less)) }
-
--- of one more
-pub one_more_ring : (rings : List (List Position)) (ring : ℕ) (ring_of more : List ℕ) (vertices : List Position) → slice_get rings ring ≡ Some vertices → AreFirstRings rings ring ring_of
-    → more ≡ ring_of ++ replicate (length vertices) ring → AreFirstRings rings (ring + 1) more
-one_more_ring rings ring ring_of more vertices there are is =
-    let own = replicate (length vertices) ring in
-    let size = length-replicate (length vertices) ring in
-    let whole = length-append ring_of own in
-    subst (AreFirstRings rings (ring + 1)) (sym is) (record {
-      size = let next : suc ring ≡ ring + 1 = omega arith in
-          omega (arith, whole, size, are.size, count_step rings ring vertices there, ap (λ (n : ℕ). vertex_count (take n rings)) next);
-      numbers = λ number at at_is less. elim (cases_eq at.ring ring) [
-        | inl same ↦
-            let alike : length at_is.ring ≡ length vertices = ap length (same_Some at_is.ring vertices (sym at_is.there ∙ ap (slice_get rings) same ∙ there)) in
-            let within : at.edge < length vertices = omega (arith, at_is.within, alike) in
-            let place : number ≡ length ring_of + at.edge = omega (arith, at_is.numbered, are.size, ap (λ (n : ℕ). vertex_count (take n rings)) same) in
-            ap (slice_get (ring_of ++ own)) place ∙ slice_get-get_or (ring_of ++ own) (length ring_of + at.edge) ring (omega (arith, whole, size, within))
-            ∙ ap Some (get_or-append-add ring_of own at.edge ring ∙ get_or-replicate (length vertices) at.edge ring ring within ∙ sym same)
-        | inr differ ↦ goes_on ring_of own number at.ring (are.numbers number at at_is (omega (arith, less, differ)))
-      ];
-    })
-
--- of all: nothing is noted
-pub all_new : (rings : List (List Position)) (count : ℕ) (notes : RingNotes) → count ≡ length rings → AreFirstRings rings count notes.ring_of.items
-    → notes.around.items ≡ replicate {A = Option Around} count None → notes.come_to.items ≡ [] → IsNew rings notes
-all_new rings count notes all are none nothing =
-    let no_note : Option Around = None in
-    let size = length-replicate count no_note in
+-- nothing is noted of any ring
+pub all_new : (rings : List (List Position)) (notes : RingNotes) → AreRingsOf rings notes.index.rings.items → notes.around.items ≡ replicate (length rings) Unknown
+    → notes.come_to.items ≡ [] → IsNew rings notes
+all_new rings notes numbers none nothing =
+    let size = length-replicate (length rings) Unknown in
     record {
-      numbers = λ number at is. are.numbers number at is (let within = slice_get_within rings at.ring is.ring is.there in omega (arith, within, all));
-      count = ap length none ∙ size ∙ all;
+      numbers = numbers;
+      count = ap length none ∙ size;
       none = λ ring within.
-          ap (λ (list : List (Option Around)). slice_get list ring) none ∙ slice_get-get_or (replicate count no_note) ring no_note (omega (arith, size, all, within))
-          ∙ ap Some (get_or-replicate count ring no_note no_note (omega (arith, all, within)));
+          ap (λ (list : List Around). slice_get list ring) none ∙ slice_get-get_or (replicate (length rings) Unknown) ring Unknown (omega (arith, size, within))
+          ∙ ap Some (get_or-replicate (length rings) ring Unknown Unknown within);
       nothing = nothing;
     }
 
 -- where nothing is noted, nothing is read
 not_noted : (rings : List (List Position)) (notes : RingNotes) (ring : ℕ) → IsNew rings notes → ¬ IsNoted notes.around.items ring
 not_noted rings notes ring new found =
-    let within = slice_get_within notes.around.items ring (Some found.0) found.1 in
-    none-some found.0 (same_Some None (Some found.0) (sym (new.none ring (omega (arith, within, new.count))) ∙ found.1))
+    let within = slice_get_within notes.around.items ring found.0 found.1 in
+    found.2 (same_Some found.0 Unknown (sym found.1 ∙ new.none ring (omega (arith, within, new.count))))
 
 -- nor was any ring come to
 none_listed : (rings : List (List Position)) (notes : RingNotes) (at ring : ℕ) → IsNew rings notes → ¬ (slice_get notes.come_to.items at ≡ Some ring)
@@ -90,7 +58,7 @@ new_noted rings vertices key notes proper are first new = record {
   numbers = new.numbers;
   count = new.count;
   there = λ number at is early. let late = first number (numbered_within rings vertices.list.now number at are is) in absurd (omega (arith, ints, early, late));
-  right = λ none ring around there. absurd (not_noted rings notes ring new (around, there));
+  right = λ none ring around there known. absurd (not_noted rings notes ring new (around, there, known));
   listed = λ ring found. absurd (not_noted rings notes ring new found);
   only = λ at ring there. absurd (none_listed rings notes at ring new there);
   following = λ at ring nearest there near. absurd (none_listed rings notes at ring new there);
@@ -99,13 +67,13 @@ new_noted rings vertices key notes proper are first new = record {
 -- At last
 
 -- after all vertices it is noted of each ring which rings are around it
-pub all_noted : (rings : List (List Position)) (vertices : SweepVertices) (key : ℤ) (ring_of : List ℕ) (notes : List (Option Around)) (come_to : List ℕ) → NoMeeting rings
-    → ((number : ℕ) → number < sweep_count vertices → key_of (position_at vertices number) ≤ℤ key) → AreListsNotedTo rings vertices key ring_of notes come_to → AreNoted rings notes come_to
-all_noted rings vertices key ring_of notes come_to none last noted = record {
+pub all_noted : (rings : List (List Position)) (vertices : SweepVertices) (key : ℤ) (index : List ℕ) (notes : List Around) (come_to : List ℕ) → NoMeeting rings
+    → ((number : ℕ) → number < sweep_count vertices → key_of (position_at vertices number) ≤ℤ key) → AreListsNotedTo rings vertices key index notes come_to → AreNoted rings notes come_to
+all_noted rings vertices key index notes come_to none last noted = record {
   count = noted.count;
   alone = λ ring within nothing. (right ring within).alone (sym (near ring within) ∙ nothing);
   even = λ ring within nothing. odd ring within ∙ (right ring within).even (sym (near ring within) ∙ nothing);
-  known = λ ring nearest within some. known (nearest_noted ring nearest (note ring within).0 noted (note ring within).1 (sym (near ring within) ∙ some));
+  known = λ ring nearest within some. known (nearest_noted ring nearest (note ring within).0 noted (note ring within).1 (note ring within).2 (sym (near ring within) ∙ some));
   around = λ ring nearest within some. (right ring within).around nearest (sym (near ring within) ∙ some);
   turned = λ ring nearest within some. odd ring within ∙ (right ring within).turned nearest (sym (near ring within) ∙ some);
   listed = λ ring within. noted.listed ring (note ring within);
@@ -123,16 +91,16 @@ all_noted rings vertices key ring_of notes come_to none last noted = record {
         noted.there (vertex_count (take ring rings)) at is (last _ (numbered_within rings vertices.list.now (vertex_count (take ring rings)) at noted.are is))
 
     right : (ring : ℕ) (within : ring < length rings) → IsNoteOf rings notes ring (note ring within).0
-    right ring within = noted.right none ring (note ring within).0 (note ring within).1
+    right ring within = noted.right none ring (note ring within).0 (note ring within).1 (note ring within).2
 
-    near : (ring : ℕ) (within : ring < length rings) → nearest_at notes ring ≡ (note ring within).0.nearest
-    near ring within = ap nearest_in (get_or_from_slice_get notes ring (Some (note ring within).0) None (note ring within).1)
+    near : (ring : ℕ) (within : ring < length rings) → nearest_at notes ring ≡ nearest_in (note ring within).0
+    near ring within = ap nearest_in (get_or_from_slice_get notes ring (note ring within).0 Unknown (note ring within).1)
 
-    odd : (ring : ℕ) (within : ring < length rings) → odd_at notes ring ≡ (note ring within).0.odd
-    odd ring within = ap odd_in (get_or_from_slice_get notes ring (Some (note ring within).0) None (note ring within).1)
+    odd : (ring : ℕ) (within : ring < length rings) → odd_at notes ring ≡ odd_in (note ring within).0
+    odd ring within = ap odd_in (get_or_from_slice_get notes ring (note ring within).0 Unknown (note ring within).1)
 
     known : {ring : ℕ} → IsNoted notes ring → ring < length rings
-    known {ring = ring} found = let within = slice_get_within notes ring (Some found.0) found.1 in omega (arith, within, noted.count)
+    known {ring = ring} found = let within = slice_get_within notes ring found.0 found.1 in omega (arith, within, noted.count)
 
 -- of no rings, where nothing is noted all is
 pub none_clear : (notes : RingNotes) → IsNew [] notes → IsNotedClear [] notes
@@ -171,5 +139,5 @@ swept_answer rings vertices (Clear notes) few (none, in_range, last) = record {
   clear = none;
   in_range = in_range;
   few = few;
-  noted = all_noted rings vertices last.0 notes.ring_of.items notes.around.items notes.come_to.items none last.1 last.2;
+  noted = all_noted rings vertices last.0 notes.index.rings.items notes.around.items notes.come_to.items none last.1 last.2;
 }

@@ -1,8 +1,8 @@
 -- The rings around one whose first vertex is directly above an edge of another ring: those around the other ring, and
 -- that ring itself where an odd number of its edges pass below the vertex.
-use Rattle.std.proofs.Common.{◌≡◌, ◌≢◌, ◌<◌, ◌⊎◌, inl, inr, ◌↔◌, ℕ, Bool, true, false, not, IsTrue, List, length, get_or, slice_get, Option, Some, None, ◌<ℤ◌, ◌≤ℤ◌, refl, sym, ◌∙◌, ap, subst, arith}
+use Rattle.std.proofs.Common.{◌≡◌, ◌≢◌, ◌<◌, ◌⊎◌, inl, inr, ◌↔◌, ℕ, Bool, true, false, not, IsTrue, List, length, get_or, slice_get, Some, ◌<ℤ◌, ◌≤ℤ◌, refl, sym, ◌∙◌, ap, subst, arith}
 use Rattle.std.proofs.lemmas.Bool.{cases_eq}
-use Rattle.std.proofs.lemmas.Option.{get_or_from_slice_get, same_Some, slice_get_within, slice_get-get_or}
+use Rattle.std.proofs.lemmas.Option.{get_or_from_slice_get, none-some, same_Some, slice_get_within, slice_get-get_or}
 use Rattle.mvt_plane.specs.Geometry.Apart.{HaveNothingInCommon}
 use Rattle.mvt_plane.specs.Geometry.Below.{PassesBelow, HasOddBelow}
 use Rattle.mvt_plane.specs.Geometry.Inside.{IsInside}
@@ -19,10 +19,12 @@ use Rattle.mvt_plane.proofs.Orders.Order.{zs}
 use Rattle.mvt_plane.proofs.Points.RationalPoints.{begin_lies_on}
 use Rattle.mvt_plane.proofs.Rings.RingEdges.{count_of_edges, ends_of_edge}
 use Rattle.mvt_polygon.specs.Meeting.{NoMeeting}
-use Rattle.mvt_polygon.specs.Calls.RingNotes.{IsNoteAbove, IsNoteOf}
+use Rattle.mvt_polygon.specs.Calls.RingNotes.{around_directly, IsNoteAbove, IsNoteOf}
 use Rattle.mvt_polygon.specs.Calls.RingsAround.{IsAround, odd_at, odd_in}
 use Rattle.mvt_polygon.specs.Calls.RingsBelow.{AreRingsInRange, HaveOddBelow, HaveNoneBelow, IsRingAround, IsRingBelow, IsLeastVertex}
 use Rattle.mvt_polygon.specs.declared.sweep.notes.Around.{Around}
+use Rattle.mvt_polygon.specs.declared.sweep.notes.Around.TheVariants.{Unknown, Nothing}
+use Rattle.mvt_polygon.proofs.Notes.NoteWrites.{nearest_directly, odd_directly}
 use Rattle.mvt_polygon.proofs.Holes.NestOnce.{nothing_in_common}
 use Rattle.mvt_polygon.proofs.Notes.RingParities.{none_odd, odd_below, odd_below_decides, one_test, no_test, alike_tests, odd_rings, odd_rings_decide, none_has_odd, all_but_one}
 
@@ -294,8 +296,8 @@ around_by_below rings ring position none in_range first outer = (there, back)
 -- ---- what is noted
 
 -- where no edge passes below its first vertex, no ring is around a ring
-pub note_of_none : (rings : List (List Position)) (notes : List (Option Around)) (ring : ℕ) (position : Position) → NoMeeting rings → AreRingsInRange rings → IsLeastVertex rings ring position
-    → HaveNoneBelow position rings → IsNoteOf rings notes ring (record { nearest = None; odd = false })
+pub note_of_none : (rings : List (List Position)) (notes : List Around) (ring : ℕ) (position : Position) → NoMeeting rings → AreRingsInRange rings → IsLeastVertex rings ring position
+    → HaveNoneBelow position rings → IsNoteOf rings notes ring Nothing
 note_of_none rings notes ring position none in_range first nothing =
     let none_of : (number : ℕ) (vertices : List Position) → slice_get rings number ≡ Some vertices → ¬ HasOddBelow position vertices = λ number vertices there.
     none_odd (PassesBelow position) (edges vertices)
@@ -323,8 +325,8 @@ turns false true odd same is = absurd (cc)
 turns false false odd same is = absurd (cc)
 
 -- what is noted of a ring whose first vertex is directly above an edge of another is right
-pub note_of_above : (rings : List (List Position)) (notes : List (Option Around)) (ring below : ℕ) (position : Position) (one new : Around) (odd : Bool) → NoMeeting rings → AreRingsInRange rings
-    → IsLeastVertex rings ring position → IsRingBelow position rings below → slice_get notes below ≡ Some (Some one) → IsNoteOf rings notes below one → IsNoteAbove one below odd new
+pub note_of_above : (rings : List (List Position)) (notes : List Around) (ring below : ℕ) (position : Position) (one new : Around) (odd : Bool) → NoMeeting rings → AreRingsInRange rings
+    → IsLeastVertex rings ring position → IsRingBelow position rings below → slice_get notes below ≡ Some one → IsNoteOf rings notes below one → IsNoteAbove one below odd new
     → IsTrue odd ↔ HaveOddBelow position rings → IsNoteOf rings notes ring new
 note_of_above rings notes ring below position one new odd none in_range first under there noted is_above decides = either is_above
   where
@@ -334,10 +336,10 @@ note_of_above rings notes ring below position one new odd none in_range first un
     has : Bool
     has = odd_below position it.its_ring
 
-    parity : odd ≡ apart has one.odd
+    parity : odd ≡ apart has (odd_in one)
     parity =
         one_test odd (odd_rings (odd_below position) rings) decides (odd_rings_decide position rings) ∙ parities rings ring below position noted.position it
-        ∙ ap (apart has) (one_test (odd_rings (odd_below noted.position) rings) one.odd (odd_rings_decide noted.position rings) noted.odd)
+        ∙ ap (apart has) (one_test (odd_rings (odd_below noted.position) rings) (odd_in one) (odd_rings_decide noted.position rings) noted.odd)
 
     own : (outer : ℕ) → IsAround rings outer ring ↔ IsRingAround rings position outer
     own outer = around_by_below rings ring position none in_range first outer
@@ -360,9 +362,9 @@ note_of_above rings notes ring below position one new odd none in_range first un
       | inr differ ↦ others outer differ
     ]
 
-    kept : odd ≡ one.odd → IsNoteOf rings notes ring one
+    kept : odd ≡ odd_in one → IsNoteOf rings notes ring one
     kept same =
-        let around = all (leaves has one.odd odd same parity) in
+        let around = all (leaves has (odd_in one) odd same parity) in
         record {
           position = position;
           first = first;
@@ -379,16 +381,18 @@ note_of_above rings notes ring below position one new odd none in_range first un
       | inr differ ↦ (λ around. inr ((others outer differ).0 around), λ either. elim either [ inl same ↦ absurd (differ same) | inr around ↦ (others outer differ).1 around ])
     ]
 
-    added : odd ≡ not one.odd → IsNoteOf rings notes ring (record { nearest = Some below; odd = odd })
+    added : odd ≡ not (odd_in one) → IsNoteOf rings notes ring (around_directly below odd)
     added turned =
         record {
           position = position;
           first = first;
-          odd = decides;
-          alone = λ nothing. absurd (cc);
-          even = λ nothing. absurd (cc);
-          around = λ nearest is outer. subst (λ (n : ℕ). IsAround rings outer ring ↔ ((outer ≡ n) ⊎ IsAround rings outer n)) (same_Some below nearest is) (directly (turns has one.odd odd turned parity) outer);
-          turned = λ nearest is. subst (λ (n : ℕ). odd ≡ not (odd_at notes n)) (same_Some below nearest is) (turned ∙ ap (λ (it : Option Around). not (odd_in it)) (sym (get_or_from_slice_get notes below (Some one) None there)));
+          odd = subst (λ (b : Bool). IsTrue b ↔ HaveOddBelow position rings) (sym (odd_directly below odd)) decides;
+          alone = λ nothing. absurd (none-some below (sym nothing ∙ nearest_directly below odd));
+          even = λ nothing. absurd (none-some below (sym nothing ∙ nearest_directly below odd));
+          around = λ nearest is outer. subst (λ (n : ℕ). IsAround rings outer ring ↔ ((outer ≡ n) ⊎ IsAround rings outer n)) (same_Some below nearest (sym (nearest_directly below odd) ∙ is)) (directly (turns has (odd_in one) odd turned parity) outer);
+          turned = λ nearest is. odd_directly below odd
+              ∙ subst (λ (n : ℕ). odd ≡ not (odd_at notes n)) (same_Some below nearest (sym (nearest_directly below odd) ∙ is))
+              (turned ∙ ap (λ (it : Around). not (odd_in it)) (sym (get_or_from_slice_get notes below one Unknown there)));
         }
 
     either : IsNoteAbove one below odd new → IsNoteOf rings notes ring new

@@ -1,5 +1,5 @@
 -- How many polygons are around each ring, counted from the outermost rings on.
-use Rattle.std.proofs.Common.{◌≡◌, ◌≢◌, ◌⊎◌, inl, inr, ℕ, ◌+◌, ◌^◌, ◌<◌, ◌≤◌, List, [], ◌∷◌, ◌++◌, length, get_or, slice_get, Option, Some, None, refl, sym, ◌∙◌, ap, subst, arith}
+use Rattle.std.proofs.Common.{◌≡◌, ◌≢◌, ◌⊎◌, inl, inr, ℕ, ◌+◌, ◌^◌, ◌<◌, ◌≤◌, List, [], ◌∷◌, ◌++◌, length, get_or, slice_get, Some, None, refl, sym, ◌∙◌, ap, subst, arith}
 use Rattle.std.proofs.lemmas.Bool.{cases_lt, cases_eq}
 use Rattle.std.proofs.Math.ListN.{set, length-set}
 use Rattle.std.proofs.lemmas.List.{length_push, get_or-set_same, get_or-set_other}
@@ -32,7 +32,7 @@ one_ring_more many counts nothing = record {
 -- ---- ring by ring
 
 -- the rings that were come to before this place are counted, and those with none around them stay at none
-pub record AreCountedTo (notes : List (Option Around)) (come_to : List ℕ) (passings : List Passing) (to : ℕ) (counts : List ℕ) : Type 0 where
+pub record AreCountedTo (notes : List Around) (come_to : List ℕ) (passings : List Passing) (to : ℕ) (counts : List ℕ) : Type 0 where
   pub size : length counts ≡ length passings
   pub outermost : (ring count : ℕ) → nearest_at notes ring ≡ None → slice_get counts ring ≡ Some count → count ≡ 0
   pub counted : (count_of : ℕ → ℕ) → AreCounts notes passings count_of → (at ring count : ℕ) → at < to → slice_get come_to at ≡ Some ring → slice_get counts ring ≡ Some count → count ≡ count_of ring
@@ -42,7 +42,7 @@ count_there : (counts : List ℕ) (ring : ℕ) → (ring < length counts) → (c
 count_there counts ring within = (get_or counts ring 0, slice_get-get_or counts ring 0 within)
 
 -- before the first place nothing is counted
-pub none_counted : (notes : List (Option Around)) (come_to : List ℕ) (passings : List Passing) (counts : List ℕ) → AreNothing (length passings) counts → AreCountedTo notes come_to passings 0 counts
+pub none_counted : (notes : List Around) (come_to : List ℕ) (passings : List Passing) (counts : List ℕ) → AreNothing (length passings) counts → AreCountedTo notes come_to passings 0 counts
 none_counted notes come_to passings counts nothing = record {
   size = nothing.size;
   outermost = λ ring count none there. nothing.each ring count there;
@@ -50,7 +50,7 @@ none_counted notes come_to passings counts nothing = record {
 }
 
 -- a ring with none around it has been counted
-pub outermost_counted : (notes : List (Option Around)) (come_to : List ℕ) (passings : List Passing) (to own : ℕ) (counts : List ℕ) → AreInwards (length passings) notes come_to
+pub outermost_counted : (notes : List Around) (come_to : List ℕ) (passings : List Passing) (to own : ℕ) (counts : List ℕ) → AreInwards (length passings) notes come_to
     → slice_get come_to to ≡ Some own → nearest_at notes own ≡ None → AreCountedTo notes come_to passings to counts → AreCountedTo notes come_to passings (to + 1) counts
 outermost_counted notes come_to passings to own counts inwards here none done = record {
   size = done.size;
@@ -84,7 +84,7 @@ written counts at value ring count within there = elim (cases_eq ring at) [
 ]
 
 -- a ring directly within another is counted by that one's count
-pub inner_counted : (notes : List (Option Around)) (come_to : List ℕ) (passings : List Passing) (to own near outer value : ℕ) (passing : Passing) (counts : List ℕ) → AreInwards (length passings) notes come_to
+pub inner_counted : (notes : List Around) (come_to : List ℕ) (passings : List Passing) (to own near outer value : ℕ) (passing : Passing) (counts : List ℕ) → AreInwards (length passings) notes come_to
     → slice_get come_to to ≡ Some own → nearest_at notes own ≡ Some near → slice_get counts near ≡ Some outer → slice_get passings near ≡ Some passing → IsNextCount passing outer value
     → AreCountedTo notes come_to passings to counts → AreCountedTo notes come_to passings (to + 1) (set counts own value)
 inner_counted notes come_to passings to own near outer value passing counts inwards here is its_outer its_passing next done =
@@ -113,7 +113,7 @@ inner_counted notes come_to passings to own near outer value passing counts inwa
     }
 
 -- the count within a ring can be decided
-pub next_there : (notes : List (Option Around)) (come_to : List ℕ) (passings : List Passing) (to own near outer : ℕ) (passing : Passing) (counts : List ℕ) → AreInwards (length passings) notes come_to
+pub next_there : (notes : List Around) (come_to : List ℕ) (passings : List Passing) (to own near outer : ℕ) (passing : Passing) (counts : List ℕ) → AreInwards (length passings) notes come_to
     → ((count_of : ℕ → ℕ) × AreCounts notes passings count_of) → slice_get come_to to ≡ Some own → nearest_at notes own ≡ Some near → slice_get counts near ≡ Some outer
     → slice_get passings near ≡ Some passing → AreCountedTo notes come_to passings to counts → (inner : ℕ) × (inner < 2 ^ 64) × IsNextCount passing outer inner
 next_there notes come_to passings to own near outer passing counts inwards some here is its_outer its_passing done =
@@ -123,7 +123,7 @@ next_there notes come_to passings to own near outer passing counts inwards some 
     (count_of own, are.few own, subst (λ (count : ℕ). IsNextCount passing count (count_of own)) (sym known) (are.inner own near passing (inwards.only to own here) is its_passing))
 
 -- at the end each ring is counted
-pub all_counted : (notes : List (Option Around)) (come_to : List ℕ) (passings : List Passing) (to : ℕ) (counts : List ℕ) → AreInwards (length passings) notes come_to → length come_to ≤ to
+pub all_counted : (notes : List Around) (come_to : List ℕ) (passings : List Passing) (to : ℕ) (counts : List ℕ) → AreInwards (length passings) notes come_to → length come_to ≤ to
     → AreCountedTo notes come_to passings to counts → (count_of : ℕ → ℕ) → AreCounts notes passings count_of → (ring : ℕ) → ring < length passings → slice_get counts ring ≡ Some (count_of ring)
 all_counted notes come_to passings to counts inwards past done count_of are ring within =
     let (at, there) = inwards.listed ring within in

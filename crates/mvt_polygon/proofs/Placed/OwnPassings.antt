@@ -21,7 +21,7 @@ use Rattle.mvt_polygon.proofs.Notes.AroundEachOther.{outer_within, nearest_aroun
 -- ---- by notes
 
 -- notes as a list are notes of each ring
-pub noted_by : (rings : List (List Position)) (notes : List (Option Around)) (come_to : List ℕ) → AreNoted rings notes come_to → AreNotedBy rings (nearest_at notes) (odd_at notes) come_to
+pub noted_by : (rings : List (List Position)) (notes : List Around) (come_to : List ℕ) → AreNoted rings notes come_to → AreNotedBy rings (nearest_at notes) (odd_at notes) come_to
 noted_by rings notes come_to noted = record {
   alone = noted.alone;
   even = noted.even;
@@ -75,7 +75,7 @@ by_nearest rings noted None (Some (suc hole)) (suc ring) within is its =
     (not_entered rings ring, λ leaves. leaves.alone (suc hole) (hole_after rings hole (outer_within rings (suc hole) (suc ring) around)) around)
 
 -- the same of what a list of notes has
-pub own_passing : (rings : List (List Position)) (notes : List (Option Around)) (come_to : List ℕ) (ring : ℕ) (passing : Passing) → AreNoted rings notes come_to → ring < length rings
+pub own_passing : (rings : List (List Position)) (notes : List Around) (come_to : List ℕ) (ring : ℕ) (passing : Passing) → AreNoted rings notes come_to → ring < length rings
     → passing ≡ passing_by (nearest_at notes 0) ring (nearest_at notes ring) → IsPassing rings (one_polygon rings) ring passing
 own_passing rings notes come_to ring passing noted within is =
     subst (IsPassing rings (one_polygon rings) ring) (sym is) (by_nearest rings (noted_by rings notes come_to noted) (nearest_at notes 0) (nearest_at notes ring) ring within refl refl)

@@ -1,5 +1,5 @@
 -- Where all polygons are placed, by notes of the rings around rings; and how many polygons are around each ring.
-use Rattle.std.proofs.Common.{◌≡◌, ◌↔◌, inl, inr, ℕ, suc, ◌^◌, ◌<◌, ◌≤◌, Bool, false, IsTrue, List, length, slice_get, Option, Some, sym, ◌∙◌, subst, arith}
+use Rattle.std.proofs.Common.{◌≡◌, ◌↔◌, inl, inr, ℕ, suc, ◌^◌, ◌<◌, ◌≤◌, Bool, false, IsTrue, List, length, slice_get, Some, sym, ◌∙◌, subst, arith}
 use Rattle.std.proofs.lemmas.Bool.{cases_lt}
 use Rattle.std.proofs.lemmas.Option.{slice_get_within, same_Some}
 use Rattle.mvt_plane.specs.Geometry.Polygon.{PolygonRings, IsExteriorOf, first, next, IsPolygon, IsHoleOf}
@@ -78,11 +78,11 @@ placed_where_clear rings clear polygon it is_it = record { nested = clear.nestin
 -- ---- right notes
 
 -- the notes of each polygon of the list are right
-abbrev pub AreRightOf : List (ℕ × ℕ) → List (Option Around) → Type 0
+abbrev pub AreRightOf : List (ℕ × ℕ) → List Around → Type 0
 AreRightOf polygons notes = (polygon : ℕ) → polygon < length polygons → HasRightNotes notes (rings_at polygons polygon) (rings_at polygons polygon).after
 
 -- exactly where those of all are
-right_of_all : (rings : List (List Position)) (polygons : List (ℕ × ℕ)) (notes : List (Option Around)) → ArePolygons rings polygons
+right_of_all : (rings : List (List Position)) (polygons : List (ℕ × ℕ)) (notes : List Around) → ArePolygons rings polygons
     → AreRightOf polygons notes ↔ AreNotesRight rings (nearest_at notes) (odd_at notes)
 right_of_all rings polygons notes listed = (
   λ right. record {
@@ -123,7 +123,7 @@ not_placed rings polygons notes test able proper listed noted decides failed pla
 -- ---- numbers of polygons
 
 -- the order of the notes, by the list of what rings are
-pub in_order : (rings : List (List Position)) (notes : List (Option Around)) (come_to : List ℕ) (count : ℕ) → AreNoted rings notes come_to → length rings ≡ count → AreInwards count notes come_to
+pub in_order : (rings : List (List Position)) (notes : List Around) (come_to : List ℕ) (count : ℕ) → AreNoted rings notes come_to → length rings ≡ count → AreInwards count notes come_to
 in_order rings notes come_to count noted size = subst (λ (many : ℕ). AreInwards many notes come_to) size (record {
   noted = noted.count;
   known = noted.known;
@@ -133,7 +133,7 @@ in_order rings notes come_to count noted size = subst (λ (many : ℕ). AreInwar
 })
 
 -- how many polygons are around each ring
-pub are_counts : (rings : List (List Position)) (polygons : List (ℕ × ℕ)) (notes : List (Option Around)) (come_to : List ℕ) (passings : List Passing) → ArePolygonRings rings → ArePolygons rings polygons
+pub are_counts : (rings : List (List Position)) (polygons : List (ℕ × ℕ)) (notes : List Around) (come_to : List ℕ) (passings : List Passing) → ArePolygonRings rings → ArePolygons rings polygons
     → AreNoted rings notes come_to → ArePassings rings passings → length passings ≡ length rings → length passings < 2 ^ 64 → AreCounts notes passings (around_count rings polygons)
 are_counts rings polygons notes come_to passings able listed noted passed size fits =
     let by = noted_by rings notes come_to noted in

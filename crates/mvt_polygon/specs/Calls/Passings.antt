@@ -45,14 +45,14 @@ IsNextCount Leaves outer inner = inner + 1 ≡ outer
 IsNextCount Neither outer inner = inner ≡ outer
 
 -- so many polygons are around each ring, by the ring directly around it
-pub record AreCounts (notes : List (Option Around)) (passings : List Passing) (count_of : ℕ → ℕ) : Type 0 where
+pub record AreCounts (notes : List Around) (passings : List Passing) (count_of : ℕ → ℕ) : Type 0 where
   pub few : (ring : ℕ) → count_of ring < 2 ^ 64
   pub outermost : (ring : ℕ) → ring < length passings → nearest_at notes ring ≡ None → count_of ring ≡ 0
   pub inner : (ring near : ℕ) (passing : Passing) → ring < length passings → nearest_at notes ring ≡ Some near → slice_get passings near ≡ Some passing
       → IsNextCount passing (count_of near) (count_of ring)
 
 -- these are all rings, each after the one directly around it
-pub record AreInwards (count : ℕ) (notes : List (Option Around)) (come_to : List ℕ) : Type 0 where
+pub record AreInwards (count : ℕ) (notes : List Around) (come_to : List ℕ) : Type 0 where
   pub noted : length notes ≡ count
   pub known : (ring near : ℕ) → ring < count → nearest_at notes ring ≡ Some near → near < count
   pub listed : (ring : ℕ) → ring < count → (at : ℕ) × (slice_get come_to at ≡ Some ring)
@@ -63,7 +63,7 @@ pub record AreInwards (count : ℕ) (notes : List (Option Around)) (come_to : Li
 -- The places of polygons
 
 -- the exterior has an even number of rings around it, and each hole lies directly in it
-pub record HasRightNotes (notes : List (Option Around)) (its : PolygonRings) (to : ℕ) : Type 0 where
+pub record HasRightNotes (notes : List Around) (its : PolygonRings) (to : ℕ) : Type 0 where
   pub even : odd_at notes its.exterior ≡ false
   pub directly : (hole : ℕ) → its.exterior < hole → hole < to → nearest_at notes hole ≡ Some its.exterior
 

@@ -1,9 +1,10 @@
 -- Which rings of a feature are around which.
-use Rattle.std.specs.Prelude.{◌≡◌, ◌≢◌, ◌<◌, ◌⊎◌, ◌↔◌, ℕ, Bool, false, not, List, length, slice_get, slice_index_or, Option, Some, None}
+use Rattle.std.specs.Prelude.{◌≡◌, ◌≢◌, ◌<◌, ◌⊎◌, ◌↔◌, ℕ, Bool, true, false, not, List, length, slice_get, slice_index_or, Option, Some, None}
 use Rattle.mvt_plane.specs.Geometry.Inside.{IsInside}
 use Rattle.mvt_plane.specs.Geometry.Nesting.{IsVertexOf}
 use Rattle.mvt_plane.specs.Position.{Position}
 use Rattle.mvt_polygon.specs.declared.sweep.notes.Around.{Around}
+use Rattle.mvt_polygon.specs.declared.sweep.notes.Around.TheVariants.{Unknown, Nothing, Even, Odd}
 
 -- the one ring is around the other: its first vertex is inside it
 pub record IsAround (rings : List (List Position)) (outer inner : ℕ) : Type 0 where
@@ -17,26 +18,30 @@ pub record IsAround (rings : List (List Position)) (outer inner : ℕ) : Type 0 
 -- What is noted of rings, each by its number
 
 -- the ring directly around one of which this is noted
-abbrev pub nearest_in : Option Around → Option ℕ
-nearest_in None = None
-nearest_in (Some around) = around.nearest
+abbrev pub nearest_in : Around → Option ℕ
+nearest_in Unknown = None
+nearest_in Nothing = None
+nearest_in (Even nearest) = Some nearest
+nearest_in (Odd nearest) = Some nearest
 
 -- and whether an odd number of rings are around it
-abbrev pub odd_in : Option Around → Bool
-odd_in None = false
-odd_in (Some around) = around.odd
+abbrev pub odd_in : Around → Bool
+odd_in Unknown = false
+odd_in Nothing = false
+odd_in (Even nearest) = false
+odd_in (Odd nearest) = true
 
 -- the ring directly around the one of this number
-abbrev pub nearest_at : List (Option Around) → ℕ → Option ℕ
-nearest_at notes ring = nearest_in (slice_index_or notes ring None)
+abbrev pub nearest_at : List Around → ℕ → Option ℕ
+nearest_at notes ring = nearest_in (slice_index_or notes ring Unknown)
 
 -- whether an odd number of rings are around it
-abbrev pub odd_at : List (Option Around) → ℕ → Bool
-odd_at notes ring = odd_in (slice_index_or notes ring None)
+abbrev pub odd_at : List Around → ℕ → Bool
+odd_at notes ring = odd_in (slice_index_or notes ring Unknown)
 
 -- What is noted of all rings: which one is directly around each (all others around it are around that one too), and an
 -- order in which each is after the one directly around it.
-pub record AreNoted (rings : List (List Position)) (notes : List (Option Around)) (come_to : List ℕ) : Type 0 where
+pub record AreNoted (rings : List (List Position)) (notes : List Around) (come_to : List ℕ) : Type 0 where
   pub count : length notes ≡ length rings
   pub alone : (ring : ℕ) → ring < length rings → nearest_at notes ring ≡ None → (outer : ℕ) → ¬ IsAround rings outer ring
   pub even : (ring : ℕ) → ring < length rings → nearest_at notes ring ≡ None → odd_at notes ring ≡ false

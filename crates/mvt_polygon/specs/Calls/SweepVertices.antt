@@ -1,5 +1,5 @@
 -- The vertices of rings in one list. Each has the number of the edge that begins in it.
-use Rattle.std.specs.Prelude.{◌≡◌, ◌≢◌, ◌-◌, ◌+◌, ◌==◌, ◌<◌, cond, ℕ, Bool, List, length, take, slice_get, Option, Some, None, ℤ}
+use Rattle.std.specs.Prelude.{◌≡◌, ◌≢◌, ◌-◌, ◌+◌, ◌==◌, ◌<◌, ltb, cond, ℕ, Bool, List, length, take, slice_get, Option, Some, None, ℤ}
 use Rattle.mvt_plane.specs.Geometry.CommonPoint.{IsNamed}
 use Rattle.mvt_plane.specs.Geometry.EdgeOrder.{segment_between}
 use Rattle.mvt_plane.specs.Geometry.Measure.{orientation}
@@ -61,6 +61,10 @@ sweep_vertex_at vertices number = sweep_vertex_in vertices.list.now number
 -- its position
 abbrev pub position_at : SweepVertices → ℕ → Position
 position_at vertices number = position_in vertices.list.now number
+
+-- whether it is the first one of its ring: its far end comes after it
+abbrev pub is_first_at : SweepVertices → ℕ → Bool
+is_first_at vertices number = ltb number (sweep_vertex_at vertices number).far_end
 
 -- the number of the vertex after it in its ring, where its edge ends
 abbrev pub next_at : SweepVertices → ℕ → ℕ

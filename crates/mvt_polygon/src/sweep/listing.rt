@@ -54,7 +54,7 @@ pub(crate) fn list_few(rings: &[Vec<Point>], list: &mut FewVertices)
 }
 
 /// How many vertices rings have, or None where a `u32` is too small for their number.
-fn count_of(rings: &[Vec<Point>]) -> Option<usize>
+pub(super) fn count_of(rings: &[Vec<Point>]) -> Option<usize>
     ensures value { IfSome result (λ count. count ≡ vertex_count (rings_of rings.now)) }
     ensures few { IfSome result (λ count. count < 2 ^ 32) }
 {

@@ -10,6 +10,8 @@ ghost use Rattle.mvt_polygon.specs.declared.sweep.vertices.SweepVertices.{SweepV
 ghost use Rattle.mvt_polygon.specs.declared.sweep.notes.Around.{Around};
 ghost use Rattle.mvt_plane.specs.Geometry.Measure.{key_of};
 
+use crate::sweep::ring_index::RingIndex;
+use crate::sweep::vertices::SweepVertices;
 use mvt_plane::Point;
 use mvt_status::Split;
 use std::alloc::{AllocError, Global};
@@ -27,15 +29,20 @@ pub(crate) trait Notes: Drop {
 
     /// The line went over the vertex of this number: both edges of it began there, in this place
     /// among those that the line met; or an edge ended. The only error is that memory was refused.
-    fn pass(&mut self, number: usize, begun: Option<Split>) -> Result<(), AllocError>
-        requires { (rings : List (List Position)) × (vertices : SweepVertices) × (key : ℤ)
-            × (edges : List ℕ) × are_noted rings vertices key self.old
-            × IsPassed vertices key number begun edges }
-        ensures { (rings : List (List Position)) (vertices : SweepVertices) (key : ℤ)
-            (edges : List ℕ) → are_noted rings vertices key self.old
-            → IsPassed vertices key number begun edges
-            → OnOk result (are_noted rings vertices (key_of (position_at vertices number))
-            self.new) };
+    fn pass(
+        &mut self,
+        vertices: &SweepVertices,
+        number: usize,
+        begun: Option<Split>,
+    ) -> Result<(), AllocError>
+        requires { (rings : List (List Position)) × (key : ℤ) × (edges : List ℕ)
+            × are_noted rings vertices.now key self.old
+            × IsPassed vertices.now key number begun edges }
+        ensures { (rings : List (List Position)) (key : ℤ) (edges : List ℕ)
+            → are_noted rings vertices.now key self.old
+            → IsPassed vertices.now key number begun edges
+            → OnOk result (are_noted rings vertices.now
+            (key_of (position_at vertices.now number)) self.new) };
 }
 
 /// Nothing is noted.
@@ -49,49 +56,73 @@ impl Notes for NoNotes {
         Ok(NoNotes)
     }
 
-    fn pass(&mut self, _number: usize, _begun: Option<Split>) -> Result<(), AllocError> {
+    fn pass(
+        &mut self,
+        _vertices: &SweepVertices,
+        _number: usize,
+        _begun: Option<Split>,
+    ) -> Result<(), AllocError> {
         Ok(())
     }
 }
 
-/// Which rings are around a ring.
+/// Which rings are around a ring, in eight bytes.
 #[derive(Clone, Copy)]
-pub(crate) struct Around {
-    /// The one directly around it: all others are around that one too.
-    nearest: Option<u32>,
-    /// Whether they are an odd number.
-    odd: bool,
+pub(crate) enum Around {
+    /// That isn't known: the line didn't come to the ring.
+    Unknown,
+    /// None are.
+    Nothing,
+    /// An even number are: this one directly, and the others around this one too.
+    Even(u32),
+    /// An odd number are, this one directly.
+    Odd(u32),
+}
+
+impl Around {
+    ghost use Rattle.std.specs.Prelude.{◌≡◌};
+    ghost use Rattle.mvt_polygon.specs.Calls.RingNotes.{around_directly};
+    ghost use Rattle.mvt_polygon.specs.Calls.RingsAround.{odd_in};
+
+    /// Directly around it is this ring, and an odd number of rings are around it or an even one.
+    fn directly(nearest: u32, odd: bool) -> Around
+        ensures { result ≡ around_directly nearest odd }
+    {
+        if odd {
+            Around::Odd(nearest)
+        } else {
+            Around::Even(nearest)
+        }
+    }
+
+    /// Whether an odd number are.
+    fn is_odd(self) -> bool
+        ensures { result ≡ odd_in self }
+    {
+        matches!(self, Around::Odd(_))
+    }
 }
 
 /// Of each ring which rings are around it.
 #[derive(Drop)]
 pub(crate) struct RingNotes {
-    /// By the number of each vertex, its ring.
-    ring_of: Vec<u32>,
-    /// By the number of each ring, what is around it, if the line came to it.
-    around: Vec<Option<Around>>,
+    /// Of which ring each vertex is.
+    index: RingIndex,
+    /// By the number of each ring, what is around it.
+    around: Vec<Around>,
     /// The rings that the line came to, in this order: each after those around it.
     come_to: Vec<u32>,
 }
 
 impl RingNotes {
     /// With nothing noted. The only error is that memory was refused, or that a `u32` is too small
-    /// for the number of rings.
+    /// for the number of rings or of vertices.
     pub(crate) fn new(alloc: Global, rings: &[Vec<Point>]) -> Result<RingNotes, AllocError>
         ensures { IfOk result (IsNew (rings_of rings.now)) }
     {
-        if rings.len() > u32::MAX as usize {
-            return Err(AllocError);
-        }
-        let mut ring_of = Vec::new(alloc);
-        let mut around = Vec::with_capacity(alloc, rings.len())?;
-        for ring in 0..rings.len() {
-            add_vertices(&mut ring_of, ring as u32, rings[ring].len())?;
-            around.push(None)?;
-        }
         Ok(RingNotes {
-            ring_of,
-            around,
+            index: RingIndex::new(alloc, rings)?,
+            around: vec![in alloc; Around::Unknown; rings.len()]?,
             come_to: Vec::with_capacity(alloc, rings.len())?,
         })
     }
@@ -101,9 +132,9 @@ impl RingNotes {
         requires { ring < length self.now.around.items }
         ensures { result ≡ nearest_at self.now.around.items ring }
     {
-        match self.around[ring]?.nearest {
-            Some(nearest) => Some(nearest as usize),
-            None => None,
+        match self.around[ring] {
+            Around::Unknown | Around::Nothing => None,
+            Around::Even(nearest) | Around::Odd(nearest) => Some(nearest as usize),
         }
     }
 
@@ -112,10 +143,7 @@ impl RingNotes {
         requires { ring < length self.now.around.items }
         ensures { result ≡ odd_at self.now.around.items ring }
     {
-        match self.around[ring] {
-            Some(around) => around.odd,
-            None => false,
-        }
+        self.around[ring].is_odd()
     }
 
     /// All rings, each after the one directly around it.
@@ -130,15 +158,14 @@ impl RingNotes {
     /// this makes the rings an odd or an even number.
     fn around_above(&self, below: u32, odd: bool) -> Around
         requires { below < length self.now.around.items }
-        ensures { (around : Around) → slice_get self.now.around.items below ≡ Some (Some around)
+        ensures { (around : Around) → slice_get self.now.around.items below ≡ Some around
             → IsNoteAbove around below odd result }
     {
-        match self.around[below as usize] {
-            Some(around) if around.odd == odd => around,
-            _ => Around {
-                nearest: Some(below),
-                odd,
-            },
+        let around = self.around[below as usize];
+        if around.is_odd() == odd {
+            around
+        } else {
+            Around::directly(below, odd)
         }
     }
 }
@@ -150,33 +177,28 @@ impl Notes for RingNotes {
         RingNotes::new(alloc, rings)
     }
 
-    fn pass(&mut self, number: usize, begun: Option<Split>) -> Result<(), AllocError> {
+    fn pass(
+        &mut self,
+        vertices: &SweepVertices,
+        number: usize,
+        begun: Option<Split>,
+    ) -> Result<(), AllocError> {
         let Some(place) = begun else {
             return Ok(());
         };
-        let ring = self.ring_of[number];
-        if self.around[ring as usize].is_some() {
+        let ring = self.index.ring_of(vertices, number);
+        let Around::Unknown = self.around[ring as usize] else {
             return Ok(());
-        }
-        let around = match place.front {
-            Some(edge) => self.around_above(self.ring_of[edge], place.point % 2 == 1),
-            None => Around {
-                nearest: None,
-                odd: false,
-            },
         };
-        self.around[ring as usize] = Some(around);
+        let around = match place.front {
+            Some(edge) => {
+                let below = self.index.ring_of(vertices, edge);
+                self.around_above(below, place.point % 2 == 1)
+            }
+            None => Around::Nothing,
+        };
+        self.around[ring as usize] = around;
         self.come_to.push(ring)?;
         Ok(())
     }
-}
-
-/// Adds the ring of so many vertices.
-fn add_vertices(ring_of: &mut Vec<u32>, ring: u32, vertices: usize) -> Result<(), AllocError>
-    ensures { OnOk result (ring_of.new.items ≡ ring_of.old.items ++ replicate vertices ring) }
-{
-    for _vertex in 0..vertices {
-        ring_of.push(ring)?;
-    }
-    Ok(())
 }

@@ -27,7 +27,7 @@ impl<'a> SweepVertices<'a> {
     ghost use Rattle.std.specs.Prelude.{◌≡◌, ◌≢◌, ◌<◌, IfNone, IfSome};
     ghost use Rattle.mvt_plane.specs.Counted.{ticked};
     ghost use Rattle.mvt_polygon.specs.Work.{AddsWork};
-    ghost use Rattle.mvt_polygon.specs.Calls.SweepVertices.{IsMeetingAt, sweep_count, edge_at, next_at, plan_of, position_at, previous_at, shared_at};
+    ghost use Rattle.mvt_polygon.specs.Calls.SweepVertices.{IsMeetingAt, sweep_count, edge_at, is_first_at, next_at, plan_of, position_at, previous_at, shared_at};
     ghost use Rattle.mvt_polygon.specs.Calls.Sweep.{Tested};
 
     /// The vertices of a list.
@@ -55,6 +55,15 @@ impl<'a> SweepVertices<'a> {
         ensures { result.now ≡ position_at self.now number }
     {
         &self.list[number].position
+    }
+
+    /// Whether the vertex of this number is the first of its ring: its far end comes after it.
+    #[inline]
+    pub(crate) fn is_first(&self, number: usize) -> bool
+        requires { number < sweep_count self.now }
+        ensures { result ≡ is_first_at self.now number }
+    {
+        number < self.list[number].far_end as usize
     }
 
     /// The number of the vertex after this one in its ring, where its edge ends.

@@ -85,7 +85,6 @@ pass-requires g c =
       | in-Ends w ↦ subst (HasBegun vertices number before) (sym w.begun-is) (subst step w.in-Ends.is c.in_ok-pair.ensures.step).1
     ] in (
       c.requires.noted.0,
-      vertices,
       c.loop-at.invariant.swept.swept.key,
       before,
       c.loop-at.invariant.swept.noted c.requires.noted.0 c.requires.noted.1,
@@ -112,7 +111,7 @@ loop-at-preserved g c =
     c.loop-at.invariant.swept.swept there told.1 in
     record {
       swept = noting_next vertices order c.loop-at.at key number after _ c.requires.order c.requires.strict there told.0
-          (λ rings first. c.in_ok-pass.ensures rings vertices c.loop-at.invariant.swept.swept.key before (c.loop-at.invariant.swept.noted rings first) passed);
+          (λ rings first. c.in_ok-pass.ensures rings c.loop-at.invariant.swept.swept.key before (c.loop-at.invariant.swept.noted rings first) passed);
       chains = elim c.match-branch-3.branch [ in-Begins w ↦ subst still w.in-Begins.is c.in_ok-pair.ensures.chains | in-Ends w ↦ subst still w.in-Ends.is c.in_ok-pair.ensures.chains ];
       counted = subst (λ (turns : ℕ). AddsWork (3 * (c.loop-at.at + 1)) (c.loop-at.at + 1 + turns * (2 * bits (sweep_count vertices))) (turns * (12 * bits (sweep_count vertices))) c.args.count.now c.go_over.new.count)
           (sym (turns_more vertices c.args.order.now c.loop-at.at c.loop-at-test.true)) (with_step g (goal.at.loop-at-preserved g c).After-go_over);

@@ -1,4 +1,4 @@
-use Rattle.std.proofs.Common.{◌≡◌, ◌≤◌, ℕ, List, length, remove, refl, sym, ap, subst, ◌∙◌, arith}
+use Rattle.std.proofs.Common.{◌≡◌, ◌≤◌, ℕ, List, length, remove, refl, sym, subst, ◌∙◌, arith}
 use Rattle.std.proofs.lemmas.List.Edits.{length-remove}
 use Rattle.mvt_plane.specs.Geometry.Measure.{key_of}
 use Rattle.mvt_polygon.specs.Calls.Chains.{above_of, below_of, edges_of, outside_of}
