@@ -41,7 +41,8 @@ prove_library() {
     touch "$folder/began"
     # (else the caller's environment could pick the compiler)
     if ! (cd "${folder%/out}" && env -u RT_BACKEND rt lib) </dev/null >"$log" 2>&1; then
-        say "it is not proved; the log is $log"
+        say "it is not proved; the log is $log, which ends so:"
+        tail -n 20 "$log" >&2
         return 1
     fi
     # what is edited meanwhile is newer
