@@ -1,5 +1,5 @@
 -- A search for a split point, which halves the part of the list where it is.
-use Rattle.std.proofs.Common.{◌≡◌, ℕ, suc, ◌+◌, ◌-◌, ◌*◌, ◌<◌, ◌≤◌, Bool, true, false, true≢false, List, length, slice_index, slice_index_or, ap, refl, sym, ◌∙◌, subst, inl, inr, arith}
+use Rattle.std.proofs.Common.{◌≡◌, ℕ, suc, ◌+◌, ◌-◌, ◌*◌, ◌<◌, ◌≤◌, Bool, true, false, true≢false, List, length, slice_index, slice_index_or, ap, sym, ◌∙◌, subst, inl, inr, arith}
 use Rattle.std.proofs.lemmas.Bool.{cases_lt}
 use Rattle.std.proofs.lemmas.List.{get_or_read}
 use Rattle.mvt_plane.specs.Counted.{Counted, ticked}
@@ -17,14 +17,12 @@ pub record SplitsWithin (answers : ℕ → Bool → Type 0) (edges : List ℕ) (
 pub there : (items edges : List ℕ) (at edge : ℕ) → items ≡ edges → at < length edges → edge ≡ slice_index_or items at edge → edge ≡ slice_index edges at
 there items edges at edge same within is = subst (λ (read : List ℕ). edge ≡ slice_index read at) same (get_or_read items at edge (omega (arith, ap length same)) is 0)
 
--- With as many probes to come as the part's length has digits, there are no more than the whole list's has. With one
+-- With as many checks to come as the part's length has digits, there are no more than the whole list's has. With one
 -- fewer than the next number has, there are no fewer than so many for the whole list.
-pub record ProbesLeft (left all : ℕ) (before now : Counted) : Type 0 where
-  pub tests : now.tests ≡ before.tests
-  pub no_fewer : before.probes ≤ now.probes
-  pub probes : now.probes + bits left ≤ before.probes + bits all
-  pub least : raised (bits (suc all) - 1) before.probes ≤ raised (bits (suc left) - 1) now.probes
-  pub visits : now.visits ≡ before.visits
+pub record ChecksLeft (left all checked : ℕ) : Type 0 where
+  pub most : checked + bits left ≤ bits all
+  pub least : bits (suc all) - 1 ≤ checked + (bits (suc left) - 1)
+  pub room : checked + left ≤ all
 
 -- at first this is the whole list
 pub whole_part : (answers : ℕ → Bool → Type 0) (edges : List ℕ) (to : ℕ) → to ≡ length edges → SplitsWithin answers edges 0 to
@@ -69,41 +67,32 @@ split_found answers edges from to point part none split =
     let same : point ≡ from = omega (arith, part.after point split, part.before point split) in
     subst (IsSplit answers edges) same split
 
-pub none_yet : (left all : ℕ) (before : Counted) → left ≡ all → ProbesLeft left all before before
-none_yet left all before same = record {
-  tests = refl;
-  no_fewer = omega arith;
-  probes = subst (λ (left : ℕ). before.probes + bits left ≤ before.probes + bits all) (sym same) (omega arith);
-  least = subst (λ (left : ℕ). raised (bits (suc all) - 1) before.probes ≤ raised (bits (suc left) - 1) before.probes) (sym same) (omega arith);
-  visits = refl;
+pub none_yet : (left all : ℕ) → left ≡ all → ChecksLeft left all 0
+none_yet left all same = subst (λ (left : ℕ). ChecksLeft left all 0) (sym same) (record { most = omega arith; least = omega arith; room = omega arith })
+
+-- with a check more, half of the part is left
+pub checks_half : (left half all checked : ℕ) → ChecksLeft left all checked → 0 < left → half * 2 ≤ left → left ≤ half * 2 + 2 → ChecksLeft half all (checked + 1)
+checks_half left half all checked so_far some no_more no_less = record {
+  most = omega (arith, so_far.most, digits_of_half half left some no_more);
+  least = omega (arith, so_far.least, digits_of_double half left no_less);
+  room = omega (arith, so_far.room, some, no_more);
 }
 
--- with a probe more, half of the part is left
-pub probes_half : (left half all : ℕ) (before now after : Counted) → ProbesLeft left all before now → AddsAtMost 1 0 now after → after.probes ≡ ticked now.probes
-    → 0 < left → half * 2 ≤ left → left ≤ half * 2 + 2 → ProbesLeft half all before after
-probes_half left half all before now after so_far more probed some no_more no_less = record {
-  tests = more.tests ∙ so_far.tests;
-  no_fewer = omega (arith, so_far.no_fewer, more.no_fewer_probes);
-  probes = omega (arith, so_far.probes, more.probes_added, digits_of_half half left some no_more);
-  least = omega (arith, so_far.least, probed, digits_of_double half left no_less);
-  visits = omega (arith, more.no_fewer_visits, more.visits_added, so_far.visits);
-}
-
--- the probes of a search that is done
-pub added : (left all : ℕ) (before now : Counted) → ProbesLeft left all before now → AddsAtMost (bits all) 0 before now
-added left all before now so_far = record {
-  tests = so_far.tests;
-  no_fewer_probes = so_far.no_fewer;
-  probes_added = omega (arith, so_far.probes);
-  no_fewer_visits = omega (arith, so_far.visits);
-  visits_added = omega (arith, so_far.visits);
+-- the checks of a search that is done
+pub added : (left all checked : ℕ) (before after : Counted) → ChecksLeft left all checked → AddsAtMost checked 0 before after → AddsAtMost (bits all) 0 before after
+added left all checked before after so_far work = record {
+  tests = work.tests;
+  no_fewer_probes = work.no_fewer_probes;
+  probes_added = omega (arith, so_far.most, work.probes_added);
+  no_fewer_visits = work.no_fewer_visits;
+  visits_added = work.visits_added;
 }
 
 -- as many at least
-pub added_at_least : (left all : ℕ) (before now : Counted) → left ≡ 0 → ProbesLeft left all before now → raised (bits (suc all) - 1) before.probes ≤ now.probes
-added_at_least left all before now none so_far =
+pub added_at_least : (left all checked before after : ℕ) → left ≡ 0 → ChecksLeft left all checked → after ≡ raised checked before → raised (bits (suc all) - 1) before ≤ after
+added_at_least left all checked before after none so_far probed =
     let last : bits (suc left) ≤ 1 = subst (λ (left : ℕ). bits (suc left) ≤ 1) (sym none) digits_of_one in
-    omega (arith, so_far.least)
+    omega (arith, so_far.least, probed)
 
 -- of a list with an edge one at least
 pub one_at_least : (all before now : ℕ) → 0 < all → raised (bits (suc all) - 1) before ≤ now → ticked before ≤ now

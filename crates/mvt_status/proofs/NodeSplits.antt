@@ -1,6 +1,7 @@
 -- The split of the edges of a tree, which is found in one of its nodes.
-use Rattle.std.proofs.Common.{◌≡◌, ℕ, zero, suc, Option, Some, None, refl, ◌+◌, ◌-◌, ◌<◌, ◌≤◌, Bool, true, false, true≢false, All, Bor, IfSome, inl, inr, List, [], ◌∷◌, ◌++◌, append_assoc, drop, take, length, length-append, get_or, slice_get, slice_index, ap, sym, subst, ◌∙◌, arith}
+use Rattle.std.proofs.Common.{◌≡◌, ℕ, zero, suc, Option, Some, None, refl, ◌+◌, ◌-◌, ◌<◌, ◌≤◌, ◌==◌, Bool, true, false, true≢false, All, inl, inr, List, [], ◌∷◌, ◌++◌, append_assoc, drop, take, length, length-append, get_or, slice_get, slice_index, ap, sym, subst, ◌∙◌, arith}
 use Rattle.std.proofs.lemmas.Bool.{cases_lt}
+use Rattle.std.proofs.lemmas.Bool.Decides.{nat_tests}
 use Rattle.std.proofs.lemmas.Option.{slice_get-get_or}
 use Rattle.std.proofs.lemmas.List.{get_or_append_left, get_or-append-add}
 use Rattle.mvt_status.specs.Split.{AreBeside, IsSplit, before}
@@ -81,11 +82,6 @@ with_first answers (first ∷ rest) further (point, some, split) part =
 
 -- A search that goes down
 
--- the edges of the last node, if there is one
-abbrev pub edges_in : Option (Bor (List ℕ)) → List ℕ
-edges_in None = []
-edges_in (Some own) = own.now
-
 -- the edges of the last node whose first edge is in front of the split, the part of the tree where the split is looked
 -- for, how many edges are in front of that part, and the first edge after it
 pub record IsSearched (answers : ℕ → Bool → Type 0) (edges own part : List ℕ) (passed : ℕ) (following : Option ℕ) : Type 0 where
@@ -98,14 +94,13 @@ pub record IsSearched (answers : ℕ → Bool → Type 0) (edges own part : List
   pub after : (point : ℕ) → IsSplit answers edges point → 0 < length own → length front < point
   pub no_further : (point : ℕ) → IsSplit answers edges point → point ≤ passed + length part
 
--- where there is a last node
-pub searched_in : (answers : ℕ → Bool → Type 0) (edges : List ℕ) (last : Option (Bor (List ℕ))) (own : Bor (List ℕ)) (part : List ℕ) (passed : ℕ) (following : Option ℕ) → last ≡ Some own
-    → IsSearched answers edges (edges_in last) part passed following → IsSearched answers edges own.now part passed following
-searched_in answers edges last own part passed following is found = subst (λ (list : List ℕ). IsSearched answers edges list part passed following) (ap edges_in is) found
+-- whether there is a last node
+pub none_there : (own : List ℕ) → (length own == 0) ≡ true → own ≡ []
+none_there [] is = refl
+none_there (edge ∷ rest) is = absurd (grind (arith, nat_tests, is))
 
--- what is true of it
-pub of_last : (P : Bor (List ℕ) → Type 0) (last : Option (Bor (List ℕ))) (own : Bor (List ℕ)) → last ≡ Some own → IfSome last P → P own
-of_last P last own is true_of_last = subst (λ (it : Option (Bor (List ℕ))). IfSome it P) is true_of_last
+pub some_there : (own : List ℕ) → (length own == 0) ≡ false → 0 < length own
+some_there own is = grind (arith, nat_tests, is)
 
 -- at first the part is all
 pub searched_all : (answers : ℕ → Bool → Type 0) (edges : List ℕ) → IsSearched answers edges [] edges 0 None

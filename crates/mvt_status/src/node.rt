@@ -28,12 +28,14 @@ pub(crate) type Side = Option<Box<Node>>;
 
 #[derive(Drop)]
 pub(crate) struct Node {
+    // (A search reads the sides, the size and the first edge of each node on its way: they are
+    // beside one another, so that it comes to one line of the cache there.)
     left: Side,
     right: Side,
-    // The edges between those on the left and those on the right, at least one.
-    own: Own,
     // How many edges there are in the node and on both sides.
     size: usize,
+    // The edges between those on the left and those on the right, at least one.
+    own: Own,
     // How many levels there are, this one included.
     height: u8,
 }
@@ -332,4 +334,13 @@ fn visit(count: &mut Count)
     ensures visited { count.new.visits ≡ ticked count.old.visits }
 {
     count.tick_visit();
+}
+
+/// Counts visits of so many nodes.
+#[inline(always)]
+pub(crate) fn visit_all(count: &mut Count, many: u64)
+    ensures counted { AddsAtMost 0 many count.old count.new }
+    ensures visited { 0 < many → ticked count.old.visits ≤ count.new.visits }
+{
+    count.tick_visits(many);
 }

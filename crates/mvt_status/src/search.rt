@@ -1,6 +1,5 @@
 //! A search by halves for the split of a list.
 ghost use Rattle.std.specs.Prelude.{◌≡◌, ℕ, ◌-◌, ◌≤◌, suc, All, length};
-ghost use Rattle.mvt_plane.specs.Counted.{ticked};
 ghost use Rattle.mvt_status.specs.Counts.{AddsAtMost, bits, raised};
 ghost use Rattle.mvt_status.specs.Split.{IsSplit};
 
@@ -18,28 +17,27 @@ pub(crate) fn split_in<F: Fn(usize) -> bool>(edges: &[usize], below: &F, count: 
     ensures probed { raised (bits (suc (length edges.now)) - 1) count.old.probes
         ≤ count.new.probes }
 {
-    // (while the search goes on, its count is in a register)
-    let mut counted = *count;
+    let mut checked: u64 = 0;
     let mut from = 0;
     let mut to = edges.len();
     'halves: while from < to {
         let middle = from + (to - from) / 2;
-        probe(&mut counted);
+        checked += 1;
         if below(edges[middle]) {
             from = middle + 1;
         } else {
             to = middle;
         }
     }
-    *count = counted;
+    probe_all(count, checked);
     from
 }
 
-/// Counts a comparison.
+/// Counts so many comparisons.
 #[inline(always)]
-pub(crate) fn probe(count: &mut Count)
-    ensures counted { AddsAtMost 1 0 count.old count.new }
-    ensures probed { count.new.probes ≡ ticked count.old.probes }
+fn probe_all(count: &mut Count, many: u64)
+    ensures counted { AddsAtMost many 0 count.old count.new }
+    ensures probed { count.new.probes ≡ raised many count.old.probes }
 {
-    count.tick_probe();
+    count.tick_probes(many);
 }

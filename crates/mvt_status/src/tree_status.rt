@@ -6,6 +6,7 @@ ghost use Rattle.mvt_status.specs.Split.{AreBeside, IsSplit};
 
 use crate::node::{
     Side, edge_at, insert_into, provide, remove_from, replace_in, size, split_of, take_two,
+    visit_all,
 };
 use crate::{Split, Status};
 use mvt_plane::Count;
@@ -76,7 +77,8 @@ impl Status for TreeStatus {
             return Err(AllocError);
         }
         provide(&mut self.spare, self.alloc, edge)?;
-        insert_into(&mut self.root, at, &[edge], &mut self.spare, count);
+        let (_, visits) = insert_into(&mut self.root, at, &[edge], &mut self.spare);
+        visit_all(count, visits);
         Ok(())
     }
 
@@ -98,7 +100,8 @@ impl Status for TreeStatus {
             return Err(AllocError);
         }
         provide(&mut self.spare, self.alloc, lower)?;
-        insert_into(&mut self.root, at, &[lower, upper], &mut self.spare, count);
+        let (_, visits) = insert_into(&mut self.root, at, &[lower, upper], &mut self.spare);
+        visit_all(count, visits);
         Ok(())
     }
 
@@ -121,7 +124,9 @@ impl Status for TreeStatus {
         ensures visited { ticked count.old.visits ≤ count.new.visits }
     {
         let mut out = (0, 0);
-        if take_two(&mut self.root, at, &mut out, count) {
+        let (is_out, visits) = take_two(&mut self.root, at, &mut out);
+        visit_all(count, visits);
+        if is_out {
             return out;
         }
         let lower = self.remove(at, count);

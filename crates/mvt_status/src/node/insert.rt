@@ -1,28 +1,23 @@
 //! Edges that are put into a tree.
 ghost use Rattle.std.specs.Prelude.{◌≡◌, ◌+◌, ◌^◌, ◌<◌, ◌≤◌, suc, IfSome, IsFalse, None, ◌++◌, drop, length, take};
-ghost use Rattle.mvt_plane.specs.Counted.{ticked};
-ghost use Rattle.mvt_status.specs.Counts.{AddsAtMost};
 ghost use Rattle.mvt_status.specs.Calls.Tree.{edges_of, fewest, height_of};
 
-use super::{
-    Node, Own, ROOM, Side, append, height, is_filled, join_over, refilled, settle, size, visit,
-};
+use super::{Node, Own, ROOM, Side, append, height, is_filled, join_over, refilled, settle, size};
 use arrayvec::ArrayVec;
-use mvt_plane::Count;
 
 /// How many edges stay in a node that is split.
 const HALF: usize = ROOM / 2;
 
 /// Inserts up to four edges in front of the one at a place. Where the nodes there have no room, the
-/// spare node is used; it is None then. Ticks a visit for each node on the way there. Answers
-/// whether the side has another height now, so that the node above needn't look.
+/// spare node is used; it is None then. Answers whether the side has another height now, so that
+/// the node above needn't look, and how many nodes were visited. (The caller counts them all at
+/// once, which costs less than a count in memory at each node.)
 pub(crate) fn insert_into(
     side: &mut Side,
     at: usize,
     new: &[usize],
     spare: &mut Side,
-    count: &mut Count,
-) -> bool
+) -> (bool, u64)
     requires within { at ≤ length (edges_of side.old) }
     requires some { 0 < length new.now }
     requires few { length new.now ≤ 4 }
@@ -30,49 +25,49 @@ pub(crate) fn insert_into(
     requires room { length (edges_of side.old) + length new.now < 2 ^ 64 }
     ensures edges { edges_of side.new ≡ take at (edges_of side.old) ++
         (new.now ++ drop at (edges_of side.old)) }
-    ensures level { IsFalse result → height_of side.new ≡ height_of side.old }
+    ensures level { IsFalse result.0 → height_of side.new ≡ height_of side.old }
     ensures not_lower { height_of side.old ≤ height_of side.new }
     ensures at_most_one_higher { height_of side.new ≤ height_of side.old + 1 }
     ensures spare { height_of spare.new ≤ 1 }
-    ensures counted { AddsAtMost 0 (height_of side.old) count.old count.new }
-    ensures visited { IfSome side.old (λ _. ticked count.old.visits ≤ count.new.visits) }
+    ensures counted { result.1 ≤ height_of side.old }
+    ensures visited { IfSome side.old (λ _. 0 < result.1) }
     ensures filled { fewest (height_of side.old) ≤ suc (length (edges_of side.old)) }
 {
     let Some(node) = side else {
         *side = filled_with(spare, new);
-        return true;
+        return (true, 0);
     };
-    visit(count);
     let top: &mut Node = node;
     let before = size(&top.left);
     let following = before + top.own.len();
     top.size += new.len();
-    let is_changed = if at < before {
-        insert_into(&mut top.left, at, new, spare, count)
+    let (is_changed, below) = if at < before {
+        insert_into(&mut top.left, at, new, spare)
     } else if following < at {
-        insert_into(&mut top.right, at - following, new, spare, count)
+        insert_into(&mut top.right, at - following, new, spare)
     } else if top.own.len() + new.len() <= ROOM {
         put_in(&mut top.own, at - before, new);
-        false
+        (false, 0)
     } else if at == before {
-        insert_into(&mut top.left, at, new, spare, count)
+        insert_into(&mut top.left, at, new, spare)
     } else if at < following {
         let upper = halved(&mut top.own, at - before, new, spare);
-        put_first(&mut top.right, upper, count)
+        put_first(&mut top.right, upper)
     } else {
-        insert_into(&mut top.right, 0, new, spare, count)
+        insert_into(&mut top.right, 0, new, spare)
     };
+    let visits = below + 1;
     is_filled(&top.left);
     is_filled(&top.right);
     if !is_changed {
-        return false;
+        return (false, visits);
     }
     let level = top.height;
     if let Some((left, right)) = settle(&mut top.left, &mut top.right, &mut top.height) {
         top.size = top.own.len();
         join_over(left, side, right);
     }
-    height(side) != level
+    (height(side) != level, visits)
 }
 
 /// A spare node with other edges.
@@ -147,36 +142,36 @@ fn halved(own: &mut Own, at: usize, new: &[usize], spare: &mut Side) -> Box<Node
     }
 }
 
-/// Puts a node in front of all others. Ticks a visit for each node on the way there. Answers
-/// whether the side has another height now.
+/// Puts a node in front of all others. Answers whether the side has another height now, and how
+/// many nodes were visited.
 #[inline(never)]
-fn put_first(side: &mut Side, new: Box<Node>, count: &mut Count) -> bool
+fn put_first(side: &mut Side, new: Box<Node>) -> (bool, u64)
     requires low { new.value.1 ≡ 1 }
     requires room { length (edges_of side.old) + length new.value.0 < 2 ^ 64 }
     ensures edges { edges_of side.new ≡ new.value.0 ++ edges_of side.old }
-    ensures level { IsFalse result → height_of side.new ≡ height_of side.old }
+    ensures level { IsFalse result.0 → height_of side.new ≡ height_of side.old }
     ensures not_lower { height_of side.old ≤ height_of side.new }
     ensures at_most_one_higher { height_of side.new ≤ height_of side.old + 1 }
-    ensures counted { AddsAtMost 0 (height_of side.old) count.old count.new }
+    ensures counted { result.1 ≤ height_of side.old }
 {
     let Some(node) = side else {
         *side = Some(new);
-        return true;
+        return (true, 0);
     };
-    visit(count);
     let top: &mut Node = node;
     let many = new.size;
-    let is_changed = put_first(&mut top.left, new, count);
+    let (is_changed, below) = put_first(&mut top.left, new);
+    let visits = below + 1;
     top.size += many;
     is_filled(&top.left);
     is_filled(&top.right);
     if !is_changed {
-        return false;
+        return (false, visits);
     }
     let level = top.height;
     if let Some((left, right)) = settle(&mut top.left, &mut top.right, &mut top.height) {
         top.size = top.own.len();
         join_over(left, side, right);
     }
-    height(side) != level
+    (height(side) != level, visits)
 }

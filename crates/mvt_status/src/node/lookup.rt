@@ -54,7 +54,7 @@ pub(crate) fn split_of<F: Fn(usize) -> bool>(side: &Side, below: &F, count: &mut
     size(side);
     let mut part: &Side = side;
     let mut passed: usize = 0;
-    let mut last: Option<&[usize]> = None;
+    let mut last: &[usize] = &[];
     let mut following = None;
     let mut depth: u64 = 0;
     'levels: while let Some(node) = part {
@@ -64,8 +64,8 @@ pub(crate) fn split_of<F: Fn(usize) -> bool>(side: &Side, below: &F, count: &mut
         depth += 1;
         let first = node.own[0];
         if below(first) {
-            passed += size(&node.left) + node.own.len();
-            last = Some(node.own.as_slice());
+            passed += node.size - size(&node.right);
+            last = node.own.as_slice();
             part = &node.right;
         } else {
             following = Some(first);
@@ -73,18 +73,18 @@ pub(crate) fn split_of<F: Fn(usize) -> bool>(side: &Side, below: &F, count: &mut
         }
     }
     pass(count, depth);
-    let Some(own) = last else {
+    if last.is_empty() {
         return Split {
             point: 0,
             front: None,
             following,
         };
-    };
-    let point = split_after_first(own, below, count);
+    }
+    let point = split_after_first(last, below, count);
     Split {
-        point: passed - (own.len() - point),
-        front: Some(own[point - 1]),
-        following: edge_or(own, point, following),
+        point: passed - (last.len() - point),
+        front: Some(last[point - 1]),
+        following: edge_or(last, point, following),
     }
 }
 

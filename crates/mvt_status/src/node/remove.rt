@@ -90,44 +90,40 @@ fn leave_out(own: &mut Own, at: usize, many: usize)
 
 /// Takes the edge at a place and the one after it out and writes them to `out`, if both are in one
 /// node that has others, so that no node changes its height. Else it answers false, and nothing is
-/// changed. Ticks a visit for each node on the way to the place.
-pub(crate) fn take_two(
-    side: &mut Side,
-    at: usize,
-    out: &mut (usize, usize),
-    count: &mut Count,
-) -> bool
-    ensures unchanged { IsFalse result → edges_of side.new ≡ edges_of side.old }
-    ensures edges { IsTrue result → edges_of side.new ≡ remove (remove (edges_of side.old) at) at }
-    ensures lower { IsTrue result → out.new.0 ≡ slice_index (edges_of side.old) at }
-    ensures upper { IsTrue result → out.new.1 ≡ slice_index (edges_of side.old) (at + 1) }
-    ensures within { IsTrue result → at + 1 < length (edges_of side.old) }
+/// changed. Answers also how many nodes were visited.
+pub(crate) fn take_two(side: &mut Side, at: usize, out: &mut (usize, usize)) -> (bool, u64)
+    ensures unchanged { IsFalse result.0 → edges_of side.new ≡ edges_of side.old }
+    ensures edges { IsTrue result.0 → edges_of side.new
+        ≡ remove (remove (edges_of side.old) at) at }
+    ensures lower { IsTrue result.0 → out.new.0 ≡ slice_index (edges_of side.old) at }
+    ensures upper { IsTrue result.0 → out.new.1 ≡ slice_index (edges_of side.old) (at + 1) }
+    ensures within { IsTrue result.0 → at + 1 < length (edges_of side.old) }
     ensures height { height_of side.new ≡ height_of side.old }
-    ensures counted { AddsAtMost 0 (height_of side.old) count.old count.new }
-    ensures visited { IfSome side.old (λ _. ticked count.old.visits ≤ count.new.visits) }
+    ensures counted { result.1 ≤ height_of side.old }
+    ensures visited { IfSome side.old (λ _. 0 < result.1) }
     ensures filled { fewest (height_of side.old) ≤ suc (length (edges_of side.old)) }
 {
     is_filled(side);
     let Some(node) = side else {
-        return false;
+        return (false, 0);
     };
-    visit(count);
     let top: &mut Node = node;
     let before = size(&top.left);
     let following = before + top.own.len();
-    let is_out = if at < before {
-        take_two(&mut top.left, at, out, count)
+    let (is_out, below) = if at < before {
+        take_two(&mut top.left, at, out)
     } else if at < following {
-        take_two_own(&mut top.own, at - before, out)
+        (take_two_own(&mut top.own, at - before, out), 0)
     } else {
-        take_two(&mut top.right, at - following, out, count)
+        take_two(&mut top.right, at - following, out)
     };
+    let visits = below + 1;
     is_filled(&top.left);
     is_filled(&top.right);
     if is_out {
         top.size -= 2;
     }
-    is_out
+    (is_out, visits)
 }
 
 /// The same among the edges of one node.

@@ -1,11 +1,11 @@
 use Rattle.std.proofs.Common.{ℕ, ◌+◌, ◌-◌, ◌/◌, ◌<◌, length, refl, of_calls, arith}
-use Rattle.mvt_status.proofs.Halves.{whole_part, none_yet, split_after, split_before, split_found, probes_half, added, added_at_least}
+use Rattle.mvt_status.proofs.Halves.{whole_part, none_yet, split_after, split_before, split_found, checks_half, added, added_at_least}
 use Rattle.mvt_status.proofs.search.split_in.Goals as goal
 
 pub halves-init : goal.halves-init
 halves-init g c = record {
   part = whole_part (goal.F-post g c.args.below.now) c.args.edges.now (length c.args.edges.now) refl;
-  probes = none_yet (length c.args.edges.now - 0) (length c.args.edges.now) c.args.count.now (omega arith);
+  checks = none_yet (length c.args.edges.now - 0) (length c.args.edges.now) (omega arith);
 }
 
 pub below-requires : goal.below-requires
@@ -20,8 +20,8 @@ halves-preserved-then-below g c =
     record {
       part = split_after (goal.F-post g c.args.below.now) c.args.edges.now c.halves.from c.halves.to middle c.halves.invariant.part before
           _ c.below.result refl c.below.ensures c.if-below.true;
-      probes = probes_half (c.halves.to - c.halves.from) (c.halves.to - (middle + 1)) (length c.args.edges.now) c.args.count.now c.halves.counted c.probe.new.count
-          c.halves.invariant.probes c.probe.ensures.counted c.probe.ensures.probed (omega (arith, c.halves-test.true)) (omega (arith, c.halves-test.true)) (omega (arith, c.halves-test.true));
+      checks = checks_half (c.halves.to - c.halves.from) (c.halves.to - (middle + 1)) (length c.args.edges.now) c.halves.checked c.halves.invariant.checks
+          (omega (arith, c.halves-test.true)) (omega (arith, c.halves-test.true)) (omega (arith, c.halves-test.true));
     }
 
 pub halves-preserved : goal.halves-preserved
@@ -31,8 +31,8 @@ halves-preserved g c =
     record {
       part = split_before (goal.F-post g c.args.below.now) c.args.edges.now c.halves.from c.halves.to middle c.halves.invariant.part before
           _ c.below.result refl c.below.ensures c.if-below.false;
-      probes = probes_half (c.halves.to - c.halves.from) (middle - c.halves.from) (length c.args.edges.now) c.args.count.now c.halves.counted c.probe.new.count
-          c.halves.invariant.probes c.probe.ensures.counted c.probe.ensures.probed (omega (arith, c.halves-test.true)) (omega (arith, c.halves-test.true)) (omega (arith, c.halves-test.true));
+      checks = checks_half (c.halves.to - c.halves.from) (middle - c.halves.from) (length c.args.edges.now) c.halves.checked c.halves.invariant.checks
+          (omega (arith, c.halves-test.true)) (omega (arith, c.halves-test.true)) (omega (arith, c.halves-test.true));
     }
 
 pub returns-clause-split : goal.returns-clause-split
@@ -40,7 +40,11 @@ returns-clause-split g c =
     split_found (goal.F-post g c.args.below.now) c.args.edges.now c.halves.from c.halves.to c.requires.splits.0 c.halves.invariant.part c.halves-test.false c.requires.splits.1
 
 pub returns-clause-counted : goal.returns-clause-counted
-returns-clause-counted g c = added (c.halves.to - c.halves.from) (length c.args.edges.now) c.args.count.now c.halves.counted c.halves.invariant.probes
+returns-clause-counted g c = added (c.halves.to - c.halves.from) (length c.args.edges.now) c.halves.checked c.args.count.now c.probe_all.new.count c.halves.invariant.checks c.probe_all.ensures.counted
 
 pub returns-clause-probed : goal.returns-clause-probed
-returns-clause-probed g c = added_at_least (c.halves.to - c.halves.from) (length c.args.edges.now) c.args.count.now c.halves.counted (omega (arith, c.halves-test.false)) c.halves.invariant.probes
+returns-clause-probed g c =
+    added_at_least (c.halves.to - c.halves.from) (length c.args.edges.now) c.halves.checked _ _ (omega (arith, c.halves-test.false)) c.halves.invariant.checks c.probe_all.ensures.probed
+
+pub overflow_add-checked : goal.overflow_add-checked
+overflow_add-checked g c = omega (arith, c.halves.invariant.checks.room, c.halves-test.true)

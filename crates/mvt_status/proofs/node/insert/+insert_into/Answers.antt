@@ -21,9 +21,9 @@ put_in_all t c =
     (ap (λ seen. seen.0) (c.top.view_is ∙ c.deref_mut-top.ensures.value) ∙ sym (ap edges_of c.in-Some.is)) c.top.invariant in
     elim c.if-at-before.branch [
       | then-at-before w ↦
-          rw w.top-inside-is (put_in_left _ _ _ (edges_of w.insert_into-is_changed.new.side) _ _ _ c.args.at c.size-before.result node c.size-before.ensures (omega arith) w.insert_into-is_changed.ensures.edges)
+          rw w.top-inside-is (put_in_left _ _ _ (edges_of w.insert_into.new.side) _ _ _ c.args.at c.size-before.result node c.size-before.ensures (omega arith) w.insert_into.ensures.edges)
       | else-at-before+then-following-at w ↦
-          rw w.top-inside-is (put_in_right _ _ _ (edges_of w.insert_into.new.side) _ _ _ c.args.at (c.size-before.result + c.len.result) node (omega arith) (omega arith) w.insert_into.ensures.edges)
+          rw w.top-inside-is (put_in_right _ _ _ (edges_of w.insert_into-then-following-at.new.side) _ _ _ c.args.at (c.size-before.result + c.len.result) node (omega arith) (omega arith) w.insert_into-then-following-at.ensures.edges)
       | else-at-before+else-following-at+then-len-new-le-ROOM w ↦
           rw w.top-inside-is (put_in_own _ _ _ w.put_in.new.own.items _ _ _ c.args.at c.size-before.result node c.size-before.ensures (omega arith) (omega arith) w.put_in.ensures)
       | else-at-before+else-following-at+else-len-new-le-ROOM+then-at-before-2 w ↦
@@ -63,20 +63,20 @@ invariant_of-top t c =
       | else-at-before+else-following-at+else-len-new-le-ROOM+else-at-before-2+else-at-following w ↦ rw w.top-inside-is refl
     ] in
     let left_as_high : height_of c.if-at-before.top-inside.left ≡ height_of c.top.inside.left = elim c.if-at-before.branch [
-      | then-at-before w ↦ rw w.top-inside-is (w.insert_into-is_changed.ensures.level (sym w.is_changed-is ∙ c.if-not-is_changed.true))
+      | then-at-before w ↦ rw w.top-inside-is (w.insert_into.ensures.level (ap (λ answer. answer.0) (sym w.is_changed-is) ∙ c.if-not-is_changed.true))
       | else-at-before+then-following-at w ↦ rw w.top-inside-is refl
       | else-at-before+else-following-at+then-len-new-le-ROOM w ↦ rw w.top-inside-is refl
-      | else-at-before+else-following-at+else-len-new-le-ROOM+then-at-before-2 w ↦ rw w.top-inside-is (w.insert_into-then-at-before-2.ensures.level (sym w.is_changed-is ∙ c.if-not-is_changed.true))
+      | else-at-before+else-following-at+else-len-new-le-ROOM+then-at-before-2 w ↦ rw w.top-inside-is (w.insert_into-then-at-before-2.ensures.level (ap (λ answer. answer.0) (sym w.is_changed-is) ∙ c.if-not-is_changed.true))
       | else-at-before+else-following-at+else-len-new-le-ROOM+else-at-before-2+then-at-following w ↦ rw w.top-inside-is refl
       | else-at-before+else-following-at+else-len-new-le-ROOM+else-at-before-2+else-at-following w ↦ rw w.top-inside-is refl
     ] in
     let right_as_high : height_of c.if-at-before.top-inside.right ≡ height_of c.top.inside.right = elim c.if-at-before.branch [
       | then-at-before w ↦ rw w.top-inside-is refl
-      | else-at-before+then-following-at w ↦ rw w.top-inside-is (w.insert_into.ensures.level (sym w.is_changed-is ∙ c.if-not-is_changed.true))
+      | else-at-before+then-following-at w ↦ rw w.top-inside-is (w.insert_into-then-following-at.ensures.level (ap (λ answer. answer.0) (sym w.is_changed-is) ∙ c.if-not-is_changed.true))
       | else-at-before+else-following-at+then-len-new-le-ROOM w ↦ rw w.top-inside-is refl
       | else-at-before+else-following-at+else-len-new-le-ROOM+then-at-before-2 w ↦ rw w.top-inside-is refl
-      | else-at-before+else-following-at+else-len-new-le-ROOM+else-at-before-2+then-at-following w ↦ rw w.top-inside-is (w.put_first.ensures.level (sym w.is_changed-is ∙ c.if-not-is_changed.true))
-      | else-at-before+else-following-at+else-len-new-le-ROOM+else-at-before-2+else-at-following w ↦ rw w.top-inside-is (w.insert_into-else-at-following.ensures.level (sym w.is_changed-is ∙ c.if-not-is_changed.true))
+      | else-at-before+else-following-at+else-len-new-le-ROOM+else-at-before-2+then-at-following w ↦ rw w.top-inside-is (w.put_first.ensures.level (ap (λ answer. answer.0) (sym w.is_changed-is) ∙ c.if-not-is_changed.true))
+      | else-at-before+else-following-at+else-len-new-le-ROOM+else-at-before-2+else-at-following w ↦ rw w.top-inside-is (w.insert_into-else-at-following.ensures.level (ap (λ answer. answer.0) (sym w.is_changed-is) ∙ c.if-not-is_changed.true))
     ] in
     as_high_as_before _ _ _ _ _ _ _ _ _ _ c.top.invariant put.some put.counted as_high left_as_high right_as_high c.is_filled.ensures.filled c.is_filled-2.ensures.filled
 

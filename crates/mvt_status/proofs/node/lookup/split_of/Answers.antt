@@ -1,16 +1,16 @@
-use Rattle.std.proofs.Common.{◌≡◌, ℕ, ◌+◌, ◌*◌, ◌<◌, ◌≤◌, ◌++◌, ◌∙◌, List, [], inl, inr, refl, sym, ap, length, length-append, slice_index, of_calls, arith}
+use Rattle.std.proofs.Common.{◌≡◌, ℕ, ◌+◌, ◌-◌, ◌*◌, ◌≤◌, ◌++◌, ◌∙◌, List, [], inl, inr, refl, sym, ap, length, length-append, slice_index, of_calls, arith}
 use Rattle.std.proofs.lemmas.Bool.{cases_lt}
 use Rattle.mvt_status.specs.Counts.{bits}
 use Rattle.mvt_status.specs.Calls.Tree.{edges_of, fewest, height_of}
 use Rattle.mvt_status.proofs.Heights.{filled_over_both, found_in_node, height_by_digits, height_of_a_word}
-use Rattle.mvt_status.proofs.NodeSplits.{beside_in_node, beside_node, beside_none, edges_in, none_in_front, of_first, of_last, of_own, searched_all, searched_in, searched_left, searched_right, split_among, split_of_all}
+use Rattle.mvt_status.proofs.NodeSplits.{beside_in_node, beside_node, beside_none, none_in_front, none_there, of_first, of_own, searched_all, searched_left, searched_right, some_there, split_among, split_of_all}
+use Rattle.mvt_status.proofs.node.lookup.split_of.Given as given
 use Rattle.mvt_status.proofs.node.lookup.split_of.Goals as goal
 
 pub levels-init : goal.levels-init
 levels-init g c = record {
   searched = searched_all (goal.F-post g c.args.below.now) (edges_of c.args.side.now);
-  some = tt;
-  high = tt;
+  high = λ some. absurd (omega (arith, some));
   room = omega arith;
   begun = inl refl;
   left = omega arith;
@@ -38,15 +38,14 @@ levels-preserved-then-below g c =
     = omega (arith, ap length same, length-append (edges_of c.node.inside.left) (c.node.inside.own.items ++ edges_of c.node.inside.right), length-append c.node.inside.own.items (edges_of c.node.inside.right)) in
     let both = filled_over_both _ _ _ c.node.invariant.near c.node.invariant.measured in
     let level : fewest c.node.inside.height ≡ fewest (height_of c.levels.part.now) = ap fewest high in
-    let its : length c.as_slice.result.now ≡ length c.node.inside.own.items = ap length c.as_slice.ensures.value in
+    let its : length c.as_slice-last.result.now ≡ length c.node.inside.own.items = ap length c.as_slice-last.ensures.value in
     record {
-      searched = rw c.as_slice.ensures.value (searched_right (goal.F-post g c.args.below.now) _ _ _ (edges_of c.node.inside.left) c.node.inside.own.items (edges_of c.node.inside.right)
-          c.levels.passed (c.levels.passed + (c.size-then-below.result + c.len.result)) (slice_index c.deref.result.now 0) _ c.below.result so_far.searched same c.node.invariant.some
+      searched = rw c.as_slice-last.ensures.value (searched_right (goal.F-post g c.args.below.now) _ _ _ (edges_of c.node.inside.left) c.node.inside.own.items (edges_of c.node.inside.right)
+          c.levels.passed (c.levels.passed + (c.node.inside.size - c.size-then-below.result)) (slice_index c.deref.result.now 0) _ c.below.result so_far.searched same c.node.invariant.some
           (ap (λ (list : List ℕ). slice_index list 0) c.deref.ensures.0) c.below.ensures c.if-below.true
-          (omega (arith, c.size-then-below.ensures, c.len.ensures.value)));
-      some = omega (arith, its, c.node.invariant.some);
-      high = omega (arith, so_far.left, high, c.node.invariant.measured);
-      room = c.as_slice.ensures.fits;
+          (omega (arith, c.size-then-below.ensures, c.node.invariant.counted)));
+      high = λ some. omega (arith, so_far.left, high, c.node.invariant.measured);
+      room = c.as_slice-last.ensures.fits;
       begun = inr (omega arith);
       left = omega (arith, so_far.left, high, c.node.invariant.measured);
       filled = omega (arith, so_far.filled, many, both, level, c.node.invariant.some, c.is_filled-in-Some.ensures.filled);
@@ -66,7 +65,6 @@ levels-preserved g c =
     record {
       searched = searched_left (goal.F-post g c.args.below.now) _ _ _ _ _ _ _ _ _ _ so_far.searched same c.node.invariant.some
           (ap (λ (list : List ℕ). slice_index list 0) c.deref.ensures.0) c.below.ensures c.if-below.false;
-      some = so_far.some;
       high = so_far.high;
       room = so_far.room;
       begun = inr (omega arith);
@@ -75,16 +73,18 @@ levels-preserved g c =
       filled_there = so_far.filled_there;
     }
 
-pub returns-in_default-last-clause-split : goal.returns-in_default-last-clause-split
-returns-in_default-last-clause-split g c =
-    none_in_front (goal.F-post g c.args.below.now) _ _ _ _ _ c.levels.invariant.searched (ap edges_of c.in_default.is) (ap edges_in c.in_default-last.is) c.requires.splits
+-- no node's first edge is in front
+none : (g : given.Over) (c : goal.Then-is_empty g) → c.levels.last.now ≡ []
+none g c = none_there c.levels.last.now (sym c.is_empty.ensures ∙ c.if-is_empty.true)
 
-pub returns-in_default-last-clause-beside : goal.returns-in_default-last-clause-beside
-returns-in_default-last-clause-beside g c =
-    beside_none (goal.F-post g c.args.below.now) _ _ _ _ _ c.levels.invariant.searched (ap edges_of c.in_default.is) (ap edges_in c.in_default-last.is)
+pub returns-then-is_empty-clause-split : goal.returns-then-is_empty-clause-split
+returns-then-is_empty-clause-split g c = none_in_front (goal.F-post g c.args.below.now) _ _ _ _ _ c.levels.invariant.searched (ap edges_of c.in_default.is) (none g c) c.requires.splits
 
-pub returns-in_default-last-clause-counted : goal.returns-in_default-last-clause-counted
-returns-in_default-last-clause-counted g c =
+pub returns-then-is_empty-clause-beside : goal.returns-then-is_empty-clause-beside
+returns-then-is_empty-clause-beside g c = beside_none (goal.F-post g c.args.below.now) _ _ _ _ _ c.levels.invariant.searched (ap edges_of c.in_default.is) (none g c)
+
+pub returns-then-is_empty-clause-counted : goal.returns-then-is_empty-clause-counted
+returns-then-is_empty-clause-counted g c =
     let so_far = c.levels.invariant in
     let most : height_of c.args.side.now ≤ 2 * bits (length (edges_of c.args.side.now)) = height_by_digits _ _ c.is_filled.ensures.filled in
     let passed = c.pass.ensures.counted in
@@ -98,24 +98,23 @@ returns-in_default-last-clause-counted g c =
 
 pub split_after_first-point-requires-clause-callable : goal.split_after_first-point-requires-clause-callable
 split_after_first-point-requires-clause-callable g c =
-    let found = searched_in (goal.F-post g c.args.below.now) _ _ c.in-Some-last.own _ _ _ c.in-Some-last.is c.levels.invariant.searched in
-    of_own (goal.F-pre g c.args.below.now) (goal.F-post g c.args.below.now) _ _ _ _ _ found c.requires.callable
+    of_own (goal.F-pre g c.args.below.now) (goal.F-post g c.args.below.now) _ _ _ _ _ c.levels.invariant.searched c.requires.callable
 
 pub split_after_first-point-requires-clause-splits : goal.split_after_first-point-requires-clause-splits
 split_after_first-point-requires-clause-splits g c =
-    let found = searched_in (goal.F-post g c.args.below.now) _ _ c.in-Some-last.own _ _ _ c.in-Some-last.is c.levels.invariant.searched in
-    split_among (goal.F-post g c.args.below.now) _ _ _ _ _ found (ap edges_of c.in_default.is) (of_last (λ own. 0 < length own.now) _ _ c.in-Some-last.is c.levels.invariant.some) c.requires.splits
+    split_among (goal.F-post g c.args.below.now) _ _ _ _ _ c.levels.invariant.searched (ap edges_of c.in_default.is)
+    (some_there c.levels.last.now (sym c.is_empty.ensures ∙ c.if-is_empty.false)) c.requires.splits
 
 pub returns-clause-split : goal.returns-clause-split
 returns-clause-split g c =
-    let found = searched_in (goal.F-post g c.args.below.now) _ _ c.in-Some-last.own _ _ _ c.in-Some-last.is c.levels.invariant.searched in
-    split_of_all (goal.F-post g c.args.below.now) _ _ _ _ c.split_after_first-point.result _ _ found (ap edges_of c.in_default.is) (of_last (λ own. 0 < length own.now) _ _ c.in-Some-last.is c.levels.invariant.some) c.requires.splits c.split_after_first-point.ensures.split refl
+    split_of_all (goal.F-post g c.args.below.now) _ _ _ _ c.split_after_first-point.result _ _ c.levels.invariant.searched (ap edges_of c.in_default.is)
+    (some_there c.levels.last.now (sym c.is_empty.ensures ∙ c.if-is_empty.false)) c.requires.splits c.split_after_first-point.ensures.split refl
 
 pub returns-clause-beside : goal.returns-clause-beside
 returns-clause-beside g c =
-    let found = searched_in (goal.F-post g c.args.below.now) _ _ c.in-Some-last.own _ _ _ c.in-Some-last.is c.levels.invariant.searched in
+    let found = c.levels.invariant.searched in
     let none : edges_of c.levels.part.now ≡ [] = ap edges_of c.in_default.is in
-    elim (cases_lt c.split_after_first-point.result (length c.in-Some-last.own.now)) [
+    elim (cases_lt c.split_after_first-point.result (length c.levels.last.now)) [
       | inl within ↦
           rw (c.edge_or.ensures.there within)
           (beside_in_node (goal.F-post g c.args.below.now) _ _ _ _ c.split_after_first-point.result _ _ _ _ found none c.split_after_first-point.ensures.some within refl refl refl)
@@ -126,9 +125,9 @@ returns-clause-beside g c =
 
 pub returns-clause-counted : goal.returns-clause-counted
 returns-clause-counted g c =
-    found_in_node _ _ _ _ c.pass.ensures.counted c.split_after_first-point.ensures.counted c.levels.invariant.left
-    (of_last (λ _. 0 < height_of c.args.side.now) _ _ c.in-Some-last.is c.levels.invariant.high) (of_last (λ own. 0 < length own.now) _ _ c.in-Some-last.is c.levels.invariant.some)
-    (omega (arith, c.levels.invariant.room, ap length (ap edges_in c.in-Some-last.is))) (omega (arith, c.levels.invariant.filled_there, ap length (ap edges_in c.in-Some-last.is)))
+    let there = some_there c.levels.last.now (sym c.is_empty.ensures ∙ c.if-is_empty.false) in
+    found_in_node _ _ _ _ c.pass.ensures.counted c.split_after_first-point.ensures.counted c.levels.invariant.left (c.levels.invariant.high there) there c.levels.invariant.room
+    c.levels.invariant.filled_there
 
 pub overflow_add-depth : goal.overflow_add-depth
 overflow_add-depth g c =

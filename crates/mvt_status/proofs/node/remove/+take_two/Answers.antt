@@ -10,7 +10,7 @@ same : (t : ℕ) (c : After-len t) → edges_of c.top.inside.left ++ (c.top.insi
 same t c = ap (λ seen. seen.0) (c.top.view_is ∙ c.deref_mut-top.ensures.value) ∙ sym (ap edges_of c.in-Some.is)
 
 -- what is left of the node, where two edges go out
-without_two : (t : ℕ) (c : After-is_filled-2 t) → IsTrue c.if-at-before.is_out
+without_two : (t : ℕ) (c : After-is_filled-2 t) → IsTrue c.if-at-before.is_out.0
     → IsWithoutTwo (edges_of c.if-at-before.top-inside.left) c.if-at-before.top-inside.own.items (edges_of c.if-at-before.top-inside.right)
     (edges_of c.args.side.now) c.top.inside.size c.args.at c.if-at-before.out.0 c.if-at-before.out.1
 without_two t c is_out =
@@ -19,17 +19,17 @@ without_two t c is_out =
     = ap (λ seen. seen.0) (c.top.view_is ∙ c.deref_mut-top.ensures.value) ∙ sym (ap edges_of c.in-Some.is) in
     elim c.if-at-before.branch [
       | then-at-before w ↦
-          (let done = subst IsTrue w.is_out-is is_out in
-          rw (w.top-inside-is, w.out-is) (without_two_left _ _ _ _ _ _ _ _ _ whole c.top.invariant.counted c.top.invariant.some (w.take_two-is_out.ensures.within done)
-          (w.take_two-is_out.ensures.edges done) (w.take_two-is_out.ensures.lower done) (w.take_two-is_out.ensures.upper done)))
+          (let done = subst (λ answer. IsTrue answer.0) w.is_out-is is_out in
+          rw (w.top-inside-is, w.out-is) (without_two_left _ _ _ _ _ _ _ _ _ whole c.top.invariant.counted c.top.invariant.some (w.take_two.ensures.within done)
+          (w.take_two.ensures.edges done) (w.take_two.ensures.lower done) (w.take_two.ensures.upper done)))
       | else-at-before+then-at-following w ↦
-          (let done = subst IsTrue w.is_out-is is_out in
+          (let done = subst (λ answer. IsTrue answer.0) w.is_out-is is_out in
           rw (w.top-inside-is, w.out-is) (without_two_between _ _ _ _ _ _ _ _ _ _ whole c.top.invariant.counted (w.take_two_own.ensures.others done) c.size-before.ensures w.if-at-before.false
           (w.take_two_own.ensures.within done) (w.take_two_own.ensures.edges done) (w.take_two_own.ensures.lower done) (w.take_two_own.ensures.upper done)))
       | else-at-before+else-at-following w ↦
-          (let done = subst IsTrue w.is_out-is is_out in
-          rw (w.top-inside-is, w.out-is) (without_two_right _ _ _ _ _ _ _ _ _ _ whole c.top.invariant.counted c.top.invariant.some many w.if-at-following.false (w.take_two.ensures.within done)
-          (w.take_two.ensures.edges done) (w.take_two.ensures.lower done) (w.take_two.ensures.upper done)))
+          (let done = subst (λ answer. IsTrue answer.0) w.is_out-is is_out in
+          rw (w.top-inside-is, w.out-is) (without_two_right _ _ _ _ _ _ _ _ _ _ whole c.top.invariant.counted c.top.invariant.some many w.if-at-following.false (w.take_two-else-at-following.ensures.within done)
+          (w.take_two-else-at-following.ensures.edges done) (w.take_two-else-at-following.ensures.lower done) (w.take_two-else-at-following.ensures.upper done)))
     ]
 
 pub invariant_of-top : goal.invariant_of-top
@@ -46,14 +46,14 @@ invariant_of-top t c =
       | else-at-before+else-at-following w ↦ rw w.top-inside-is refl
     ] in
     let left_as_high : height_of c.if-at-before.top-inside.left ≡ height_of c.top.inside.left = elim c.if-at-before.branch [
-      | then-at-before w ↦ rw w.top-inside-is w.take_two-is_out.ensures.height
+      | then-at-before w ↦ rw w.top-inside-is w.take_two.ensures.height
       | else-at-before+then-at-following w ↦ rw w.top-inside-is refl
       | else-at-before+else-at-following w ↦ rw w.top-inside-is refl
     ] in
     let right_as_high : height_of c.if-at-before.top-inside.right ≡ height_of c.top.inside.right = elim c.if-at-before.branch [
       | then-at-before w ↦ rw w.top-inside-is refl
       | else-at-before+then-at-following w ↦ rw w.top-inside-is refl
-      | else-at-before+else-at-following w ↦ rw w.top-inside-is w.take_two.ensures.height
+      | else-at-before+else-at-following w ↦ rw w.top-inside-is w.take_two-else-at-following.ensures.height
     ] in
     as_high_as_before _ _ _ _ _ _ _ _ _ _ c.top.invariant left.some (ap (λ (size : ℕ). size - 2) as_many ∙ left.counted) as_high left_as_high right_as_high c.is_filled-2.ensures.filled c.is_filled-3.ensures.filled
 
@@ -73,9 +73,9 @@ pub returns-else-is_out-clause-unchanged : goal.returns-else-is_out-clause-uncha
 returns-else-is_out-clause-unchanged t c = λ kept.
     let whole = same t (goal.at.returns-else-is_out-clause-unchanged t c).After-len in
     elim c.if-at-before.branch [
-      | then-at-before w ↦ rw w.top-inside-is (ap (λ list. list ++ (c.top.inside.own.items ++ edges_of c.top.inside.right)) (w.take_two-is_out.ensures.unchanged (subst IsFalse w.is_out-is kept)) ∙ whole)
+      | then-at-before w ↦ rw w.top-inside-is (ap (λ list. list ++ (c.top.inside.own.items ++ edges_of c.top.inside.right)) (w.take_two.ensures.unchanged (subst (λ answer. IsFalse answer.0) w.is_out-is kept)) ∙ whole)
       | else-at-before+then-at-following w ↦
-          rw w.top-inside-is (ap (λ own. edges_of c.top.inside.left ++ (own.items ++ edges_of c.top.inside.right)) (w.take_two_own.ensures.unchanged (subst IsFalse w.is_out-is kept)) ∙ whole)
+          rw w.top-inside-is (ap (λ own. edges_of c.top.inside.left ++ (own.items ++ edges_of c.top.inside.right)) (w.take_two_own.ensures.unchanged (subst (λ answer. IsFalse answer.0) w.is_out-is kept)) ∙ whole)
       | else-at-before+else-at-following w ↦
-          rw w.top-inside-is (ap (λ list. edges_of c.top.inside.left ++ (c.top.inside.own.items ++ list)) (w.take_two.ensures.unchanged (subst IsFalse w.is_out-is kept)) ∙ whole)
+          rw w.top-inside-is (ap (λ list. edges_of c.top.inside.left ++ (c.top.inside.own.items ++ list)) (w.take_two-else-at-following.ensures.unchanged (subst (λ answer. IsFalse answer.0) w.is_out-is kept)) ∙ whole)
     ]

@@ -7,25 +7,25 @@ use Rattle.mvt_status.proofs.Heights.{more_levels, visits_by_digits}
 use Rattle.mvt_status.proofs.Removals.{next_out}
 use Rattle.mvt_status.proofs.tree_status.TreeStatusStatus.remove_two.Goals as goal
 
-pub returns-then-take_two-clause-counted : goal.returns-then-take_two-clause-counted
-returns-then-take_two-clause-counted c =
-    more_levels _ (6 * bits (length c.args.self.now)) _ _ (visits_by_digits _ _ _ _ _ c.self.view_is c.take_two.ensures.counted c.take_two.ensures.filled) (omega arith)
+pub returns-then-is_out-clause-counted : goal.returns-then-is_out-clause-counted
+returns-then-is_out-clause-counted c =
+    more_levels _ (6 * bits (length c.args.self.now)) _ _ (visits_by_digits _ _ _ _ _ c.self.view_is (more_levels _ _ _ _ c.visit_all.ensures.counted c.take_two-is_out.ensures.counted) c.take_two-is_out.ensures.filled) (omega arith)
 
 pub returns-clause-upper : goal.returns-clause-upper
 returns-clause-upper c =
-    let kept = c.take_two.ensures.unchanged c.if-take_two.false ∙ c.self.view_is in
+    let kept = c.take_two-is_out.ensures.unchanged c.if-is_out.false ∙ c.self.view_is in
     let left = c.remove-lower.ensures.list ∙ ap (λ (list : List ℕ). remove list c.args.at) kept in
     c.remove-upper.ensures.value ∙ ap (λ (list : List ℕ). slice_index list c.args.at) left ∙ next_out c.args.self.now c.args.at
 
 pub returns-clause-counted : goal.returns-clause-counted
 returns-clause-counted c =
     let all = c.args.self.now in
-    let kept = c.take_two.ensures.unchanged c.if-take_two.false ∙ c.self.view_is in
+    let kept = c.take_two-is_out.ensures.unchanged c.if-is_out.false ∙ c.self.view_is in
     let left = c.remove-lower.ensures.list ∙ ap (λ (list : List ℕ). remove list c.args.at) kept in
-    let search = visits_by_digits _ _ all _ _ c.self.view_is c.take_two.ensures.counted c.take_two.ensures.filled in
+    let search = visits_by_digits _ _ all _ _ c.self.view_is (more_levels _ _ _ _ c.visit_all.ensures.counted c.take_two-is_out.ensures.counted) c.take_two-is_out.ensures.filled in
     let one = c.remove-lower.ensures.counted in
     let other = c.remove-upper.ensures.counted in
-    let same = no_more_digits (length (edges_of c.take_two.new.side)) (length all) (omega (arith, ap length kept)) in
+    let same = no_more_digits (length (edges_of c.take_two-is_out.new.side)) (length all) (omega (arith, ap length kept)) in
     let fewer = no_more_digits (length c.remove-lower.new.self) (length all) (omega (arith, ap length left, length-remove all c.args.at (omega (arith, c.requires)))) in
     record {
       tests = other.tests ∙ one.tests ∙ search.tests;

@@ -1,5 +1,5 @@
 use Rattle.std.proofs.Common.{rules}
-use Rattle.mvt_status.proofs.search.probe.Goals as goal
+use Rattle.mvt_status.proofs.search.probe_all.Goals as goal
 
 pub returns-clause-counted : goal.returns-clause-counted
 returns-clause-counted c = search rules
