@@ -3,7 +3,6 @@ pub mod EdgeNumbers
 pub mod KeyParts
 pub mod LyingRings
 pub mod NearSorted
-pub mod NumbersInOrder
 pub mod NumbersOnce
 pub mod PairMeetings
 pub mod PairsEnough

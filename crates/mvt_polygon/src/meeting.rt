@@ -8,7 +8,7 @@ ghost use Rattle.mvt_polygon.specs.Rings.{rings_of, AreProperRings};
 ghost use Rattle.mvt_polygon.specs.TurnVertices.{turn_count};
 ghost use Rattle.mvt_status.specs.Counts.{bits};
 
-use crate::sweep::{NoNotes, Pair, SweepVertices, Swept, list_of, sweep_over};
+use crate::sweep::{NamedPair, NoNotes, SweepVertices, Swept, list_of, sweep_over};
 use mvt_plane::{Count, Hpoint, Point};
 use mvt_status::{Status, TreeStatus};
 use std::alloc::{AllocError, Global};
@@ -117,11 +117,11 @@ fn meeting_by_sweep<S: Status>(
 }
 
 /// The meeting that was found, if any, with its edges named by ring and ordinal.
-pub(crate) fn named_meeting(rings: &[Vec<Point>], found: Option<Pair>) -> Option<Meeting>
+pub(crate) fn named_meeting(rings: &[Vec<Point>], found: Option<NamedPair>) -> Option<Meeting>
     requires first { IfSome found (λ pair. pair.first < vertex_count (rings_of rings.now)) }
     requires second { IfSome found (λ pair. pair.second < vertex_count (rings_of rings.now)) }
     ensures none { IfNone result (found ≡ None) }
-    ensures some { IfSome result (λ meeting. (pair : Pair) × (found ≡ Some pair)
+    ensures some { IfSome result (λ meeting. (pair : NamedPair) × (found ≡ Some pair)
         × IsNamedMeeting (rings_of rings.now) pair meeting) }
 {
     let pair = found?;

@@ -3,13 +3,13 @@
 ghost use Rattle.std.specs.Prelude.{◌≡◌, ◌*◌, ◌<◌, ◌≤◌, IfNone, IfSome, IsTrue, false, [], length};
 ghost use Rattle.mvt_polygon.specs.Work.{AddsWork, IsCounted};
 ghost use Rattle.mvt_polygon.specs.Calls.Bounds.{AreEndsWithin};
-ghost use Rattle.mvt_polygon.specs.Calls.SweepVertices.{IsMeetingAt, NoneWrong, sweep_count, edge_at, plan_of};
+ghost use Rattle.mvt_polygon.specs.Calls.SweepVertices.{IsNamedPair, NoneWrong, sweep_count, edge_at, plan_of};
 ghost use Rattle.mvt_polygon.specs.Calls.Pairs.{AreEdgeBounds, AreEnough, AreEnoughForAll, pairs_of};
 ghost use Rattle.mvt_polygon.specs.Calls.Sweep.{Tested};
 ghost use Rattle.mvt_status.specs.Counts.{raised};
 
 use crate::bounds::Bounds;
-use crate::sweep::{FEW_VERTICES, Pair, SweepVertices};
+use crate::sweep::{FEW_VERTICES, NamedPair, SweepVertices};
 use arrayvec::ArrayVec;
 use mvt_plane::{Count, orient};
 
@@ -120,17 +120,17 @@ pub(crate) fn meeting_among(
     vertices: &SweepVertices,
     pairs: &[(u8, u8)],
     count: &mut Count,
-) -> Option<Pair>
+) -> Option<NamedPair>
     requires pairs { AreEnoughForAll vertices.now pairs.now }
     ensures none { IfNone result (NoneWrong vertices.now) }
-    ensures some { IfSome result (IsMeetingAt vertices.now) }
+    ensures some { IfSome result (IsNamedPair vertices.now) }
     ensures counted { AddsWork (length pairs.now) 0 0 count.old count.new }
     ensures least { IsCounted 0 count.old count.new result }
     ensures tested { IfNone result (raised (length pairs.now) count.old.tests ≤ count.new.tests) }
 {
     for at in 0..pairs.len() {
         let (first, second) = pairs[at];
-        if let Some(pair) = vertices.meeting_in_order(first as usize, second as usize, count) {
+        if let Some(pair) = vertices.named_in_order(first as usize, second as usize, count) {
             return Some(pair);
         }
     }

@@ -4,7 +4,7 @@ ghost use Rattle.std.specs.Prelude.{◌≡◌, ◌+◌, ◌*◌, List, IfNone, I
 ghost use Rattle.std.specs.List.{count_by};
 ghost use Rattle.mvt_plane.specs.Position.{Position};
 ghost use Rattle.mvt_polygon.specs.Work.{AddsWork, IsCounted};
-ghost use Rattle.mvt_polygon.specs.Calls.VertexOrder.{IsOrder, IsStrict, with_keys};
+ghost use Rattle.mvt_polygon.specs.Calls.VertexOrder.{IsOrder, IsStrict};
 ghost use Rattle.mvt_polygon.specs.Calls.SweepVertices.{IsMeetingAt, NoneWrong, sweep_count, is_turn_at};
 ghost use Rattle.mvt_polygon.specs.Calls.Steps.{AtFirst, AtLast};
 ghost use Rattle.mvt_status.specs.Counts.{bits};
@@ -29,6 +29,7 @@ mod vertices;
 use crate::sweep::chains::Chains;
 use crate::sweep::notes::Notes;
 use crate::sweep::step::{Step, go_over};
+use crate::sweep::vertices::Pair;
 pub(crate) use heights::heights_apart;
 pub(crate) use listing::{FEW_VERTICES, FewVertices, list_few, list_of};
 use mvt_plane::Count;
@@ -36,7 +37,7 @@ use mvt_status::Status;
 pub(crate) use notes::{NoNotes, RingNotes};
 use std::alloc::{AllocError, Global};
 pub(crate) use swept::{Swept, sweep_over, sweep_rings};
-pub(crate) use vertices::{Pair, SweepVertices};
+pub(crate) use vertices::{NamedPair, SweepVertices};
 
 /// Goes over all vertices in their order, with notes of each. No two of them are at one position,
 /// and the status is empty at the call. The only error is that memory was refused.
@@ -48,8 +49,8 @@ fn sweep<S: Status, N: Notes>(
     status: &mut S,
     count: &mut Count,
 ) -> Result<Option<Pair>, AllocError>
-    requires order { IsOrder vertices.now (with_keys vertices.now order.now) }
-    requires strict { IsStrict (with_keys vertices.now order.now) }
+    requires order { IsOrder vertices.now order.now }
+    requires strict { IsStrict vertices.now order.now }
     requires empty { S.edges status.old ≡ [] }
     requires noted { (rings : List (List Position))
         × AtFirst vertices.now (λ key. N.are_noted rings vertices.now key notes.old) }
@@ -59,7 +60,7 @@ fn sweep<S: Status, N: Notes>(
         → AtFirst vertices.now (λ key. N.are_noted rings vertices.now key notes.old)
         → AtLast vertices.now (λ key. N.are_noted rings vertices.now key notes.new))) }
     ensures counted { let turns = count_by (is_turn_at vertices.now) order.now in
-        AddsWork (3 * length order.now) (length order.now + turns *
+        AddsWork (2 * length order.now) (length order.now + turns *
         (2 * bits (sweep_count vertices.now))) (turns * (12 * bits (sweep_count vertices.now)))
         count.old count.new }
     ensures least { IfOk result (IsCounted (length order.now) count.old count.new) }

@@ -149,24 +149,29 @@ lower_comes vertices number within begin turn = record {
   in_order = subst (λ (it : ℤ). pos 0 <ℤ it) (sym (turn_is vertices number within begin)) turn;
 }
 
--- or it is the upper one: edges that were tested don't go one way
+-- edges that were tested don't go one way
+pub not_one_way : (vertices : SweepVertices) (number : ℕ) → number < sweep_count vertices
+    → BeginThere (plan_of vertices) (here_of vertices number) (previous_at vertices number) number → Tested (plan_of vertices) (previous_at vertices number) number
+    → ¬ (orientation (here_of vertices number) (before_of vertices number) (after_of vertices number) ≡ pos 0)
+not_one_way vertices number within begin tested straight =
+    spike (plan_of vertices) (here_of vertices number) (previous_at vertices number) number (plan_of_vertices vertices)
+    (vertices.linked.previous_known number within) within
+    (when_ahead vertices (previous_at vertices number) number (vertices.linked.back_and_there number within)) begin.first_begins begin.second_begins tested
+    (turn_is vertices number within begin ∙ straight)
+
+-- so else it is the upper one
 pub lower_goes : (vertices : SweepVertices) (number : ℕ) → number < sweep_count vertices
     → BeginThere (plan_of vertices) (here_of vertices number) (previous_at vertices number) number → Tested (plan_of vertices) (previous_at vertices number) number
     → ¬ (pos 0 <ℤ orientation (here_of vertices number) (before_of vertices number) (after_of vertices number))
     → BothBegin (plan_of vertices) (here_of vertices number) number (previous_at vertices number)
 lower_goes vertices number within begin tested not =
     let turn : ℤ = orientation (here_of vertices number) (before_of vertices number) (after_of vertices number) in
-    let straight : ¬ (turn ≡ pos 0) = λ is.
-    spike (plan_of vertices) (here_of vertices number) (previous_at vertices number) number (plan_of_vertices vertices)
-    (vertices.linked.previous_known number within) within
-    (when_ahead vertices (previous_at vertices number) number (vertices.linked.back_and_there number within)) begin.first_begins begin.second_begins tested
-    (turn_is vertices number within begin ∙ is) in
     record {
       lower_begins = begin.second_begins;
       upper_begins = begin.first_begins;
       in_order = subst (λ (it : ℤ). pos 0 <ℤ it) (sym (turn_back vertices number within begin)) ((elim (compare_ℤ turn (pos 0)) [
         | inl below ↦ let turned = turned_round (here_of vertices number) (before_of vertices number) (after_of vertices number) in omega (arith, zs)
-        | inr (inl zero) ↦ absurd (straight zero)
+        | inr (inl zero) ↦ absurd (not_one_way vertices number within begin tested zero)
         | inr (inr above) ↦ absurd (not above)
       ]));
     }

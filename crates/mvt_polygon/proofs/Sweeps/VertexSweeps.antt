@@ -53,25 +53,19 @@ is_before_all : (vertices : SweepVertices) (number : ℕ) → before_all <ℤ ke
 is_before_all vertices number = let is = (sweep_vertex_at vertices number).in_range in omega (arith, ints, is.x, is.y)
 
 -- where no two have one key, a key is that of one vertex
-one_sweep_vertex : (vertices : SweepVertices) (order : List (ℤ × ℕ)) (number other : ℕ) → IsOrder vertices order → IsStrict order → number < sweep_count vertices → other < sweep_count vertices
+one_sweep_vertex : (vertices : SweepVertices) (order : List ℕ) (number other : ℕ) → IsOrder vertices order → IsStrict vertices order → number < sweep_count vertices → other < sweep_count vertices
     → key_of (position_at vertices number) ≡ key_of (position_at vertices other) → number ≡ other
 one_sweep_vertex vertices order number other in_order strict within inside same =
-    let here : (at : ℕ) × (slice_get order at ≡ Some (key_of (position_at vertices number), number)) = in_order.numbering.all number within in
-    let there : (at : ℕ) × (slice_get order at ≡ Some (key_of (position_at vertices other), other)) = in_order.numbering.all other inside in
+    let here : (at : ℕ) × (slice_get order at ≡ Some number) = in_order.numbering.all number within in
+    let there : (at : ℕ) × (slice_get order at ≡ Some other) = in_order.numbering.all other inside in
     elim (cases_order here.0 there.0) [
-      | inl alike ↦
-          ap (λ (pair : ℤ × ℕ). pair.1) (same_Some (key_of (position_at vertices number), number) (key_of (position_at vertices other), other)
-          (sym here.1 ∙ ap (slice_get order) alike ∙ there.1))
-      | inr (inl before) ↦
-          let less = strict here.0 there.0 (key_of (position_at vertices number)) (key_of (position_at vertices other)) number other before here.1 there.1 in
-          absurd (omega (arith, zs))
-      | inr (inr following) ↦
-          let less = strict there.0 here.0 (key_of (position_at vertices other)) (key_of (position_at vertices number)) other number following there.1 here.1 in
-          absurd (omega (arith, zs))
+      | inl alike ↦ same_Some number other (sym here.1 ∙ ap (slice_get order) alike ∙ there.1)
+      | inr (inl before) ↦ let less = strict here.0 there.0 number other before here.1 there.1 in absurd (omega (arith, zs))
+      | inr (inr following) ↦ let less = strict there.0 here.0 other number following there.1 here.1 in absurd (omega (arith, zs))
     ]
 
 -- an edge with an end at the key of a vertex is one of the vertex's two
-its_edge : (vertices : SweepVertices) (order : List (ℤ × ℕ)) (number edge : ℕ) (end : Position) → IsOrder vertices order → IsStrict order → number < sweep_count vertices
+its_edge : (vertices : SweepVertices) (order : List ℕ) (number edge : ℕ) (end : Position) → IsOrder vertices order → IsStrict vertices order → number < sweep_count vertices
     → edge < sweep_count vertices → IsSweepVertex vertices edge end → key_of end ≡ key_of (position_at vertices number) → (edge ≡ previous_at vertices number) ⊎ (edge ≡ number)
 its_edge vertices order number edge end in_order strict within inside is same =
     let alike : is.vertex ≡ number = one_sweep_vertex vertices order is.vertex number in_order strict is.known within (ap key_of is.here ∙ same) in
@@ -81,25 +75,21 @@ its_edge vertices order number edge end in_order strict within inside is same =
     ]
 
 -- no end is strictly between where the line is and the next vertex
-none_between : (vertices : SweepVertices) (order : List (ℤ × ℕ)) (at : ℕ) (its : ℤ) (number edge : ℕ) (end : Position) (edges : List ℕ) → IsOrder vertices order
-    → (swept : IsSweptTo vertices order at edges) → slice_get order at ≡ Some (its, number) → IsSweepVertex vertices edge end
+none_between : (vertices : SweepVertices) (order : List ℕ) (at number edge : ℕ) (end : Position) (edges : List ℕ) → IsOrder vertices order
+    → (swept : IsSweptTo vertices order at edges) → slice_get order at ≡ Some number → IsSweepVertex vertices edge end
     → (key_of end ≤ℤ swept.key) ⊎ (key_of (position_at vertices number) ≤ℤ key_of end)
-none_between vertices order at its number edge end edges in_order swept there is =
-    let place : (at : ℕ) × (slice_get order at ≡ Some (key_of (position_at vertices is.vertex), is.vertex)) = in_order.numbering.all is.vertex is.known in
+none_between vertices order at number edge end edges in_order swept there is =
+    let place : (at : ℕ) × (slice_get order at ≡ Some is.vertex) = in_order.numbering.all is.vertex is.known in
     elim (nat_le_or_lt at place.0) [
       | inl ahead ↦
-          let sorted = in_order.sorted at place.0 its (key_of (position_at vertices is.vertex)) number is.vertex ahead there place.1 in
-          let at_most = subst (λ (k : ℤ). k ≤ℤ key_of (position_at vertices is.vertex)) (in_order.numbering.keyed at its number there) sorted in
-          inr (subst (λ (p : Position). key_of (position_at vertices number) ≤ℤ key_of p) is.here at_most)
-      | inr before ↦
-          let passed = swept.passed place.0 (key_of (position_at vertices is.vertex)) is.vertex before place.1 in
-          inl (subst (λ (p : Position). key_of p ≤ℤ swept.key) is.here passed)
+          inr (subst (λ (p : Position). key_of (position_at vertices number) ≤ℤ key_of p) is.here (in_order.sorted at place.0 number is.vertex ahead there place.1))
+      | inr before ↦ inl (subst (λ (p : Position). key_of p ≤ℤ swept.key) is.here (swept.passed place.0 is.vertex before place.1))
     ]
 
 -- From vertex to vertex
 
 -- before the first vertex the line meets no edge
-pub swept_to_first : (vertices : SweepVertices) (order : List (ℤ × ℕ)) (edges : List ℕ) → IsOrder vertices order → edges ≡ []
+pub swept_to_first : (vertices : SweepVertices) (order : List ℕ) (edges : List ℕ) → IsOrder vertices order → edges ≡ []
     → IsSweptTo vertices order 0 edges
 swept_to_first vertices order edges in_order empty = record {
   key = before_all;
@@ -108,10 +98,8 @@ swept_to_first vertices order edges in_order empty = record {
       (λ edge within.
       let end = low_vertex vertices edge within in
       subst (λ (p : Position). before_all <ℤ key_of p) end.here (is_before_all vertices end.vertex)));
-  passed = λ place its number before there. absurd (omega arith);
-  ahead = λ place its number following there.
-      subst (λ (k : ℤ). before_all <ℤ k) (sym (in_order.numbering.keyed place its number there))
-      (is_before_all vertices number);
+  passed = λ place number before there. absurd (omega arith);
+  ahead = λ place number following there. is_before_all vertices number;
 }
 
 -- a vertex isn't the one before it
@@ -121,16 +109,16 @@ not_previous vertices number within same =
     vertices.linked.longer number within (ap (next_at vertices) round ∙ round)
 
 -- the vertex at the next place is the next one that the line comes to
-pub next_sweep_vertex : (vertices : SweepVertices) (order : List (ℤ × ℕ)) (at : ℕ) (its : ℤ) (number : ℕ) (edges : List ℕ) → IsOrder vertices order → IsStrict order
-    → IsSweptTo vertices order at edges → slice_get order at ≡ Some (its, number) → IsNextVertex vertices number (previous_at vertices number) number edges
-next_sweep_vertex vertices order at its number edges in_order strict swept there =
-    let within = in_order.numbering.known at its number there in
+pub next_sweep_vertex : (vertices : SweepVertices) (order : List ℕ) (at number : ℕ) (edges : List ℕ) → IsOrder vertices order → IsStrict vertices order
+    → IsSweptTo vertices order at edges → slice_get order at ≡ Some number → IsNextVertex vertices number (previous_at vertices number) number edges
+next_sweep_vertex vertices order at number edges in_order strict swept there =
+    let within = in_order.numbering.known at number there in
     let previous = previous_at vertices number in
     record {
       key = swept.key;
       swept = swept.swept;
       event = record {
-        later = subst (λ (k : ℤ). swept.key <ℤ k) (in_order.numbering.keyed at its number there) (swept.ahead at its number (omega arith) there);
+        later = swept.ahead at number (omega arith) there;
         first_known = vertices.linked.previous_known number within;
         second_known = within;
         differ = not_previous vertices number within;
@@ -143,38 +131,36 @@ next_sweep_vertex vertices order at its number edges in_order strict swept there
         only_high = λ edge known same.
             its_edge vertices order number edge ((plan_of vertices).segment edge).high in_order strict within known (high_vertex vertices edge known) same;
         next_low = λ edge known.
-            none_between vertices order at its number edge ((plan_of vertices).segment edge).low edges in_order swept there (low_vertex vertices edge known);
+            none_between vertices order at number edge ((plan_of vertices).segment edge).low edges in_order swept there (low_vertex vertices edge known);
         next_high = λ edge known.
-            none_between vertices order at its number edge ((plan_of vertices).segment edge).high edges in_order swept there (high_vertex vertices edge known);
+            none_between vertices order at number edge ((plan_of vertices).segment edge).high edges in_order swept there (high_vertex vertices edge known);
       };
     }
 
 -- when the line went over it, the place is passed
-pub swept_to_next : (vertices : SweepVertices) (order : List (ℤ × ℕ)) (at : ℕ) (its : ℤ) (number : ℕ) (edges : List ℕ) → IsOrder vertices order → IsStrict order
-    → slice_get order at ≡ Some (its, number) → IsSweptOver vertices number edges → IsSweptTo vertices order (at + 1) edges
-swept_to_next vertices order at its number edges in_order strict there over = record {
+pub swept_to_next : (vertices : SweepVertices) (order : List ℕ) (at number : ℕ) (edges : List ℕ) → IsOrder vertices order → IsStrict vertices order
+    → slice_get order at ≡ Some number → IsSweptOver vertices number edges → IsSweptTo vertices order (at + 1) edges
+swept_to_next vertices order at number edges in_order strict there over = record {
   key = key_of (position_at vertices number);
   swept = over;
-  passed = λ place key other before here.
-      subst (λ (k : ℤ). key ≤ℤ k) (in_order.numbering.keyed at its number there) (in_order.sorted place at key its other number (omega arith) here there);
-  ahead = λ place key other following here.
-      subst (λ (k : ℤ). k <ℤ key) (in_order.numbering.keyed at its number there) (strict at place its key number other (omega arith) there here);
+  passed = λ place other before here. in_order.sorted place at other number (omega arith) here there;
+  ahead = λ place other following here. strict at place number other (omega arith) there here;
 }
 
 -- the line is at its key then
-pub next_key : (vertices : SweepVertices) (order : List (ℤ × ℕ)) (at : ℕ) (its : ℤ) (number : ℕ) (edges : List ℕ) (in_order : IsOrder vertices order) (strict : IsStrict order)
-    (there : slice_get order at ≡ Some (its, number)) (over : IsSweptOver vertices number edges)
-    → (swept_to_next vertices order at its number edges in_order strict there over).key ≡ key_of (position_at vertices number)
+pub next_key : (vertices : SweepVertices) (order : List ℕ) (at number : ℕ) (edges : List ℕ) (in_order : IsOrder vertices order) (strict : IsStrict vertices order)
+    (there : slice_get order at ≡ Some number) (over : IsSweptOver vertices number edges)
+    → (swept_to_next vertices order at number edges in_order strict there over).key ≡ key_of (position_at vertices number)
 unfolding swept_to_next
-next_key vertices order at its number edges in_order strict there over = refl
+next_key vertices order at number edges in_order strict there over = refl
 
 -- after the last vertex no two edges meet wrongly
-pub swept_to_last : (vertices : SweepVertices) (order : List (ℤ × ℕ)) (at : ℕ) (edges : List ℕ) → IsOrder vertices order
+pub swept_to_last : (vertices : SweepVertices) (order : List ℕ) (at : ℕ) (edges : List ℕ) → IsOrder vertices order
     → IsSweptTo vertices order at edges → length order ≤ at → NoneWrong vertices
 swept_to_last vertices order at edges in_order swept last =
     finish (plan_of vertices) swept.key edges (plan_of_vertices vertices) swept.swept
     (λ edge within.
     let end = high_vertex vertices edge within in
     let place = in_order.numbering.all end.vertex end.known in
-    let inside = slice_get_within order place.0 (key_of (position_at vertices end.vertex), end.vertex) place.1 in
-    subst (λ (p : Position). key_of p ≤ℤ swept.key) end.here (swept.passed place.0 (key_of (position_at vertices end.vertex)) end.vertex (omega arith) place.1))
+    let inside = slice_get_within order place.0 end.vertex place.1 in
+    subst (λ (p : Position). key_of p ≤ℤ swept.key) end.here (swept.passed place.0 end.vertex (omega arith) place.1))

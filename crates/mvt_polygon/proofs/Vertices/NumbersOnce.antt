@@ -1,5 +1,5 @@
 -- Numbers of which no two are equal, all less than a bound: a test holds of no more of them than of all numbers less than the bound.
-use Rattle.std.proofs.Common.{◌≡◌, ℕ, zero, suc, ◌+◌, ◌<◌, ◌≤◌, Bool, true, false, cond, ◌&&◌, ◌||◌, List, [], ◌∷◌, eqb, length, map, slice_get, Some, ℤ, refl, sym, ◌∙◌, ap, arith}
+use Rattle.std.proofs.Common.{◌≡◌, ℕ, zero, suc, ◌+◌, ◌<◌, ◌≤◌, Bool, true, false, cond, ◌&&◌, ◌||◌, List, [], ◌∷◌, eqb, length, slice_get, Some, refl, sym, ◌∙◌, ap, arith}
 use Rattle.std.proofs.lemmas.Bool.{eqb-true, ne_eqb}
 use Rattle.std.proofs.lemmas.Bool.Decides.{nat_tests}
 use Rattle.std.proofs.lemmas.Cmp.{nat_eq_equiv}
@@ -7,40 +7,33 @@ use Rattle.std.proofs.lemmas.List.Sums.{length-filter}
 use Rattle.std.proofs.lemmas.Map.Made.{is_member-filter, length-le_from_is_member}
 use Rattle.std.specs.List.{AllByRecursion, IsDistinct, count_by, filter, list_any, range_with_len}
 
--- the numbers of pairs
-abbrev pub numbers_in : List (ℤ × ℕ) → List ℕ
-numbers_in order = map (λ (pair : ℤ × ℕ). pair.1) order
-
 -- each number is at one place
-abbrev pub IsOnce : List (ℤ × ℕ) → Type 0
-IsOnce order = (at other number : ℕ) (key its : ℤ) → slice_get order at ≡ Some (key, number) → slice_get order other ≡ Some (its, number) → at ≡ other
+abbrev pub IsOnce : List ℕ → Type 0
+IsOnce numbers = (at other number : ℕ) → slice_get numbers at ≡ Some number → slice_get numbers other ≡ Some number → at ≡ other
 
 -- a number that is at no place is none of them
-none_of_them : (number : ℕ) (order : List (ℤ × ℕ)) → ((at : ℕ) (key : ℤ) → ¬ (slice_get order at ≡ Some (key, number))) → AllByRecursion (λ that. eqb number that ≡ false) (numbers_in order)
+none_of_them : (number : ℕ) (numbers : List ℕ) → ((at : ℕ) → ¬ (slice_get numbers at ≡ Some number)) → AllByRecursion (λ that. eqb number that ≡ false) numbers
 none_of_them number [] nowhere = tt
-none_of_them number (pair ∷ rest) nowhere = (
-  ne_eqb number pair.1 (λ same. nowhere 0 pair.0 (ap (λ (it : ℕ). Some (pair.0, it)) (sym same))),
-  none_of_them number rest (λ at. nowhere (suc at)),
-)
+none_of_them number (first ∷ rest) nowhere = (ne_eqb number first (λ same. nowhere 0 (ap (λ (it : ℕ). Some it) (sym same))), none_of_them number rest (λ at. nowhere (suc at)))
 
 -- so no two are equal
-pub distinct : (order : List (ℤ × ℕ)) → IsOnce order → IsDistinct eqb (numbers_in order)
+pub distinct : (numbers : List ℕ) → IsOnce numbers → IsDistinct eqb numbers
 unfolding IsDistinct
 distinct [] once = tt
-distinct (pair ∷ rest) once = (
-  none_of_them pair.1 rest (λ at key there. let same = once 0 (suc at) pair.1 pair.0 key refl there in omega arith),
-  distinct rest (λ at other number key its here there. let same = once (suc at) (suc other) number key its here there in omega arith),
+distinct (first ∷ rest) once = (
+  none_of_them first rest (λ at there. let same = once 0 (suc at) first refl there in omega arith),
+  distinct rest (λ at other number here there. let same = once (suc at) (suc other) number here there in omega arith),
 )
 
 -- each is less than a bound that the number at each place is less than
-pub below : (bound : ℕ) (order : List (ℤ × ℕ)) → ((at : ℕ) (key : ℤ) (number : ℕ) → slice_get order at ≡ Some (key, number) → number < bound)
-    → (number : ℕ) → list_any (eqb number) (numbers_in order) ≡ true → number < bound
+pub below : (bound : ℕ) (numbers : List ℕ) → ((at number : ℕ) → slice_get numbers at ≡ Some number → number < bound)
+    → (number : ℕ) → list_any (eqb number) numbers ≡ true → number < bound
 below bound [] known number has = absurd (cc)
-below bound (pair ∷ rest) known number has = by (eqb number pair.1) refl (below bound rest (λ at. known (suc at)) number)
+below bound (first ∷ rest) known number has = by (eqb number first) refl (below bound rest (λ at. known (suc at)) number)
   where
-    by : (same : Bool) → eqb number pair.1 ≡ same → (list_any (eqb number) (numbers_in rest) ≡ true → number < bound) → number < bound
-    by true same further = let is = eqb-true number pair.1 same in omega (arith, is, known 0 pair.0 pair.1 refl)
-    by false same further = further (sym (ap (λ (it : Bool). it || list_any (eqb number) (numbers_in rest)) same) ∙ has)
+    by : (same : Bool) → eqb number first ≡ same → (list_any (eqb number) rest ≡ true → number < bound) → number < bound
+    by true same further = let is = eqb-true number first same in omega (arith, is, known 0 first refl)
+    by false same further = further (sym (ap (λ (it : Bool). it || list_any (eqb number) rest) same) ∙ has)
 
 -- what is true of all is true of those of which the test holds
 all_kept : (P : ℕ → Type 0) (test : ℕ → Bool) (numbers : List ℕ) → AllByRecursion P numbers → AllByRecursion P (filter test numbers)

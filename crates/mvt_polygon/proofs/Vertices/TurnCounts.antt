@@ -1,5 +1,5 @@
 -- How many of a sweep's vertices are turn vertices.
-use Rattle.std.proofs.Common.{◌≡◌, ◌∙◌, ◌+◌, ◌<◌, ◌≤◌, ℕ, zero, suc, Bool, List, [], ◌∷◌, get_or, length, map, slice_get, Some, take, ℤ, refl, sym, ap, arith}
+use Rattle.std.proofs.Common.{◌≡◌, ◌∙◌, ◌+◌, ◌<◌, ◌≤◌, ℕ, zero, suc, Bool, List, [], ◌∷◌, get_or, length, slice_get, Some, take, refl, sym, ap, arith}
 use Rattle.std.proofs.lemmas.List.FromFn.{length-range_with_len}
 use Rattle.std.proofs.lemmas.List.Sums.{count_by-le-length, sum-map, sum_by-cons, sum_by-le-sum_by, sum_by-take-le, sum_by_more}
 use Rattle.std.proofs.lemmas.Option.{get_or_from_slice_get}
@@ -111,12 +111,11 @@ turns_of_vertices rings vertices proper are =
     (record { ring = ring; there = there; within = less; numbered = refl }))
 
 -- and of vertices in order no more do
-pub turns_in_order : (rings : List (List Position)) (vertices : SweepVertices) (order : List (ℤ × ℕ)) (numbers : List ℕ) → AreProperRings rings → AreSweepVertices rings vertices → IsOrder vertices order
-    → numbers ≡ map (λ (pair : ℤ × ℕ). pair.1) order → count_by (is_turn_at vertices) numbers ≤ turn_count rings
-turns_in_order rings vertices order numbers proper are is same =
-    let fewer = fewer_than_all (is_turn_at vertices) (sweep_count vertices) (map (λ (pair : ℤ × ℕ). pair.1) order) (distinct order is.numbering.once) (below (sweep_count vertices) order is.numbering.known) in
-    let listed : count_by (is_turn_at vertices) numbers ≡ count_by (is_turn_at vertices) (map (λ (pair : ℤ × ℕ). pair.1) order) = ap (λ (list : List ℕ). count_by (is_turn_at vertices) list) same in
-    omega (arith, listed, fewer, turns_of_vertices rings vertices proper are)
+pub turns_in_order : (rings : List (List Position)) (vertices : SweepVertices) (order : List ℕ) → AreProperRings rings → AreSweepVertices rings vertices → IsOrder vertices order
+    → count_by (is_turn_at vertices) order ≤ turn_count rings
+turns_in_order rings vertices order proper are is =
+    let fewer = fewer_than_all (is_turn_at vertices) (sweep_count vertices) order (distinct order is.numbering.once) (below (sweep_count vertices) order is.numbering.known) in
+    omega (arith, fewer, turns_of_vertices rings vertices proper are)
 
 -- a ring has no more turn vertices than vertices
 turns_of_ring : (ring : List Position) → turns_of ring ≤ length ring

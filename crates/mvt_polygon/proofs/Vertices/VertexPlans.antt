@@ -10,11 +10,11 @@ use Rattle.mvt_plane.specs.Position.{Position}
 use Rattle.mvt_plane.specs.Geometry.RationalPoint.{RationalPoint, IsBounded, LiesOn, whole}
 use Rattle.mvt_plane.specs.Geometry.Ring.{next_round}
 use Rattle.mvt_plane.specs.declared.geometry.edge.Edge.{Edge}
-use Rattle.mvt_plane.proofs.Points.CommonPoints.{only_at_the_shared_vertex}
+use Rattle.mvt_plane.proofs.Points.CommonPoints.{named_is_common, only_at_the_shared_vertex}
 use Rattle.mvt_plane.proofs.Points.RationalPoints.{lies_on_reversed, begin_lies_on}
 use Rattle.mvt_plane.proofs.Rings.RingEdges.{one_edge}
 use Rattle.mvt_polygon.specs.Calls.VertexOrder.{AreTogether}
-use Rattle.mvt_polygon.specs.Calls.SweepVertices.{AreSweepVertices, IsListOf, IsMeetingAt, IsNamedMeeting, IsNumbered, NoneWrong, sweep_vertex_at, sweep_count, edge_at, next_at, plan_of, position_at, shared_at}
+use Rattle.mvt_polygon.specs.Calls.SweepVertices.{AreSweepVertices, IsListOf, IsNamedFor, IsNamedMeeting, IsNamedPair, IsNumbered, NoneWrong, sweep_vertex_at, sweep_count, edge_at, next_at, plan_of, position_at, shared_at}
 use Rattle.mvt_polygon.specs.Work.{vertex_count}
 use Rattle.mvt_polygon.specs.Calls.Links.{AreLinked, next_in, position_in, previous_in}
 use Rattle.mvt_polygon.specs.Meeting.{IsMeetingOf, first_of, second_of}
@@ -25,6 +25,7 @@ use Rattle.mvt_polygon.specs.declared.meeting.Meeting.{Meeting}
 use Rattle.mvt_polygon.specs.declared.sweep.vertex.SweepVertex.{SweepVertex}
 use Rattle.mvt_polygon.specs.declared.sweep.vertices.SweepVertices.{SweepVertices}
 use Rattle.mvt_polygon.specs.declared.sweep.vertices.Pair.{Pair}
+use Rattle.mvt_polygon.specs.declared.sweep.vertices.NamedPair.{NamedPair}
 use Rattle.mvt_polygon.proofs.Vertices.VertexNumbers.{IsVertex, sweep_vertex_there, vertex_at, numbered_within, one_place, in_order, next_within, previous_within, next_previous, previous_next, next_but_one}
 use Rattle.mvt_polygon.proofs.Vertices.EdgeNumbers.{edge_read, within_ring}
 use Rattle.mvt_polygon.proofs.Vertices.SegmentEnds.{up, down, between_them, rising_between, end_first, end_second}
@@ -217,6 +218,13 @@ tested_by_name vertices first second named point on_first on_second =
     only_at_the_shared_vertex (shared_at vertices first second) (edge_at vertices first) (edge_at vertices second) point named (on_segment_at vertices first point on_first)
     (on_segment_at vertices second point on_second)
 
+-- where a point is named, they were not tested well
+pub named_not_tested : (vertices : SweepVertices) (first second : ℕ) (point : RationalPoint) → IsNamedFor vertices first second point → ¬ Tested (plan_of vertices) first second
+named_not_tested vertices first second point named tested =
+    let common = named_is_common (shared_at vertices first second) (edge_at vertices first) (edge_at vertices second) point named in
+    let only = tested point (on_edge_at vertices first point common.on_first) (on_edge_at vertices second point common.on_second) in
+    common.apart only.0 only.1 only.2
+
 -- a test of two edges is one of them the other way round
 pub tested_either_way : (vertices : SweepVertices) (first second : ℕ) → first < sweep_count vertices → second < sweep_count vertices → Tested (plan_of vertices) first second
     → Tested (plan_of vertices) second first
@@ -314,8 +322,8 @@ sharing rings vertices first second one other proper are is its = either (shared
             (next_is_follower rings vertices second first other one proper are its is same (next ∙ ap (λ (r : List Position). next_round (length r) other.edge) (sym alike))))
 
 -- a meeting of vertices is one of the rings
-pub meeting_of_rings : (rings : List (List Position)) (vertices : SweepVertices) (pair : Pair) (meeting : Meeting) → AreProperRings rings → AreSweepVertices rings vertices
-    → IsMeetingAt vertices pair
+pub meeting_of_rings : (rings : List (List Position)) (vertices : SweepVertices) (pair : NamedPair) (meeting : Meeting) → AreProperRings rings → AreSweepVertices rings vertices
+    → IsNamedPair vertices pair
     → IsNamedMeeting rings pair meeting → IsMeetingOf rings meeting
 meeting_of_rings rings vertices pair meeting proper are is named =
     let one = edge_at vertices pair.first in

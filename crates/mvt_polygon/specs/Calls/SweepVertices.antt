@@ -16,6 +16,7 @@ use Rattle.mvt_polygon.specs.declared.meeting.Meeting.{Meeting}
 use Rattle.mvt_polygon.specs.declared.sweep.vertex.SweepVertex.{SweepVertex}
 use Rattle.mvt_polygon.specs.declared.sweep.vertices.SweepVertices.{SweepVertices}
 use Rattle.mvt_polygon.specs.declared.sweep.vertices.Pair.{Pair}
+use Rattle.mvt_polygon.specs.declared.sweep.vertices.NamedPair.{NamedPair}
 
 -- in a ring of so many vertices: the number of the last vertex for the first one, that of the first for the last one,
 -- and its own for every other vertex
@@ -104,15 +105,26 @@ plan_of vertices = record {
 
 -- Their meetings
 
--- the two edges, in order, meet at the point that is named for them
+-- the point is the one that is named for the two edges
+abbrev pub IsNamedFor : SweepVertices → ℕ → ℕ → RationalPoint → Type 0
+IsNamedFor vertices first second point = IsNamed (shared_at vertices first second) (edge_at vertices first) (edge_at vertices second) (Some point)
+
+-- the two edges, in order, meet wrongly: a point is named for them
 pub record IsMeetingAt (vertices : SweepVertices) (pair : Pair) : Type 0 where
   pub in_order : pair.first < pair.second
   pub known : pair.second < sweep_count vertices
-  pub named : IsNamed (shared_at vertices pair.first pair.second) (edge_at vertices pair.first) (edge_at vertices pair.second) (Some pair.point)
+  pub point : RationalPoint
+  pub named : IsNamedFor vertices pair.first pair.second point
+
+-- and this is the point
+pub record IsNamedPair (vertices : SweepVertices) (pair : NamedPair) : Type 0 where
+  pub in_order : pair.first < pair.second
+  pub known : pair.second < sweep_count vertices
+  pub named : IsNamedFor vertices pair.first pair.second pair.point
   pub bounded : IsBounded pair.point
 
 -- the meeting is that of this pair of edges, which are named by ring and ordinal
-pub record IsNamedMeeting (rings : List (List Position)) (pair : Pair) (meeting : Meeting) : Type 0 where
+pub record IsNamedMeeting (rings : List (List Position)) (pair : NamedPair) (meeting : Meeting) : Type 0 where
   pub first : IsNumbered rings pair.first (first_of meeting)
   pub second : IsNumbered rings pair.second (second_of meeting)
   pub point : meeting.point ≡ pair.point

@@ -37,7 +37,7 @@ pub(crate) fn begin<S: Status>(
         (edges_of chains.old (S.edges status.old)) (edges_of chains.new (S.edges status.new))) }
     ensures chains { IfOk result (λ step.
         IfNone (met_by step) (AreChains vertices.now chains.new (S.edges status.new))) }
-    ensures counted { AddsStep 3 1 (sweep_count vertices.now) count.old count.new }
+    ensures counted { AddsStep 2 1 (sweep_count vertices.now) count.old count.new }
     ensures least { IfOk result (λ step. IsCounted 1 count.old count.new (met_by step)) }
 {
     let turn = turn(vertices, number, count);
@@ -95,7 +95,7 @@ fn turn(vertices: &SweepVertices, number: usize, count: &mut Count) -> Ordering
 }
 
 /// The wrong meeting of the two edges that begin in a vertex, if they have one. Only along one line
-/// they need a test.
+/// they need a test. They go one way then, so it finds one.
 fn meeting_of_both(
     vertices: &SweepVertices,
     number: usize,
@@ -104,11 +104,14 @@ fn meeting_of_both(
 ) -> Option<Pair>
     requires number { number < sweep_count vertices.now }
     requires turn { turn ≡ int_cmp (turn_at vertices.now number) (pos 0) }
+    requires begin { BeginThere (plan_of vertices.now) (position_at vertices.now number)
+        (previous_at vertices.now number) number }
     ensures none { IfNone result (Tested (plan_of vertices.now) (previous_at vertices.now number)
         number × Tested (plan_of vertices.now) number (previous_at vertices.now number)) }
     ensures some { IfSome result (IsMeetingAt vertices.now) }
     ensures counted { AddsWork 1 0 0 count.old count.new }
     ensures tested { IfSome result (λ _. ticked count.old.tests ≤ count.new.tests) }
+    ensures untested { IfNone result (count.new ≡ count.old) }
 {
     if turn.is_ne() {
         return None;

@@ -42,13 +42,9 @@ impl Chains {
             below: outside,
             above: outside,
         };
-        let mut links = Vec::with_capacity(alloc, vertices.len() + 1)?;
-        for _number in 0..vertices.len() + 1 {
-            links.push(none)?;
-        }
         Ok(Chains {
             twins: vec![in alloc; 0_u32; vertices.len()]?,
-            links,
+            links: vec![in alloc; none; vertices.len() + 1]?,
         })
     }
 

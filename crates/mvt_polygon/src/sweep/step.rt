@@ -10,7 +10,7 @@ use crate::sweep::begin::begin;
 use crate::sweep::chains::Chains;
 use crate::sweep::event::{end, pass};
 use crate::sweep::vertices::{Pair, SweepVertices};
-use mvt_plane::{Count, sweep_key};
+use mvt_plane::Count;
 use mvt_status::{Split, Status};
 use std::alloc::AllocError;
 
@@ -42,16 +42,14 @@ pub(crate) fn go_over<S: Status>(
         (edges_of chains.old (S.edges status.old)) (edges_of chains.new (S.edges status.new))) }
     ensures chains { IfOk result (λ step.
         IfNone (met_by step) (AreChains vertices.now chains.new (S.edges status.new))) }
-    ensures counted { AddsStep 3 (turns_here vertices.now number) (sweep_count vertices.now)
+    ensures counted { AddsStep 2 (turns_here vertices.now number) (sweep_count vertices.now)
         count.old count.new }
     ensures least { IfOk result (λ step. IsCounted 1 count.old count.new (met_by step)) }
 {
     let previous = vertices.previous(number);
-    let before = *vertices.position(previous);
-    let following = *vertices.position(vertices.next(number));
-    let key = sweep_key(*vertices.position(number));
-    let comes_from_before = sweep_key(before) < key;
-    let goes_on = key < sweep_key(following);
+    let key = vertices.key(number);
+    let comes_from_before = vertices.key(previous) < key;
+    let goes_on = key < vertices.key(vertices.next(number));
     if comes_from_before {
         if goes_on {
             Ok(after_an_end(pass(vertices, number, previous, number, chains, status, count)))

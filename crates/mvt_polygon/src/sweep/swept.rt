@@ -1,7 +1,10 @@
 //! What comes of a sweep over rings.
-ghost use Rattle.std.specs.Prelude.{◌≡◌, ◌+◌, ◌*◌, [], IfOk};
+ghost use Rattle.std.specs.Prelude.{◌≡◌, ◌+◌, ◌*◌, ◌≤◌, [], IfNone, IfOk, IfSome, None};
+ghost use Rattle.mvt_plane.specs.Counted.{ticked};
 ghost use Rattle.mvt_polygon.specs.Work.{AddsWork, IsCounted};
-ghost use Rattle.mvt_polygon.specs.Calls.SweepVertices.{AreSweepVertices};
+ghost use Rattle.mvt_polygon.specs.Calls.SweepVertices.{AreSweepVertices, IsMeetingAt};
+ghost use Rattle.mvt_polygon.specs.Meeting.{IsMeetingOf};
+ghost use Rattle.mvt_polygon.specs.Calls.VertexOrder.{IsOrder, IsStrict};
 ghost use Rattle.mvt_polygon.specs.Work.{vertex_count};
 ghost use Rattle.mvt_polygon.specs.Rings.{rings_of, AreProperRings};
 ghost use Rattle.mvt_polygon.specs.Calls.Swept.{IsSweptAnswer, IsSweptWith, met_in};
@@ -11,9 +14,9 @@ ghost use Rattle.mvt_status.specs.Counts.{bits};
 use crate::meeting::{Meeting, named_meeting};
 use crate::sweep::listing::list_of;
 use crate::sweep::notes::{Notes, RingNotes};
-use crate::sweep::order::{numbers_of, one_position, order_of};
+use crate::sweep::order::{one_position, order_of};
 use crate::sweep::sweep;
-use crate::sweep::vertices::SweepVertices;
+use crate::sweep::vertices::{Pair, SweepVertices};
 use mvt_plane::{Count, Point};
 use mvt_status::{Status, TreeStatus};
 use std::alloc::{AllocError, Global};
@@ -50,17 +53,12 @@ pub(crate) fn sweep_over<S: Status, N: Notes>(
         IsCounted (vertex_count (rings_of rings.now)) count.old count.new (met_in swept)) }
 {
     let order = order_of(alloc, vertices)?;
-    let found = match one_position(vertices, &order) {
-        Some((first, second)) => vertices.meeting(first, second, count),
-        None => None,
-    };
-    if let Some(meeting) = named_meeting(rings, found) {
+    if let Some(meeting) = meeting_at_one_position(rings, vertices, &order, count) {
         return Ok(Swept::Meets(meeting));
     }
-    let order = numbers_of(alloc, vertices, order)?;
     let mut notes = N::new(alloc, rings)?;
     let found = sweep(alloc, vertices, &order, &mut notes, status, count)?;
-    Ok(match named_meeting(rings, found) {
+    Ok(match meeting_found(rings, vertices, found, count) {
         Some(meeting) => Swept::Meets(meeting),
         None => Swept::Clear(notes),
     })
@@ -85,4 +83,45 @@ pub(crate) fn sweep_rings(
     let list = list_of(alloc, rings)?;
     let vertices = SweepVertices::new(&list);
     sweep_over(alloc, rings, &vertices, &mut TreeStatus::new(alloc), count)
+}
+
+/// The meeting of edges that begin at one position, if any do: then there is nothing to sweep over.
+fn meeting_at_one_position(
+    rings: &[Vec<Point>],
+    vertices: &SweepVertices,
+    order: &[u32],
+    count: &mut Count,
+) -> Option<Meeting>
+    requires rings { AreProperRings (rings_of rings.now) }
+    requires vertices { AreSweepVertices (rings_of rings.now) vertices.now }
+    requires order { IsOrder vertices.now order.now }
+    ensures none { IfNone result (IsStrict vertices.now order.now) }
+    ensures some { IfSome result (IsMeetingOf (rings_of rings.now)) }
+    ensures counted { AddsWork (3 * vertex_count (rings_of rings.now)) 0 0 count.old count.new }
+    ensures untested { IfNone result (count.new ≡ count.old) }
+    ensures tested { IfSome result (λ _. ticked count.old.tests ≤ count.new.tests) }
+{
+    let (first, second) = one_position(vertices, order)?;
+    let found = vertices.meeting(first, second, count);
+    meeting_found(rings, vertices, found, count)
+}
+
+/// The meeting of two edges that a sweep found, if any, as one of the rings: one test more, for its
+/// point.
+fn meeting_found(
+    rings: &[Vec<Point>],
+    vertices: &SweepVertices,
+    found: Option<Pair>,
+    count: &mut Count,
+) -> Option<Meeting>
+    requires rings { AreProperRings (rings_of rings.now) }
+    requires vertices { AreSweepVertices (rings_of rings.now) vertices.now }
+    requires found { IfSome found (IsMeetingAt vertices.now) }
+    ensures none { IfNone result (found ≡ None) }
+    ensures some { IfSome result (IsMeetingOf (rings_of rings.now)) }
+    ensures counted { AddsWork 1 0 0 count.old count.new }
+    ensures untested { IfNone found (count.new ≡ count.old) }
+    ensures tested { IfSome result (λ _. ticked count.old.tests ≤ count.new.tests) }
+{
+    named_meeting(rings, vertices.named(found, count))
 }

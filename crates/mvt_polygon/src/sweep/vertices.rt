@@ -4,14 +4,21 @@ ghost use Rattle.mvt_polygon.specs.Calls.Links.{AreLinked};
 
 use crate::sweep::heights::heights_apart;
 use crate::sweep::vertex::SweepVertex;
-use mvt_plane::{Count, Edge, Hpoint, Point, common};
+use mvt_plane::{Count, Edge, Hpoint, Point, common, sweep_key};
 
 /// Two edges that meet wrongly, by their numbers, the lesser one first.
 #[derive(Clone, Copy)]
 pub(crate) struct Pair {
     pub(crate) first: usize,
     pub(crate) second: usize,
-    /// The point that they have in common, as `common` names it for the first and the second edge.
+}
+
+/// The same, with the point that they have in common.
+#[derive(Clone, Copy)]
+pub(crate) struct NamedPair {
+    pub(crate) first: usize,
+    pub(crate) second: usize,
+    /// The point as `common` names it for the first and the second edge.
     pub(crate) point: Hpoint,
 }
 
@@ -24,10 +31,11 @@ pub(crate) struct SweepVertices<'a> {
 }
 
 impl<'a> SweepVertices<'a> {
-    ghost use Rattle.std.specs.Prelude.{◌≡◌, ◌≢◌, ◌<◌, IfNone, IfSome};
+    ghost use Rattle.std.specs.Prelude.{◌≡◌, ◌≢◌, ◌<◌, ◌≤◌, IfNone, IfSome, None};
     ghost use Rattle.mvt_plane.specs.Counted.{ticked};
+    ghost use Rattle.mvt_plane.specs.Geometry.Measure.{key_of};
     ghost use Rattle.mvt_polygon.specs.Work.{AddsWork};
-    ghost use Rattle.mvt_polygon.specs.Calls.SweepVertices.{IsMeetingAt, sweep_count, edge_at, is_first_at, next_at, plan_of, position_at, previous_at, shared_at};
+    ghost use Rattle.mvt_polygon.specs.Calls.SweepVertices.{IsMeetingAt, IsNamedPair, sweep_count, edge_at, is_first_at, next_at, plan_of, position_at, previous_at, shared_at};
     ghost use Rattle.mvt_polygon.specs.Calls.Sweep.{Tested};
 
     /// The vertices of a list.
@@ -55,6 +63,27 @@ impl<'a> SweepVertices<'a> {
         ensures { result.now ≡ position_at self.now number }
     {
         &self.list[number].position
+    }
+
+    /// The place of the vertex of this number in the order of the sweep.
+    #[inline]
+    pub(crate) fn key(&self, number: usize) -> i64
+        requires { number < sweep_count self.now }
+        ensures { result ≡ key_of (position_at self.now number) }
+    {
+        sweep_key(*self.position(number))
+    }
+
+    /// The same, for a sort, which may ask for any number: without such a vertex the least of all
+    /// keys.
+    #[inline]
+    pub(crate) fn any_key(&self, number: u32) -> i64
+        ensures { number < sweep_count self.now → result ≡ key_of (position_at self.now number) }
+    {
+        match self.list.get(number as usize) {
+            Some(vertex) => sweep_key(vertex.position),
+            None => i64::MIN,
+        }
     }
 
     /// Whether the vertex of this number is the first of its ring: its far end comes after it.
@@ -132,13 +161,10 @@ impl<'a> SweepVertices<'a> {
         }
     }
 
-    /// The same, where the first comes before the second, by their points alone.
-    pub(crate) fn meeting_in_order(
-        &self,
-        first: usize,
-        second: usize,
-        count: &mut Count,
-    ) -> Option<Pair>
+    /// The same, where the first comes before the second, by their points alone. (A sweep hands the
+    /// answer from call to call at each vertex, so it doesn't hold the point, which is large.)
+    #[inline(never)]
+    fn meeting_in_order(&self, first: usize, second: usize, count: &mut Count) -> Option<Pair>
         requires in_order { first < second }
         requires known { second < sweep_count self.now }
         ensures none { IfNone result (Tested (plan_of self.now) first second) }
@@ -146,13 +172,46 @@ impl<'a> SweepVertices<'a> {
         ensures counted { AddsWork 1 0 0 count.old count.new }
         ensures tested { count.new.tests ≡ ticked count.old.tests }
     {
+        self.named_in_order(first, second, count)?;
+        Some(Pair { first, second })
+    }
+
+    /// The same, with the point.
+    #[inline(always)]
+    pub(crate) fn named_in_order(
+        &self,
+        first: usize,
+        second: usize,
+        count: &mut Count,
+    ) -> Option<NamedPair>
+        requires in_order { first < second }
+        requires known { second < sweep_count self.now }
+        ensures none { IfNone result (Tested (plan_of self.now) first second) }
+        ensures some { IfSome result (IsNamedPair self.now) }
+        ensures edges { IfSome result (λ pair. (pair.first ≡ first) × (pair.second ≡ second)) }
+        ensures counted { AddsWork 1 0 0 count.old count.new }
+        ensures tested { count.new.tests ≡ ticked count.old.tests }
+    {
         let shared = self.shared(first, second);
         let point = common(self.edge(first), self.edge(second), shared, count)?;
-        Some(Pair {
+        Some(NamedPair {
             first,
             second,
             point,
         })
+    }
+
+    /// The meeting that a sweep found, if any, with its point: one more test.
+    pub(crate) fn named(&self, found: Option<Pair>, count: &mut Count) -> Option<NamedPair>
+        requires { IfSome found (IsMeetingAt self.now) }
+        ensures none { IfNone result (found ≡ None) }
+        ensures some { IfSome result (IsNamedPair self.now) }
+        ensures counted { AddsWork 1 0 0 count.old count.new }
+        ensures untested { IfNone found (count.new ≡ count.old) }
+        ensures tested { IfSome result (λ _. ticked count.old.tests ≤ count.new.tests) }
+    {
+        let Pair { first, second } = found?;
+        self.named_in_order(first, second, count)
     }
 
     /// The vertex that two edges share as neighbours in a ring.

@@ -12,11 +12,11 @@ loop-at-init c = record { tested = λ k d none. absurd (omega arith); counted = 
 
 pub loop-at-preserved : goal.loop-at-preserved
 loop-at-preserved c =
-    let tested = rw c.in_default.is at c.meeting_in_order.ensures.none in
+    let tested = rw c.in_default.is at c.named_in_order.ensures.none in
     record {
       tested = All-more (λ (pair : ℕ × ℕ). Tested (plan_of c.args.vertices.now) pair.0 pair.1) c.args.pairs.now c.loop-at.at (0, 0) c.loop-at-test.true c.loop-at.invariant.tested tested;
-      counted = work_then c.loop-at.invariant.counted c.meeting_in_order.ensures.counted;
-      least = omega (arith, c.loop-at.invariant.least, c.meeting_in_order.ensures.tested);
+      counted = work_then c.loop-at.invariant.counted c.named_in_order.ensures.counted;
+      least = omega (arith, c.loop-at.invariant.least, c.named_in_order.ensures.tested);
     }
 
 pub returns-clause-none : goal.returns-clause-none

@@ -1,18 +1,18 @@
 use Rattle.std.proofs.Common.{◌≤◌, ◌+◌, ℕ, ℤ, IfNone, sym, ap, subst, ◌*◌, get_or, length, arith, slice_index_or}
+use Rattle.std.proofs.lemmas.Option.{slice_get-get_or}
 use Rattle.std.specs.List.{count_by}
-use Rattle.mvt_plane.specs.Geometry.Measure.{key_of}
 use Rattle.mvt_status.specs.Counts.{bits, raised}
 use Rattle.mvt_polygon.specs.Calls.Chains.{AreChains, edges_of}
 use Rattle.mvt_polygon.specs.Work.{AddsWork}
-use Rattle.mvt_polygon.specs.Calls.VertexOrder.{IsSweptOver, turns_here, with_keys}
-use Rattle.mvt_polygon.specs.Calls.SweepVertices.{sweep_count, is_turn_at, position_at}
+use Rattle.mvt_polygon.specs.Calls.VertexOrder.{IsSweptOver, turns_here}
+use Rattle.mvt_polygon.specs.Calls.SweepVertices.{sweep_count, is_turn_at}
 use Rattle.mvt_polygon.proofs.Sweeps.VertexSweeps.{next_sweep_vertex, swept_to_last}
 use Rattle.mvt_polygon.proofs.Sweeps.LeastWork.{tested_step}
 use Rattle.mvt_polygon.proofs.Sweeps.MeetingsFound.{another_step, so_many_steps}
-use Rattle.mvt_polygon.proofs.Vertices.NumbersInOrder.{number_there, with_keys_size}
 use Rattle.mvt_polygon.proofs.Sweeps.StatusCounts.{no_work}
 use Rattle.mvt_polygon.proofs.Sweeps.StepsAfterAnEnd.{stepped_begins, stepped_ends}
 use Rattle.mvt_polygon.proofs.Notes.SweepNotes.{noting_first, noting_next, noting_last, passed_next}
+use Rattle.mvt_polygon.proofs.Vertices.VertexOrders.{number_read}
 use Rattle.mvt_polygon.proofs.Vertices.TurnCounts.{turns_before, turns_more, turns_so_far, turns_with}
 use Rattle.mvt_polygon.proofs.sweep.sweep.Given as given
 use Rattle.mvt_polygon.proofs.sweep.sweep.Goals as goal
@@ -22,7 +22,7 @@ use Rattle.mvt_polygon.specs.declared.sweep.step.Step.{Step}
 
 pub loop-at-init : goal.loop-at-init
 loop-at-init g c = record {
-  swept = noting_first c.args.vertices.now (with_keys c.args.vertices.now c.args.order.now) (edges_of c.in_ok-chains.chains (g.S.Status.edges c.args.status.now)) _ c.requires.order
+  swept = noting_first c.args.vertices.now c.args.order.now (edges_of c.in_ok-chains.chains (g.S.Status.edges c.args.status.now)) _ c.requires.order
       (ap (edges_of c.in_ok-chains.chains) c.requires.empty) (λ key before rings first. first key before);
   chains = subst (AreChains c.args.vertices.now c.in_ok-chains.chains) (sym c.requires.empty) c.in_ok-chains.ensures;
   counted = no_work c.args.count.now;
@@ -30,25 +30,18 @@ loop-at-init g c = record {
 }
 
 pub go_over-requires-clause-number : goal.go_over-requires-clause-number
-go_over-requires-clause-number g c =
-    let order = with_keys c.args.vertices.now c.args.order.now in
-    let number = slice_index_or c.args.order.now c.loop-at.at 0 in
-    let key = key_of (position_at c.args.vertices.now number) in
-    let there = number_there c.args.vertices.now c.args.order.now c.loop-at.at c.loop-at-test.true in
-    c.requires.order.numbering.known c.loop-at.at key number there
+go_over-requires-clause-number g c = number_read c.args.vertices.now c.args.order.now c.loop-at.at c.requires.order.numbering c.loop-at-test.true
 
 pub go_over-requires-clause-next : goal.go_over-requires-clause-next
 go_over-requires-clause-next g c =
-    let order = with_keys c.args.vertices.now c.args.order.now in
     let number = slice_index_or c.args.order.now c.loop-at.at 0 in
-    let key = key_of (position_at c.args.vertices.now number) in
-    let there = number_there c.args.vertices.now c.args.order.now c.loop-at.at c.loop-at-test.true in
-    next_sweep_vertex c.args.vertices.now order c.loop-at.at key number (edges_of c.loop-at.chains (g.S.Status.edges c.loop-at.status)) c.requires.order c.requires.strict
+    let there = slice_get-get_or c.args.order.now c.loop-at.at 0 c.loop-at-test.true in
+    next_sweep_vertex c.args.vertices.now c.args.order.now c.loop-at.at number (edges_of c.loop-at.chains (g.S.Status.edges c.loop-at.status)) c.requires.order c.requires.strict
     c.loop-at.invariant.swept.swept there
 
 -- the work with that of the next step
 with_step : (g : given.Over) (c : After-go_over g) → let vertices = c.args.vertices.now in let order = c.args.order.now in let turns = turns_before vertices order c.loop-at.at + turns_here vertices (get_or order c.loop-at.at 0) in
-    AddsWork (3 * (c.loop-at.at + 1)) (c.loop-at.at + 1 + turns * (2 * bits (sweep_count vertices))) (turns * (12 * bits (sweep_count vertices))) c.args.count.now c.go_over.new.count
+    AddsWork (2 * (c.loop-at.at + 1)) (c.loop-at.at + 1 + turns * (2 * bits (sweep_count vertices))) (turns * (12 * bits (sweep_count vertices))) c.args.count.now c.go_over.new.count
 with_step g c =
     let vertices = c.args.vertices.now in
     another_step c.loop-at.at (turns_before vertices c.args.order.now c.loop-at.at) (turns_here vertices (get_or c.args.order.now c.loop-at.at 0)) (2 * bits (sweep_count vertices))
@@ -56,7 +49,7 @@ with_step g c =
 
 -- it is within that of all steps
 within : (g : given.Over) (c : After-go_over g) → let vertices = c.args.vertices.now in let order = c.args.order.now in let turns = count_by (is_turn_at vertices) order in
-    AddsWork (3 * length order) (length order + turns * (2 * bits (sweep_count vertices))) (turns * (12 * bits (sweep_count vertices))) c.args.count.now c.go_over.new.count
+    AddsWork (2 * length order) (length order + turns * (2 * bits (sweep_count vertices))) (turns * (12 * bits (sweep_count vertices))) c.args.count.now c.go_over.new.count
 within g c =
     let vertices = c.args.vertices.now in
     let order = c.args.order.now in
@@ -76,7 +69,7 @@ returns-in_err-pass-clause-counted g c = within g (goal.at.returns-in_err-pass-c
 pub pass-requires : goal.pass-requires
 pass-requires g c =
     let vertices = c.args.vertices.now in
-    let order = with_keys vertices c.args.order.now in
+    let order = c.args.order.now in
     let number = slice_index_or c.args.order.now c.loop-at.at 0 in
     let before = edges_of c.loop-at.chains (g.S.Status.edges c.loop-at.status) in
     let step = IsStep vertices number before (edges_of c.go_over.new.chains (g.S.Status.edges c.go_over.new.status)) in
@@ -88,17 +81,16 @@ pass-requires g c =
       c.loop-at.invariant.swept.swept.key,
       before,
       c.loop-at.invariant.swept.noted c.requires.noted.0 c.requires.noted.1,
-      passed_next vertices order c.loop-at.at (key_of (position_at vertices number)) number before c.match-branch-3.begun c.requires.order
-          c.requires.strict c.loop-at.invariant.swept.swept (number_there vertices c.args.order.now c.loop-at.at c.loop-at-test.true) begun,
+      passed_next vertices order c.loop-at.at number before c.match-branch-3.begun c.requires.order
+          c.requires.strict c.loop-at.invariant.swept.swept (slice_get-get_or order c.loop-at.at 0 c.loop-at-test.true) begun,
     )
 
 pub loop-at-preserved : goal.loop-at-preserved
 loop-at-preserved g c =
     let vertices = c.args.vertices.now in
-    let order = with_keys vertices c.args.order.now in
+    let order = c.args.order.now in
     let number = slice_index_or c.args.order.now c.loop-at.at 0 in
-    let key = key_of (position_at vertices number) in
-    let there = number_there vertices c.args.order.now c.loop-at.at c.loop-at-test.true in
+    let there = slice_get-get_or order c.loop-at.at 0 c.loop-at-test.true in
     let before = edges_of c.loop-at.chains (g.S.Status.edges c.loop-at.status) in
     let after = edges_of c.go_over.new.chains (g.S.Status.edges c.go_over.new.status) in
     let begun = c.match-branch-3.begun in
@@ -107,26 +99,26 @@ loop-at-preserved g c =
       | in-Begins w ↦ stepped_begins vertices number before after w.in-Begins.place c.in_ok-pair.field-0 begun c.loop-at.count c.go_over.new.count w.in-Begins.is w.begun-is c.in_ok-pair.ensures.step c.in_ok-pair.ensures.least
       | in-Ends w ↦ stepped_ends vertices number before after c.in_ok-pair.field-0 begun c.loop-at.count c.go_over.new.count w.in-Ends.is w.begun-is c.in_ok-pair.ensures.step c.in_ok-pair.ensures.least
     ] in
-    let passed = passed_next vertices order c.loop-at.at key number before begun c.requires.order c.requires.strict
+    let passed = passed_next vertices order c.loop-at.at number before begun c.requires.order c.requires.strict
     c.loop-at.invariant.swept.swept there told.1 in
     record {
-      swept = noting_next vertices order c.loop-at.at key number after _ c.requires.order c.requires.strict there told.0
+      swept = noting_next vertices order c.loop-at.at number after _ c.requires.order c.requires.strict there told.0
           (λ rings first. c.in_ok-pass.ensures rings c.loop-at.invariant.swept.swept.key before (c.loop-at.invariant.swept.noted rings first) passed);
       chains = elim c.match-branch-3.branch [ in-Begins w ↦ subst still w.in-Begins.is c.in_ok-pair.ensures.chains | in-Ends w ↦ subst still w.in-Ends.is c.in_ok-pair.ensures.chains ];
-      counted = subst (λ (turns : ℕ). AddsWork (3 * (c.loop-at.at + 1)) (c.loop-at.at + 1 + turns * (2 * bits (sweep_count vertices))) (turns * (12 * bits (sweep_count vertices))) c.args.count.now c.go_over.new.count)
+      counted = subst (λ (turns : ℕ). AddsWork (2 * (c.loop-at.at + 1)) (c.loop-at.at + 1 + turns * (2 * bits (sweep_count vertices))) (turns * (12 * bits (sweep_count vertices))) c.args.count.now c.go_over.new.count)
           (sym (turns_more vertices c.args.order.now c.loop-at.at c.loop-at-test.true)) (with_step g (goal.at.loop-at-preserved g c).After-go_over);
       least = omega (arith, c.loop-at.invariant.least, told.2);
     }
 
 pub returns-clause-noted : goal.returns-clause-noted
 returns-clause-noted g c rings first =
-    noting_last c.args.vertices.now (with_keys c.args.vertices.now c.args.order.now) c.loop-at.at (edges_of c.loop-at.chains (g.S.Status.edges c.loop-at.status)) (λ (key : ℤ). g.N.Notes.are_noted rings c.args.vertices.now key c.loop-at.notes)
-    c.requires.order c.loop-at.invariant.swept.swept (rw (with_keys_size c.args.vertices.now c.args.order.now) c.loop-at-test.false) (c.loop-at.invariant.swept.noted rings first)
+    noting_last c.args.vertices.now c.args.order.now c.loop-at.at (edges_of c.loop-at.chains (g.S.Status.edges c.loop-at.status)) (λ (key : ℤ). g.N.Notes.are_noted rings c.args.vertices.now key c.loop-at.notes)
+    c.requires.order c.loop-at.invariant.swept.swept c.loop-at-test.false (c.loop-at.invariant.swept.noted rings first)
 
 pub returns-clause-none : goal.returns-clause-none
 returns-clause-none g c =
-    swept_to_last c.args.vertices.now (with_keys c.args.vertices.now c.args.order.now) c.loop-at.at (edges_of c.loop-at.chains (g.S.Status.edges c.loop-at.status)) c.requires.order
-    c.loop-at.invariant.swept.swept (rw (with_keys_size c.args.vertices.now c.args.order.now) c.loop-at-test.false)
+    swept_to_last c.args.vertices.now c.args.order.now c.loop-at.at (edges_of c.loop-at.chains (g.S.Status.edges c.loop-at.status)) c.requires.order
+    c.loop-at.invariant.swept.swept c.loop-at-test.false
 
 pub returns-clause-counted : goal.returns-clause-counted
 returns-clause-counted g c =

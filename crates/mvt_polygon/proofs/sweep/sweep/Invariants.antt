@@ -3,7 +3,6 @@ use Rattle.mvt_plane.specs.Position.{Position}
 use Rattle.mvt_status.specs.Counts.{bits, raised}
 use Rattle.mvt_polygon.specs.Calls.Chains.{AreChains, edges_of}
 use Rattle.mvt_polygon.specs.Work.{AddsWork}
-use Rattle.mvt_polygon.specs.Calls.VertexOrder.{with_keys}
 use Rattle.mvt_polygon.specs.Calls.SweepVertices.{sweep_count}
 use Rattle.mvt_polygon.specs.Calls.Steps.{AtFirst}
 use Rattle.mvt_polygon.proofs.Vertices.TurnCounts.{turns_before}
@@ -14,9 +13,9 @@ use Rattle.mvt_polygon.proofs.sweep.sweep.Given as goal
 -- a comparison for each at least
 abbrev pub invariant-loop-at : goal.invariant-loop-at
 invariant-loop-at g l = record {
-  swept : IsSweptNoting l.vertices (with_keys l.vertices l.order) l.at (edges_of l.chains (g.S.Status.edges l.status))
+  swept : IsSweptNoting l.vertices l.order l.at (edges_of l.chains (g.S.Status.edges l.status))
       (λ (key : ℤ). (rings : List (List Position)) → AtFirst l.vertices (λ (key : ℤ). g.N.Notes.are_noted rings l.vertices key l.fn.notes) → g.N.Notes.are_noted rings l.vertices key l.notes);
   chains : AreChains l.vertices l.chains (g.S.Status.edges l.status);
-  counted : AddsWork (3 * l.at) (l.at + turns_before l.vertices l.order l.at * (2 * bits (sweep_count l.vertices))) (turns_before l.vertices l.order l.at * (12 * bits (sweep_count l.vertices))) l.fn.count l.count;
+  counted : AddsWork (2 * l.at) (l.at + turns_before l.vertices l.order l.at * (2 * bits (sweep_count l.vertices))) (turns_before l.vertices l.order l.at * (12 * bits (sweep_count l.vertices))) l.fn.count l.count;
   least : raised l.at l.fn.count.probes ≤ l.count.probes;
 }

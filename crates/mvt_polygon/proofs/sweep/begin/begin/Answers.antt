@@ -111,7 +111,7 @@ over g c most is =
     within place.ensures.cut c.in_default.ensures.none below above refl is
 
 -- the work of all
-work : (g : given.Over) (c : After-insert_two g) → AddsStep 3 1 (sweep_count c.args.vertices.now) c.args.count.now c.insert_two.new.count
+work : (g : given.Over) (c : After-insert_two g) → AddsStep 2 1 (sweep_count c.args.vertices.now) c.args.count.now c.insert_two.new.count
 work g c =
     let vertices = c.args.vertices.now in
     let list = g.S.Status.edges c.args.status.now in
@@ -119,7 +119,7 @@ work g c =
     let few = few_between (plan_of vertices) (key_of (position_at vertices c.args.number)) c.place_of-place.result.point c.in_order-lower.result.0 c.in_order-lower.result.1
     (edges_of c.args.chains.now list) (plan_of_vertices vertices) (omega (arith, size, c.place_of-place.ensures.within)) (over g c _ refl) in
     work_of_begin (length list) (sweep_count vertices) c.args.count.now c.turn-turn.new.count c.meeting_of_both.new.count c.place_of-place.new.count c.meeting_with.new.count
-    c.meeting_with-2.new.count c.insert_two.new.count (omega (arith, few, size)) c.turn-turn.ensures.counted c.meeting_of_both.ensures.counted c.place_of-place.ensures.counted
+    c.meeting_with-2.new.count c.insert_two.new.count (omega (arith, few, size)) c.turn-turn.ensures.counted c.in_default.ensures.untested c.place_of-place.ensures.counted
     c.meeting_with.ensures.counted c.meeting_with-2.ensures.counted c.insert_two.ensures.counted
 
 pub returns-in_err-insert_two-clause-counted : goal.returns-in_err-insert_two-clause-counted

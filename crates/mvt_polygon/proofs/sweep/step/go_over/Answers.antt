@@ -1,4 +1,4 @@
-use Rattle.std.proofs.Common.{◌≡◌, ℕ, Bool, true, false, arith, ℤ, SFits, to_z, of_z, w64, sym, ap, subst, ◌∙◌}
+use Rattle.std.proofs.Common.{◌≡◌, ℕ, Bool, true, false, arith, ℤ, SFits, to_z, of_z, w64, sym, subst}
 use Rattle.std.specs.Int.Signed.{lt_z}
 use Rattle.mvt_plane.specs.Geometry.Measure.{key_of}
 use Rattle.mvt_polygon.specs.Calls.Chains.{edges_of}
@@ -15,24 +15,22 @@ use Rattle.mvt_polygon.proofs.Sweeps.StatusSteps.{work_of_pass, work_of_turn}
 use Rattle.mvt_polygon.proofs.Sweeps.StepsAfterAnEnd.{an_end_from_before, an_end_from_later, none_after_an_end, step_after_an_end}
 use Rattle.mvt_polygon.proofs.sweep.step.go_over.Given as given
 use Rattle.mvt_polygon.proofs.sweep.step.go_over.Goals as goal
-use Rattle.mvt_polygon.proofs.sweep.step.go_over.Goals.{After-sweep_key}
+use Rattle.mvt_polygon.proofs.sweep.step.go_over.Goals.{After-key}
 
 -- the test of whether the edge comes from before
-comes : (g : given.Over) (c : After-sweep_key g) (answer : Bool) → lt_z (to_z w64 (of_z w64 c.sweep_key.result)) (to_z w64 (of_z w64 c.sweep_key-key.result)) ≡ answer
+comes : (g : given.Over) (c : After-key g) (answer : Bool) → lt_z (to_z w64 (of_z w64 c.key.result)) (to_z w64 (of_z w64 c.key-key.result)) ≡ answer
     → lt_z (key_of (position_at c.args.vertices.now (previous_at c.args.vertices.now c.args.number))) (key_of (position_at c.args.vertices.now c.args.number)) ≡ answer
 comes g c answer test =
-    test_of_keys (position_at c.args.vertices.now (previous_at c.args.vertices.now c.args.number)) (position_at c.args.vertices.now c.args.number) c.sweep_key.result c.sweep_key-key.result
-    answer (record { sfits = c.sweep_key.type_inv }) (record { sfits = c.sweep_key-key.type_inv })
-    (c.sweep_key.ensures.value ∙ ap key_of (rw c.previous-previous.ensures.value at c.position-before.ensures)) (c.sweep_key-key.ensures.value ∙ ap key_of c.position.ensures) test
+    test_of_keys (position_at c.args.vertices.now (previous_at c.args.vertices.now c.args.number)) (position_at c.args.vertices.now c.args.number) c.key.result c.key-key.result
+    answer (record { sfits = c.key.type_inv }) (record { sfits = c.key-key.type_inv }) (rw c.previous-previous.ensures.value at c.key.ensures) c.key-key.ensures test
 
 -- and of whether the next one goes on
-goes : (g : given.Over) (c : After-sweep_key g) (following : ℤ) (answer : Bool) → SFits w64 following → following ≡ key_of c.position-following.result.now
-    → lt_z (to_z w64 (of_z w64 c.sweep_key-key.result)) (to_z w64 (of_z w64 following)) ≡ answer
+goes : (g : given.Over) (c : After-key g) (following : ℤ) (answer : Bool) → SFits w64 following → following ≡ key_of (position_at c.args.vertices.now (next_at c.args.vertices.now c.args.number))
+    → lt_z (to_z w64 (of_z w64 c.key-key.result)) (to_z w64 (of_z w64 following)) ≡ answer
     → lt_z (key_of (position_at c.args.vertices.now c.args.number)) (key_of (position_at c.args.vertices.now (next_at c.args.vertices.now c.args.number))) ≡ answer
 goes g c following answer fits is test =
-    test_of_keys (position_at c.args.vertices.now c.args.number) (position_at c.args.vertices.now (next_at c.args.vertices.now c.args.number)) c.sweep_key-key.result following answer
-    (record { sfits = c.sweep_key-key.type_inv }) fits (c.sweep_key-key.ensures.value ∙ ap key_of c.position.ensures)
-    (is ∙ ap key_of (rw c.next.ensures.value at c.position-following.ensures)) test
+    test_of_keys (position_at c.args.vertices.now c.args.number) (position_at c.args.vertices.now (next_at c.args.vertices.now c.args.number)) c.key-key.result following answer
+    (record { sfits = c.key-key.type_inv }) fits c.key-key.ensures is test
 
 pub pass-requires-clause-passes : goal.pass-requires-clause-passes
 pass-requires-clause-passes g c =
@@ -40,20 +38,20 @@ pass-requires-clause-passes g c =
     let number = c.args.number in
     subst (λ (it : ℕ). PassesOn (plan_of vertices) (position_at vertices number) it number) (sym c.previous-previous.ensures.value)
     (passes_on vertices number c.requires.number
-    (comes g (goal.at.pass-requires-clause-passes g c).After-sweep_key true c.if-comes_from_before.true)
-    (goes g (goal.at.pass-requires-clause-passes g c).After-sweep_key c.sweep_key-2.result true (record { sfits = c.sweep_key-2.type_inv }) c.sweep_key-2.ensures.value c.if-goes_on.true))
+    (comes g (goal.at.pass-requires-clause-passes g c).After-key true c.if-comes_from_before.true)
+    (goes g (goal.at.pass-requires-clause-passes g c).After-key c.key-2.result true (record { sfits = c.key-2.type_inv }) (rw c.next.ensures.value at c.key-2.ensures) c.if-goes_on.true))
 
 pub end-requires-clause-ends : goal.end-requires-clause-ends
 end-requires-clause-ends g c =
     both_end c.args.vertices.now c.args.number c.requires.number
-    (comes g (goal.at.end-requires-clause-ends g c).After-sweep_key true c.if-comes_from_before.true)
-    (goes g (goal.at.end-requires-clause-ends g c).After-sweep_key c.sweep_key-2.result false (record { sfits = c.sweep_key-2.type_inv }) c.sweep_key-2.ensures.value c.if-goes_on.false)
+    (comes g (goal.at.end-requires-clause-ends g c).After-key true c.if-comes_from_before.true)
+    (goes g (goal.at.end-requires-clause-ends g c).After-key c.key-2.result false (record { sfits = c.key-2.type_inv }) (rw c.next.ensures.value at c.key-2.ensures) c.if-goes_on.false)
 
 pub begin-requires-clause-begin : goal.begin-requires-clause-begin
 begin-requires-clause-begin g c =
     both_begin c.args.vertices.now c.args.number c.requires.number
-    (comes g (goal.at.begin-requires-clause-begin g c).After-sweep_key false c.if-comes_from_before.false)
-    (goes g (goal.at.begin-requires-clause-begin g c).After-sweep_key c.sweep_key-2.result true (record { sfits = c.sweep_key-2.type_inv }) c.sweep_key-2.ensures.value c.if-goes_on-2.true)
+    (comes g (goal.at.begin-requires-clause-begin g c).After-key false c.if-comes_from_before.false)
+    (goes g (goal.at.begin-requires-clause-begin g c).After-key c.key-2.result true (record { sfits = c.key-2.type_inv }) (rw c.next.ensures.value at c.key-2.ensures) c.if-goes_on-2.true)
 
 pub pass-requires-else-goes_on-2-clause-next : goal.pass-requires-else-goes_on-2-clause-next
 pass-requires-else-goes_on-2-clause-next g c =
@@ -68,8 +66,8 @@ pass-requires-else-goes_on-2-clause-passes g c =
     let number = c.args.number in
     subst (λ (it : ℕ). PassesOn (plan_of vertices) (position_at vertices number) number it) (sym c.previous-previous.ensures.value)
     (passes_back vertices number c.requires.number
-    (comes g (goal.at.pass-requires-else-goes_on-2-clause-passes g c).After-sweep_key false c.if-comes_from_before.false)
-    (goes g (goal.at.pass-requires-else-goes_on-2-clause-passes g c).After-sweep_key c.sweep_key-2.result false (record { sfits = c.sweep_key-2.type_inv }) c.sweep_key-2.ensures.value c.if-goes_on-2.false))
+    (comes g (goal.at.pass-requires-else-goes_on-2-clause-passes g c).After-key false c.if-comes_from_before.false)
+    (goes g (goal.at.pass-requires-else-goes_on-2-clause-passes g c).After-key c.key-2.result false (record { sfits = c.key-2.type_inv }) (rw c.next.ensures.value at c.key-2.ensures) c.if-goes_on-2.false))
 
 pub returns-then-goes_on-clause-step : goal.returns-then-goes_on-clause-step
 returns-then-goes_on-clause-step g c =
@@ -77,7 +75,7 @@ returns-then-goes_on-clause-step g c =
     let after = edges_of c.pass.new.chains (g.S.Status.edges c.args.status.now) in
     subst (λ (step : Step). IsStep c.args.vertices.now c.args.number edges after step) (sym c.after_an_end.ensures)
     (step_after_an_end c.args.vertices.now c.args.number edges after c.pass.result (none_map c.pass.result (λ both. both.0) c.pass.ensures.none) c.pass.ensures.some
-    (an_end_from_before c.args.vertices.now c.args.number (comes g (goal.at.returns-then-goes_on-clause-step g c).After-sweep_key true c.if-comes_from_before.true)))
+    (an_end_from_before c.args.vertices.now c.args.number (comes g (goal.at.returns-then-goes_on-clause-step g c).After-key true c.if-comes_from_before.true)))
 
 pub returns-else-goes_on-clause-step : goal.returns-else-goes_on-clause-step
 returns-else-goes_on-clause-step g c =
@@ -85,7 +83,7 @@ returns-else-goes_on-clause-step g c =
     let after = edges_of c.end.new.chains (g.S.Status.edges c.end.new.status) in
     subst (λ (step : Step). IsStep c.args.vertices.now c.args.number edges after step) (sym c.after_an_end-else-goes_on.ensures)
     (step_after_an_end c.args.vertices.now c.args.number edges after c.end.result (none_map c.end.result (λ both. both.0) c.end.ensures.none) c.end.ensures.some
-    (an_end_from_before c.args.vertices.now c.args.number (comes g (goal.at.returns-else-goes_on-clause-step g c).After-sweep_key true c.if-comes_from_before.true)))
+    (an_end_from_before c.args.vertices.now c.args.number (comes g (goal.at.returns-else-goes_on-clause-step g c).After-key true c.if-comes_from_before.true)))
 
 pub returns-else-goes_on-2-clause-step : goal.returns-else-goes_on-2-clause-step
 returns-else-goes_on-2-clause-step g c =
@@ -95,7 +93,7 @@ returns-else-goes_on-2-clause-step g c =
     subst (λ (step : Step). IsStep c.args.vertices.now c.args.number edges after step) (sym c.after_an_end-else-goes_on-2.ensures)
     (step_after_an_end c.args.vertices.now c.args.number edges after found.result (none_map found.result (λ both. both.0) found.ensures.none) found.ensures.some
     (an_end_from_later c.args.vertices.now c.args.number c.requires.number
-    (goes g (goal.at.returns-else-goes_on-2-clause-step g c).After-sweep_key c.sweep_key-2.result false (record { sfits = c.sweep_key-2.type_inv }) c.sweep_key-2.ensures.value c.if-goes_on-2.false)))
+    (goes g (goal.at.returns-else-goes_on-2-clause-step g c).After-key c.key-2.result false (record { sfits = c.key-2.type_inv }) (rw c.next.ensures.value at c.key-2.ensures) c.if-goes_on-2.false)))
 
 pub returns-then-goes_on-clause-chains : goal.returns-then-goes_on-clause-chains
 returns-then-goes_on-clause-chains g c = none_after_an_end _ c.pass.result _ c.after_an_end.ensures (none_map c.pass.result (λ both. both.1) c.pass.ensures.none)
@@ -128,15 +126,15 @@ returns-else-goes_on-2-clause-counted g c = work_of_pass (turns_here c.args.vert
 -- where both edges end
 pub returns-else-goes_on-clause-counted : goal.returns-else-goes_on-clause-counted
 returns-else-goes_on-clause-counted g c =
-    let at = (goal.at.returns-else-goes_on-clause-counted g c).After-sweep_key in
+    let at = (goal.at.returns-else-goes_on-clause-counted g c).After-key in
     work_of_turn 1 (turns_here c.args.vertices.now c.args.number) (sweep_count c.args.vertices.now) (omega arith)
     (turns_at_ends c.args.vertices.now c.args.number c.requires.number (comes g at true c.if-comes_from_before.true)
-    (goes g at c.sweep_key-2.result false (record { sfits = c.sweep_key-2.type_inv }) c.sweep_key-2.ensures.value c.if-goes_on.false)) c.end.ensures.counted
+    (goes g at c.key-2.result false (record { sfits = c.key-2.type_inv }) (rw c.next.ensures.value at c.key-2.ensures) c.if-goes_on.false)) c.end.ensures.counted
 
 -- and where both begin
 pub returns-then-goes_on-2-clause-counted : goal.returns-then-goes_on-2-clause-counted
 returns-then-goes_on-2-clause-counted g c =
-    let at = (goal.at.returns-then-goes_on-2-clause-counted g c).After-sweep_key in
-    work_of_turn 3 (turns_here c.args.vertices.now c.args.number) (sweep_count c.args.vertices.now) (omega arith)
+    let at = (goal.at.returns-then-goes_on-2-clause-counted g c).After-key in
+    work_of_turn 2 (turns_here c.args.vertices.now c.args.number) (sweep_count c.args.vertices.now) (omega arith)
     (turns_at_begins c.args.vertices.now c.args.number c.requires.number (comes g at false c.if-comes_from_before.false)
-    (goes g at c.sweep_key-2.result true (record { sfits = c.sweep_key-2.type_inv }) c.sweep_key-2.ensures.value c.if-goes_on-2.true)) c.begin.ensures.counted
+    (goes g at c.key-2.result true (record { sfits = c.key-2.type_inv }) (rw c.next.ensures.value at c.key-2.ensures) c.if-goes_on-2.true)) c.begin.ensures.counted

@@ -2,9 +2,9 @@ use Rattle.std.proofs.Common.{IfNone, Option, sym, subst}
 use Rattle.mvt_plane.specs.Geometry.CommonPoint.{IsNamed}
 use Rattle.mvt_polygon.specs.Calls.SweepVertices.{plan_of}
 use Rattle.mvt_polygon.specs.Calls.Sweep.{Tested}
-use Rattle.mvt_polygon.specs.declared.sweep.vertices.Pair.{Pair}
+use Rattle.mvt_polygon.specs.declared.sweep.vertices.NamedPair.{NamedPair}
 use Rattle.mvt_polygon.proofs.Vertices.VertexPlans.{named_of_vertices, tested_by_name}
-use Rattle.mvt_polygon.proofs.sweep.vertices.SweepVertices.meeting_in_order.Goals as goal
+use Rattle.mvt_polygon.proofs.sweep.vertices.SweepVertices.named_in_order.Goals as goal
 
 pub returns-in_err-point-clause-none : goal.returns-in_err-point-clause-none
 returns-in_err-point-clause-none c =
@@ -14,4 +14,4 @@ returns-in_err-point-clause-none c =
     let named = subst (IsNamed c.shared-shared.result c.edge.result c.edge-2.result) c.in_err-point.was c.common.ensures.point in
     let tested = tested_by_name vertices first second
     (named_of_vertices vertices first second c.shared-shared.result c.edge.result c.edge-2.result _ c.shared-shared.ensures c.edge.ensures c.edge-2.ensures named) in
-    subst (λ (it : Option Pair). IfNone it (Tested (plan_of vertices) first second)) (sym c.from_residual.ensures) tested
+    subst (λ (it : Option NamedPair). IfNone it (Tested (plan_of vertices) first second)) (sym c.from_residual.ensures) tested
