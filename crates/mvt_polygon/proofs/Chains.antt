@@ -2,6 +2,7 @@
 pub mod ChainBegins
 pub mod ChainEdges
 pub mod ChainEnds
+pub mod ChainExtremes
 pub mod ChainLinks
 pub mod ChainParts
 pub mod ChainRelinks

@@ -11,7 +11,7 @@ ghost use Rattle.mvt_polygon.specs.Calls.Sweep.{BeginThere, BothBegin, Tested};
 
 use crate::sweep::chains::Chains;
 use crate::sweep::neighbors::meeting_with;
-use crate::sweep::place::place_of;
+use crate::sweep::place::place_from_outside;
 use crate::sweep::step::Step;
 use crate::sweep::vertices::{Pair, SweepVertices};
 use mvt_plane::{Count, side};
@@ -45,7 +45,7 @@ pub(crate) fn begin<S: Status>(
         return Ok(Step::Meets(pair));
     }
     let (lower, upper) = in_order(vertices, number, turn);
-    let place = place_of(vertices, number, chains, status, count);
+    let place = place_from_outside(vertices, number, chains, status, count);
     let edges = with_edges(chains, place);
     if let Some(pair) = meeting_with(vertices, lower, edges.front, count) {
         return Ok(Step::Meets(pair));

@@ -98,6 +98,24 @@ impl Chains {
         self.edge(self.links[chain].above as usize)
     }
 
+    /// The lowest chain, or else what is outside.
+    #[inline]
+    pub(crate) fn lowest(&self) -> usize
+        requires { outside_of self.now < length self.now.links.items }
+        ensures { result ≡ above_of self.now (outside_of self.now) }
+    {
+        self.links[self.outside()].above as usize
+    }
+
+    /// The highest chain, or else what is outside.
+    #[inline]
+    pub(crate) fn highest(&self) -> usize
+        requires { outside_of self.now < length self.now.links.items }
+        ensures { result ≡ below_of self.now (outside_of self.now) }
+    {
+        self.links[self.outside()].below as usize
+    }
+
     /// A chain goes on with another edge.
     #[inline]
     pub(crate) fn go_on(&mut self, chain: usize, edge: usize)

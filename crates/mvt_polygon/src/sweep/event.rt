@@ -1,11 +1,13 @@
 //! What happens where the line of a sweep comes to a vertex: one edge of the vertex goes over into
 //! the other, or both end.
-ghost use Rattle.std.specs.Prelude.{◌<◌, IfNone, IfSome};
+ghost use Rattle.std.specs.Prelude.{◌<◌, ◌≤◌, ◌*◌, IfNone, IfSome, drop, length, take};
+ghost use Rattle.mvt_plane.specs.Counted.{ticked};
 ghost use Rattle.mvt_polygon.specs.Calls.Chains.{AreChains, edges_of};
 ghost use Rattle.mvt_polygon.specs.Calls.VertexOrder.{AddsStep, IsNextVertex, IsSweptOver};
 ghost use Rattle.mvt_polygon.specs.Work.{AddsWork, IsCounted};
 ghost use Rattle.mvt_polygon.specs.Calls.SweepVertices.{IsMeetingAt, sweep_count, plan_of, position_at, previous_at};
-ghost use Rattle.mvt_polygon.specs.Calls.Sweep.{BothEnd, PassesOn};
+ghost use Rattle.mvt_polygon.specs.Calls.Sweep.{BothEnd, IsCut, PassesOn};
+ghost use Rattle.mvt_status.specs.Counts.{bits};
 
 use crate::sweep::chains::Chains;
 use crate::sweep::neighbors::{meeting_across, meeting_with};
@@ -73,10 +75,74 @@ pub(crate) fn end<S: Status>(
     ensures counted { AddsStep 1 1 (sweep_count vertices.now) count.old count.new }
     ensures least { IsCounted 1 count.old count.new result }
 {
-    let place = place_of(vertices, number, chains, status, count);
-    let (lower, upper) = status.remove_two(place.point, count);
+    let point = end_point(vertices, number, chains, status, count);
+    let (lower, upper) = status.remove_two(point, count);
     let below = chains.edge_below(lower);
     let above = chains.edge_above(upper);
     chains.end_two(lower, upper);
     meeting_across(vertices, below, above, count)
+}
+
+/// How many chains are below the two that end in a vertex. Where one of these is the lowest or the
+/// highest of all, no search is needed; the comparison with the vertex counts as a probe.
+fn end_point<S: Status>(
+    vertices: &SweepVertices,
+    number: usize,
+    chains: &Chains,
+    status: &S,
+    count: &mut Count,
+) -> usize
+    requires number { number < sweep_count vertices.now }
+    requires chains { AreChains vertices.now chains.now (S.edges status.now) }
+    requires next { IsNextVertex vertices.now number (previous_at vertices.now number) number
+        (edges_of chains.now (S.edges status.now)) }
+    requires ends { BothEnd (plan_of vertices.now) (position_at vertices.now number)
+        (previous_at vertices.now number) number }
+    ensures within { result ≤ length (S.edges status.now) }
+    ensures cut { IsCut (plan_of vertices.now) (position_at vertices.now number)
+        (edges_of chains.now (S.edges status.now))
+        (take result (edges_of chains.now (S.edges status.now)))
+        (drop result (edges_of chains.now (S.edges status.now))) }
+    ensures counted { AddsWork 0 (2 * bits (sweep_count vertices.now))
+        (6 * bits (sweep_count vertices.now)) count.old count.new }
+    ensures probed { ticked count.old.probes ≤ count.new.probes }
+{
+    if let Some(point) = end_point_outside(vertices, number, chains, status) {
+        count.tick_probes(1);
+        return point;
+    }
+    place_of(vertices, number, chains, status, count).point
+}
+
+/// The same, if one of the two chains is the lowest or the highest of all.
+#[inline]
+fn end_point_outside<S: Status>(
+    vertices: &SweepVertices,
+    number: usize,
+    chains: &Chains,
+    status: &S,
+) -> Option<usize>
+    requires number { number < sweep_count vertices.now }
+    requires chains { AreChains vertices.now chains.now (S.edges status.now) }
+    requires next { IsNextVertex vertices.now number (previous_at vertices.now number) number
+        (edges_of chains.now (S.edges status.now)) }
+    requires ends { BothEnd (plan_of vertices.now) (position_at vertices.now number)
+        (previous_at vertices.now number) number }
+    ensures within { IfSome result (λ point. point ≤ length (S.edges status.now)) }
+    ensures cut { IfSome result (λ point. IsCut (plan_of vertices.now)
+        (position_at vertices.now number) (edges_of chains.now (S.edges status.now))
+        (take point (edges_of chains.now (S.edges status.now)))
+        (drop point (edges_of chains.now (S.edges status.now)))) }
+{
+    let one = chains.twin(vertices.previous(number));
+    let other = chains.twin(number);
+    let lowest = chains.lowest();
+    let highest = chains.highest();
+    if one == lowest || other == lowest {
+        Some(0)
+    } else if one == highest || other == highest {
+        Some(status.len() - 2)
+    } else {
+        None
+    }
 }

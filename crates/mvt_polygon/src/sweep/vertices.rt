@@ -74,18 +74,6 @@ impl<'a> SweepVertices<'a> {
         sweep_key(*self.position(number))
     }
 
-    /// The same, for a sort, which may ask for any number: without such a vertex the least of all
-    /// keys.
-    #[inline]
-    pub(crate) fn any_key(&self, number: u32) -> i64
-        ensures { number < sweep_count self.now → result ≡ key_of (position_at self.now number) }
-    {
-        match self.list.get(number as usize) {
-            Some(vertex) => sweep_key(vertex.position),
-            None => i64::MIN,
-        }
-    }
-
     /// Whether the vertex of this number is the first of its ring: its far end comes after it.
     #[inline]
     pub(crate) fn is_first(&self, number: usize) -> bool

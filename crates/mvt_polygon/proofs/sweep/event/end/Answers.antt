@@ -1,57 +1,44 @@
 use Rattle.std.proofs.Common.{◌≡◌, ◌≤◌, ℕ, List, length, remove, refl, sym, subst, ◌∙◌, arith}
 use Rattle.std.proofs.lemmas.List.Edits.{length-remove}
 use Rattle.mvt_plane.specs.Geometry.Measure.{key_of}
-use Rattle.mvt_polygon.specs.Calls.Chains.{above_of, below_of, edges_of, outside_of}
+use Rattle.mvt_polygon.specs.Calls.Chains.{above_of, below_of, outside_of}
 use Rattle.mvt_polygon.specs.Calls.SweepVertices.{sweep_count, plan_of, position_at, previous_at}
 use Rattle.mvt_polygon.specs.Calls.Sweep.{IsSwept}
 use Rattle.mvt_polygon.proofs.Sweeps.LeastWork.{counted_by}
 use Rattle.mvt_polygon.proofs.Chains.ChainEnds.{AreLeaving, AreThere, across_known, across_within, chains_end, edges_kept, joined_across, leaving, leaving_there}
-use Rattle.mvt_polygon.proofs.Chains.ChainSteps.{chains_few, chains_known}
-use Rattle.mvt_polygon.proofs.Vertices.VertexPlans.{plan_of_vertices}
+use Rattle.mvt_polygon.proofs.Chains.ChainSteps.{chains_few}
 use Rattle.mvt_polygon.proofs.Sweeps.NoMeetings.{none_map}
 use Rattle.mvt_polygon.proofs.Sweeps.StatusCounts.{work_then, work_within, work_of_edits}
-use Rattle.mvt_polygon.proofs.Sweeps.SweepSlabs.{split}
 use Rattle.mvt_status.proofs.Removals.{next_out}
 use Rattle.mvt_polygon.proofs.sweep.event.end.Given as given
 use Rattle.mvt_polygon.proofs.sweep.event.end.Goals as goal
-use Rattle.mvt_polygon.proofs.sweep.event.end.Goals.{After-place_of-place, After-remove_two-lower}
+use Rattle.mvt_polygon.proofs.sweep.event.end.Goals.{After-end_point-point, After-remove_two-lower}
 
 -- the list of the status
-abbrev list_of : (g : given.Over) → After-place_of-place g → List ℕ
+abbrev list_of : (g : given.Over) → After-end_point-point g → List ℕ
 list_of g c = g.S.Status.edges c.args.status.now
 
-pub place_of-place-requires-clause-known : goal.place_of-place-requires-clause-known
-place_of-place-requires-clause-known g c = chains_known c.args.vertices.now c.args.chains.now (g.S.Status.edges c.args.status.now) c.requires.next.key c.requires.chains c.requires.next.swept
-
-pub place_of-place-requires-clause-few : goal.place_of-place-requires-clause-few
-place_of-place-requires-clause-few g c = chains_few c.args.vertices.now c.args.chains.now (g.S.Status.edges c.args.status.now) c.requires.next.key c.requires.next.swept
-
-pub place_of-place-requires-clause-cut : goal.place_of-place-requires-clause-cut
-place_of-place-requires-clause-cut g c =
-    split (plan_of c.args.vertices.now) c.requires.next.key (position_at c.args.vertices.now c.args.number) (previous_at c.args.vertices.now c.args.number) c.args.number
-    (edges_of c.args.chains.now (g.S.Status.edges c.args.status.now)) (plan_of_vertices c.args.vertices.now) c.requires.next.swept c.requires.next.event
-
 -- the places of the chains that end
-there : (g : given.Over) (c : After-place_of-place g) (fewer : List ℕ) → fewer ≡ remove (list_of g c) c.place_of-place.result.point → AreThere (list_of g c) fewer c.place_of-place.result.point
+there : (g : given.Over) (c : After-end_point-point g) (fewer : List ℕ) → fewer ≡ remove (list_of g c) c.end_point-point.result → AreThere (list_of g c) fewer c.end_point-point.result
 there g c fewer removed =
     leaving_there c.args.vertices.now c.args.chains.now (list_of g c) fewer c.requires.next.key (position_at c.args.vertices.now c.args.number) (previous_at c.args.vertices.now c.args.number)
-    c.args.number c.place_of-place.result.point c.requires.next.swept c.requires.next.event c.requires.ends c.place_of-place.ensures.cut c.place_of-place.ensures.within removed
+    c.args.number c.end_point-point.result c.requires.next.swept c.requires.next.event c.requires.ends c.end_point-point.ensures.cut c.end_point-point.ensures.within removed
 
 pub remove_two-lower-requires : goal.remove_two-lower-requires
 remove_two-lower-requires g c =
-    let at = (goal.at.remove_two-lower-requires g c).After-place_of-place in
+    let at = (goal.at.remove_two-lower-requires g c).After-end_point-point in
     let places = there g at _ refl in
-    omega (arith, places.other_there, length-remove (list_of g at) c.place_of-place.result.point places.one_there)
+    omega (arith, places.other_there, length-remove (list_of g at) c.end_point-point.result places.one_there)
 
 -- the chains that end, among the others
 gone : (g : given.Over) (c : After-remove_two-lower g)
     → AreLeaving c.args.vertices.now c.args.chains.now (g.S.Status.edges c.args.status.now) (g.S.Status.edges c.remove_two-lower.new.self) (position_at c.args.vertices.now c.args.number)
     c.remove_two-lower.result.0 c.remove_two-lower.result.1
 gone g c =
-    leaving c.args.vertices.now c.args.chains.now (g.S.Status.edges c.args.status.now) (remove (g.S.Status.edges c.args.status.now) c.place_of-place.result.point) (g.S.Status.edges c.remove_two-lower.new.self) c.requires.next.key
-    (position_at c.args.vertices.now c.args.number) (previous_at c.args.vertices.now c.args.number) c.args.number c.place_of-place.result.point c.remove_two-lower.result.0 c.remove_two-lower.result.1
-    c.requires.chains c.requires.next.swept c.requires.next.event c.requires.ends c.place_of-place.ensures.cut c.place_of-place.ensures.within refl
-    c.remove_two-lower.ensures.list c.remove_two-lower.ensures.lower (c.remove_two-lower.ensures.upper ∙ sym (next_out (g.S.Status.edges c.args.status.now) c.place_of-place.result.point))
+    leaving c.args.vertices.now c.args.chains.now (g.S.Status.edges c.args.status.now) (remove (g.S.Status.edges c.args.status.now) c.end_point-point.result) (g.S.Status.edges c.remove_two-lower.new.self) c.requires.next.key
+    (position_at c.args.vertices.now c.args.number) (previous_at c.args.vertices.now c.args.number) c.args.number c.end_point-point.result c.remove_two-lower.result.0 c.remove_two-lower.result.1
+    c.requires.chains c.requires.next.swept c.requires.next.event c.requires.ends c.end_point-point.ensures.cut c.end_point-point.ensures.within refl
+    c.remove_two-lower.ensures.list c.remove_two-lower.ensures.lower (c.remove_two-lower.ensures.upper ∙ sym (next_out (g.S.Status.edges c.args.status.now) c.end_point-point.result))
 
 -- what is beside them is in the list of links
 within : (g : given.Over) (c : After-remove_two-lower g)
@@ -116,19 +103,19 @@ returns-clause-none g c =
 
 pub returns-clause-counted : goal.returns-clause-counted
 returns-clause-counted g c =
-    let at = (goal.at.returns-clause-counted g c).After-place_of-place in
+    let at = (goal.at.returns-clause-counted g c).After-end_point-point in
     let few = chains_few c.args.vertices.now c.args.chains.now (list_of g at) c.requires.next.key c.requires.next.swept in
     let out = work_of_edits 6 (length (list_of g at)) (sweep_count c.args.vertices.now) few c.remove_two-lower.ensures.counted in
-    work_within (omega arith) (omega arith) (omega arith) (work_then c.place_of-place.ensures.counted (work_then out c.meeting_across.ensures.counted))
+    work_within (omega arith) (omega arith) (omega arith) (work_then c.end_point-point.ensures.counted (work_then out c.meeting_across.ensures.counted))
 
 pub returns-clause-least : goal.returns-clause-least
 returns-clause-least g c =
-    let at = (goal.at.returns-clause-least g c).After-place_of-place in
+    let at = (goal.at.returns-clause-least g c).After-end_point-point in
     counted_by 1 c.args.count.now c.remove_two-lower.new.count c.meeting_across.new.count c.meeting_across.result
-    (omega (arith, c.place_of-place.ensures.counted.no_fewer_tests, c.remove_two-lower.ensures.counted.tests))
+    (omega (arith, c.end_point-point.ensures.counted.no_fewer_tests, c.remove_two-lower.ensures.counted.tests))
     (omega (
       arith,
-      c.place_of-place.ensures.probed (omega (arith, (there g at _ refl).one_there)),
+      c.end_point-point.ensures.probed,
       c.remove_two-lower.ensures.counted.no_fewer_probes,
       c.meeting_across.ensures.counted.no_fewer_probes,
     ))

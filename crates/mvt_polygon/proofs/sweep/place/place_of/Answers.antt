@@ -64,3 +64,6 @@ returns-clause-cut g c =
 
 pub returns-clause-counted : goal.returns-clause-counted
 returns-clause-counted g c = work_of_split (length (g.S.Status.edges c.args.status.now)) (sweep_count c.args.vertices.now) c.requires.few c.split_around.ensures.counted
+
+pub returns-clause-fewer : goal.returns-clause-fewer
+returns-clause-fewer g c = work_of_split (length (g.S.Status.edges c.args.status.now)) (length (g.S.Status.edges c.args.status.now)) (omega arith) c.split_around.ensures.counted
