@@ -1,5 +1,5 @@
 //! What a tree answers without a change: the edge at a place, and where its edges split.
-ghost use Rattle.std.specs.Prelude.{◌≡◌, ℕ, ◌+◌, ◌-◌, ◌*◌, ◌<◌, ◌≤◌, ◌==◌, suc, All, if◌then◌else◌, IfSome, Some, length, slice_get, slice_index};
+ghost use Rattle.std.specs.Prelude.{◌≡◌, ℕ, ◌+◌, ◌-◌, ◌*◌, ◌/◌, ◌<◌, ◌≤◌, ◌==◌, suc, All, if◌then◌else◌, IfSome, Some, length, slice_get, slice_index};
 ghost use Rattle.mvt_plane.specs.Counted.{ticked};
 ghost use Rattle.mvt_status.specs.Counts.{AddsAtMost, bits, raised};
 ghost use Rattle.mvt_status.specs.Split.{AreBeside, IsSplit};
@@ -35,8 +35,8 @@ pub(crate) fn edge_at(side: &Side, at: usize, count: &mut Count) -> usize
 
 /// How many edges of which `below` is true are at the front, with the edges in front of the split
 /// and after it. It goes down by the first edge of each node, and then searches the last node whose
-/// first edge is below. Ticks a visit and a probe for each node on the way down, and a probe for
-/// each edge that it checks there.
+/// first edge is below. Ticks a visit and a probe for each node on the way down, which are half as
+/// many at least as there are levels, and a probe for each edge that it checks there.
 #[inline]
 pub(crate) fn split_of<F: Fn(usize) -> bool>(side: &Side, below: &F, count: &mut Count) -> Split
     requires callable { All (F.pre below.now) (edges_of side.now) }
@@ -47,6 +47,10 @@ pub(crate) fn split_of<F: Fn(usize) -> bool>(side: &Side, below: &F, count: &mut
         count.old count.new }
     ensures visited { IfSome side.now (λ _. ticked count.old.visits ≤ count.new.visits) }
     ensures probed { IfSome side.now (λ _. ticked count.old.probes ≤ count.new.probes) }
+    ensures visited_down { raised (suc (height_of side.now) / 2) count.old.visits
+        ≤ count.new.visits }
+    ensures probed_down { raised (suc (height_of side.now) / 2) count.old.probes
+        ≤ count.new.probes }
     ensures filled { fewest (height_of side.now) ≤ suc (length (edges_of side.now)) }
 {
     is_filled(side);
@@ -92,8 +96,8 @@ pub(crate) fn split_of<F: Fn(usize) -> bool>(side: &Side, below: &F, count: &mut
 #[inline(always)]
 fn pass(count: &mut Count, levels: u64)
     ensures counted { AddsAtMost levels levels count.old count.new }
-    ensures visited { 0 < levels → ticked count.old.visits ≤ count.new.visits }
-    ensures probed { 0 < levels → ticked count.old.probes ≤ count.new.probes }
+    ensures visited { count.new.visits ≡ raised levels count.old.visits }
+    ensures probed { count.new.probes ≡ raised levels count.old.probes }
 {
     count.tick_visits(levels);
     count.tick_probes(levels);

@@ -14,6 +14,7 @@ levels-init g c = record {
   room = omega arith;
   begun = inl refl;
   left = omega arith;
+  down = omega arith;
   filled = omega arith;
   filled_there = omega (arith, c.is_filled.ensures.filled);
 }
@@ -48,6 +49,7 @@ levels-preserved-then-below g c =
       room = c.as_slice-last.ensures.fits;
       begun = inr (omega arith);
       left = omega (arith, so_far.left, high, c.node.invariant.measured);
+      down = omega (arith, so_far.down, high, c.node.invariant.measured, c.node.invariant.near.first, c.node.invariant.near.second);
       filled = omega (arith, so_far.filled, many, both, level, c.node.invariant.some, c.is_filled-in-Some.ensures.filled);
       filled_there = omega (arith, so_far.filled, many, level, its, c.node.invariant.filled, c.node.invariant.counted);
     }
@@ -69,6 +71,7 @@ levels-preserved g c =
       room = so_far.room;
       begun = inr (omega arith);
       left = omega (arith, so_far.left, high, c.node.invariant.measured);
+      down = omega (arith, so_far.down, high, c.node.invariant.measured, c.node.invariant.near.first, c.node.invariant.near.second);
       filled = omega (arith, so_far.filled, many, both, level, c.node.invariant.some, c.is_filled-in-Some-2.ensures.filled);
       filled_there = so_far.filled_there;
     }

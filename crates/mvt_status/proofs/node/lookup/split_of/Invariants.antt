@@ -1,4 +1,4 @@
-use Rattle.std.proofs.Common.{◌≡◌, ◌⊎◌, ◌+◌, ◌<◌, ◌≤◌, length}
+use Rattle.std.proofs.Common.{◌≡◌, ◌⊎◌, ◌+◌, ◌*◌, ◌<◌, ◌≤◌, length}
 use Rattle.mvt_status.specs.Calls.Tree.{edges_of, fewest, height_of}
 use Rattle.mvt_status.proofs.NodeSplits.{IsSearched}
 use Rattle.mvt_status.proofs.node.lookup.split_of.Given as goal
@@ -7,8 +7,8 @@ use Rattle.mvt_status.proofs.node.lookup.split_of.Given as goal
 abbrev pub decreases-levels : goal.decreases-levels
 decreases-levels g l = height_of l.part
 
--- the search has come to this part; one level at least was gone down where the part isn't all, and what was passed has
--- as many edges as are wanted for them
+-- the search has come to this part; one level at least was gone down where the part isn't all, each of them at most two
+-- levels higher than the next one, and what was passed has as many edges as are wanted for them
 abbrev pub invariant-levels : goal.invariant-levels
 invariant-levels g l = record {
   searched : IsSearched (goal.F-post g l.below) (edges_of l.side) l.last (edges_of l.part) l.passed l.following;
@@ -16,6 +16,7 @@ invariant-levels g l = record {
   room : length l.last ≤ 32;
   begun : (l.part ≡ l.side) ⊎ (0 < l.depth);
   left : l.depth + height_of l.part ≤ height_of l.side;
+  down : height_of l.side ≤ 2 * l.depth + height_of l.part;
   filled : fewest (height_of l.side) + length (edges_of l.part) ≤ length (edges_of l.side) + fewest (height_of l.part);
   filled_there : fewest (height_of l.side) + length l.last ≤ length (edges_of l.side) + 2;
 }
