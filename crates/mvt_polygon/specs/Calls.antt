@@ -16,6 +16,7 @@ pub mod Nesting
 pub mod Pairs
 pub mod Passings
 pub mod PolygonsAround
+pub mod QuickParts
 pub mod RingNotes
 pub mod Rings
 pub mod RingsAround

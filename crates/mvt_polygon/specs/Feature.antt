@@ -1,19 +1,19 @@
 -- The first fault of a feature whose polygons are kept apart, and the work of searching for it (Mapbox Vector Tile
 -- Specification 2.1, section 4.3.4.4).
-use Rattle.std.specs.Prelude.{ℕ, ◌+◌, ◌*◌, ◌<◌, List, Option, Some, None}
-use Rattle.mvt_plane.specs.Counted.{Counted}
+use Rattle.std.specs.Prelude.{ℕ, ◌+◌, ◌*◌, ◌<◌, ◌≤◌, List, Option, Some, None}
+use Rattle.mvt_plane.specs.Counted.{Counted, ticked}
 use Rattle.mvt_plane.specs.Geometry.Part.{part_of}
 use Rattle.mvt_plane.specs.Geometry.Polygon.{PolygonRings, IsPolygon}
 use Rattle.mvt_plane.specs.Position.{Position}
 use Rattle.mvt_polygon.specs.Apart.{IsApartFault, IsFirstApartFault}
-use Rattle.mvt_polygon.specs.Work.{AddsWork}
+use Rattle.mvt_polygon.specs.Work.{AddsWork, vertex_count}
 use Rattle.mvt_polygon.specs.Meeting.{IsMeetingOf, NoMeeting}
 use Rattle.mvt_polygon.specs.Nesting.{IsFirstNestFault, IsNestFault}
 use Rattle.mvt_polygon.specs.declared.feature.FeatureCause.{FeatureCause}
 use Rattle.mvt_polygon.specs.declared.feature.FeatureCause.TheVariants.{Meeting, Nesting, Apart}
 use Rattle.mvt_polygon.specs.declared.feature.FeatureFault.{FeatureFault}
 use Rattle.mvt_polygon.specs.declared.nesting.NestFault.{NestFault}
-use Rattle.mvt_status.specs.Counts.{bits}
+use Rattle.mvt_status.specs.Counts.{bits, raised}
 
 -- One polygon
 
@@ -65,3 +65,14 @@ AreAtMost rings polygons = (polygon : ℕ) (it : PolygonRings) → IsPolygon rin
 abbrev pub AddsSweeps : ℕ → ℕ → Counted → Counted → Type 0
 AddsSweeps sweeps vertices before after =
     AddsWork (sweeps * (3 * vertices)) (sweeps * (vertices * (2 * bits vertices + 10))) (sweeps * (vertices * (20 * bits vertices))) before after
+
+-- what is counted at least where this was found of a polygon of so many vertices: a test, where edges meet, and else so
+-- many comparisons
+abbrev pub IsCountedCause : ℕ → Counted → Counted → FeatureCause → Type 0
+IsCountedCause vertices before after (Meeting meeting) = ticked before.tests ≤ after.tests
+IsCountedCause vertices before after (Nesting fault) = raised vertices before.probes ≤ after.probes
+IsCountedCause vertices before after (Apart fault) = raised vertices before.probes ≤ after.probes
+
+-- and so for a fault, by the vertices of its polygon
+abbrev pub IsCountedFault : List (List Position) → Counted → Counted → FeatureFault → Type 0
+IsCountedFault rings before after fault = IsCountedCause (vertex_count (part_of rings (rings_in fault))) before after fault.cause

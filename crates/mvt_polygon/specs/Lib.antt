@@ -5,6 +5,7 @@ pub mod Meeting
 pub mod Nesting
 pub mod PolygonFault
 pub mod Polygons
+pub mod QuickFeature
 pub mod Rings
 pub mod TurnVertices
 pub mod Work

@@ -4,7 +4,7 @@ ghost use Rattle.mvt_plane.specs.Geometry.Ring.{ArePolygonRings};
 ghost use Rattle.mvt_polygon.specs.Calls.Alone.{earlier_of, own_fault, vertices_alone, IsAloneAnswer, IsOwnAnswer, IsOwnWithin};
 ghost use Rattle.mvt_polygon.specs.Calls.Islands.{AreMarked};
 ghost use Rattle.mvt_polygon.specs.Work.{vertex_count};
-ghost use Rattle.mvt_polygon.specs.Feature.{AddsSweeps, AreAtMost, IsFeatureAnswer};
+ghost use Rattle.mvt_polygon.specs.Feature.{AddsSweeps, AreAtMost, IsCountedFault, IsFeatureAnswer};
 ghost use Rattle.mvt_polygon.specs.Meeting.{NoMeeting};
 ghost use Rattle.mvt_polygon.specs.Polygons.{ArePolygons};
 ghost use Rattle.mvt_polygon.specs.Rings.{rings_of, AreProperRings};
@@ -20,6 +20,7 @@ mod later;
 mod lies_in;
 mod passing;
 mod placed;
+mod quickly;
 #[cfg(test)]
 pub(crate) mod tests;
 mod together;
@@ -32,6 +33,7 @@ use crate::polygons::groups;
 use crowded::crowded;
 use gathered::gather;
 use mvt_plane::{Count, Point};
+pub use quickly::check_feature_quickly;
 use std::alloc::{AllocError, Global};
 use together::check_together;
 
@@ -75,10 +77,13 @@ pub struct FeatureFault {
 /// comparisons and n * 20 * bits(n) visits of the status's nodes, where bits(n) is the number of
 /// n's binary digits. That is all where there is no fault. Where no edges meet it is twice as much
 /// at most; and where they do, as often as the number of polygons has binary digits, and twice
-/// more. Not counted is which bounds are apart and which polygons are islands, which takes the time
-/// of some sorts. Nor is it that, where edges meet, the polygons before the first one with a
-/// meeting are held against those from it on: where the bounds of most of them overlap, this takes
-/// their vertices times the edges of the others. The only error is that memory was refused.
+/// more. Where a fault is found, at least a test was counted if it is a meeting, and else as many
+/// comparisons as its polygon has vertices; where there is none, n comparisons. Not counted is
+/// which bounds are apart and which polygons are islands, which takes the time of some sorts. Nor
+/// is it that, where edges meet, the polygons before the first one with a meeting are held against
+/// those from it on: where the bounds of most of them overlap, this takes their vertices times the
+/// edges of the others. The only error is that memory was refused, or that a sweep would go over
+/// 2^32 vertices or more.
 pub fn check_feature(
     alloc: Global,
     rings: &[Vec<Point>],
@@ -96,6 +101,8 @@ pub fn check_feature(
     ensures least { IfOk result (λ found.
         IfNone found (raised (vertex_count (rings_of rings.now)) count.old.probes
         ≤ count.new.probes)) }
+    ensures found { IfOk result (λ found.
+        IfSome found (IsCountedFault (rings_of rings.now) count.old count.new)) }
 {
     let polygons = groups(alloc, rings)?;
     if polygons.len() == 1 {
@@ -131,6 +138,8 @@ fn check_parted(
     ensures least { IfOk result (λ found.
         IfNone found (raised (vertex_count (rings_of rings.now)) count.old.probes
         ≤ count.new.probes)) }
+    ensures found { IfOk result (λ found.
+        IfSome found (IsCountedFault (rings_of rings.now) count.old count.new)) }
 {
     let alone = fault_alone(alloc, rings, polygons, crowded, count)?;
     let gathered = gather(alloc, rings, polygons, crowded)?;
@@ -165,6 +174,8 @@ fn fault_alone(
     ensures least { IfOk result (λ found.
         IfNone found (raised (vertices_alone (rings_of rings.now) polygons.now crowded.now
         (length polygons.now)) count.old.probes ≤ count.new.probes)) }
+    ensures found { IfOk result (λ found.
+        IfSome found (IsCountedFault (rings_of rings.now) count.old count.new)) }
 {
     for polygon in 0..polygons.len() {
         if !crowded[polygon] {
@@ -197,6 +208,8 @@ fn own_fault_of(
     ensures least { IfOk result (λ found.
         IfNone found (raised (vertex_count (slice_range (rings_of rings.now) exterior after))
         count.old.probes ≤ count.new.probes)) }
+    ensures found { IfOk result (λ found.
+        IfSome found (IsCountedFault (rings_of rings.now) count.old count.new)) }
 {
     let found = check_polygon(alloc, &rings[exterior..after], count)?;
     Ok(fault_in_feature(polygon, (exterior, after), found))

@@ -6,6 +6,7 @@
 mod apart;
 mod bounds;
 mod feature;
+pub mod laws;
 mod meeting;
 mod nesting;
 mod pairs;
@@ -15,7 +16,7 @@ mod rings;
 mod sweep;
 
 pub use apart::{ApartFault, check_apart};
-pub use feature::{FeatureCause, FeatureFault, check_feature};
+pub use feature::{FeatureCause, FeatureFault, check_feature, check_feature_quickly};
 pub use meeting::{Meeting, find_meeting, find_meeting_with};
 pub use nesting::{NestFault, check_nesting, check_nesting_once};
 pub use polygon::{PolygonFault, check_polygon};

@@ -42,7 +42,7 @@ pub struct Meeting {
 /// ring come before it by x and then y, or both after it. So of t turn vertices there are at most n
 /// + t * 2 * bits(n) comparisons and t * 12 * bits(n) visits. Where a meeting is found, there is a
 /// test at least, and where none is, n comparisons. The edges are swept over. The only error is
-/// that memory was refused.
+/// that memory was refused, or that there are 2^32 vertices or more.
 pub fn find_meeting(
     alloc: Global,
     rings: &[Vec<Point>],

@@ -1,7 +1,7 @@
 -- The polygons of a feature before the first one of which an edge meets another one, by halves.
-use Rattle.std.proofs.Common.{◌≡◌, ℕ, suc, ◌+◌, ◌-◌, ◌*◌, ◌/◌, ◌<◌, ◌≤◌, inl, inr, List, [], length, take, Some, sym, ◌∙◌, ap, subst, arith}
+use Rattle.std.proofs.Common.{◌≡◌, ℕ, suc, ◌+◌, ◌-◌, ◌*◌, ◌/◌, ◌<◌, ◌≤◌, ◌⊎◌, inl, inr, List, [], length, take, Option, Some, None, IfSome, IfOk, Result, Ok, Err, sym, ◌∙◌, ap, subst, arith}
 use Rattle.std.proofs.lemmas.Bool.{cases_lt}
-use Rattle.mvt_plane.specs.Counted.{Counted}
+use Rattle.mvt_plane.specs.Counted.{Counted, ticked}
 use Rattle.mvt_plane.specs.Geometry.Part.{part_of}
 use Rattle.mvt_plane.specs.Position.{Position}
 use Rattle.mvt_plane.specs.Geometry.Ring.{ArePolygonRings}
@@ -200,3 +200,18 @@ pub work_of_another : (rings : List (List Position)) (polygons : List (ℕ × �
 work_of_another rings polygons front meets before now after halved less sweep =
     let digits = digits_of_half 0 (meets - front.polygons) (omega arith) (omega arith) in
     sweeps_then halved.sweeps 1 (bits (length polygons)) (vertex_count rings) before now after (omega (arith, halved.few, digits)) halved.work sweep
+
+-- the meeting is still the first one, or a test was counted
+pub tested_still : (meeting : Option Meeting) (given : Meeting) (before now after : Counted) → (meeting ≡ Some given) ⊎ (ticked before.tests ≤ now.tests) → now.tests ≤ after.tests → (meeting ≡ Some given) ⊎ (ticked before.tests ≤ after.tests)
+tested_still meeting given before now after (inl same) fewer = inl same
+tested_still meeting given before now after (inr tested) fewer = inr (omega arith)
+
+-- what always holds
+if_some : {B : Type 0} (found : Option B) (Holds : Type 0) → Holds → IfSome found (λ _. Holds)
+if_some (Some it) Holds holds = holds
+if_some None Holds holds = tt
+
+-- also of a result
+pub if_ok_some : {A B E : Type 0} (result : Result A E) (f : A → Option B) (Holds : Type 0) → Holds → IfOk result (λ answer. IfSome (f answer) (λ _. Holds))
+if_ok_some (Ok answer) f Holds holds = if_some (f answer) Holds holds
+if_ok_some (Err error) f Holds holds = tt

@@ -1,5 +1,5 @@
 -- What the rings of a feature are to the number of polygons around, listed polygon by polygon.
-use Rattle.std.proofs.Common.{◌≡◌, inl, inr, ℕ, zero, suc, ◌+◌, ◌-◌, ◌*◌, ◌<◌, ◌≤◌, List, [], ◌∷◌, ◌++◌, length, take, map, slice_get, Vec, refl, sym, ◌∙◌, ap, subst, arith}
+use Rattle.std.proofs.Common.{◌≡◌, inl, inr, ℕ, zero, suc, ◌+◌, ◌-◌, ◌*◌, ◌==◌, ◌<◌, ◌≤◌, Bool, true, false, true≢false, cond, IfOk, Result, Ok, Err, List, [], ◌∷◌, ◌++◌, length, take, map, slice_get, Vec, refl, sym, ◌∙◌, ap, subst, arith}
 use Rattle.std.proofs.Math.Nat.{mul-le-mul_left, mul-le-mul_right}
 use Rattle.std.proofs.Math.Seq.{take-add}
 use Rattle.std.proofs.lemmas.Bool.{cases_lt}
@@ -19,10 +19,11 @@ use Rattle.mvt_plane.proofs.Rings.SamePolygons.{exterior_of_polygon, first_begin
 use Rattle.mvt_polygon.specs.Work.{AddsWork}
 use Rattle.mvt_polygon.specs.Work.{vertex_count}
 use Rattle.mvt_polygon.specs.Nesting.{one_polygon}
-use Rattle.mvt_polygon.specs.Calls.Passings.{AreAdded, ArePassings, IsPassing}
+use Rattle.mvt_polygon.specs.Calls.Passings.{AreAdded, ArePassings, IsPassing, vertices_of_several}
 use Rattle.mvt_polygon.specs.Polygons.{ArePolygons}
 use Rattle.mvt_polygon.specs.Rings.{rings_of}
 use Rattle.mvt_polygon.specs.declared.feature.passing.Passing.{Passing}
+use Rattle.mvt_status.specs.Counts.{raised}
 use Rattle.mvt_polygon.proofs.Holes.ApartFaults.{rings_at, rings_listed, ends_within}
 use Rattle.mvt_polygon.proofs.Chains.ChainParts.{in_longer}
 use Rattle.mvt_polygon.proofs.Features.GatheredLists.{get_left}
@@ -278,3 +279,37 @@ more_work rings polygons many to {start} {before} {after} listed there reached w
     let begins = subst (λ (to : ℕ). AddsParts (vertex_count (take to whole)) (vertex_count whole) start before) (reached.begins there) work in
     let own = subst (λ (rings : List (List Position)). AddsParts (vertex_count rings) (vertex_count rings) before after) (part_read rings it) swept in
     more_parts whole it (omega arith) begins own
+
+-- what is counted at least
+
+-- of one polygon more, where it has several rings
+several_step : (test : Bool) (sum part start between after : ℕ) → raised sum start ≤ between → between ≤ after → (test ≡ false → raised part between ≤ after) → raised (sum + cond test 0 part) start ≤ after
+several_step true sum part start between after before fewer its = omega arith
+several_step false sum part start between after before fewer its = let own = its refl in omega arith
+
+-- a polygon that hasn't one ring has several
+several_rings : (size : ℕ) → 0 < size → (size == 1) ≡ false → 1 < size
+several_rings zero some fails = absurd (omega arith)
+several_rings (suc zero) some fails = absurd (true≢false fails)
+several_rings (suc (suc size)) some fails = omega arith
+
+-- so of the polygons with the next one
+pub several_more : (rings : List (Vec Position Global)) (polygons : List (ℕ × ℕ)) (polygon start between after : ℕ) → ArePolygons (rings_of rings) polygons → polygon < length polygons
+    → raised (vertices_of_several (rings_of rings) polygons polygon) start ≤ between → between ≤ after
+    → (1 < length (slice_range rings (rings_at polygons polygon).exterior (rings_at polygons polygon).after)
+    → raised (vertex_count (rings_of (slice_range rings (rings_at polygons polygon).exterior (rings_at polygons polygon).after))) between ≤ after)
+    → raised (vertices_of_several (rings_of rings) polygons (polygon + 1)) start ≤ after
+several_more rings polygons polygon start between after listed within before fewer its =
+    let it = rings_at polygons polygon in
+    let ends = ends_read rings polygons polygon listed within in
+    let part = part_read rings it in
+    let next : polygon + 1 ≡ suc polygon = omega arith in
+    subst (λ (n : ℕ). raised (vertices_of_several (rings_of rings) polygons n) start ≤ after) (sym next)
+    (several_step (it.after - it.exterior == 1) (vertices_of_several (rings_of rings) polygons polygon) (vertex_count (part_of (rings_of rings) it)) start between after before fewer
+    (λ several. subst (λ (its_rings : List (List Position)). raised (vertex_count its_rings) between ≤ after) part
+    (its (omega (arith, part_size rings it ends.1, several_rings (it.after - it.exterior) (omega (arith, ends.0)) several)))))
+
+-- what always holds
+pub ok_always : {A E : Type 0} (result : Result A E) (Holds : Type 0) → Holds → IfOk result (λ _. Holds)
+ok_always (Ok answer) Holds holds = holds
+ok_always (Err error) Holds holds = tt

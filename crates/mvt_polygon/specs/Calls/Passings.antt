@@ -1,10 +1,13 @@
 -- What the number of polygons around becomes within each ring of a feature.
-use Rattle.std.specs.Prelude.{◌≡◌, ◌≢◌, ℕ, zero, suc, ◌+◌, ◌<◌, ◌^◌, false, List, length, slice_get, Option, Some, None}
+use Rattle.std.specs.Prelude.{◌≡◌, ◌≢◌, ℕ, zero, suc, ◌+◌, ◌-◌, ◌==◌, ◌<◌, ◌^◌, false, cond, List, length, slice_get, Option, Some, None}
+use Rattle.mvt_plane.specs.Geometry.Part.{part_of}
 use Rattle.mvt_plane.specs.Geometry.Polygon.{PolygonRings, IsPolygon, IsRingOf}
 use Rattle.mvt_plane.specs.Position.{Position}
 use Rattle.mvt_polygon.specs.Apart.{IsApartFault}
+use Rattle.mvt_polygon.specs.Calls.FeatureParts.{listed_at}
 use Rattle.mvt_polygon.specs.Calls.PolygonsAround.{EntersPolygon, LeavesPolygon}
 use Rattle.mvt_polygon.specs.Calls.RingsAround.{nearest_at, odd_at}
+use Rattle.mvt_polygon.specs.Work.{vertex_count}
 use Rattle.mvt_polygon.specs.declared.feature.passing.Passing.{Passing}
 use Rattle.mvt_polygon.specs.declared.feature.passing.Passing.TheVariants.{Enters, Leaves, Neither}
 use Rattle.mvt_polygon.specs.declared.sweep.notes.Around.{Around}
@@ -37,6 +40,13 @@ pub record AreAdded (many : ℕ) (Is : ℕ → Passing → Type 0) (before after
 pub record ArePassings (rings : List (List Position)) (passings : List Passing) : Type 0 where
   pub each : (polygon ring : ℕ) (its : PolygonRings) (passing : Passing) → IsPolygon rings polygon its → IsRingOf its ring → slice_get passings ring ≡ Some passing
       → IsPassing rings its ring passing
+
+-- how many vertices those of more than one ring have, of the polygons before this number
+abbrev pub vertices_of_several : List (List Position) → List (ℕ × ℕ) → ℕ → ℕ
+vertices_of_several rings polygons zero = 0
+vertices_of_several rings polygons (suc polygon) =
+    let it = listed_at polygons polygon in
+    vertices_of_several rings polygons polygon + cond (it.after - it.exterior == 1) 0 (vertex_count (part_of rings it))
 
 -- the number of polygons around what lies directly in a ring that so many are around
 abbrev pub IsNextCount : Passing → ℕ → ℕ → Type 0

@@ -1,5 +1,5 @@
 //! The polygons of a feature before the first one of which an edge meets another one.
-ghost use Rattle.std.specs.Prelude.{◌≡◌, ◌+◌, ◌⊎◌, ◌<◌, ◌≤◌, ℕ, IfOk, IfNone, length};
+ghost use Rattle.std.specs.Prelude.{◌≡◌, ◌+◌, ◌⊎◌, ◌<◌, ◌≤◌, ℕ, IfOk, IfNone, IfSome, Some, length, take};
 ghost use Rattle.mvt_plane.specs.Counted.{ticked};
 ghost use Rattle.mvt_plane.specs.Geometry.Part.{part_of};
 ghost use Rattle.mvt_plane.specs.Geometry.Polygon.{IsRingOf};
@@ -52,6 +52,10 @@ pub(super) fn clear_front(
     ensures least { IfOk result (λ front.
         IfNone front.meeting (raised (vertex_count (rings_of rings.now)) count.old.probes
         ≤ count.new.probes)) }
+    ensures probed { IfOk result (λ front. raised (vertex_count (take front.rings (rings_of
+        rings.now))) count.old.probes ≤ count.new.probes) }
+    ensures tested { IfOk result (λ front.
+        IfSome front.meeting (λ _. ticked count.old.tests ≤ count.new.tests)) }
 {
     match sweep_rings(alloc, rings, count)? {
         Swept::Clear(notes) => Ok(Front {
@@ -65,7 +69,8 @@ pub(super) fn clear_front(
 }
 
 /// Finds these polygons where edges meet, by halves: each sweep goes over the rings up to the end
-/// of the polygon in the middle of those that are left.
+/// of the polygon in the middle of those that are left. It counts the comparisons of a sweep over
+/// the front at least, and a test where it finds another meeting.
 fn front_before(
     alloc: Global,
     rings: &[Vec<Point>],
@@ -81,6 +86,10 @@ fn front_before(
     ensures met { IfOk result (λ front. IfNone front.meeting ⊥) }
     ensures counted { AddsSweeps (bits (length polygons.now)) (vertex_count (rings_of rings.now))
         count.old count.new }
+    ensures probed { IfOk result (λ front. raised (vertex_count (take front.rings (rings_of
+        rings.now))) count.old.probes ≤ count.new.probes) }
+    ensures tested { IfOk result (λ front. (front.meeting ≡ Some meeting)
+        ⊎ (ticked count.old.tests ≤ count.new.tests)) }
 {
     let mut front = Front {
         polygons: 0,

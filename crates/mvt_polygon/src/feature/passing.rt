@@ -5,11 +5,11 @@ ghost use Rattle.mvt_polygon.specs.Work.{AddsWork};
 ghost use Rattle.mvt_polygon.specs.Work.{vertex_count};
 ghost use Rattle.mvt_polygon.specs.Meeting.{NoMeeting};
 ghost use Rattle.mvt_polygon.specs.Nesting.{one_polygon};
-ghost use Rattle.mvt_polygon.specs.Calls.Passings.{AreAdded, AreCounts, AreInwards, ArePassings, IsNextCount, IsPassing, passing_by};
+ghost use Rattle.mvt_polygon.specs.Calls.Passings.{AreAdded, AreCounts, AreInwards, ArePassings, IsNextCount, IsPassing, passing_by, vertices_of_several};
 ghost use Rattle.mvt_polygon.specs.Polygons.{ArePolygons};
 ghost use Rattle.mvt_polygon.specs.Rings.{rings_of, AreProperRings};
 ghost use Rattle.mvt_polygon.specs.Calls.RingsAround.{nearest_at};
-ghost use Rattle.mvt_status.specs.Counts.{bits};
+ghost use Rattle.mvt_status.specs.Counts.{bits, raised};
 
 use crate::sweep::{RingNotes, Swept, sweep_rings};
 use mvt_plane::{Count, Point};
@@ -30,7 +30,7 @@ pub(super) enum Passing {
 }
 
 /// What each ring of these polygons is. No edges of their rings meet. Each polygon of more than one
-/// ring is swept over by itself.
+/// ring is swept over by itself, so as many comparisons as it has vertices are counted at least.
 pub(super) fn passings(
     alloc: Global,
     rings: &[Vec<Point>],
@@ -46,6 +46,8 @@ pub(super) fn passings(
     ensures counted { let vertices = vertex_count (rings_of rings.now) in
         AddsWork (3 * vertices) (vertices * (2 * bits vertices + 2))
         (vertices * (20 * bits vertices)) count.old count.new }
+    ensures least { IfOk result (λ _. raised (vertices_of_several (rings_of rings.now) polygons.now
+        (length polygons.now)) count.old.probes ≤ count.new.probes) }
 {
     let mut passings = Vec::new(alloc);
     for polygon in 0..polygons.len() {
@@ -71,6 +73,8 @@ fn add_passings(
     ensures counted { let vertices = vertex_count (rings_of rings.now) in
         AddsWork (3 * vertices) (vertices * (2 * bits vertices + 2))
         (vertices * (20 * bits vertices)) count.old count.new }
+    ensures least { IfOk result (λ _. 1 < length rings.now
+        → raised (vertex_count (rings_of rings.now)) count.old.probes ≤ count.new.probes) }
 {
     if rings.len() == 1 {
         passings.push(Passing::Enters)?;

@@ -1,5 +1,5 @@
-use super::{FeatureCause, FeatureFault, check_feature};
-use crate::apart::check_apart;
+use super::{FeatureCause, FeatureFault, check_feature, check_feature_quickly};
+use crate::apart::{ApartFault, check_apart};
 use crate::meeting::find_meeting;
 use crate::meeting::tests::are_drawn;
 use crate::nesting::check_nesting;
@@ -11,9 +11,14 @@ use std::alloc::Global;
 use std::process::Abort;
 
 /// The first fault of a feature, searched for plainly: of one polygon after another a meeting among
-/// all rings up to its own, then its holes, then all vertices of its exterior in all other
-/// polygons.
-fn plain_fault(rt: &impl Abort, alloc: Global, rings: &[Vec<Point>]) -> Option<FeatureFault> {
+/// all rings up to its own, then its holes, then, if these are told, all vertices of its exterior in
+/// all other polygons.
+fn plain_fault(
+    rt: &impl Abort,
+    alloc: Global,
+    rings: &[Vec<Point>],
+    told: bool,
+) -> Option<FeatureFault> {
     assert!(rt; check_rings(rings).is_none());
     let polygons = groups(alloc, rings).expect(rt, "memory");
     for polygon in 0..polygons.len() {
@@ -24,7 +29,10 @@ fn plain_fault(rt: &impl Abort, alloc: Global, rings: &[Vec<Point>]) -> Option<F
         let cause = match (found, check_nesting(&rings[exterior..after])) {
             (Some(meeting), _) => Some(FeatureCause::Meeting(meeting)),
             (None, Some(fault)) => Some(FeatureCause::Nesting(fault)),
-            (None, None) => check_apart(rings, &polygons, polygon).map(FeatureCause::Apart),
+            (None, None) if told => {
+                check_apart(rings, &polygons, polygon).map(FeatureCause::Apart)
+            }
+            (None, None) => None,
         };
         if let Some(cause) = cause {
             return Some(FeatureFault {
@@ -63,8 +71,26 @@ fn are_alike(one: &Option<FeatureFault>, other: &Option<FeatureFault>) -> bool {
 /// What is found in a feature, where that is what is found plainly.
 fn found_in(rt: &impl Abort, alloc: Global, rings: &[Vec<Point>]) -> Option<FeatureFault> {
     assert!(rt; check_rings(rings).is_none() && are_drawn(rings));
-    let plain = plain_fault(rt, alloc, rings);
+    let plain = plain_fault(rt, alloc, rings, true);
     let found = check_feature(alloc, rings, &mut Count::new()).expect(rt, "memory");
+    assert!(rt; are_alike(&found, &plain));
+    found
+}
+
+/// Whether no edges of the rings meet.
+fn is_clear(rt: &impl Abort, alloc: Global, rings: &[Vec<Point>]) -> bool {
+    assert!(rt; are_drawn(rings));
+    let found = find_meeting(alloc, rings, &mut Count::new()).expect(rt, "memory");
+    found.is_none()
+}
+
+/// What is found quickly in a feature, where that is what is found plainly, without polygons in
+/// others if any edges meet.
+fn quickly_found_in(rt: &impl Abort, alloc: Global, rings: &[Vec<Point>]) -> Option<FeatureFault> {
+    let told = is_clear(rt, alloc, rings);
+    assert!(rt; check_rings(rings).is_none() && are_drawn(rings));
+    let plain = plain_fault(rt, alloc, rings, told);
+    let found = check_feature_quickly(alloc, rings, &mut Count::new()).expect(rt, "memory");
     assert!(rt; are_alike(&found, &plain));
     found
 }
@@ -212,17 +238,21 @@ fn thrown_islands(rt: &impl Abort, alloc: Global, dice: &mut Dice) -> Vec<Vec<Po
 }
 
 /// Of generated features, how many have no fault, a meeting, a hole that isn't where it should be,
-/// and a vertex in another polygon.
-fn kinds_found(rt: &impl Abort, alloc: Global) -> [u32; 4] {
+/// and a vertex in another polygon; and of how many another fault is found quickly.
+fn kinds_found(rt: &impl Abort, alloc: Global) -> [u32; 5] {
     let mut dice = Dice { state: 1 };
-    let mut kinds = [0_u32; 4];
+    let mut kinds = [0_u32; 5];
     for feature in 0..800_u32 {
         let rings = if feature < 600 {
             thrown_feature(rt, alloc, &mut dice)
         } else {
             thrown_islands(rt, alloc, &mut dice)
         };
-        let kind = match found_in(rt, alloc, &rings) {
+        let found = found_in(rt, alloc, &rings);
+        if !are_alike(&quickly_found_in(rt, alloc, &rings), &found) {
+            kinds[4] = kinds[4].wrapping_add(1);
+        }
+        let kind = match found {
             None => 0,
             Some(fault) => match fault.cause {
                 FeatureCause::Meeting(_) => 1,
@@ -242,4 +272,65 @@ fn generated_features(rt: HostRuntime) {
     for at in 0..kinds.len() {
         assert!(rt; kinds[at] > 20);
     }
+}
+
+/// A box and a smaller one in it.
+fn box_in_another(rt: &impl Abort, alloc: Global) -> Vec<Vec<Point>> {
+    let mut rings = Vec::new(alloc);
+    let outer = land_at(rt, alloc, (0, 0), (100, 100));
+    rings.push(outer).expect(rt, "memory");
+    let inner = land_at(rt, alloc, (10, 10), (20, 20));
+    rings.push(inner).expect(rt, "memory");
+    rings
+}
+
+/// Whether the fault is that the second polygon lies in the first one.
+fn is_in_first(found: Option<FeatureFault>) -> bool {
+    let Some(fault) = found else {
+        return false;
+    };
+    let cause = FeatureCause::Apart(ApartFault {
+        vertex: 0,
+        other: 0,
+    });
+    fault.polygon == 1 && fault.exterior == 1 && fault.after == 2 && fault.cause == cause
+}
+
+// Where no edges meet, a polygon in another one is told.
+#[test]
+fn tells_a_polygon_in_another(rt: HostRuntime) {
+    let rings = box_in_another(&rt, rt.alloc());
+    assert!(rt; is_in_first(found_in(&rt, rt.alloc(), &rings)));
+    assert!(rt; is_in_first(quickly_found_in(&rt, rt.alloc(), &rings)));
+}
+
+/// The polygon whose edges meet, by a search that passes over one that lies in another.
+fn polygon_that_meets(rt: &impl Abort, alloc: Global, rings: &[Vec<Point>]) -> Option<usize> {
+    let plain = found_in(rt, alloc, rings)?;
+    assert!(rt; plain.polygon == 1 && matches!(plain.cause, FeatureCause::Apart(_)));
+    let quick = quickly_found_in(rt, alloc, rings)?;
+    assert!(rt; matches!(quick.cause, FeatureCause::Meeting(_)));
+    Some(quick.polygon)
+}
+
+// Two boxes that cross, far from the others.
+#[test]
+fn passes_over_a_polygon_in_another_where_others_cross(rt: HostRuntime) {
+    let mut rings = box_in_another(&rt, rt.alloc());
+    let one = land_at(&rt, rt.alloc(), (200, 0), (300, 100));
+    rings.push(one).expect(&rt, "memory");
+    let other = land_at(&rt, rt.alloc(), (250, 50), (350, 150));
+    rings.push(other).expect(&rt, "memory");
+    assert!(rt; polygon_that_meets(&rt, rt.alloc(), &rings) == Some(3));
+}
+
+// A hole that crosses its exterior, of a polygon whose bounds are apart from those of all others.
+#[test]
+fn passes_over_a_polygon_in_another_where_a_hole_crosses(rt: HostRuntime) {
+    let mut rings = box_in_another(&rt, rt.alloc());
+    let land = land_at(&rt, rt.alloc(), (200, 0), (300, 100));
+    rings.push(land).expect(&rt, "memory");
+    let lake = lake_at(&rt, rt.alloc(), (250, 50), (350, 90));
+    rings.push(lake).expect(&rt, "memory");
+    assert!(rt; polygon_that_meets(&rt, rt.alloc(), &rings) == Some(2));
 }

@@ -1,5 +1,5 @@
 //! Holes that aren't where they should be, by one vertex of each.
-ghost use Rattle.std.specs.Prelude.{ℕ, ◌↔◌, ◌*◌, ◌-◌, ◌<◌, IsTrue, IfNone, IfSome, length, take};
+ghost use Rattle.std.specs.Prelude.{◌≡◌, ◌≤◌, ℕ, ◌↔◌, ◌*◌, ◌-◌, ◌<◌, IsTrue, IfNone, IfSome, length, take};
 ghost use Rattle.mvt_plane.specs.Geometry.Inside.{IsInside};
 ghost use Rattle.mvt_plane.specs.Geometry.Nesting.{IsVertexOf};
 ghost use Rattle.mvt_polygon.specs.Work.{AddsWork};
@@ -9,6 +9,7 @@ ghost use Rattle.mvt_polygon.specs.Nesting.{IsNestFault, IsFirstNestFault};
 ghost use Rattle.mvt_polygon.specs.Calls.Nesting.{IsFirstOf, IsOfVertex, IsHoleAround, IsFirstHoleAround};
 ghost use Rattle.mvt_polygon.specs.Rings.{rings_of, AreProperRings};
 ghost use Rattle.mvt_polygon.specs.declared.nesting.NestFault.{NestFault};
+ghost use Rattle.mvt_status.specs.Counts.{raised};
 
 #[cfg(test)]
 mod tests;
@@ -39,7 +40,8 @@ pub fn check_nesting_once(rings: &[Vec<Point>], count: &mut Count) -> Option<Nes
 }
 
 /// Why the first vertex of a hole isn't where it should be: it isn't inside the exterior, or else
-/// it is inside another hole, of which the first is returned.
+/// it is inside another hole, of which the first is returned. Ticks a probe for each edge of the
+/// exterior at least.
 pub(crate) fn fault_of_first_vertex(
     rings: &[Vec<Point>],
     ring: usize,
@@ -53,6 +55,8 @@ pub(crate) fn fault_of_first_vertex(
         → ¬ IsNestFault (rings_of rings.now) fault) }
     ensures least { IfSome result (IsFirstOf (rings_of rings.now) (IsOfVertex ring 0)) }
     ensures counted { AddsWork 0 (vertex_count (rings_of rings.now)) 0 count.old count.new }
+    ensures probed { raised (vertex_count (take 1 (rings_of rings.now))) count.old.probes
+        ≤ count.new.probes }
 {
     if !inside_counted(position, &rings[0], count) {
         return Some(NestFault::Outside { ring, vertex: 0 });
@@ -91,9 +95,8 @@ fn hole_around(
 fn inside_counted(position: Point, ring: &[Point], count: &mut Count) -> bool
     ensures inside { IsTrue result ↔ IsInside position ring.now }
     ensures counted { AddsWork 0 (length ring.now) 0 count.old count.new }
+    ensures probed { count.new.probes ≡ raised (length ring.now) count.old.probes }
 {
-    for _edge in 0..ring.len() {
-        count.tick_probe();
-    }
+    count.tick_probes(ring.len() as u64);
     inside(position, ring)
 }

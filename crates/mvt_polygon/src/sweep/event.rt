@@ -17,8 +17,8 @@ use mvt_plane::Count;
 use mvt_status::Status;
 
 /// One edge of the vertex ends in it, and the other begins: the chain goes on with that one. The
-/// status stays as it is; the contract alone speaks of it. The comparison of the edges with the
-/// vertex counts as a probe.
+/// status stays as it is; the contract alone speaks of it. Ticks a probe, though no edge is compared
+/// with the vertex: its keys say which one ends.
 #[inline(always)]
 pub(crate) fn pass<S: Status>(
     vertices: &SweepVertices,
@@ -84,7 +84,8 @@ pub(crate) fn end<S: Status>(
 }
 
 /// How many chains are below the two that end in a vertex. Where one of these is the lowest or the
-/// highest of all, no search is needed; the comparison with the vertex counts as a probe.
+/// highest of all, no search is needed: this ticks a probe, though only the numbers of chains are
+/// compared.
 fn end_point<S: Status>(
     vertices: &SweepVertices,
     number: usize,

@@ -8,6 +8,7 @@ use Rattle.mvt_polygon.specs.Calls.FeatureParts.{listed_at}
 use Rattle.mvt_polygon.specs.Rings.{rings_of}
 use Rattle.mvt_status.specs.Counts.{raised}
 use Rattle.mvt_polygon.proofs.Holes.ApartFaults.{rings_listed, ends_within}
+use Rattle.mvt_polygon.proofs.Features.CountedFaults.{counted_from}
 use Rattle.mvt_polygon.proofs.Features.GatheredLists.{IsMarked}
 use Rattle.mvt_polygon.proofs.Holes.OwnFaults.{fine_more, none_found, where_none}
 use Rattle.mvt_polygon.proofs.Vertices.RingReads.{count_of_rings}
@@ -48,6 +49,11 @@ returns-then-is_some-clause-counted c =
     let up = alone_up rings polygons marks (polygon + 1) (length polygons) (omega arith) in
     sweeps_then 1 (vertices_alone rings polygons marks polygon) (vertex_count (part_of rings (listed_at polygons polygon))) (vertices_alone rings polygons marks (length polygons)) c.args.count.now c.loop-polygon.count c.own_fault_of.new.count
     (omega arith) (omega arith) c.loop-polygon.invariant.counted c.own_fault_of.ensures.counted
+
+pub returns-then-is_some-clause-found : goal.returns-then-is_some-clause-found
+returns-then-is_some-clause-found c =
+    let so_far = c.loop-polygon.invariant.counted in
+    counted_from (rings_of c.args.rings.now) c.in_ok-found.found c.args.count.now c.loop-polygon.count c.own_fault_of.new.count so_far.no_fewer_tests so_far.no_fewer_probes c.in_ok-found.ensures.found
 
 pub loop-polygon-preserved : goal.loop-polygon-preserved
 loop-polygon-preserved c =

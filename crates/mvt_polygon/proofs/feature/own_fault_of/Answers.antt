@@ -1,14 +1,15 @@
-use Rattle.std.proofs.Common.{◌≤◌, IfNone, Option, List, slice_range, sym, subst, arith}
+use Rattle.std.proofs.Common.{◌≤◌, IfNone, IfSome, Option, List, slice_range, sym, subst, arith}
 use Rattle.mvt_plane.specs.Geometry.Polygon.{PolygonRings}
 use Rattle.mvt_plane.specs.Position.{Position}
 use Rattle.mvt_polygon.specs.Calls.Alone.{IsOwnAnswer, own_fault}
 use Rattle.mvt_polygon.specs.Work.{IsCounted}
 use Rattle.mvt_polygon.specs.Work.{vertex_count}
-use Rattle.mvt_polygon.specs.Feature.{AddsSweeps}
+use Rattle.mvt_polygon.specs.Feature.{AddsSweeps, IsCountedFault}
 use Rattle.mvt_polygon.specs.PolygonFault.{IsPolygonAnswer, meeting_in}
 use Rattle.mvt_polygon.specs.Rings.{rings_of, AreProperRings}
 use Rattle.mvt_polygon.specs.declared.feature.FeatureFault.{FeatureFault}
 use Rattle.mvt_status.specs.Counts.{raised}
+use Rattle.mvt_polygon.proofs.Features.CountedFaults.{counted_own}
 use Rattle.mvt_polygon.proofs.Holes.OwnFaults.{own_within, own_answer, own_least}
 use Rattle.mvt_polygon.proofs.Placed.OwnPassings.{proper_part}
 use Rattle.mvt_polygon.proofs.Vertices.RingReads.{count_of_rings}
@@ -53,4 +54,14 @@ returns-clause-least c =
     let after = c.check_polygon.new.count in
     subst (λ (found : Option FeatureFault). IfNone found (raised (vertex_count (slice_range (rings_of c.args.rings.now) it.exterior it.after)) before.probes ≤ after.probes)) (sym c.fault_in_feature.ensures)
     (own_least (vertex_count (slice_range (rings_of c.args.rings.now) it.exterior it.after)) before after c.in_ok-found.found (own_fault c.args.polygon it)
+    (subst (λ (part : List (List Position)). IsCounted (vertex_count part) before after (meeting_in c.in_ok-found.found)) (rings_of_part c.args.rings.now it.exterior it.after) c.in_ok-found.ensures.least))
+
+pub returns-clause-found : goal.returns-clause-found
+returns-clause-found c =
+    let it : PolygonRings = record { exterior = c.args.exterior; after = c.args.after } in
+    let rings = rings_of c.args.rings.now in
+    let before = c.args.count.now in
+    let after = c.check_polygon.new.count in
+    subst (λ (found : Option FeatureFault). IfSome found (IsCountedFault rings before after)) (sym c.fault_in_feature.ensures)
+    (counted_own c.args.polygon it rings before after c.in_ok-found.found
     (subst (λ (part : List (List Position)). IsCounted (vertex_count part) before after (meeting_in c.in_ok-found.found)) (rings_of_part c.args.rings.now it.exterior it.after) c.in_ok-found.ensures.least))

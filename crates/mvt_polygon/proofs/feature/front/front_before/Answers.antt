@@ -1,17 +1,22 @@
-use Rattle.std.proofs.Common.{◌+◌, ◌-◌, ◌/◌, ◌<◌, List, length, take, refl, sym, ap, subst, arith}
+use Rattle.std.proofs.Common.{◌+◌, ◌-◌, ◌/◌, ◌<◌, ◌≤◌, inl, inr, List, length, take, refl, sym, ap, subst, arith}
 use Rattle.std.proofs.lemmas.List.{length-take-le}
 use Rattle.mvt_plane.specs.Position.{Position}
+use Rattle.mvt_plane.specs.Counted.{ticked}
 use Rattle.mvt_polygon.specs.Calls.FeatureParts.{listed_at}
 use Rattle.mvt_polygon.specs.Meeting.{IsMeetingOf}
 use Rattle.mvt_polygon.specs.Rings.{rings_of, AreProperRings}
-use Rattle.mvt_polygon.specs.Calls.Swept.{IsNotedClear, IsSweptAnswer}
+use Rattle.mvt_polygon.specs.Calls.Swept.{IsNotedClear, IsSweptAnswer, met_in}
+use Rattle.mvt_polygon.specs.Work.{IsCounted, vertex_count}
+use Rattle.mvt_polygon.specs.declared.sweep.notes.RingNotes.{RingNotes}
+use Rattle.mvt_polygon.specs.declared.sweep.swept.Swept.{Swept}
 use Rattle.mvt_polygon.specs.declared.sweep.swept.Swept.TheVariants.{Meets, Clear}
 use Rattle.mvt_polygon.proofs.Holes.ApartFaults.{ends_within, rings_listed}
 use Rattle.mvt_polygon.proofs.Features.FirstMeetings.{first_slice, second_within}
 use Rattle.mvt_polygon.proofs.Features.FirstPolygons.{of_listed}
 use Rattle.mvt_polygon.proofs.Features.FirstRings.{count_of_first, first_drawn}
-use Rattle.mvt_polygon.proofs.Features.FrontHalves.{all_halved, clear_half, meeting_half, nearer_less, not_halved, work_of_another, work_of_halves}
+use Rattle.mvt_polygon.proofs.Features.FrontHalves.{all_halved, clear_half, meeting_half, nearer_less, not_halved, tested_still, work_of_another, work_of_halves}
 use Rattle.mvt_polygon.proofs.Vertices.RingReads.{count_of_rings}
+use Rattle.mvt_status.specs.Counts.{raised}
 use Rattle.mvt_polygon.proofs.Sweeps.SweepsAdded.{first_sweep}
 use Rattle.mvt_polygon.proofs.Notes.NotesBegun.{none_clear}
 use Rattle.mvt_polygon.proofs.feature.front.front_before.Goals as goal
@@ -23,16 +28,19 @@ polygon_of-meets-requires c =
     (home.polygon, home.within, home.of)
 
 pub halves-init : goal.halves-init
-halves-init c =
-    not_halved (rings_of c.args.rings.now) c.args.polygons.now c.polygon_of-meets.result c.in_ok-new.field-0 c.args.meeting c.args.count.now c.requires.sound c.requires.listed c.requires.meets
-    c.polygon_of-meets.ensures.within c.polygon_of-meets.ensures.of (none_clear c.in_ok-new.field-0 c.in_ok-new.ensures)
+halves-init c = record {
+  halved = not_halved (rings_of c.args.rings.now) c.args.polygons.now c.polygon_of-meets.result c.in_ok-new.field-0 c.args.meeting c.args.count.now c.requires.sound c.requires.listed c.requires.meets
+      c.polygon_of-meets.ensures.within c.polygon_of-meets.ensures.of (none_clear c.in_ok-new.field-0 c.in_ok-new.ensures);
+  probed = omega arith;
+  tested = inl refl;
+}
 
 pub slice_bounds-sweep_rings-end : goal.slice_bounds-sweep_rings-end
 slice_bounds-sweep_rings-end c =
     let rings = rings_of c.args.rings.now in
     let polygons = c.args.polygons.now in
     let middle = c.halves.front.polygons + (c.halves.meets - c.halves.front.polygons) / 2 in
-    let within : middle < length polygons = omega (arith, c.halves.invariant.within, c.halves-test.true) in
+    let within : middle < length polygons = omega (arith, c.halves.invariant.halved.within, c.halves-test.true) in
     let ends = ends_within rings middle (listed_at polygons middle) (rings_listed rings polygons middle c.requires.listed within) in
     sym (length-take-le (listed_at polygons middle).after c.args.rings.now (omega (arith, ends, count_of_rings c.args.rings.now)))
 
@@ -47,7 +55,7 @@ returns-in_err-notes-clause-counted c =
     let rings = c.args.rings.now in
     let polygons = c.args.polygons.now in
     let after = (listed_at polygons (c.halves.front.polygons + (c.halves.meets - c.halves.front.polygons) / 2)).after in
-    work_of_another (rings_of rings) polygons c.halves.front c.halves.meets c.args.count.now c.halves.count c.sweep_rings.new.count c.halves.invariant c.halves-test.true
+    work_of_another (rings_of rings) polygons c.halves.front c.halves.meets c.args.count.now c.halves.count c.sweep_rings.new.count c.halves.invariant.halved c.halves-test.true
     (first_sweep (rings_of rings) after (rings_of (take after rings)) c.halves.count c.sweep_rings.new.count (first_slice rings after) c.sweep_rings.ensures.counted)
 
 pub halves-preserved-in-Clear : goal.halves-preserved-in-Clear
@@ -57,10 +65,19 @@ halves-preserved-in-Clear c =
     let middle = c.halves.front.polygons + (c.halves.meets - c.halves.front.polygons) / 2 in
     let after = (listed_at polygons middle).after in
     let answer : IsSweptAnswer (rings_of (take after rings)) (Clear c.in-Clear.notes) = subst (IsSweptAnswer (rings_of (take after rings))) c.in-Clear.is c.in_ok-notes.ensures.answer in
-    clear_half (rings_of rings) polygons c.halves.front c.halves.meets middle c.in-Clear.notes c.args.count.now c.halves.count c.sweep_rings.new.count c.requires.sound c.requires.listed
-    c.halves.invariant c.halves-test.true refl
-    (subst (λ (its : List (List Position)). IsNotedClear its c.in-Clear.notes) (first_slice rings after) answer)
-    (first_sweep (rings_of rings) after (rings_of (take after rings)) c.halves.count c.sweep_rings.new.count (first_slice rings after) c.sweep_rings.ensures.counted)
+    let sweep = c.sweep_rings.ensures.counted in
+    let work = c.halves.invariant.halved.work in
+    let least : raised (vertex_count (rings_of (take after rings))) c.halves.count.probes ≤ c.sweep_rings.new.count.probes =
+    subst (λ (swept : Swept RingNotes). IsCounted (vertex_count (rings_of (take after rings))) c.halves.count c.sweep_rings.new.count (met_in swept)) c.in-Clear.is c.in_ok-notes.ensures.least in
+    let same = ap vertex_count (first_slice rings after) in
+    record {
+      halved = clear_half (rings_of rings) polygons c.halves.front c.halves.meets middle c.in-Clear.notes c.args.count.now c.halves.count c.sweep_rings.new.count c.requires.sound c.requires.listed
+          c.halves.invariant.halved c.halves-test.true refl
+          (subst (λ (its : List (List Position)). IsNotedClear its c.in-Clear.notes) (first_slice rings after) answer)
+          (first_sweep (rings_of rings) after (rings_of (take after rings)) c.halves.count c.sweep_rings.new.count (first_slice rings after) c.sweep_rings.ensures.counted);
+      probed = omega (arith, least, same, work.no_fewer_probes);
+      tested = tested_still c.halves.front.meeting c.args.meeting c.args.count.now c.halves.count c.sweep_rings.new.count c.halves.invariant.tested sweep.no_fewer_tests;
+    }
 
 pub polygon_of-meets-requires-in-Meets : goal.polygon_of-meets-requires-in-Meets
 polygon_of-meets-requires-in-Meets c =
@@ -70,7 +87,7 @@ polygon_of-meets-requires-in-Meets c =
     let after = (listed_at polygons middle).after in
     let found = c.in-Meets.found in
     let answer : IsSweptAnswer (rings_of (take after rings)) (Meets found) = subst (IsSweptAnswer (rings_of (take after rings))) c.in-Meets.is c.in_ok-notes.ensures.answer in
-    let within : middle < length polygons = omega (arith, c.halves.invariant.within, c.halves-test.true) in
+    let within : middle < length polygons = omega (arith, c.halves.invariant.halved.within, c.halves-test.true) in
     let ends = ends_within (rings_of rings) middle (listed_at polygons middle) (rings_listed (rings_of rings) polygons middle c.requires.listed within) in
     let inside : found.second_ring < length (rings_of rings) = omega (arith, second_within (rings_of (take after rings)) found answer, ap length (first_slice rings after), count_of_first (rings_of rings) after ends, ends) in
     let home = of_listed (rings_of rings) polygons found.second_ring c.requires.sound c.requires.listed inside in
@@ -85,7 +102,7 @@ halves-smaller c =
     let found = c.in-Meets.found in
     let answer : IsSweptAnswer (rings_of (take after rings)) (Meets found) = subst (IsSweptAnswer (rings_of (take after rings))) c.in-Meets.is c.in_ok-notes.ensures.answer in
     let range = nearer_less (rings_of rings) polygons c.halves.front c.halves.meets middle c.polygon_of-meets-in-Meets.result found c.args.count.now c.halves.count c.requires.listed
-    c.halves.invariant c.halves-test.true refl (subst (λ (its : List (List Position)). IsMeetingOf its found) (first_slice rings after) answer)
+    c.halves.invariant.halved c.halves-test.true refl (subst (λ (its : List (List Position)). IsMeetingOf its found) (first_slice rings after) answer)
     c.polygon_of-meets-in-Meets.ensures.of c.polygon_of-meets-in-Meets.ensures.first in
     omega (arith, range.0, range.1, c.halves-test.true)
 
@@ -97,15 +114,23 @@ halves-preserved c =
     let after = (listed_at polygons middle).after in
     let found = c.in-Meets.found in
     let answer : IsSweptAnswer (rings_of (take after rings)) (Meets found) = subst (IsSweptAnswer (rings_of (take after rings))) c.in-Meets.is c.in_ok-notes.ensures.answer in
-    meeting_half (rings_of rings) polygons c.halves.front c.halves.meets middle c.polygon_of-meets-in-Meets.result found c.args.count.now c.halves.count c.sweep_rings.new.count c.requires.listed
-    c.halves.invariant c.halves-test.true refl (subst (λ (its : List (List Position)). IsMeetingOf its found) (first_slice rings after) answer)
-    c.polygon_of-meets-in-Meets.ensures.within c.polygon_of-meets-in-Meets.ensures.of c.polygon_of-meets-in-Meets.ensures.first
-    (first_sweep (rings_of rings) after (rings_of (take after rings)) c.halves.count c.sweep_rings.new.count (first_slice rings after) c.sweep_rings.ensures.counted)
+    let sweep = c.sweep_rings.ensures.counted in
+    let work = c.halves.invariant.halved.work in
+    let test : ticked c.halves.count.tests ≤ c.sweep_rings.new.count.tests =
+    subst (λ (swept : Swept RingNotes). IsCounted (vertex_count (rings_of (take after rings))) c.halves.count c.sweep_rings.new.count (met_in swept)) c.in-Meets.is c.in_ok-notes.ensures.least in
+    record {
+      halved = meeting_half (rings_of rings) polygons c.halves.front c.halves.meets middle c.polygon_of-meets-in-Meets.result found c.args.count.now c.halves.count c.sweep_rings.new.count c.requires.listed
+          c.halves.invariant.halved c.halves-test.true refl (subst (λ (its : List (List Position)). IsMeetingOf its found) (first_slice rings after) answer)
+          c.polygon_of-meets-in-Meets.ensures.within c.polygon_of-meets-in-Meets.ensures.of c.polygon_of-meets-in-Meets.ensures.first
+          (first_sweep (rings_of rings) after (rings_of (take after rings)) c.halves.count c.sweep_rings.new.count (first_slice rings after) c.sweep_rings.ensures.counted);
+      probed = omega (arith, c.halves.invariant.probed, sweep.no_fewer_probes);
+      tested = inr (omega (arith, test, work.no_fewer_tests));
+    }
 
 pub returns-clause-front : goal.returns-clause-front
 returns-clause-front c =
-    all_halved (rings_of c.args.rings.now) c.args.polygons.now c.halves.front c.halves.meets c.args.count.now c.halves.count c.requires.listed c.halves.invariant c.halves-test.false
+    all_halved (rings_of c.args.rings.now) c.args.polygons.now c.halves.front c.halves.meets c.args.count.now c.halves.count c.requires.listed c.halves.invariant.halved c.halves-test.false
 
 pub returns-clause-counted : goal.returns-clause-counted
 returns-clause-counted c =
-    work_of_halves (rings_of c.args.rings.now) c.args.polygons.now c.halves.front c.halves.meets c.args.count.now c.halves.count c.halves.invariant
+    work_of_halves (rings_of c.args.rings.now) c.args.polygons.now c.halves.front c.halves.meets c.args.count.now c.halves.count c.halves.invariant.halved

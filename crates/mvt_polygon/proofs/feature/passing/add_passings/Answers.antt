@@ -1,4 +1,4 @@
-use Rattle.std.proofs.Common.{◌≡◌, ℕ, length, arith}
+use Rattle.std.proofs.Common.{◌≡◌, ◌<◌, ◌≤◌, ℕ, length, arith}
 use Rattle.std.proofs.lemmas.Result.{IfOk-weaker}
 use Rattle.mvt_polygon.specs.Meeting.{first_of, second_of}
 use Rattle.mvt_polygon.specs.Nesting.{one_polygon}
@@ -6,9 +6,11 @@ use Rattle.mvt_polygon.specs.Calls.Passings.{AreAdded, IsPassing, passing_by}
 use Rattle.mvt_polygon.specs.Rings.{rings_of}
 use Rattle.mvt_polygon.specs.Calls.RingsAround.{nearest_at}
 use Rattle.mvt_polygon.specs.declared.feature.passing.Passing.{Passing}
-use Rattle.mvt_polygon.proofs.Placed.AddedPassings.{said_of_added}
+use Rattle.mvt_polygon.proofs.Placed.AddedPassings.{ok_always, said_of_added}
 use Rattle.mvt_polygon.proofs.Placed.OwnPassings.{own_passing}
 use Rattle.mvt_polygon.proofs.Vertices.RingReads.{count_of_rings}
+use Rattle.mvt_polygon.specs.Work.{vertex_count}
+use Rattle.mvt_status.specs.Counts.{raised}
 use Rattle.mvt_polygon.proofs.feature.passing.add_passings.Goals as goal
 
 pub unreachable-requires : goal.unreachable-requires
@@ -30,3 +32,9 @@ returns-clause-added c =
     (λ _ added. said_of_added many Said (IsPassing rings (one_polygon rings)) before after added
     (λ ring passing less is. own_passing rings notes.around.items notes.come_to.items ring passing noted.noted (omega (arith, count_of_rings c.args.rings.now)) is))
     c.push_passings.ensures
+
+pub returns-clause-least : goal.returns-clause-least
+returns-clause-least c =
+    let rings = rings_of c.args.rings.now in
+    let least = rw c.in-Clear.is at c.in_ok-notes.ensures.least in
+    ok_always c.push_passings.result (1 < length c.args.rings.now → raised (vertex_count rings) c.args.count.now.probes ≤ c.sweep_rings.new.count.probes) (λ _. least)

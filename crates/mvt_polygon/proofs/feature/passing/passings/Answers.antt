@@ -3,7 +3,7 @@ use Rattle.mvt_plane.specs.Position.{Position}
 use Rattle.mvt_polygon.specs.Work.{vertex_count}
 use Rattle.mvt_polygon.specs.Meeting.{NoMeeting}
 use Rattle.mvt_polygon.specs.Rings.{rings_of, AreProperRings}
-use Rattle.mvt_polygon.proofs.Placed.AddedPassings.{AddsParts, none_reached, no_passings, more_read, more_work, all_parts, part_read, part_size, ends_read}
+use Rattle.mvt_polygon.proofs.Placed.AddedPassings.{AddsParts, none_reached, no_passings, more_read, more_work, several_more, all_parts, part_read, part_size, ends_read}
 use Rattle.mvt_polygon.proofs.Holes.ApartFaults.{rings_at}
 use Rattle.mvt_polygon.proofs.Placed.OwnPassings.{proper_part, clear_part}
 use Rattle.mvt_polygon.proofs.Vertices.RingReads.{count_of_rings}
@@ -14,7 +14,7 @@ pub loop-polygon-init : goal.loop-polygon-init
 loop-polygon-init c =
     let rings = rings_of c.args.rings.now in
     rw c.new-passings.ensures.items
-    (record { reached = none_reached rings c.args.polygons.now c.requires.sound c.requires.listed; passed = no_passings rings; counted = no_work c.args.count.now })
+    (record { reached = none_reached rings c.args.polygons.now c.requires.sound c.requires.listed; passed = no_passings rings; counted = no_work c.args.count.now; least = omega arith })
 
 pub offset_bounds-rings-exterior : goal.offset_bounds-rings-exterior
 offset_bounds-rings-exterior c =
@@ -76,6 +76,8 @@ loop-polygon-preserved c =
       reached = more.0;
       passed = more.1;
       counted = subst (λ (to : ℕ). AddsParts (vertex_count (take to rings)) (vertex_count rings) c.args.count.now c.add_passings.new.count) (sym more.2) work;
+      least = several_more c.args.rings.now c.args.polygons.now polygon c.args.count.now.probes c.loop-polygon.count.probes c.add_passings.new.count.probes c.requires.listed c.loop-polygon-test.true
+          c.loop-polygon.invariant.least c.add_passings.ensures.counted.no_fewer_probes c.in_ok-add_passings.ensures.least;
     }
 
 pub returns-clause-size : goal.returns-clause-size
