@@ -4,6 +4,7 @@ pub mod Equal
 pub mod FeatureBytes
 pub mod FeatureRules
 pub mod FieldScan
+pub mod Gathered
 pub mod Least
 pub mod Names
 pub mod PassedLayers

@@ -1,6 +1,7 @@
 pub mod Advice
 pub mod Calls
 pub mod FeatureBytes
+pub mod FirstFaults
 pub mod ReadFault
 pub mod RuleFaults
 pub mod View

@@ -4,7 +4,6 @@ ghost use Rattle.mvt_tile.specs.Advice.{ArePairs, IsAdvice, IsLayerAdvice};
 ghost use Rattle.mvt_tile.specs.Calls.Equal.{StandsAt, equal_advice};
 ghost use Rattle.mvt_tile.specs.View.{layer_of, tile_of};
 
-mod first_places;
 mod repeated;
 #[cfg(test)]
 mod tests;

@@ -1,9 +1,10 @@
 //! The messages of a vector tile, over borrowed bytes: their first wire fault, their records, the
-//! first fault of the rules between their parts, and advice on what no rule forbids.
+//! faults by the rules between their parts, and advice on what no rule forbids.
 #![tactic(auto)]
 
 mod advice;
 mod feature_bytes;
+mod first_places;
 pub mod laws;
 mod lists;
 mod read;
@@ -15,5 +16,5 @@ pub use advice::{Advice, advise};
 pub use feature_bytes::FeatureBytes;
 pub use read::{ReadFault, read_tile};
 pub use record::{Feature, Kind, Layer, Tile, Value};
-pub use rules::{FeatureRule, check_layers, check_tags, rule_fault};
+pub use rules::{FeatureRule, check_layers, check_tags, rule_fault, rule_faults};
 pub use wire::wire_fault;

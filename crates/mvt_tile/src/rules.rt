@@ -10,8 +10,11 @@ ghost use Rattle.mvt_tile.specs.Calls.PassedLayers.{EndsLayers, passed, PassesLa
 ghost use Rattle.mvt_tile.specs.Calls.RuleFaults.{AreAfterTags};
 ghost use Rattle.mvt_tile.specs.RuleFaults.{IsAfterTags, BreaksAnyRule, KeepsRules};
 
+mod faults;
+mod feature_faults;
 mod features;
 mod key_marks;
+mod layer_faults;
 mod layer_names;
 mod layer_rules;
 mod layer_scan;
@@ -22,6 +25,7 @@ mod tags;
 #[cfg(test)]
 mod tests;
 
+pub use faults::rule_faults;
 use features::FeatureRoom;
 pub use features::FeatureRule;
 use layer_rules::LayerRules;

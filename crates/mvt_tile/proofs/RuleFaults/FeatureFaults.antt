@@ -11,8 +11,8 @@ use Rattle.mvt_fault.specs.declared.fault.Fault.TheVariants.{Tag}
 use Rattle.mvt_fault.specs.declared.tag.TagCode.{TagCode}
 use Rattle.mvt_fault.specs.declared.tag.TagCode.TheVariants.{OddLength, NoKey, NoValue, Repeated}
 use Rattle.mvt_wire.proofs.Parts.PairedLists.{each_here, each_there}
-use Rattle.mvt_tile.specs.RuleFaults.{Breaks, Keeps, IsAfterTags}
-use Rattle.mvt_tile.specs.Calls.FeatureRules.{IsFaultOfFeature, IsFaultInLayer, IsSound, AllSoundInLayer, AllSound, FindsInFeature}
+use Rattle.mvt_tile.specs.RuleFaults.{Breaks, Keeps, IsAfterTags, IsFaultOfFeature, IsSound}
+use Rattle.mvt_tile.specs.Calls.FeatureRules.{IsFaultInLayer, AllSoundInLayer, AllSound, FindsInFeature}
 use Rattle.mvt_wire.specs.Embedded.{AreClean}
 use Rattle.mvt_tile.specs.Calls.RuleFaults.{AreAfterTags, IsFirstTagFault, IsLike}
 use Rattle.mvt_tile.specs.Calls.PassedTags.{AreMetBy}
@@ -130,7 +130,7 @@ module _ (IsBroken : Breaks) where
 
   module _ (after_tags : AreAfterTags IsBroken) where
     -- each fault of a feature is at one of its places
-    place_at : (layer_record : LayerRecord) (it : FeatureRecord) (layer feature : ℕ) (fault : Fault) → IsFaultOfFeature IsBroken layer_record it layer feature fault → IsPlaceAt layer feature fault
+    pub place_at : (layer_record : LayerRecord) (it : FeatureRecord) (layer feature : ℕ) (fault : Fault) → IsFaultOfFeature IsBroken layer_record it layer feature fault → IsPlaceAt layer feature fault
     place_at layer_record it layer feature fault (inl (tag code index broken)) = (_, refl)
     place_at layer_record it layer feature fault (inr broken) = let place = after_tags it layer feature fault broken in (_, place.3)
 

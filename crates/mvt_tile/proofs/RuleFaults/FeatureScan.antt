@@ -27,7 +27,7 @@ pub record IsScanned (IsBroken : Breaks) (IsKept : Keeps) (bytes : List ℕ) (sp
       (λ fault. (layer_record : LayerRecord) → IsLayer bytes span layer_record → IsLike keys values needs layer_record → IsLeast (IsFaultInLayer IsBroken layer_record layer) fault)
 
 -- a layer is like those that are like it by more needs
-fewer : {keys values : ℕ} (before needs : TagNeeds) → before.keys ≤ needs.keys → before.values ≤ needs.values → (layer_record : LayerRecord) → IsLike keys values needs layer_record → IsLike keys values before layer_record
+pub fewer : {keys values : ℕ} (before needs : TagNeeds) → before.keys ≤ needs.keys → before.values ≤ needs.values → (layer_record : LayerRecord) → IsLike keys values needs layer_record → IsLike keys values before layer_record
 fewer before needs more_keys more_values layer_record (inl same) = inl same
 fewer before needs more_keys more_values layer_record (inr enough) =
     inr (record { keys = omega (arith, enough.0.keys); values = omega (arith, enough.0.values) }, omega (arith, enough.1), omega (arith, enough.2))

@@ -17,15 +17,15 @@ use Rattle.mvt_wire.proofs.Parts.EmbeddedSpans.{slice_get-append}
 use Rattle.mvt_wire.proofs.Encoding.Payloads.{slice_get-last}
 
 -- the last numbers of the place of a wrong version, after its layer
-abbrev version_numbers : List ℕ
+abbrev pub version_numbers : List ℕ
 version_numbers = 201 ∷ 0 ∷ 0 ∷ 0 ∷ 0 ∷ 0 ∷ 0 ∷ 0 ∷ []
 
 -- and of a name that comes again
-abbrev name_numbers : ℕ → List ℕ
+abbrev pub name_numbers : ℕ → List ℕ
 name_numbers first = 202 ∷ first ∷ 0 ∷ 0 ∷ 0 ∷ 0 ∷ 0 ∷ 0 ∷ []
 
 -- the order of two faults of layers, by the later layer of each
-by_layer : (layer other : ℕ) (xs ys : List ℕ) → layer ≤ other → (layer ≡ other → ComesFirst xs ys) → ComesFirst (1 ∷ layer ∷ xs) (1 ∷ other ∷ ys)
+pub by_layer : (layer other : ℕ) (xs ys : List ℕ) → layer ≤ other → (layer ≡ other → ComesFirst xs ys) → ComesFirst (1 ∷ layer ∷ xs) (1 ∷ other ∷ ys)
 by_layer layer other xs ys ordered rest = inr (
   refl,
   elim (cases_lt layer other) [

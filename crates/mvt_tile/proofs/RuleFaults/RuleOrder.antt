@@ -4,8 +4,8 @@ use Rattle.mvt_wire.specs.Tile.{TileRecord, IsTile}
 use Rattle.mvt_fault.specs.Place.{ComesFirst, IsLeast, place_of}
 use Rattle.mvt_fault.specs.TrueFaults.{BreaksRule, IsFaultOfLayers, OneFeatureHas, version, name}
 use Rattle.mvt_fault.specs.declared.fault.Fault.{Fault}
-use Rattle.mvt_tile.specs.RuleFaults.{Breaks, Keeps, BreaksAnyRule, KeepsRules}
-use Rattle.mvt_tile.specs.Calls.FeatureRules.{IsFaultOfFeature, AllSound, FindsInTile}
+use Rattle.mvt_tile.specs.RuleFaults.{Breaks, Keeps, BreaksAnyRule, KeepsRules, IsFaultOfFeature}
+use Rattle.mvt_tile.specs.Calls.FeatureRules.{AllSound, FindsInTile}
 use Rattle.mvt_tile.specs.Calls.PassedLayers.{passed, EndsLayers}
 use Rattle.mvt_tile.specs.Calls.RuleFaults.{AreAfterTags}
 use Rattle.mvt_tile.specs.declared.rules.layer_rules.LayerRules.{LayerRules}

@@ -9,8 +9,8 @@ use Rattle.mvt_wire.proofs.Parts.PairedLists.{each_there, same_length}
 use Rattle.mvt_fault.specs.Place.{IsLeast}
 use Rattle.mvt_fault.specs.TrueFaults.{OneFeatureHas}
 use Rattle.mvt_fault.specs.declared.fault.Fault.{Fault}
-use Rattle.mvt_tile.specs.RuleFaults.{Breaks, Keeps}
-use Rattle.mvt_tile.specs.Calls.FeatureRules.{IsFaultOfFeature, FindsInLayer, FindsInTile}
+use Rattle.mvt_tile.specs.RuleFaults.{Breaks, Keeps, IsFaultOfFeature}
+use Rattle.mvt_tile.specs.Calls.FeatureRules.{FindsInLayer, FindsInTile}
 use Rattle.mvt_tile.specs.Calls.PassedLayers.{passed, EndsLayers, IsNextLayer, PassesLayers}
 use Rattle.mvt_tile.specs.declared.rules.layer_rules.LayerRules.{LayerRules}
 use Rattle.mvt_tile.specs.Calls.RuleFaults.{AreAfterTags, IsSummary}

@@ -4,7 +4,7 @@ use Rattle.mvt_tile.specs.Advice.{IsRepetition, equal_keys, equal_ids}
 use Rattle.mvt_tile.specs.declared.advice.Advice.{Advice}
 use Rattle.mvt_tile.specs.declared.advice.Equal.{Equal}
 use Rattle.mvt_tile.specs.declared.advice.Equal.TheVariants.{Keys, Ids}
-use Rattle.mvt_tile.specs.declared.advice.first_places.Held.{Held}
+use Rattle.mvt_tile.specs.declared.first_places.Held.{Held}
 
 -- what an item holds: its number, and after it its text
 abbrev pub held_value : Held → List ℕ

@@ -4,7 +4,7 @@ ghost use Rattle.mvt_tile.specs.Advice.{KeyAt, IdAt};
 ghost use Rattle.mvt_tile.specs.Calls.Equal.{AreFirstPlaces};
 ghost use Rattle.mvt_tile.specs.View.{layer_of};
 
-use super::first_places::{Held, first_places};
+use crate::first_places::{Held, first_places};
 use crate::record::Layer;
 use crate::rules::names::key_of;
 use std::alloc::{AllocError, Global};

@@ -17,14 +17,14 @@ use mvt_wire::{Fields, Part};
 use std::alloc::AllocError;
 
 /// What a key, a value, a feature and a name begin with: the field's number and its wire type.
-const USUAL_KEYS: [u8; 4] = [0x1a, 0x22, 0x12, 0x0a];
+pub(crate) const USUAL_KEYS: [u8; 4] = [0x1a, 0x22, 0x12, 0x0a];
 
 /// What one walk over a layer finds.
 #[derive(Clone, Copy)]
-struct LayerScan<'a> {
-    summary: LayerSummary<'a>,
+pub(crate) struct LayerScan<'a> {
+    pub(crate) summary: LayerSummary<'a>,
     /// How many keys and values the tags need of the features that were checked.
-    needs: TagNeeds,
+    pub(crate) needs: TagNeeds,
 }
 
 /// The summary of the layer with an ordinal, which a part of the bytes holds.

@@ -6,7 +6,7 @@ use Rattle.mvt_wire.specs.Tile.{FeatureRecord}
 use Rattle.mvt_tile.specs.Advice.{IdAt}
 use Rattle.mvt_tile.specs.Calls.Equal.{HeldAt, held_value}
 use Rattle.mvt_tile.specs.View.{feature_of, layer_of}
-use Rattle.mvt_tile.specs.declared.advice.first_places.Held.{Held}
+use Rattle.mvt_tile.specs.declared.first_places.Held.{Held}
 use Rattle.mvt_tile.proofs.RuleFaults.HeldPlaces.{place_of, IdHeldAt, held_is, through_only, mapped_there}
 use Rattle.mvt_tile.proofs.RuleFaults.Names.{IsNaming}
 use Rattle.mvt_tile.proofs.RuleFaults.Repetitions.{Before, IsNaming-pushed, IsNaming-skipped, through_function}

@@ -4,11 +4,11 @@ use Rattle.std.proofs.lemmas.List.{get_or_default, length-replicate, length-set}
 use Rattle.std.proofs.lemmas.Option.{slice_get_read}
 use Rattle.std.proofs.lemmas.Slice.Eq.{bytes_eq-Decides}
 use Rattle.mvt_tile.specs.Calls.Equal.{HeldAt, held_value}
-use Rattle.mvt_tile.specs.declared.advice.first_places.Held.{Held}
+use Rattle.mvt_tile.specs.declared.first_places.Held.{Held}
 use Rattle.mvt_tile.proofs.RuleFaults.HeldPlaces.{place_of, grouped, below_bound}
 use Rattle.mvt_tile.proofs.RuleFaults.Repetitions.{AreNoted, AreNoted-none, AreNoted-same, AreNoted-other, all_noted}
-use Rattle.mvt_tile.proofs.advice.first_places.first_places.Goals.{then-before-item+then-eq, else-before-item, else-before-item-via-then-before-item+else-eq, else-before-item-via-else-before-item}
-use Rattle.mvt_tile.proofs.advice.first_places.first_places.Goals as goal
+use Rattle.mvt_tile.proofs.first_places.first_places.Goals.{then-before-item+then-eq, else-before-item, else-before-item-via-then-before-item+else-eq, else-before-item-via-else-before-item}
+use Rattle.mvt_tile.proofs.first_places.first_places.Goals as goal
 
 -- an item of the sorted list, as it is read
 read : (xs : List Held) (at : ℕ) (item : Held) → at < length xs → item ≡ get_or xs at item → slice_get xs at ≡ Some item
