@@ -1,13 +1,19 @@
 pub mod AdviceAnswers
 pub mod AdviceTexts
+pub mod CheckAnswers
 pub mod ConfirmAnswers
+pub mod CountedFaults
 pub mod DrawnRings
 pub mod DumpAnswers
 pub mod DumpLists
 pub mod DumpTexts
 pub mod EngineLemmas
+pub mod FaultListLaws
+pub mod FaultLists
+pub mod FaultSubjects
 pub mod FeatureFaults
 pub mod FeatureGeometries
+pub mod FeatureSearches
 pub mod FieldsAnswers
 pub mod FieldsLineWalk
 pub mod FirstFaults
@@ -15,5 +21,7 @@ pub mod PolygonFaults
 pub mod PolygonParts
 pub mod PolygonPlaces
 pub mod PolygonWalk
+pub mod QuickFaults
+pub mod QuickVerdicts
 pub mod ValidGeometries
 pub mod Verdicts

@@ -1,11 +1,11 @@
 -- Verdicts by the parts of a tile. No bytes have two, and no input has two answers of `check`, but for two meetings in one
 -- polygon.
-use Rattle.std.proofs.Common.{◌≡◌, ℕ, List, ◌⊎◌, inl, inr, refl, sym, ◌∙◌, ap, subst}
+use Rattle.std.proofs.Common.{◌≡◌, ◌↔◌, ℕ, List, ◌⊎◌, inl, inr, refl, sym, ◌∙◌, ap, subst}
 use Rattle.mvt_confirm.proofs.Validity.ShownParts.{shown_by_parts}
 use Rattle.mvt_confirm.proofs.Validity.TrueFaults.{no_fault_of_tile, shown_is_invalid}
 use Rattle.mvt_confirm.proofs.Validity.ValidParts.{valid_by_parts}
 use Rattle.mvt_confirm.specs.Geometry.{IsFaultOfGeometryBy}
-use Rattle.mvt_confirm.specs.Shows.{ShowsBy}
+use Rattle.mvt_confirm.specs.Shows.{OfTile, ShowsBy}
 use Rattle.mvt_confirm.specs.Valid.{IsValidGeometryBy, ValidBy}
 use Rattle.mvt_fault.proofs.Places.{ComesFirst-antisymmetric, same_place_or_meetings}
 use Rattle.mvt_fault.specs.Place.{AreMeetingsInOne, IsLeast, place_of}
@@ -13,7 +13,7 @@ use Rattle.mvt_fault.specs.TrueFaults.{IsWireFault}
 use Rattle.mvt_fault.specs.declared.fault.Fault.{Fault}
 use Rattle.mvt_fault.specs.declared.profile.Profile.{Profile}
 use Rattle.mvt_tile.proofs.WireFaults.Tiles.{is_tile}
-use Rattle.mvt_tile.specs.RuleFaults.{BreaksAnyRule, KeepsRules}
+use Rattle.mvt_tile.specs.RuleFaults.{Breaks, BreaksAnyRule, KeepsRules}
 use Rattle.mvt_wire.proofs.Parts.Tiles.{one_tile}
 use Rattle.mvt_wire.specs.Tile.{IsTile, TileRecord}
 use Rattle.mvt_wire.specs.WireFault.{WireFault}
@@ -36,31 +36,42 @@ valid_without_fault profile bytes none keeps =
     let kept = keeps tile.0 tile.1 in
     (valid_by_parts profile bytes).1 (tile.0, tile.1, kept.parts, kept.features)
 
--- the first wire fault is the first of all faults of the bytes
-pub least_of_wire : (profile : Profile) (bytes : List ℕ) (fault : Fault) → IsLeast (IsWireFault bytes) fault → IsLeast (ShowsBy profile bytes) fault
-least_of_wire profile bytes fault least = record {
-  holds = (shown_by_parts profile bytes fault).1 (inl least.holds);
-  least = λ other shows. elim ((shown_by_parts profile bytes other).0 shows) [
-    | inl its ↦ least.least other its
-    | inr broken ↦ absurd (no_fault_of_tile bytes broken.0 fault broken.1 least.holds)
-  ];
-}
+-- Of bytes whose shown faults are their wire faults and, where they are a tile, those of the rules between its parts and of a
+-- further one on its features
+module _ (bytes : List ℕ) (Shown : Fault → Type 0) (IsBroken : Breaks) (by_parts : (fault : Fault) → Shown fault ↔ (IsWireFault bytes fault ⊎ OfTile bytes (λ tile. BreaksAnyRule IsBroken tile fault))) where
+  -- the first wire fault is the first of all
+  pub first_of_wire : (fault : Fault) → IsLeast (IsWireFault bytes) fault → IsLeast Shown fault
+  first_of_wire fault least = record {
+    holds = (by_parts fault).1 (inl least.holds);
+    least = λ other shows. elim ((by_parts other).0 shows) [
+      | inl its ↦ least.least other its
+      | inr broken ↦ absurd (no_fault_of_tile bytes broken.0 fault broken.1 least.holds)
+    ];
+  }
 
--- where no wire fault is true of the bytes, the first fault of the tile is
+  -- where no wire fault is true of the bytes, the first fault of the tile is
+  pub first_of_tile : (fault : Fault) → ((scope : Scope) (cause : WireCause) → ¬ WireFault bytes scope cause)
+      → ((tile : TileRecord) → IsTile bytes tile → IsLeast (BreaksAnyRule IsBroken tile) fault) → IsLeast Shown fault
+  first_of_tile fault none first =
+      let tile = is_tile bytes none in
+      let least = first tile.0 tile.1 in
+      record {
+        holds = (by_parts fault).1 (inr (tile.0, tile.1, least.holds));
+        least = λ other shows. elim ((by_parts other).0 shows) [
+          | inl its ↦ absurd (no_fault_of_tile bytes tile.0 other tile.1 its)
+          | inr broken ↦
+              let same : broken.0 ≡ tile.0 = one_tile bytes broken.0 tile.0 broken.1 tile.1 in
+              least.least other (subst (λ (it : TileRecord). BreaksAnyRule IsBroken it other) same broken.2)
+        ];
+      }
+
+-- so by a profile
+pub least_of_wire : (profile : Profile) (bytes : List ℕ) (fault : Fault) → IsLeast (IsWireFault bytes) fault → IsLeast (ShowsBy profile bytes) fault
+least_of_wire profile bytes = first_of_wire bytes (ShowsBy profile bytes) (IsFaultOfGeometryBy profile) (shown_by_parts profile bytes)
+
 pub least_of_tile : (profile : Profile) (bytes : List ℕ) (fault : Fault) → ((scope : Scope) (cause : WireCause) → ¬ WireFault bytes scope cause)
     → ((tile : TileRecord) → IsTile bytes tile → IsLeast (BreaksAnyRule (IsFaultOfGeometryBy profile) tile) fault) → IsLeast (ShowsBy profile bytes) fault
-least_of_tile profile bytes fault none first =
-    let tile = is_tile bytes none in
-    let least = first tile.0 tile.1 in
-    record {
-      holds = (shown_by_parts profile bytes fault).1 (inr (tile.0, tile.1, least.holds));
-      least = λ other shows. elim ((shown_by_parts profile bytes other).0 shows) [
-        | inl its ↦ absurd (no_fault_of_tile bytes tile.0 other tile.1 its)
-        | inr broken ↦
-            let same : broken.0 ≡ tile.0 = one_tile bytes broken.0 tile.0 broken.1 tile.1 in
-            least.least other (subst (λ (it : TileRecord). BreaksAnyRule (IsFaultOfGeometryBy profile) it other) same broken.2)
-      ];
-    }
+least_of_tile profile bytes = first_of_tile bytes (ShowsBy profile bytes) (IsFaultOfGeometryBy profile) (shown_by_parts profile bytes)
 
 -- the verdict on bytes that aren't valid names a fault that is true of them
 pub fault_of_invalid : (profile : Profile) (bytes : List ℕ) (verdict : Verdict) → IsVerdictBy profile bytes verdict → ¬ ValidBy profile bytes → (fault : Fault) × (verdict ≡ No fault) × ShowsBy profile bytes fault

@@ -6,12 +6,15 @@ pub use Rattle.mvt_wire.specs.Tile
 pub mod Advice
 pub mod Calls
 pub mod Check
+pub mod CheckOptions
 pub mod Claim
 pub mod Confirm
 pub mod Dump
 pub mod Engine
 pub mod FaultLine
+pub mod FaultList
 pub mod Fields
 pub mod FieldsLine
+pub mod Quick
 pub mod Tally
 pub mod Verdict

@@ -5,6 +5,9 @@ use Rattle.mvt_confirm.specs.Valid.{ValidBy}
 use Rattle.mvt_fault.specs.Place.{IsLeast}
 use Rattle.mvt_fault.specs.declared.profile.Profile.{Profile}
 use Rattle.mvt_fault.specs.declared.profile.Profile.TheVariants.{Polygon}
+use Rattle.mvt_gate.specs.Quick.{ShowsQuicklyBy}
+use Rattle.mvt_gate.specs.declared.quick.Search.{Search}
+use Rattle.mvt_gate.specs.declared.quick.Search.TheVariants.{Least, Quick}
 use Rattle.mvt_gate.specs.declared.verdict.Verdict.{Verdict}
 use Rattle.mvt_gate.specs.declared.verdict.Verdict.TheVariants.{Yes, No}
 
@@ -17,3 +20,13 @@ IsVerdictBy profile bytes (No fault) = IsLeast (ShowsBy profile bytes) fault
 -- the same by the profile that checks each polygon by itself
 abbrev pub IsVerdict : List ℕ → Verdict → Type 0
 IsVerdict = IsVerdictBy Polygon
+
+-- The bytes are a valid tile by the profile; or of all the quick faults that are true of them, the one that is named comes first.
+abbrev pub IsQuickVerdictBy : Profile → List ℕ → Verdict → Type 0
+IsQuickVerdictBy profile bytes Yes = ValidBy profile bytes
+IsQuickVerdictBy profile bytes (No fault) = IsLeast (ShowsQuicklyBy profile bytes) fault
+
+-- the verdict, by a search
+abbrev pub IsVerdictFor : Search → Profile → List ℕ → Verdict → Type 0
+IsVerdictFor Least = IsVerdictBy
+IsVerdictFor Quick = IsQuickVerdictBy

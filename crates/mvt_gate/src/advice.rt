@@ -1,7 +1,7 @@
 //! The engine of `check` with advice: the line of the verdict, and after it what may be a mistake
 //! in the tile, though no rule forbids it.
 ghost use Rattle.std.specs.Prelude.{◌≡◌, ◌≢◌, ℕ, List, ◌++◌, IfOk, IfErr, OnOk, string_bytes};
-ghost use Rattle.mvt_gate.specs.Advice.{IsAdviseAnswerBy, advice_line};
+ghost use Rattle.mvt_gate.specs.Advice.{AddsAdvice, IsAdviseAnswerBy, advice_line};
 ghost use Rattle.mvt_gate.specs.Engine.{Answers, BreaksOff, HasFailed, IsClean, IsOfClaim, IsTooLarge, ReadsBytes};
 ghost use Rattle.mvt_gate.specs.Tally.{IsUntouched, counts_of};
 ghost use Rattle.mvt_tile.specs.Advice.{IsAdvice};
@@ -71,17 +71,25 @@ struct AdviseOnTile {
 impl Task for AdviseOnTile {
     ghost IsAnswer = { λ task. IsAdviseAnswerBy task.profile };
 
-    // The tile is read again for the advice, so that its record is not held while it is judged.
     fn answer(&self, alloc: Global, input: &[u8]) -> Result<(Outcome, String), AllocError> {
         let check = CheckTile {
             profile: self.profile,
         };
         let (outcome, line) = check.answer(alloc, input)?;
-        match read_tile(alloc, input) {
-            Ok(tile) => Ok((outcome, with_advice(alloc, line, &tile)?)),
-            Err(ReadFault::Wire(_fault)) => Ok((outcome, line)),
-            Err(ReadFault::Memory) => Err(AllocError),
-        }
+        Ok((outcome, add_advice(alloc, input, line)?))
+    }
+}
+
+/// The line, or lines, of a verdict, and after them that of the advice where the input is a tile.
+/// (It is read again for that, so that its record is not held while it is judged.)
+pub(crate) fn add_advice(alloc: Global, input: &[u8], line: String) -> Result<String, AllocError>
+    ensures { IfOk result (λ lines.
+        AddsAdvice input.now (string_bytes line) (string_bytes lines)) }
+{
+    match read_tile(alloc, input) {
+        Ok(tile) => with_advice(alloc, line, &tile),
+        Err(ReadFault::Wire(_fault)) => Ok(line),
+        Err(ReadFault::Memory) => Err(AllocError),
     }
 }
 

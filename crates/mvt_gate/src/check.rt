@@ -1,14 +1,19 @@
 //! The engine of `check`: whether an input is a tile that keeps the rules, as one line of JSON.
-ghost use Rattle.std.specs.Prelude.{◌≡◌, ◌≢◌, ℕ, List, IfOk, IfErr, OnOk};
-ghost use Rattle.mvt_gate.specs.Check.{IsCheckAnswer, IsCheckAnswerBy};
+ghost use Rattle.std.specs.Prelude.{◌≡◌, ◌≢◌, ℕ, List, IfOk, IfErr, OnOk, string_bytes};
+ghost use Rattle.mvt_gate.specs.Check.{IsCheckAnswer, IsCheckAnswerBy, ok_line};
+ghost use Rattle.mvt_gate.specs.CheckOptions.{IsVerdictAnswer};
 ghost use Rattle.mvt_gate.specs.Engine.{Answers, BreaksOff, HasFailed, IsClean, IsOfClaim, IsTooLarge, ReadsBytes};
 ghost use Rattle.mvt_gate.specs.Tally.{IsUntouched, counts_of};
 
+mod options;
+
 use crate::engine;
 use crate::engine::{EngineFault, Outcome, Task, fault_line};
+use crate::quick::{Search, judge_for};
 use crate::tally::Tally;
-use crate::verdict::{Verdict, judge_with};
+use crate::verdict::Verdict;
 use mvt_fault::Profile;
+pub use options::{CheckOptions, check_stream_by, fault_lines};
 use std::alloc::{AllocError, Global};
 use std::io::{Read, Write};
 
@@ -100,11 +105,31 @@ impl Task for CheckTile {
     ghost IsAnswer = { λ task. IsCheckAnswerBy task.profile };
 
     fn answer(&self, alloc: Global, input: &[u8]) -> Result<(Outcome, String), AllocError> {
-        match judge_with(alloc, self.profile, input)? {
-            Verdict::Yes => Ok((Outcome::Yes, String::from_str(alloc, "{\"ok\":true}\n")?)),
-            Verdict::No(fault) => Ok((Outcome::No, fault_line(alloc, &fault)?)),
-        }
+        verdict_answer(alloc, Search::Least, self.profile, input)
     }
+}
+
+/// The outcome and the line of a verdict.
+fn verdict_answer(
+    alloc: Global,
+    search: Search,
+    profile: Profile,
+    input: &[u8],
+) -> Result<(Outcome, String), AllocError>
+    ensures { IfOk result (λ r.
+        IsVerdictAnswer search profile input.now r.0 (string_bytes r.1)) }
+{
+    match judge_for(alloc, search, profile, input)? {
+        Verdict::Yes => Ok((Outcome::Yes, ok_line(alloc)?)),
+        Verdict::No(fault) => Ok((Outcome::No, fault_line(alloc, &fault)?)),
+    }
+}
+
+/// The line of a valid tile.
+fn ok_line(alloc: Global) -> Result<String, AllocError>
+    ensures { IfOk result (λ line. string_bytes line ≡ ok_line) }
+{
+    String::from_str(alloc, "{\"ok\":true}\n")
 }
 
 #[cfg(test)]

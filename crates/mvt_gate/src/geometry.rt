@@ -11,8 +11,11 @@ ghost use Rattle.mvt_plane.specs.FeatureGeometry.{HasFigure, type_number};
 ghost use Rattle.mvt_tile.specs.FeatureBytes.{Shows};
 ghost use Rattle.mvt_tile.specs.View.{kind_number};
 ghost use Rattle.mvt_wire.specs.Tile.{FeatureRecord};
+ghost use Rattle.mvt_gate.specs.Calls.Polygons.{IsFaultOfGeometryFor};
+ghost use Rattle.mvt_gate.specs.Quick.{IsQuickFaultOfGeometryBy};
 
 use crate::polygons::rings_fault;
+use crate::quick::Search;
 use mvt_draw::{DrawFault, RingBuffer, command_fault};
 use mvt_fault::{Fault, Profile};
 use mvt_plane::Count;
@@ -39,11 +42,13 @@ impl GeometryRule {
         }
     }
 
-    /// Stores the first fault of a feature's geometry by the profile in `found`, which is None
-    /// before, and stays so where the geometry is valid. The only error is that memory was refused.
+    /// Stores the first fault of a feature's geometry by the profile, of those that are searched
+    /// for, in `found`, which is None before, and stays so where the geometry is valid. The only
+    /// error is that memory was refused.
     fn find_fault_by(
         &mut self,
         alloc: Global,
+        search: Search,
         profile: Profile,
         feature: &FeatureBytes<'_>,
         layer: usize,
@@ -53,17 +58,17 @@ impl GeometryRule {
         requires { found.old ≡ None }
         ensures none { IfOk result (λ _. IfNone found.new ((it : FeatureRecord)
             → Shows feature.now it → (fault : Fault)
-            → ¬ IsFaultOfGeometryBy profile it layer ordinal fault)) }
+            → ¬ IsFaultOfGeometryFor search profile it layer ordinal fault)) }
         ensures kept { IfOk result (λ _. IfNone found.new ((it : FeatureRecord)
             → Shows feature.now it → IsValidGeometryBy profile it)) }
         ensures least { IfOk result (λ _. IfSome found.new (λ fault. (it : FeatureRecord)
-            → Shows feature.now it → IsLeast (IsFaultOfGeometryBy profile it layer ordinal)
-            fault)) }
+            → Shows feature.now it
+            → IsLeast (IsFaultOfGeometryFor search profile it layer ordinal) fault)) }
     {
         match feature.kind() {
             Kind::Polygon => {
                 if let Some(fault) = self.fault_of_polygons(
-                    alloc, profile, feature, layer, ordinal,
+                    alloc, search, profile, feature, layer, ordinal,
                 )? {
                     *found = Some(fault);
                 }
@@ -88,6 +93,7 @@ impl GeometryRule {
     fn fault_of_polygons(
         &mut self,
         alloc: Global,
+        search: Search,
         profile: Profile,
         feature: &FeatureBytes<'_>,
         layer: usize,
@@ -97,12 +103,13 @@ impl GeometryRule {
         ensures kept { IfOk result (λ found. IfNone found ((it : FeatureRecord)
             → Shows feature.now it → IsValidGeometryBy profile it)) }
         ensures least { IfOk result (λ found. IfSome found (λ fault. (it : FeatureRecord)
-            → Shows feature.now it → IsLeast (IsFaultOfGeometryBy profile it layer ordinal)
-            fault)) }
+            → Shows feature.now it
+            → IsLeast (IsFaultOfGeometryFor search profile it layer ordinal) fault)) }
     {
         match self.rings.draw(alloc, feature.geometry()) {
             Ok(()) => rings_fault(
                 alloc,
+                search,
                 profile,
                 self.rings.rings(),
                 &mut self.count,
@@ -148,8 +155,16 @@ impl FeatureRule for PolygonGeometry {
         ordinal: usize,
         found: &mut Option<Fault>,
     ) -> Result<(), AllocError> {
-        self.rule
-            .find_fault_by(alloc, Profile::Polygon, feature, layer, ordinal, found)
+        let search = Search::Least;
+        self.rule.find_fault_by(
+            alloc,
+            search,
+            Profile::Polygon,
+            feature,
+            layer,
+            ordinal,
+            found,
+        )
     }
 }
 
@@ -181,7 +196,56 @@ impl FeatureRule for FeatureGeometry {
         ordinal: usize,
         found: &mut Option<Fault>,
     ) -> Result<(), AllocError> {
-        self.rule
-            .find_fault_by(alloc, Profile::Feature, feature, layer, ordinal, found)
+        let search = Search::Least;
+        self.rule.find_fault_by(
+            alloc,
+            search,
+            Profile::Feature,
+            feature,
+            layer,
+            ordinal,
+            found,
+        )
+    }
+}
+
+/// The same rule, whose faults are those that are found quickly.
+#[derive(Drop)]
+pub(crate) struct QuickGeometry {
+    rule: GeometryRule,
+}
+
+impl QuickGeometry {
+    /// A rule that has served no feature. It takes no memory.
+    pub(crate) fn new(alloc: Global) -> QuickGeometry {
+        QuickGeometry {
+            rule: GeometryRule::new(alloc),
+        }
+    }
+}
+
+impl FeatureRule for QuickGeometry {
+    ghost IsBroken = { IsQuickFaultOfGeometryBy profiles.Feature };
+
+    ghost IsKept = { IsValidGeometryBy profiles.Feature };
+
+    fn find_fault(
+        &mut self,
+        alloc: Global,
+        feature: &FeatureBytes<'_>,
+        layer: usize,
+        ordinal: usize,
+        found: &mut Option<Fault>,
+    ) -> Result<(), AllocError> {
+        let search = Search::Quick;
+        self.rule.find_fault_by(
+            alloc,
+            search,
+            Profile::Feature,
+            feature,
+            layer,
+            ordinal,
+            found,
+        )
     }
 }

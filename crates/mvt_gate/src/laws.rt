@@ -1,20 +1,27 @@
 //! Laws of the answers: an input has one answer of `fields`, with one line, and at most one of
 //! `check`, with advice or without, of `dump` and of `confirm`; but of the meetings of edges in one
-//! polygon `check` may name any.
-ghost use Rattle.std.specs.Prelude.{◌≡◌, ◌⊎◌, ◌++◌, ℕ, List};
+//! polygon `check` may name any. And what a quick verdict and a list say of all faults.
+ghost use Rattle.std.specs.Prelude.{◌≡◌, ◌↔◌, ◌⊎◌, ◌++◌, ℕ, List, Some, slice_get, take};
+ghost use Rattle.mvt_confirm.specs.Feature.{IsFeatureIn};
 ghost use Rattle.mvt_confirm.specs.Shows.{ShowsBy};
-ghost use Rattle.mvt_fault.specs.Place.{AreMeetingsInOne, IsLeast};
+ghost use Rattle.mvt_confirm.specs.Valid.{ValidBy};
+ghost use Rattle.mvt_fault.specs.Place.{AreMeetingsInOne, ComesFirst, IsLeast, place_of};
 ghost use Rattle.mvt_fault.specs.declared.fault.Fault.{Fault};
 ghost use Rattle.mvt_fault.specs.declared.profile.Profile.{Profile};
+ghost use Rattle.mvt_fault.specs.declared.profile.Profile.TheVariants as profiles;
 ghost use Rattle.mvt_gate.specs.Advice.{IsAdviseAnswerBy};
 ghost use Rattle.mvt_gate.specs.Check.{IsCheckAnswerBy};
 ghost use Rattle.mvt_gate.specs.Confirm.{IsConfirmAnswerBy};
 ghost use Rattle.mvt_gate.specs.Dump.{IsDumpAnswer};
 ghost use Rattle.mvt_gate.specs.FaultLine.{fault_line};
+ghost use Rattle.mvt_gate.specs.FaultList.{AreFaultsFor, of_feature, subject_of};
 ghost use Rattle.mvt_gate.specs.Fields.{IsFieldsAnswer};
-ghost use Rattle.mvt_gate.specs.Verdict.{IsVerdictBy};
+ghost use Rattle.mvt_gate.specs.Quick.{HasNoMeeting, ShowsQuicklyBy};
+ghost use Rattle.mvt_gate.specs.Verdict.{IsQuickVerdictBy, IsVerdictBy};
 ghost use Rattle.mvt_gate.specs.declared.engine.Outcome.{Outcome};
+ghost use Rattle.mvt_gate.specs.declared.quick.Search.{Search};
 ghost use Rattle.mvt_gate.specs.declared.verdict.Verdict.{Verdict};
+ghost use Rattle.mvt_wire.specs.Tile.{FeatureRecord, LayerRecord};
 
 /// Whatever the input is, there is an answer of `fields`, and no other answer and no other line.
 pub fn one_fields_answer()
@@ -75,4 +82,40 @@ pub fn one_confirm_answer()
         IsConfirmAnswerBy profile input claimed first line
         → IsConfirmAnswerBy profile input claimed second other →
         (first ≡ second) × (line ≡ other) }
+{}
+
+/// A quick fault is true of the bytes, and bytes that have none are valid: those of which a fault is
+/// true have a quick one.
+pub fn quick_faults()
+    ensures shown { (profile : Profile) (bytes : List ℕ) (fault : Fault)
+        → ShowsQuicklyBy profile bytes fault → ShowsBy profile bytes fault }
+    ensures none { (profile : Profile) (bytes : List ℕ)
+        → ((fault : Fault) → ¬ ShowsQuicklyBy profile bytes fault) → ValidBy profile bytes }
+{}
+
+/// No fault that is true of the bytes is of an earlier layer or feature than the quick verdict's, by
+/// the first three numbers of their places. The quick verdict is the judge's by the profile that
+/// checks each polygon by itself, and where no edges of its fault's feature meet wrongly.
+pub fn quick_verdicts()
+    ensures none_earlier { (profile : Profile) (bytes : List ℕ) (fault other : Fault)
+        → IsQuickVerdictBy profile bytes (Verdict.No fault) → ShowsBy profile bytes other
+        → ComesFirst (take 3 (place_of fault)) (take 3 (place_of other)) }
+    ensures by_polygon { (bytes : List ℕ) (verdict : Verdict)
+        → IsQuickVerdictBy profiles.Polygon bytes verdict
+        ↔ IsVerdictBy profiles.Polygon bytes verdict }
+    ensures where_apart { (profile : Profile) (bytes : List ℕ) (fault : Fault)
+        → IsQuickVerdictBy profile bytes (Verdict.No fault)
+        → ((layer feature : ℕ) (layer_record : LayerRecord) (feature_record : FeatureRecord)
+        → subject_of fault ≡ of_feature layer feature
+        → IsFeatureIn bytes layer feature layer_record feature_record
+        → HasNoMeeting feature_record)
+        → IsVerdictBy profile bytes (Verdict.No fault) }
+{}
+
+/// No two faults of a list are of one layer or of one feature.
+pub fn one_fault_of_each()
+    ensures { (search : Search) (profile : Profile) (bytes : List ℕ) (faults : List Fault)
+        → AreFaultsFor search profile bytes faults → (at other : ℕ) (fault again : Fault)
+        → slice_get faults at ≡ Some fault → slice_get faults other ≡ Some again
+        → subject_of fault ≡ subject_of again → at ≡ other }
 {}

@@ -10,10 +10,12 @@ mod confirm;
 mod device;
 mod dump;
 mod engine;
+mod faults;
 mod fields;
 mod geometry;
 pub mod laws;
 mod polygons;
+mod quick;
 #[cfg(test)]
 mod runs;
 mod tally;
@@ -21,10 +23,12 @@ mod verdict;
 
 pub use advice::{advice_text, advise_stream};
 pub use agreement::{Agreement, judge_and_confirm, judge_and_confirm_with};
-pub use check::{check_stream, check_stream_with};
+pub use check::{CheckOptions, check_stream, check_stream_by, check_stream_with, fault_lines};
 pub use confirm::{confirm_streams, confirm_streams_with};
 pub use dump::{dump_stream, dump_text};
 pub use engine::{EngineFault, Outcome};
+pub use faults::{faults_for, faults_quickly, faults_with};
 pub use fields::fields_stream;
+pub use quick::{Search, judge_for, judge_quickly};
 pub use tally::Tally;
 pub use verdict::{Verdict, judge, judge_with};

@@ -8,10 +8,11 @@ ghost use Rattle.mvt_plane.specs.Commands.Figure.{polygon};
 ghost use Rattle.mvt_plane.specs.FeatureGeometry.{HasRings, type_number};
 ghost use Rattle.mvt_plane.specs.Geometry.Ring.{ArePolygonRings};
 ghost use Rattle.mvt_polygon.specs.Rings.{rings_of, AreProperRings};
-ghost use Rattle.mvt_gate.specs.Calls.Polygons.{IsFirstOfRings, AreValidBefore, AreWithin, IsRingWithin, fault_of_hole, fault_of_meeting, rings_at};
+ghost use Rattle.mvt_gate.specs.Calls.Polygons.{IsFirstOfRings, IsFirstOfRingsFor, AreValidBefore, AreWithin, IsRingWithin, fault_of_hole, fault_of_meeting, rings_at};
 
 mod apart;
 
+use crate::quick::Search;
 use apart::feature_fault;
 use mvt_fault::{Fault, Profile, RingEdge};
 use mvt_plane::{Count, Point};
@@ -20,11 +21,12 @@ use std::alloc::{AllocError, Global};
 
 /// The first fault of the rings that the geometry of a feature draws, or None where they are those
 /// of polygons that are valid by the profile: faults that rings have of their own come first, and
-/// then those of the polygons, one polygon after another. `layer` and `feature` are the ordinals of
-/// the layer in its tile and of the feature in its layer, which the fault reports. The only error
-/// is that memory was refused.
+/// then those of the polygons that are searched for, one polygon after another. `layer` and
+/// `feature` are the ordinals of the layer in its tile and of the feature in its layer, which the
+/// fault reports. The only error is that memory was refused.
 pub(crate) fn rings_fault(
     alloc: Global,
+    search: Search,
     profile: Profile,
     rings: &[Vec<Point>],
     count: &mut Count,
@@ -35,7 +37,7 @@ pub(crate) fn rings_fault(
     ensures valid { IfOk result (λ found.
         IfNone found (AreValidRingsBy profile (rings_of rings.now))) }
     ensures least { IfOk result (λ found.
-        IfSome found (IsFirstOfRings profile (rings_of rings.now) layer feature)) }
+        IfSome found (IsFirstOfRingsFor search profile (rings_of rings.now) layer feature)) }
 {
     if let Some(fault) = check_rings(rings) {
         return Ok(Some(Fault::Ring {
@@ -47,7 +49,7 @@ pub(crate) fn rings_fault(
     }
     match profile {
         Profile::Polygon => polygons_fault(alloc, rings, count, layer, feature),
-        Profile::Feature => feature_fault(alloc, rings, count, layer, feature),
+        Profile::Feature => feature_fault(alloc, search, rings, count, layer, feature),
     }
 }
 

@@ -1,6 +1,6 @@
 //! Runs of the engines, for tests.
 use crate::advice::advise_stream;
-use crate::check::{check_stream, check_stream_with};
+use crate::check::{CheckOptions, check_stream, check_stream_by, check_stream_with};
 use crate::confirm::{confirm_streams, confirm_streams_with};
 use crate::device::{CALM, Manner, Sink, Source, bytes_of};
 use crate::dump::dump_stream;
@@ -29,6 +29,8 @@ pub enum Engine {
     CheckBy(Profile),
     /// `check` by a profile, with advice.
     AdviseBy(Profile),
+    /// `check` with options.
+    CheckOf(CheckOptions),
     /// `confirm` by a profile.
     ConfirmBy(Profile),
 }
@@ -54,6 +56,7 @@ pub fn run(
             check_stream_with(rt.alloc(), profile, &mut tile, &mut writer)
         }
         Engine::AdviseBy(profile) => advise_stream(rt.alloc(), profile, &mut tile, &mut writer),
+        Engine::CheckOf(options) => { check_stream_by(rt.alloc(), options, &mut tile, &mut writer) }
         Engine::ConfirmBy(profile) => {
             confirm_streams_with(rt.alloc(), profile, &mut tile, &mut claim, &mut writer)
         }

@@ -41,7 +41,8 @@ pub enum Verdict {
 ///
 /// Edges are tested at most three times for each vertex of their polygon, and the other work that
 /// is counted grows as n log n with the number n of its vertices, also where it has many holes. The
-/// only error is that memory was refused.
+/// only error is that memory was refused, and so it is answered for a feature of 2^32 vertices or
+/// more: such a tile has more than 8.6 GB.
 pub fn judge(alloc: Global, bytes: &[u8]) -> Result<Verdict, AllocError>
     ensures verdict { IfOk result (IsVerdict bytes.now) }
     ensures invalid { IfOk result (λ verdict. ¬ Valid bytes.now
@@ -56,9 +57,13 @@ pub fn judge(alloc: Global, bytes: &[u8]) -> Result<Verdict, AllocError>
 /// of the feature, which is inside that one's exterior and inside none of its holes. So a polygon
 /// may lie in a hole of another.
 ///
-/// In the profile `Profile::Feature` each polygon is held against the rings before it and against
-/// all other polygons, so the work on a feature of many polygons grows with their number times that
-/// of its vertices. The only error is that memory was refused.
+/// In the profile `Profile::Feature` all polygons of a feature are checked together, and where no
+/// edges meet wrongly the work grows as n log n with their vertices. Where edges meet, the polygons
+/// before the first one with a meeting are held against those from it on, which can take the
+/// vertices squared; `judge_quickly` leaves that out.
+///
+/// The only error is that memory was refused, and so it is answered for a feature of 2^32 vertices or
+/// more: such a tile has more than 8.6 GB.
 pub fn judge_with(alloc: Global, profile: Profile, bytes: &[u8]) -> Result<Verdict, AllocError>
     ensures verdict { IfOk result (IsVerdictBy profile bytes.now) }
     ensures invalid { IfOk result (λ verdict. ¬ ValidBy profile bytes.now

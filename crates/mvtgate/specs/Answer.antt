@@ -1,16 +1,14 @@
 -- What the program's words have answered.
 use Rattle.std.specs.Prelude.{ℕ, List}
-use Rattle.mvt_gate.specs.Advice.{IsAdviseAnswerBy}
-use Rattle.mvt_gate.specs.Check.{IsCheckAnswerBy}
+use Rattle.mvt_gate.specs.CheckOptions.{IsCheckAnswerOf}
 use Rattle.mvt_gate.specs.Dump.{IsDumpAnswer}
 use Rattle.mvt_gate.specs.Fields.{IsFieldsAnswer}
 use Rattle.mvt_gate.specs.declared.engine.Outcome.{Outcome}
 use Rattle.mvtgate.specs.declared.run.Engine.{Engine}
-use Rattle.mvtgate.specs.declared.run.Engine.TheVariants.{Fields, Check, Advise, Dump}
+use Rattle.mvtgate.specs.declared.run.Engine.TheVariants.{Fields, Check, Dump}
 
 -- the outcome and the line, or lines, that an engine answers an input with
 abbrev pub IsAnswer : Engine → List ℕ → Outcome → List ℕ → Type 0
 IsAnswer Fields = IsFieldsAnswer
-IsAnswer (Check profile) = IsCheckAnswerBy profile
-IsAnswer (Advise profile) = IsAdviseAnswerBy profile
+IsAnswer (Check options) = IsCheckAnswerOf options
 IsAnswer Dump = IsDumpAnswer

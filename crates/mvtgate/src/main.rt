@@ -1,6 +1,8 @@
 //! A gate before the publishing of Mapbox vector tiles: the program.
 #![tactic(auto)]
 
+mod command_line;
+mod not_empty;
 mod run;
 
 use std::process::ExitCode;

@@ -1,17 +1,19 @@
 //! The whole run of the program: its words, its devices and its exit status.
-ghost use Rattle.std.specs.Prelude.{◌≡◌, ◌≢◌, ◌≤◌, ◌⊎◌, codes, IfOk, IfErr, None, Some};
+ghost use Rattle.std.specs.Prelude.{◌≡◌, ◌≢◌, ◌≤◌, ◌⊎◌, codes, IsTrue, IsFalse, IfOk, IfErr, None, Some};
 ghost use Rattle.clap.specs.Words.{first_value, found_of, kind_of, one_text};
 ghost use Rattle.mvt_gate.specs.Engine.{Answers, IsOfClaim};
 ghost use Rattle.mvtgate.specs.Status.{status_of};
 
+use crate::command_line::command_line;
+use crate::not_empty::NotEmpty;
+use clap::ArgMatches;
 use clap::error::ErrorKind;
-use clap::{Arg, ArgAction, ArgMatches, Command};
 use mvt_fault::Profile;
 use mvt_gate::{
-    EngineFault, Outcome, Tally, advise_stream, check_stream_with, confirm_streams_with,
+    CheckOptions, EngineFault, Outcome, Search, Tally, check_stream_by, confirm_streams_with,
     dump_stream, fields_stream,
 };
-use std::alloc::{AllocError, Global};
+use std::alloc::Global;
 use std::io::{Read, Write};
 use std::rt::{Env, Files};
 use std::{env, fs, io};
@@ -28,35 +30,11 @@ const NO_MEMORY: u8 = 4;
 /// The exit status of a run on a fault file that holds no fault.
 const BAD_FAULT: u8 = 5;
 
-/// The version of the program.
-const VERSION: &str = "0.1.0";
-
-/// What the help says of exit statuses.
-const STATUSES: &str = "\
-Exit status:
-  0  check: the tile is valid; confirm: the fault is confirmed; dump, fields: the tile is listed
-  1  check, dump, fields: the line is a fault; confirm: the fault is not confirmed
-  2  the words of the command line are no call of the program
-  3  a file did not open, an input was not read or has more than 64 MiB, or the output failed
-  4  out of memory
-  5  the fault file holds no fault";
-
-/// The names of the profiles, that by which each polygon is checked by itself first.
-static PROFILES: [&str; 2] = ["polygon", "feature"];
-
-/// What the help of a command says of profiles.
-const PROFILE_RULES: &str = "\
-Profiles:
-  polygon  the rings of each polygon neither cross nor touch, and its holes are inside it and not inside each other
-  feature  the same, and the polygons of one feature neither cross nor touch, and lie in each other only in a hole";
-
 /// What the program does with a tile alone.
 #[derive(Clone, Copy)]
 enum Engine {
     Fields,
-    Check(Profile),
-    /// To check it, with advice after the verdict.
-    Advise(Profile),
+    Check(CheckOptions),
     Dump,
 }
 
@@ -64,7 +42,11 @@ enum Engine {
 #[derive(Clone, Copy)]
 enum Call<'a> {
     /// An engine on a tile, of a file or of standard input.
-    OneTile(Engine, Option<&'a str>),
+    OneTile {
+        engine: Engine,
+        file: Option<&'a str>,
+        may_be_empty: bool,
+    },
     /// Whether a fault is true of a tile, each of a file.
     Confirm {
         profile: Profile,
@@ -88,8 +70,7 @@ impl Engine {
     {
         match self {
             Engine::Fields => fields_stream(alloc, reader, writer),
-            Engine::Check(profile) => check_stream_with(alloc, profile, reader, writer),
-            Engine::Advise(profile) => advise_stream(alloc, profile, reader, writer),
+            Engine::Check(options) => check_stream_by(alloc, options, reader, writer),
             Engine::Dump => dump_stream(alloc, reader, writer),
         }
     }
@@ -105,7 +86,13 @@ pub fn run<R: Files + Input + Print + Eprint + AllocGlobal>(rt: &R, words: &[Str
     };
     match command.try_get_matches_from(words) {
         Ok(matches) => match call_of(&matches) {
-            Some(Call::OneTile(engine, file)) => run_engine(rt, engine, file),
+            Some(
+                Call::OneTile {
+                    engine,
+                    file,
+                    may_be_empty,
+                },
+            ) => run_engine(rt, engine, file, may_be_empty),
             Some(
                 Call::Confirm {
                     profile,
@@ -145,84 +132,18 @@ pub fn command_words<R: Env + Eprint + AllocGlobal>(rt: &R) -> Result<Vec<String
     }
 }
 
-fn command_line<'a>(alloc: Global) -> Result<Command<'a>, AllocError> {
-    let command = program(alloc);
-    let fields = tile_command(alloc, "fields", "Lists the outermost fields of a tile")?;
-    let about = "Says whether a tile is valid, and else names its first fault";
-    let check = with_profile(alloc, tile_command(alloc, "check", about)?)?;
-    let check = with_advice(alloc, check)?;
-    let dump = tile_command(alloc, "dump", "Lists what a tile holds")?;
-    let confirm = with_profile(alloc, confirm_command(alloc)?)?;
-    command
-        .subcommand(fields)?
-        .subcommand(check)?
-        .subcommand(dump)?
-        .subcommand(confirm)
-}
-
-/// The program, with no command yet.
-fn program<'a>(alloc: Global) -> Command<'a> {
-    Command::new(alloc, "mvtgate")
-        .version(VERSION)
-        .about(
-            "A publishing gate for Mapbox vector tiles. Tiles come uncompressed: gunzip them first.",
-        )
-        .after_help(STATUSES)
-        .subcommand_required(true)
-}
-
-/// A command that reads one tile.
-fn tile_command<'a>(
-    alloc: Global,
-    name: &'a str,
-    about: &'a str,
-) -> Result<Command<'a>, AllocError> {
-    let file = Arg::new(alloc, "FILE").help("The tile; without it standard input");
-    Command::new(alloc, name).about(about).arg(file)
-}
-
-/// The command with the option that names a profile.
-fn with_profile<'a>(alloc: Global, command: Command<'a>) -> Result<Command<'a>, AllocError> {
-    let profile = Arg::new(alloc, "profile")
-        .long("profile")
-        .value_name("PROFILE")
-        .value_parser(PROFILES.as_slice())
-        .default_value(PROFILES[0])
-        .help("What the polygons of a feature are held against");
-    command.after_help(PROFILE_RULES).arg(profile)
-}
-
-/// The command with the flag that asks for advice.
-fn with_advice<'a>(alloc: Global, command: Command<'a>) -> Result<Command<'a>, AllocError> {
-    let advice = Arg::new(alloc, "advice")
-        .long("advice")
-        .action(ArgAction::SetTrue)
-        .help(
-            "Adds a line of what may be mistakes: no layer, no feature in a layer, equal keys, equal ids",
-        );
-    command.arg(advice)
-}
-
-/// The command that reads a tile and a fault.
-fn confirm_command<'a>(alloc: Global) -> Result<Command<'a>, AllocError> {
-    let tile = Arg::new(alloc, "FILE").help("The tile").required(true);
-    let fault = Arg::new(alloc, "FAULTFILE")
-        .help("The fault, as check writes it")
-        .required(true);
-    Command::new(alloc, "confirm")
-        .about("Says whether a fault is true of a tile")
-        .arg(tile)?
-        .arg(fault)
-}
-
 /// The call that the words make, and the files that they name.
 fn call_of<'a>(matches: &ArgMatches<'a>) -> Option<Call<'a>> {
     let (name, found) = matches.subcommand()?;
     let file = found.get_str("FILE");
     Some(match name {
-        "fields" => Call::OneTile(Engine::Fields, file),
-        "check" => Call::OneTile(check_of(found, profile_of(found)), file),
-        "dump" => Call::OneTile(Engine::Dump, file),
+        "fields" => on_any_input(Engine::Fields, file),
+        "check" => Call::OneTile {
+            engine: Engine::Check(options_of(found)),
+            file,
+            may_be_empty: may_be_empty(found),
+        },
+        "dump" => on_any_input(Engine::Dump, file),
         "confirm" => Call::Confirm {
             profile: profile_of(found),
             tile: file?,
@@ -230,6 +151,15 @@ fn call_of<'a>(matches: &ArgMatches<'a>) -> Option<Call<'a>> {
         },
         _ => return None,
     })
+}
+
+/// An engine on a tile, which may have no bytes.
+fn on_any_input<'a>(engine: Engine, file: Option<&'a str>) -> Call<'a> {
+    Call::OneTile {
+        engine,
+        file,
+        may_be_empty: true,
+    }
 }
 
 /// The profile that the words name, which `clap` has checked; without one that of polygons.
@@ -245,20 +175,58 @@ fn profile_of(found: &ArgMatches<'_>) -> Profile
     }
 }
 
-/// What `check` does by a profile, with advice where the words ask for it.
-fn check_of(found: &ArgMatches<'_>, profile: Profile) -> Engine
+/// What the words ask `check` for.
+fn options_of(found: &ArgMatches<'_>) -> CheckOptions
+    ensures feature { first_value (found_of found.now) (codes "profile") ≡ Some (codes "feature")
+        → result.profile ≡ Profile.Feature }
+    ensures polygon { first_value (found_of found.now) (codes "profile") ≢ Some (codes "feature")
+        → result.profile ≡ Profile.Polygon }
+    ensures quick { one_text (found_of found.now) (codes "quick") ≡ Some (codes "true")
+        → result.search ≡ Search.Quick }
+    ensures least { one_text (found_of found.now) (codes "quick") ≡ Some (codes "false")
+        → result.search ≡ Search.Least }
+    ensures all { one_text (found_of found.now) (codes "all") ≡ Some (codes "true")
+        → IsTrue result.all }
+    ensures first { one_text (found_of found.now) (codes "all") ≡ Some (codes "false")
+        → IsFalse result.all }
     ensures advice { one_text (found_of found.now) (codes "advice") ≡ Some (codes "true")
-        → result ≡ Engine.Advise profile }
-    ensures plain { one_text (found_of found.now) (codes "advice") ≡ Some (codes "false")
-        → result ≡ Engine.Check profile }
-    ensures none { one_text (found_of found.now) (codes "advice") ≡ None
-        → result ≡ Engine.Check profile }
+        → IsTrue result.advice }
+    ensures no_advice { one_text (found_of found.now) (codes "advice") ≡ Some (codes "false")
+        → IsFalse result.advice }
 {
-    if found.get_flag("advice") {
-        Engine::Advise(profile)
-    } else {
-        Engine::Check(profile)
+    CheckOptions {
+        profile: profile_of(found),
+        search: search_of(found),
+        all: found.get_flag("all"),
+        advice: found.get_flag("advice"),
     }
+}
+
+/// Which faults the words have searched for.
+fn search_of(found: &ArgMatches<'_>) -> Search
+    ensures quick { one_text (found_of found.now) (codes "quick") ≡ Some (codes "true")
+        → result ≡ Search.Quick }
+    ensures least { one_text (found_of found.now) (codes "quick") ≡ Some (codes "false")
+        → result ≡ Search.Least }
+    ensures none { one_text (found_of found.now) (codes "quick") ≡ None
+        → result ≡ Search.Least }
+{
+    if found.get_flag("quick") {
+        Search::Quick
+    } else {
+        Search::Least
+    }
+}
+
+/// Whether the words let an input be of no bytes.
+fn may_be_empty(found: &ArgMatches<'_>) -> bool
+    ensures refused { one_text (found_of found.now) (codes "not-empty") ≡ Some (codes "true")
+        → IsFalse result }
+    ensures plain { one_text (found_of found.now) (codes "not-empty") ≡ Some (codes "false")
+        → IsTrue result }
+    ensures none { one_text (found_of found.now) (codes "not-empty") ≡ None → IsTrue result }
+{
+    !found.get_flag("not-empty")
 }
 
 /// Prints what `clap` has to say: help and the version on standard output, and anything else as an
@@ -283,20 +251,42 @@ fn run_engine<R: Files + Input + Print + Eprint + AllocGlobal>(
     rt: &R,
     engine: Engine,
     file: Option<&str>,
+    may_be_empty: bool,
 ) -> u8
     ensures { result ≤ 5 }
 {
-    let mut writer = Tally::new(io::writer(rt));
     let Some(path) = file else {
-        let mut reader = Tally::new(rt.reader());
-        return end(rt, engine.stream(rt.alloc(), &mut reader, &mut writer));
+        return run_on(rt, engine, rt.reader(), may_be_empty);
     };
     let Ok(opened) = fs::open(rt, path) else {
         let _ = eprintln!(rt; "mvtgate: cannot open the tile file");
         return BAD_DEVICE;
     };
-    let mut reader = Tally::new(opened);
-    end(rt, engine.stream(rt.alloc(), &mut reader, &mut writer))
+    run_on(rt, engine, opened, may_be_empty)
+}
+
+/// Runs an engine on an input.
+fn run_on<R: Print + Eprint + AllocGlobal, I: Read + Drop>(
+    rt: &R,
+    engine: Engine,
+    input: I,
+    may_be_empty: bool,
+) -> u8
+    ensures { result ≤ 5 }
+{
+    let mut writer = Tally::new(io::writer(rt));
+    if may_be_empty {
+        let mut reader = Tally::new(input);
+        return end(rt, engine.stream(rt.alloc(), &mut reader, &mut writer));
+    }
+    let mut input = NotEmpty::new(input);
+    let mut reader = Tally::new(&mut input);
+    let answer = engine.stream(rt.alloc(), &mut reader, &mut writer);
+    if input.is_empty() {
+        let _ = eprintln!(rt; "mvtgate: the input is empty");
+        return BAD_DEVICE;
+    }
+    end(rt, answer)
 }
 
 /// Runs `confirm`. Both files are opened before a byte is read, the tile first.

@@ -1,6 +1,6 @@
 -- What is known of the rings of one feature while its polygons are checked one after another (Mapbox Vector Tile
 -- Specification 2.1, section 4.3.4.4).
-use Rattle.std.specs.Prelude.{ℕ, ◌+◌, ◌<◌, List}
+use Rattle.std.specs.Prelude.{ℕ, ◌+◌, ◌<◌, List, Option}
 use Rattle.mvt_confirm.specs.Geometry.{IsFaultOfGeometryBy}
 use Rattle.mvt_confirm.specs.Valid.{IsValidPolygonBy}
 use Rattle.mvt_fault.specs.Place.{IsLeast}
@@ -10,19 +10,44 @@ use Rattle.mvt_fault.specs.declared.profile.Profile.{Profile}
 use Rattle.mvt_plane.specs.FeatureGeometry.{HasRings}
 use Rattle.mvt_plane.specs.Geometry.Polygon.{PolygonRings, IsPolygon}
 use Rattle.mvt_plane.specs.Position.{Position}
+use Rattle.mvt_polygon.specs.Feature.{IsFeatureAnswer}
+use Rattle.mvt_polygon.specs.QuickFeature.{IsQuickAnswer}
 use Rattle.mvt_polygon.specs.declared.apart.ApartFault.{ApartFault}
 use Rattle.mvt_polygon.specs.declared.feature.FeatureCause.{FeatureCause}
 use Rattle.mvt_polygon.specs.declared.feature.FeatureCause.TheVariants as causes
+use Rattle.mvt_polygon.specs.declared.feature.FeatureFault.{FeatureFault}
 use Rattle.mvt_polygon.specs.declared.meeting.Meeting.{Meeting}
 use Rattle.mvt_polygon.specs.declared.nesting.NestFault.{NestFault}
 use Rattle.mvt_polygon.specs.declared.nesting.NestFault.TheVariants as nest_faults
 use Rattle.mvt_wire.specs.Tile.{FeatureRecord}
+use Rattle.mvt_gate.specs.Quick.{IsQuickFaultOfGeometryBy}
 use Rattle.mvt_gate.specs.declared.polygons.PolygonPlace.{PolygonPlace}
+use Rattle.mvt_gate.specs.declared.quick.Search.{Search}
+use Rattle.mvt_gate.specs.declared.quick.Search.TheVariants.{Least, Quick}
 
 -- of a feature that has these rings, and these ordinals, the fault is the first of its geometry, by the profile
 abbrev pub IsFirstOfRings : Profile → List (List Position) → ℕ → ℕ → Fault → Type 0
 IsFirstOfRings profile rings layer feature fault =
     (feature_record : FeatureRecord) → HasRings feature_record.kind feature_record.geometry rings → IsLeast (IsFaultOfGeometryBy profile feature_record layer feature) fault
+
+-- By a search
+
+-- the faults of a feature's geometry that are searched for
+abbrev pub IsFaultOfGeometryFor : Search → Profile → FeatureRecord → ℕ → ℕ → Fault → Type 0
+IsFaultOfGeometryFor Least = IsFaultOfGeometryBy
+IsFaultOfGeometryFor Quick = IsQuickFaultOfGeometryBy
+
+-- of a feature that has these rings, and these ordinals, the fault is the first of those
+abbrev pub IsFirstOfRingsFor : Search → Profile → List (List Position) → ℕ → ℕ → Fault → Type 0
+IsFirstOfRingsFor search profile rings layer feature fault =
+    (feature_record : FeatureRecord) → HasRings feature_record.kind feature_record.geometry rings → IsLeast (IsFaultOfGeometryFor search profile feature_record layer feature) fault
+
+-- the first polygon that has one is found, or none where no polygon has a fault
+abbrev pub IsFeatureAnswerFor : Search → List (List Position) → Option FeatureFault → Type 0
+IsFeatureAnswerFor Least = IsFeatureAnswer
+IsFeatureAnswerFor Quick = IsQuickAnswer
+
+-- Polygons in turn
 
 -- the polygons before that of this number are valid by the profile
 abbrev pub AreValidBefore : Profile → List (List Position) → ℕ → Type 0

@@ -4,18 +4,21 @@ ghost use Rattle.mvt_confirm.specs.Valid.{AreValidRingsBy};
 ghost use Rattle.mvt_fault.specs.declared.profile.Profile.TheVariants.{Feature};
 ghost use Rattle.mvt_plane.specs.Geometry.Ring.{ArePolygonRings};
 ghost use Rattle.mvt_polygon.specs.Rings.{rings_of, AreProperRings};
-ghost use Rattle.mvt_gate.specs.Calls.Polygons.{IsFirstOfRings, IsReportable, fault_of_cause};
+ghost use Rattle.mvt_gate.specs.Calls.Polygons.{IsFeatureAnswerFor, IsFirstOfRingsFor, IsReportable, fault_of_cause};
 
 use super::{PolygonPlace, hole_fault, meeting_fault};
+use crate::quick::Search;
 use mvt_fault::Fault;
 use mvt_plane::{Count, Point};
-use mvt_polygon::{FeatureCause, check_feature};
+use mvt_polygon::{FeatureCause, FeatureFault, check_feature, check_feature_quickly};
 use std::alloc::{AllocError, Global};
 
-/// The first fault of the polygons of a feature, one after another, or None where all of them are
-/// valid and apart. No ring has a fault of its own. The only error is that memory was refused.
+/// The first fault of the polygons of a feature, one after another, of those that are searched for;
+/// or None where all of them are valid and apart. No ring has a fault of its own. The only error is
+/// that memory was refused.
 pub(super) fn feature_fault(
     alloc: Global,
+    search: Search,
     rings: &[Vec<Point>],
     count: &mut Count,
     layer: usize,
@@ -26,9 +29,9 @@ pub(super) fn feature_fault(
     ensures valid { IfOk result (λ found.
         IfNone found (AreValidRingsBy Feature (rings_of rings.now))) }
     ensures least { IfOk result (λ found.
-        IfSome found (IsFirstOfRings Feature (rings_of rings.now) layer feature)) }
+        IfSome found (IsFirstOfRingsFor search Feature (rings_of rings.now) layer feature)) }
 {
-    let Some(found) = check_feature(alloc, rings, count)? else {
+    let Some(found) = first_fault(alloc, search, rings, count)? else {
         return Ok(None);
     };
     let place = PolygonPlace {
@@ -39,6 +42,23 @@ pub(super) fn feature_fault(
         after: found.after,
     };
     Ok(Some(cause_fault(place, found.cause)))
+}
+
+/// The first polygon of a feature with a fault that is searched for.
+fn first_fault(
+    alloc: Global,
+    search: Search,
+    rings: &[Vec<Point>],
+    count: &mut Count,
+) -> Result<Option<FeatureFault>, AllocError>
+    requires sound { ArePolygonRings (rings_of rings.now) }
+    requires drawn { AreProperRings (rings_of rings.now) }
+    ensures { IfOk result (IsFeatureAnswerFor search (rings_of rings.now)) }
+{
+    match search {
+        Search::Least => check_feature(alloc, rings, count),
+        Search::Quick => check_feature_quickly(alloc, rings, count),
+    }
 }
 
 /// The fault of what was found wrong with a polygon of a feature.

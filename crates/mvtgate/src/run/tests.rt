@@ -58,6 +58,9 @@ fn exits_by_the_words(rt: HostRuntime) -> Result<(), Fail> {
     assert!(rt; status(&rt, &["mvtgate", "check", "--advise", "a"])? == 2);
     assert!(rt; status(&rt, &["mvtgate", "dump", "--advice", "a"])? == 2);
     assert!(rt; status(&rt, &["mvtgate", "confirm", "--advice", "a", "b"])? == 2);
+    assert!(rt; status(&rt, &["mvtgate", "dump", "--not-empty", "a"])? == 2);
+    assert!(rt; status(&rt, &["mvtgate", "fields", "--not-empty", "a"])? == 2);
+    assert!(rt; status(&rt, &["mvtgate", "confirm", "--not-empty", "a", "b"])? == 2);
     Ok(())
 }
 
@@ -135,6 +138,30 @@ fn exits_by_the_file(rt: HostRuntime) -> Result<(), Fail> {
     assert!(rt; checked.as_slice() == [0, 1, 1, 1, 3, 3, 3].as_slice());
     assert!(rt; advised.as_slice() == checked.as_slice());
     assert!(rt; dumped.as_slice() == [0, 1, 1, 0, 3, 3, 3].as_slice());
+    Ok(())
+}
+
+#[test]
+fn exits_by_the_first_byte(rt: HostRuntime) -> Result<(), Fail> {
+    let name = format!(in rt.alloc(); "mvtgate_bytes_{}", process::id(rt.process()))?;
+    let folder = env::temp_dir(&rt)?.join(rt.alloc(), name.as_str())?;
+    fs::create_dir_all(&rt, &folder)?;
+    let file = folder.join(rt.alloc(), "tile.mvt")?;
+    let mut got = Vec::new(rt.alloc());
+    // (no bytes, a tile, a part of it, and no file)
+    for length in [0, 16, 15] {
+        fs::write(&rt, &file, &POINT[..length])?;
+        got.push(status(&rt, &["mvtgate", "check", file.as_str()])?)?;
+        got.push(status(&rt, &["mvtgate", "check", "--not-empty", file.as_str()])?)?;
+        got.push(status(
+            &rt,
+            &["mvtgate", "check", "--advice", "--not-empty", file.as_str()],
+        )?)?;
+    }
+    // the folder goes before a wrong status ends the test
+    fs::remove_dir_all(&rt, &folder)?;
+    got.push(status(&rt, &["mvtgate", "check", "--not-empty", file.as_str()])?)?;
+    assert!(rt; got.as_slice() == [0, 3, 3, 0, 0, 0, 1, 1, 1, 3].as_slice());
     Ok(())
 }
 

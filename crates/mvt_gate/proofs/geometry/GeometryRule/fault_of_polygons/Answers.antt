@@ -14,17 +14,17 @@ rings_fault-requires c =
 
 pub returns-in-Ok-clause-least : goal.returns-in-Ok-clause-least
 returns-in-Ok-clause-least c =
-    least_by_rings c.args.profile c.rings_fault.result (Shows c.args.feature.now) (rings_of c.rings.result.now) c.draw.new.self c.args.layer c.args.ordinal c.rings.ensures c.requires
+    least_by_rings c.args.search c.args.profile c.rings_fault.result (Shows c.args.feature.now) (rings_of c.rings.result.now) c.draw.new.self c.args.layer c.args.ordinal c.rings.ensures c.requires
     (λ it shows. c.in-Ok.ensures.rings it.geometry (c.geometry.ensures.all it shows)) c.rings_fault.ensures.least
 
 pub returns-in-Ok-clause-kept : goal.returns-in-Ok-clause-kept
 returns-in-Ok-clause-kept c =
-    valid_by_rings c.args.profile c.rings_fault.result (Shows c.args.feature.now) (rings_of c.rings.result.now) c.draw.new.self c.rings.ensures c.requires
+    valid_by_rings c.args.search c.args.profile c.rings_fault.result (Shows c.args.feature.now) (rings_of c.rings.result.now) c.draw.new.self c.rings.ensures c.requires
     (λ it shows. c.in-Ok.ensures.rings it.geometry (c.geometry.ensures.all it shows)) c.rings_fault.ensures.valid
 
 pub returns-in-Err-Command-clause-least : goal.returns-in-Err-Command-clause-least
 returns-in-Err-Command-clause-least c =
     rw (c.in-Err-Command.code-is, c.in-Err-Command.index-is)
     (λ it shows.
-    least_by_commands c.args.profile it (type_number polygon) c.in-Err-Command.code c.in-Err-Command.index c.args.layer c.args.ordinal (c.requires it shows)
+    least_by_commands c.args.search c.args.profile it (type_number polygon) c.in-Err-Command.code c.in-Err-Command.index c.args.layer c.args.ordinal (c.requires it shows)
     ((rw c.in-Err-Command.field-0-is at c.in-Err-Command.ensures.fault) it.geometry (c.geometry.ensures.all it shows)))

@@ -1,23 +1,24 @@
 use Rattle.std.proofs.Common.{sym, subst}
 use Rattle.mvt_fault.specs.declared.profile.Profile.TheVariants.{Feature}
-use Rattle.mvt_polygon.specs.Feature.{IsFeatureAnswer}
 use Rattle.mvt_polygon.specs.Rings.{rings_of}
-use Rattle.mvt_gate.proofs.FeatureFaults.{least_of_found, reportable_of_found, valid_of_none}
-use Rattle.mvt_gate.specs.Calls.Polygons.{IsFirstOfRings}
+use Rattle.mvt_gate.proofs.FeatureFaults.{reportable_of_found}
+use Rattle.mvt_gate.proofs.FeatureSearches.{CountFor, first_for, least_for, valid_for}
+use Rattle.mvt_gate.specs.Calls.Polygons.{IsFeatureAnswerFor, IsFirstOfRingsFor}
 use Rattle.mvt_gate.proofs.polygons.apart.feature_fault.Goals as goal
 
 pub returns-in_default-clause-valid : goal.returns-in_default-clause-valid
 returns-in_default-clause-valid c =
-    let answer = subst (IsFeatureAnswer (rings_of c.args.rings.now)) c.in_default.is c.in_ok-found.ensures.answer in
-    valid_of_none (rings_of c.args.rings.now) c.requires.sound answer
+    let answer = subst (IsFeatureAnswerFor c.args.search (rings_of c.args.rings.now)) c.in_default.is c.in_ok-found.ensures in
+    valid_for c.args.search (rings_of c.args.rings.now) c.requires.sound answer
 
 pub cause_fault-requires : goal.cause_fault-requires
 cause_fault-requires c =
-    let answer = subst (IsFeatureAnswer (rings_of c.args.rings.now)) c.in-Some.is c.in_ok-found.ensures.answer in
-    reportable_of_found (rings_of c.args.rings.now) c.args.layer c.args.feature c.in-Some.found answer
+    let answer = subst (IsFeatureAnswerFor c.args.search (rings_of c.args.rings.now)) c.in-Some.is c.in_ok-found.ensures in
+    reportable_of_found (CountFor c.args.search (rings_of c.args.rings.now)) (rings_of c.args.rings.now) c.args.layer c.args.feature c.in-Some.found
+    (first_for c.args.search (rings_of c.args.rings.now) c.in-Some.found answer)
 
 pub returns-clause-least : goal.returns-clause-least
 returns-clause-least c =
-    let answer = subst (IsFeatureAnswer (rings_of c.args.rings.now)) c.in-Some.is c.in_ok-found.ensures.answer in
-    subst (IsFirstOfRings Feature (rings_of c.args.rings.now) c.args.layer c.args.feature) (sym c.cause_fault.ensures)
-    (least_of_found (rings_of c.args.rings.now) c.args.layer c.args.feature c.in-Some.found c.requires.sound answer)
+    let answer = subst (IsFeatureAnswerFor c.args.search (rings_of c.args.rings.now)) c.in-Some.is c.in_ok-found.ensures in
+    subst (IsFirstOfRingsFor c.args.search Feature (rings_of c.args.rings.now) c.args.layer c.args.feature) (sym c.cause_fault.ensures)
+    (least_for c.args.search (rings_of c.args.rings.now) c.args.layer c.args.feature c.in-Some.found c.requires.sound answer)

@@ -1,8 +1,0 @@
-use Rattle.std.proofs.Common.{string_bytes}
-use Rattle.mvt_gate.proofs.AdviceTexts.{no_advice}
-use Rattle.mvt_gate.proofs.advice.AdviseOnTileTask.answer.Goals as goal
-
-pub returns-in-Err-Wire : goal.returns-in-Err-Wire
-returns-in-Err-Wire c =
-    let line = string_bytes c.in_ok-outcome.line in
-    (line, c.in_ok-outcome.ensures, no_advice c.args.input.now line c.in-Err-Wire.field-0 c.in-Err-Wire._fault c.in-Err-Wire.field-0-is c.in-Err-Wire.ensures.fault)

@@ -1,0 +1,14 @@
+-- The faults that are found in the bytes of a tile by a further rule on its features.
+use Rattle.std.specs.Prelude.{◌≡◌, ◌⊎◌, ℕ, List, [], ◌∷◌}
+use Rattle.mvt_fault.specs.Place.{IsLeast}
+use Rattle.mvt_fault.specs.TrueFaults.{IsWireFault}
+use Rattle.mvt_fault.specs.declared.fault.Fault.{Fault}
+use Rattle.mvt_tile.specs.FirstFaults.{AreFirstFaults}
+use Rattle.mvt_tile.specs.RuleFaults.{Breaks, Keeps}
+use Rattle.mvt_wire.specs.Tile.{IsTile, TileRecord}
+
+-- the first wire fault alone; or, of bytes that are a tile, the first fault of each layer and of each feature
+abbrev pub AreFoundBy : Breaks → Keeps → List ℕ → List Fault → Type 0
+AreFoundBy IsBroken IsKept bytes faults =
+    ((fault : Fault) × IsLeast (IsWireFault bytes) fault × (faults ≡ fault ∷ []))
+    ⊎ ((tile : TileRecord) × IsTile bytes tile × AreFirstFaults IsBroken IsKept tile faults)

@@ -1,0 +1,97 @@
+//! The verdict whose work is bounded also where polygons of a feature cross.
+ghost use Rattle.std.specs.Prelude.{◌≡◌, ◌↔◌, IfNone, IfOk, IfSome};
+ghost use Rattle.mvt_confirm.specs.Shows.{ShowsBy};
+ghost use Rattle.mvt_confirm.specs.Valid.{IsValidGeometryBy, ValidBy};
+ghost use Rattle.mvt_fault.specs.Place.{IsLeast};
+ghost use Rattle.mvt_fault.specs.declared.fault.Fault.{Fault};
+ghost use Rattle.mvt_fault.specs.declared.profile.Profile.TheVariants as profiles;
+ghost use Rattle.mvt_tile.specs.RuleFaults.{BreaksAnyRule, KeepsRules};
+ghost use Rattle.mvt_wire.specs.Tile.{IsTile, TileRecord};
+ghost use Rattle.mvt_gate.specs.Quick.{IsQuickFaultOfGeometryBy};
+ghost use Rattle.mvt_gate.specs.Verdict.{IsQuickVerdictBy, IsVerdictFor};
+ghost use Rattle.mvt_gate.specs.declared.verdict.Verdict.{Verdict};
+
+use crate::geometry::QuickGeometry;
+use crate::verdict::{Verdict, judge_with};
+use mvt_fault::{Fault, Profile};
+use mvt_tile::{rule_fault, wire_fault};
+use std::alloc::{AllocError, Global};
+
+/// Which faults are searched for.
+#[derive(Clone, Copy, Debug, PartialEq, Eq)]
+pub enum Search {
+    /// All, so that the first one is that of least place. By the profile `Profile::Feature` that may
+    /// take the vertices of a feature squared, where its edges meet.
+    Least,
+    /// All but those of a polygon in another, where edges of their feature meet wrongly. Where there
+    /// is a fault at all, a feature has one of these.
+    Quick,
+}
+
+/// The same as `judge_with`, with bounded work by both profiles: n log n, and in a feature of whose
+/// polygons edges meet as many times that as their number has binary digits, and twice more. It says
+/// Yes exactly where `judge_with` does. Otherwise its fault is true of the bytes, and no true fault is
+/// of an earlier layer or feature; it is that of `judge_with` by the profile `Profile::Polygon`, and
+/// where no edges of its feature's polygons meet wrongly. In a feature where they do, no fault of a
+/// polygon in another is looked for (`specs/Quick.antt`), so a later fault of that feature may be
+/// named.
+///
+/// The only error is that memory was refused, and so it is answered for a feature of 2^32 vertices or
+/// more: such a tile has more than 8.6 GB.
+pub fn judge_quickly(alloc: Global, profile: Profile, bytes: &[u8]) -> Result<Verdict, AllocError>
+    ensures verdict { IfOk result (IsQuickVerdictBy profile bytes.now) }
+    ensures yes_exactly_where_valid { IfOk result (λ verdict. (verdict ≡ Verdict.Yes)
+        ↔ ValidBy profile bytes.now) }
+    ensures invalid { IfOk result (λ verdict. ¬ ValidBy profile bytes.now
+        → (fault : Fault) × (verdict ≡ Verdict.No fault) × ShowsBy profile bytes.now fault) }
+{
+    match profile {
+        Profile::Polygon => judge_with(alloc, profile, bytes),
+        Profile::Feature => judge_features(alloc, bytes),
+    }
+}
+
+/// The verdict of either search.
+pub fn judge_for(
+    alloc: Global,
+    search: Search,
+    profile: Profile,
+    bytes: &[u8],
+) -> Result<Verdict, AllocError>
+    ensures verdict { IfOk result (IsVerdictFor search profile bytes.now) }
+    ensures yes_exactly_where_valid { IfOk result (λ verdict. (verdict ≡ Verdict.Yes)
+        ↔ ValidBy profile bytes.now) }
+{
+    match search {
+        Search::Least => judge_with(alloc, profile, bytes),
+        Search::Quick => judge_quickly(alloc, profile, bytes),
+    }
+}
+
+/// The quick verdict where the polygons of a feature are kept apart.
+fn judge_features(alloc: Global, bytes: &[u8]) -> Result<Verdict, AllocError>
+    ensures { IfOk result (IsQuickVerdictBy profiles.Feature bytes.now) }
+{
+    if let Some(fault) = wire_fault(bytes) {
+        return Ok(Verdict::No(fault));
+    }
+    match fault_of_features(alloc, bytes)? {
+        None => Ok(Verdict::Yes),
+        Some(fault) => Ok(Verdict::No(fault)),
+    }
+}
+
+/// The first quick fault of a tile, or None where it keeps all rules. The bytes have no wire fault.
+fn fault_of_features(alloc: Global, bytes: &[u8]) -> Result<Option<Fault>, AllocError>
+    requires { (tile : TileRecord) × IsTile bytes.now tile }
+    ensures none { IfOk result (λ found. IfNone found ((tile : TileRecord) → IsTile bytes.now tile
+        → KeepsRules (IsValidGeometryBy profiles.Feature) tile)) }
+    ensures least { IfOk result (λ found. IfSome found (λ fault. (tile : TileRecord)
+        → IsTile bytes.now tile
+        → IsLeast (BreaksAnyRule (IsQuickFaultOfGeometryBy profiles.Feature) tile) fault)) }
+{
+    rule_fault(alloc, bytes, &mut QuickGeometry::new(alloc))
+}
+
+#[cfg(test)]
+mod tests;
