@@ -1,12 +1,14 @@
 /* mvtgate: judges Mapbox vector tiles in the process (Mapbox Vector Tile Specification 2.1). For C and C++.
  *
  * A tile is its uncompressed bytes, of any content and any length: gunzip it first. A text is bytes of UTF-8 without a zero
- * byte after it. What the functions do is proved, as far as the caller keeps to these rules, which nothing checks:
+ * byte after it. (Of a feature of 2^32 vertices or more, so of a tile above 8.6 GB, MVTGATE_NO_MEMORY is answered.) What the
+ * functions do is proved, as far as the caller keeps to these rules, which nothing checks:
  *
  *  - No pointer is null, also where its length is 0: give the address of any byte.
  *  - Each pointer to bytes has as many as its length says, and each length is below 2^63.
  *  - `text` and `text_length`, which are written, overlap neither each other nor what is read. During the call no other
  *    thread uses them, and none changes what is read.
+ *  - `text_length` is aligned as a size_t is.
  *  - The processor is an x86-64 of level v2 or above (with SSE4.2; any since about 2010).
  *
  * The functions keep nothing from one call to the next, so threads may call them at the same time. They take memory by the
@@ -33,16 +35,16 @@ extern "C" {
 /* In bytes: no text of a fault is longer. */
 #define MVTGATE_TEXT_ROOM 384
 
-/* What the functions return: one set of numbers for all. */
+/* What the functions return: one set of numbers for all. From 2 on they aren't the program's exit statuses. */
 enum {
-    MVTGATE_VALID = 0,         /* check: the tile is valid */
+    MVTGATE_VALID = 0,         /* check, faults: the tile is valid */
     MVTGATE_CONFIRMED = 0,     /* confirm: the fault is true of the tile */
     MVTGATE_TEXT = 0,          /* dump, advise: the text is written */
-    MVTGATE_FAULT = 1,         /* check, dump, advise: the text of a fault is written */
+    MVTGATE_FAULT = 1,         /* check, dump, advise: the text of a fault is written; faults: the lines of all faults */
     MVTGATE_NOT_CONFIRMED = 1, /* confirm: the fault is not true of the tile */
     MVTGATE_NO_MEMORY = 2,     /* memory was refused */
-    MVTGATE_NO_ROOM = 3,       /* check, dump, advise: the text is longer than text_room */
-    MVTGATE_NO_PROFILE = 4,    /* check, confirm: no profile has this number */
+    MVTGATE_NO_ROOM = 3,       /* check, faults, dump, advise: the text is longer than text_room */
+    MVTGATE_NO_PROFILE = 4,    /* check, faults, confirm: no profile has this number */
     MVTGATE_NOT_JSON = 5,      /* confirm: the text is no JSON */
     MVTGATE_NOT_A_FAULT = 6,   /* confirm: the text is JSON, and no fault */
     MVTGATE_FAULT_RANGE = 7    /* confirm: the text is a fault with a number out of range */
@@ -60,6 +62,32 @@ enum {
  * Nothing else is written: in `text` not the bytes after the fault's text, and where that isn't written, none. */
 int mvtgate_check(uint32_t profile, const uint8_t *tile, size_t tile_length, uint8_t *text, size_t text_room,
                   size_t *text_length);
+
+/* The same in bounded time by both profiles, for whoever judges tiles of others: n log n, and in a feature of whose polygons
+ * edges meet as many times that as their number has binary digits, and twice more. By FEATURE mvtgate_check can take the
+ * vertices of such a feature squared. This one passes over polygons in others in it, and so may name a later fault of that
+ * feature. It finds the same tiles valid, its fault is true, and no true fault is of an earlier layer or feature. By POLYGON
+ * its answer is that of mvtgate_check. */
+int mvtgate_check_quickly(uint32_t profile, const uint8_t *tile, size_t tile_length, uint8_t *text, size_t text_room,
+                          size_t *text_length);
+
+/* Lists the faults of a tile by a profile: of each layer with a fault of its version or its name the first one, and of each
+ * feature with any fault the first one. Each has a line, as the program's `check --all` writes it, with its end ("\n"); without
+ * that it is a text for mvtgate_confirm. The first line is the fault of mvtgate_check. Bytes that are no tile have one line.
+ *
+ * MVTGATE_VALID       the tile is valid. *text_length is 0.
+ * MVTGATE_FAULT       it is not. The lines are at the front of `text`, and *text_length is their length together.
+ * MVTGATE_NO_ROOM     it is not, and the lines are longer than text_room. *text_length is the length that is wanted; call again
+ *                     with as much.
+ * MVTGATE_NO_MEMORY, MVTGATE_NO_PROFILE   *text_length is 0.
+ *
+ * Nothing else is written, as by mvtgate_check. */
+int mvtgate_faults(uint32_t profile, const uint8_t *tile, size_t tile_length, uint8_t *text, size_t text_room,
+                   size_t *text_length);
+
+/* The same list with the fault of mvtgate_check_quickly for each feature, in the time of that call. */
+int mvtgate_faults_quickly(uint32_t profile, const uint8_t *tile, size_t tile_length, uint8_t *text, size_t text_room,
+                           size_t *text_length);
 
 /* Whether the fault of a text is true of a tile by a profile. The text is JSON of UTF-8, with its members in any order and
  * with any space. This is a separate checker, which goes over the tile by itself. It writes nothing.

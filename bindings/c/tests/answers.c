@@ -1,6 +1,6 @@
-/* answers FILE..: gives each file to every function, and prints what they answer: a line 'CALL STATUS TEXT' for each, after a
- * fault of `check` a line 'confirm STATUS', and an empty line. The bytes lie right before a page without access, and then
- * right after one; where the answers differ, it says so. */
+/* answers FILE..: gives each file to every function, and prints what they answer: a line 'CALL STATUS TEXT' for each, in which
+ * spaces stand for the ends of the text's lines, after faults a line 'confirmed', and an empty line. The bytes lie right
+ * before a page without access, and then right after one; where the answers differ, it says so. */
 #include "test.h"
 
 typedef struct {
@@ -24,10 +24,8 @@ static Answer answer(int number, Tile tile, int at_end)
     Fenced output = fenced(wanted);
     uint8_t *text = at_end ? output.end - wanted : output.begin;
     given.status = call(number, bytes, tile.length, text, wanted, &given.length);
-    if (given.status == MVTGATE_FAULT && number < 2) {
-        uint32_t profile = number == 0 ? MVTGATE_POLYGON : MVTGATE_FEATURE;
-        given.confirmed = mvtgate_confirm(profile, bytes, tile.length, text, given.length);
-    }
+    if (given.status == MVTGATE_FAULT)
+        given.confirmed = are_confirmed(number, bytes, tile.length, text, given.length);
     given.text = (uint8_t *)checked(malloc(given.length + 1), "malloc");
     memcpy(given.text, text, given.length);
     unmap(input);
@@ -49,9 +47,12 @@ int main(int words, char **word)
             Answer given = answer(number, tile, 1), other = answer(number, tile, 0);
             if (!are_same(given, other))
                 puts("in other memory the answer is another:");
+            for (size_t place = 0; place < given.length; ++place)
+                if (given.text[place] == '\n')
+                    given.text[place] = ' ';
             printf("%s %d %.*s\n", call_names[number], given.status, (int)given.length, (const char *)given.text);
-            if (given.status == MVTGATE_FAULT && number < 2)
-                printf("confirm %d\n", given.confirmed);
+            if (given.confirmed)
+                puts("confirmed");
             free(given.text);
             free(other.text);
         }

@@ -47,11 +47,15 @@ static int confirm(uint32_t profile, const char *text)
 
 static void try_profile(uint32_t profile)
 {
-    uint8_t text[MVTGATE_TEXT_ROOM];
-    memset(text, UNWRITTEN, sizeof text);
-    size_t told = 12345;
-    int status = mvtgate_check(profile, cut, sizeof cut, text, sizeof text, &told);
-    expect(status == MVTGATE_NO_PROFILE && told == 0 && is_unwritten(text, sizeof text), "check", "no profile");
+    int (*const calls[])(uint32_t, const uint8_t *, size_t, uint8_t *, size_t, size_t *) = {
+        mvtgate_check, mvtgate_check_quickly, mvtgate_faults, mvtgate_faults_quickly};
+    for (size_t at = 0; at < sizeof calls / sizeof *calls; ++at) {
+        uint8_t text[MVTGATE_TEXT_ROOM];
+        memset(text, UNWRITTEN, sizeof text);
+        size_t told = 12345;
+        int status = calls[at](profile, cut, sizeof cut, text, sizeof text, &told);
+        expect(status == MVTGATE_NO_PROFILE && told == 0 && is_unwritten(text, sizeof text), "check", "no profile");
+    }
     expect(confirm(profile, its_fault) == MVTGATE_NO_PROFILE, "confirm", "no profile");
     expect(confirm(profile, "[") == MVTGATE_NO_PROFILE, "confirm of no JSON", "no profile");
 }

@@ -11,21 +11,51 @@
 #include <unistd.h>
 
 /* The functions that write a text, so that a test may go through them by number. */
-enum { CALLS = 4 };
-static const char *const call_names[CALLS] = {"check polygon", "check feature", "dump", "advise"};
+enum { CALLS = 10 };
+static const char *const call_names[CALLS] = {
+    "check polygon",         "check feature",         "dump",           "advise",
+    "check_quickly polygon", "check_quickly feature", "faults polygon", "faults feature",
+    "faults_quickly polygon", "faults_quickly feature",
+};
+
+/* The profile of a call that has one. */
+static inline uint32_t profile_of(int number)
+{
+    return number % 2 ? MVTGATE_FEATURE : MVTGATE_POLYGON;
+}
 
 static inline int call(int number, const uint8_t *tile, size_t length, uint8_t *text, size_t room, size_t *text_length)
 {
     switch (number) {
-    case 0:
-        return mvtgate_check(MVTGATE_POLYGON, tile, length, text, room, text_length);
-    case 1:
-        return mvtgate_check(MVTGATE_FEATURE, tile, length, text, room, text_length);
     case 2:
         return mvtgate_dump(tile, length, text, room, text_length);
-    default:
+    case 3:
         return mvtgate_advise(tile, length, text, room, text_length);
+    case 4:
+    case 5:
+        return mvtgate_check_quickly(profile_of(number), tile, length, text, room, text_length);
+    case 6:
+    case 7:
+        return mvtgate_faults(profile_of(number), tile, length, text, room, text_length);
+    case 8:
+    case 9:
+        return mvtgate_faults_quickly(profile_of(number), tile, length, text, room, text_length);
+    default:
+        return mvtgate_check(profile_of(number), tile, length, text, room, text_length);
     }
+}
+
+/* Whether each line of a text is a fault that is true of the tile by the profile of the call. */
+static inline int are_confirmed(int number, const uint8_t *tile, size_t length, const uint8_t *text, size_t text_length)
+{
+    for (size_t at = 0; at < text_length; ++at) {
+        const uint8_t *end = (const uint8_t *)memchr(text + at, '\n', text_length - at);
+        size_t its = end ? (size_t)(end - text) - at : text_length - at;
+        if (mvtgate_confirm(profile_of(number), tile, length, text + at, its) != MVTGATE_CONFIRMED)
+            return 0;
+        at += its;
+    }
+    return 1;
 }
 
 static inline void *checked(void *block, const char *what)

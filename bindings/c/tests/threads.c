@@ -67,9 +67,8 @@ static unsigned wrong_answers(const Case *it)
         const Tile *right = &it->text[number];
         wrong += status != it->status[number] || text.length != right->length ||
                  memcmp(text.bytes, right->bytes, text.length) != 0;
-        uint32_t profile = number == 1 ? MVTGATE_FEATURE : MVTGATE_POLYGON;
         if (status == MVTGATE_FAULT)
-            wrong += mvtgate_confirm(profile, it->tile.bytes, it->tile.length, text.bytes, text.length) != MVTGATE_CONFIRMED;
+            wrong += !are_confirmed(number, it->tile.bytes, it->tile.length, text.bytes, text.length);
         free(text.bytes);
     }
     return wrong;

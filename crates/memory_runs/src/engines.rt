@@ -4,8 +4,8 @@ use crate::input::word;
 use crate::stop::Stop;
 use mvt_fault::Profile;
 use mvt_gate::{
-    EngineFault, Outcome, Tally, advise_stream, check_stream, confirm_streams, dump_stream,
-    fields_stream,
+    CheckOptions, EngineFault, Outcome, Search, Tally, advise_stream, check_stream,
+    check_stream_by, confirm_streams, dump_stream, fields_stream,
 };
 use std::rt::Env;
 
@@ -15,6 +15,8 @@ pub(crate) enum Engine {
     Fields,
     Check,
     Advise,
+    /// `check` with all faults and advice, quickly.
+    CheckAll,
     Dump,
     /// The text of the fault is the second word.
     Confirm,
@@ -31,6 +33,7 @@ impl Engine {
             "fields_stream" => Engine::Fields,
             "check_stream" => Engine::Check,
             "advise_stream" => Engine::Advise,
+            "check_stream_by" => Engine::CheckAll,
             "dump_stream" => Engine::Dump,
             "confirm_streams" => Engine::Confirm,
             "check_stream_unread" => Engine::CheckUnread,
@@ -94,6 +97,15 @@ impl Engine {
             }
             Engine::Advise => {
                 advise_stream(rt.alloc(), Profile::Polygon, &mut reader, &mut writer)
+            }
+            Engine::CheckAll => {
+                let options = CheckOptions {
+                    profile: Profile::Feature,
+                    search: Search::Quick,
+                    all: true,
+                    advice: true,
+                };
+                check_stream_by(rt.alloc(), options, &mut reader, &mut writer)
             }
             Engine::Confirm => {
                 let mut claimed = Tally::new(Source::new(claim));

@@ -1,7 +1,10 @@
 //! Calls on the bytes of a tile or of a fault.
 use crate::stop::Stop;
 use mvt_fault::{FaultTextError, Profile, fault_from_text, fault_text};
-use mvt_gate::{advice_text, dump_text, judge, judge_with};
+use mvt_gate::{
+    advice_text, dump_text, fault_lines, faults_quickly, faults_with, judge, judge_quickly,
+    judge_with,
+};
 use mvt_tile::{Advice, ReadFault, Tile, advise, check_layers, check_tags, read_tile, wire_fault};
 use std::alloc::Global;
 
@@ -13,6 +16,14 @@ pub(crate) enum TileCall {
     JudgeTwice,
     /// `judge_with` in the profile that keeps the polygons of a feature apart.
     JudgeFeature,
+    /// `judge_quickly` in that profile.
+    JudgeQuickly,
+    /// `faults_with` in that profile.
+    Faults,
+    /// `faults_quickly` in that profile.
+    FaultsQuickly,
+    /// `fault_lines` of the faults of `faults_with` in that profile.
+    FaultLines,
     ReadTile,
     CheckLayers,
     /// `check_tags` of the first layer's first feature.
@@ -33,6 +44,10 @@ impl TileCall {
             "judge" => TileCall::Judge,
             "judge_twice" => TileCall::JudgeTwice,
             "judge_with_feature" => TileCall::JudgeFeature,
+            "judge_quickly" => TileCall::JudgeQuickly,
+            "faults_with" => TileCall::Faults,
+            "faults_quickly" => TileCall::FaultsQuickly,
+            "fault_lines" => TileCall::FaultLines,
             "read_tile" => TileCall::ReadTile,
             "check_layers" => TileCall::CheckLayers,
             "check_tags" => TileCall::CheckTags,
@@ -61,6 +76,19 @@ impl TileCall {
                 let verdict = judge_with(rt.alloc(), Profile::Feature, bytes)?;
                 println!(rt; "{verdict:?}")?;
             }
+            TileCall::JudgeQuickly => {
+                let verdict = judge_quickly(rt.alloc(), Profile::Feature, bytes)?;
+                println!(rt; "{verdict:?}")?;
+            }
+            TileCall::Faults => {
+                let faults = faults_with(rt.alloc(), Profile::Feature, bytes)?;
+                println!(rt; "{faults:?}")?;
+            }
+            TileCall::FaultsQuickly => {
+                let faults = faults_quickly(rt.alloc(), Profile::Feature, bytes)?;
+                println!(rt; "{faults:?}")?;
+            }
+            TileCall::FaultLines => report_lines(rt, bytes)?,
             TileCall::ReadTile => report_tile(rt, bytes)?,
             TileCall::CheckLayers => {
                 let fault = check_layers(rt.alloc(), &tile_of(rt.alloc(), bytes)?)?;
@@ -113,6 +141,19 @@ fn report_tile<R: Print + AllocGlobal>(rt: &R, bytes: &[u8]) -> Result<(), Stop>
         Err(ReadFault::Wire(fault)) => println!(rt; "{fault:?}")?,
         Ok(tile) => println!(rt; "{tile:?}")?,
     }
+    Ok(())
+}
+
+/// Prints the lines of the tile's faults, with no space between them.
+fn report_lines<R: Print + AllocGlobal>(rt: &R, bytes: &[u8]) -> Result<(), Stop> {
+    let Ok(faults) = faults_with(rt.alloc(), Profile::Feature, bytes) else {
+        return Err(Stop::NoInput);
+    };
+    let lines = fault_lines(rt.alloc(), &faults)?;
+    for line in lines.as_str().lines() {
+        print!(rt; "{line}")?;
+    }
+    println!(rt)?;
     Ok(())
 }
 

@@ -1,3 +1,2 @@
 pub mod Profiles
 pub mod TextRoom
-pub mod Verdicts

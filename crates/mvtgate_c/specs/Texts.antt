@@ -1,5 +1,5 @@
 -- Texts, and how they are handed to a caller.
-use Rattle.std.specs.Prelude.{◌≡◌, ◌<◌, ◌++◌, ℕ, List, length, drop}
+use Rattle.std.specs.Prelude.{◌≡◌, ◌≢◌, ◌<◌, ◌++◌, ℕ, List, [], length, drop}
 use Rattle.mvt_fault.specs.Place.{IsLeast}
 use Rattle.mvt_fault.specs.Text.{text_of}
 use Rattle.mvt_fault.specs.TrueFaults.{IsWireFault}
@@ -7,7 +7,10 @@ use Rattle.mvt_fault.specs.declared.fault.Fault.{Fault}
 use Rattle.mvt_fault.specs.declared.profile.Profile.{Profile}
 use Rattle.mvt_gate.specs.Advice.{advice_text}
 use Rattle.mvt_gate.specs.Dump.{dump_text}
-use Rattle.mvt_gate.specs.Verdict.{IsVerdictBy}
+use Rattle.mvt_gate.specs.FaultLine.{fault_lines}
+use Rattle.mvt_gate.specs.FaultList.{AreFaultsFor}
+use Rattle.mvt_gate.specs.Verdict.{IsVerdictBy, IsVerdictFor}
+use Rattle.mvt_gate.specs.declared.quick.Search.{Search}
 use Rattle.mvt_gate.specs.declared.verdict.Verdict.TheVariants.{No}
 use Rattle.mvt_tile.specs.Advice.{IsAdvice}
 use Rattle.mvt_tile.specs.declared.advice.Advice.{Advice}
@@ -16,6 +19,14 @@ use Rattle.mvt_wire.specs.Tile.{IsTile, TileRecord}
 -- the text of the fault that the verdict on the bytes names, by the profile
 abbrev pub IsFaultText : Profile → List ℕ → List ℕ → Type 0
 IsFaultText profile bytes text = (fault : Fault) × IsVerdictBy profile bytes (No fault) × (text ≡ text_of fault)
+
+-- the same of the verdict by a search
+abbrev pub IsFaultTextFor : Search → Profile → List ℕ → List ℕ → Type 0
+IsFaultTextFor search profile bytes text = (fault : Fault) × IsVerdictFor search profile bytes (No fault) × (text ≡ text_of fault)
+
+-- the lines of the faults of bytes that have any, by the profile and a search
+abbrev pub IsFaultsTextFor : Search → Profile → List ℕ → List ℕ → Type 0
+IsFaultsTextFor search profile bytes text = (faults : List Fault) × AreFaultsFor search profile bytes faults × (faults ≢ []) × (text ≡ fault_lines faults)
 
 -- the text of the first wire fault of the bytes
 abbrev pub IsWireFaultText : List ℕ → List ℕ → Type 0

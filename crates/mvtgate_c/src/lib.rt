@@ -8,13 +8,15 @@ mod check;
 mod confirm;
 mod dump;
 mod fault_text;
+mod faults;
 mod profile;
 mod status;
 mod text;
 mod version;
 
 pub use advise::mvtgate_advise;
-pub use check::mvtgate_check;
+pub use check::{mvtgate_check, mvtgate_check_quickly};
 pub use confirm::mvtgate_confirm;
 pub use dump::mvtgate_dump;
+pub use faults::{mvtgate_faults, mvtgate_faults_quickly};
 pub use version::mvtgate_version;
