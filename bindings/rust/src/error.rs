@@ -16,6 +16,32 @@ impl fmt::Display for OutOfMemory {
 
 impl Error for OutOfMemory {}
 
+/// Why a tile that has to have bytes was not judged.
+#[derive(Clone, Copy, Debug, PartialEq, Eq)]
+pub enum CheckError {
+    /// It has no bytes.
+    Empty,
+    /// Memory was refused.
+    OutOfMemory,
+}
+
+impl fmt::Display for CheckError {
+    fn fmt(&self, out: &mut fmt::Formatter<'_>) -> fmt::Result {
+        match self {
+            CheckError::Empty => out.write_str("the tile has no bytes"),
+            CheckError::OutOfMemory => OutOfMemory.fmt(out),
+        }
+    }
+}
+
+impl Error for CheckError {}
+
+impl From<OutOfMemory> for CheckError {
+    fn from(_: OutOfMemory) -> Self {
+        CheckError::OutOfMemory
+    }
+}
+
 /// Why a text was neither confirmed nor refused.
 #[derive(Clone, Copy, Debug, PartialEq, Eq)]
 pub enum ConfirmError {

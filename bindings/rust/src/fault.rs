@@ -37,7 +37,7 @@ pub struct RingEdge {
     pub edge: u64,
 }
 
-/// The first fault of a tile. All ordinals count from 0: layers in the tile, features in their layer, polygons and rings
+/// What is wrong with a tile. All ordinals count from 0: layers in the tile, features in their layer, polygons and rings
 /// in their feature, edges and vertices in their ring.
 ///
 /// `Display` gives a sentence for a log. [`Fault::text`] gives the JSON text, which keeps all of the fault: store that

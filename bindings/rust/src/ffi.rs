@@ -25,6 +25,30 @@ mod c {
             text_room: usize,
             text_length: *mut usize,
         ) -> c_int;
+        pub fn mvtgate_check_quickly(
+            profile: u32,
+            tile: *const u8,
+            tile_length: usize,
+            text: *mut u8,
+            text_room: usize,
+            text_length: *mut usize,
+        ) -> c_int;
+        pub fn mvtgate_faults(
+            profile: u32,
+            tile: *const u8,
+            tile_length: usize,
+            text: *mut u8,
+            text_room: usize,
+            text_length: *mut usize,
+        ) -> c_int;
+        pub fn mvtgate_faults_quickly(
+            profile: u32,
+            tile: *const u8,
+            tile_length: usize,
+            text: *mut u8,
+            text_room: usize,
+            text_length: *mut usize,
+        ) -> c_int;
         pub fn mvtgate_confirm(
             profile: u32,
             tile: *const u8,
@@ -54,11 +78,41 @@ mod c {
 /// is too small, these are more than the room has.
 pub(crate) type Writer = fn(&[u8], &mut [u8]) -> (c_int, usize);
 
+/// The same of a call by a profile.
+pub(crate) type Judge = fn(Profile, &[u8], &mut [u8]) -> (c_int, usize);
+
 pub(crate) fn check(profile: Profile, tile: &[u8], room: &mut [u8]) -> (c_int, usize) {
     let mut length = 0;
     // SAFETY: see the top of this module.
     let status = unsafe {
         c::mvtgate_check(profile as u32, tile.as_ptr(), tile.len(), room.as_mut_ptr(), room.len(), &mut length)
+    };
+    (status, length)
+}
+
+pub(crate) fn check_quickly(profile: Profile, tile: &[u8], room: &mut [u8]) -> (c_int, usize) {
+    let mut length = 0;
+    // SAFETY: see the top of this module.
+    let status = unsafe {
+        c::mvtgate_check_quickly(profile as u32, tile.as_ptr(), tile.len(), room.as_mut_ptr(), room.len(), &mut length)
+    };
+    (status, length)
+}
+
+pub(crate) fn faults(profile: Profile, tile: &[u8], room: &mut [u8]) -> (c_int, usize) {
+    let mut length = 0;
+    // SAFETY: see the top of this module.
+    let status = unsafe {
+        c::mvtgate_faults(profile as u32, tile.as_ptr(), tile.len(), room.as_mut_ptr(), room.len(), &mut length)
+    };
+    (status, length)
+}
+
+pub(crate) fn faults_quickly(profile: Profile, tile: &[u8], room: &mut [u8]) -> (c_int, usize) {
+    let mut length = 0;
+    // SAFETY: see the top of this module.
+    let status = unsafe {
+        c::mvtgate_faults_quickly(profile as u32, tile.as_ptr(), tile.len(), room.as_mut_ptr(), room.len(), &mut length)
     };
     (status, length)
 }

@@ -12,8 +12,8 @@
 //! ```
 //!
 //! A tile is handed over uncompressed: bytes of gzip get the fault 104. No call keeps anything, so any number of threads
-//! may call at once. A call for a tile of n bytes takes memory for a few times n; where that is refused, it says so, and
-//! nothing is known of the tile.
+//! may call at once. A call for a tile of n bytes takes memory for a few times n, and a list also for its faults; where
+//! that is refused, it says so, and nothing is known of the tile.
 //!
 //! # Linking
 //!
@@ -25,6 +25,7 @@ mod code;
 mod error;
 mod fault;
 mod ffi;
+mod format;
 mod profile;
 mod reader;
 mod sentence;
@@ -34,12 +35,16 @@ mod words;
 
 pub use advice::Advice;
 pub use code::{CommandCode, RingCode, TagCode, WireCode};
-pub use error::{ConfirmError, DumpError, OutOfMemory};
+pub use error::{CheckError, ConfirmError, DumpError, OutOfMemory};
 pub use fault::{Fault, RingEdge, Scope};
+pub use format::Format;
 pub use profile::Profile;
 pub use text::NotAFaultText;
 
 use std::fmt;
+
+/// In bytes: room for the lines of some hundred faults. A longer list has one of its own length.
+const LIST_ROOM: usize = 65_536;
 
 /// None where the bytes are a valid tile by the profile, else the first fault. Where several pairs of edges of one
 /// polygon meet, any one of these is reported.
@@ -56,14 +61,75 @@ use std::fmt;
 ///
 /// Where the library that is linked reports a fault that this crate doesn't know: it is of another version.
 pub fn check(tile: &[u8], profile: Profile) -> Result<Option<Fault>, OutOfMemory> {
-    let mut room = [0; ffi::TEXT_ROOM];
-    let (status, length) = ffi::check(profile, tile, &mut room);
-    match status {
-        0 => Ok(None),
-        1 => Ok(Some(read_fault(&room[..length]))),
-        ffi::OUT_OF_MEMORY => Err(OutOfMemory),
-        _ => other_version("mvtgate_check", status),
+    judge(tile, profile, "mvtgate_check", ffi::check)
+}
+
+/// The same in bounded time by both profiles, for whoever judges tiles of others.
+///
+/// By [`Profile::Feature`] the fault may be a later one of the same feature: polygons in others are passed over where edges
+/// of the feature's polygons meet. It is true all the same, the same tiles are valid, and no true fault is of an earlier
+/// layer or feature. By [`Profile::Polygon`] the answer is that of [`check`].
+///
+/// ```
+/// # use mvtgate::{check_quickly, Profile};
+/// let fault = check_quickly(b"\x1a\x05", Profile::Feature)?.expect("the layer is cut");
+/// assert_eq!(fault.code(), 105);
+/// # Ok::<(), mvtgate::OutOfMemory>(())
+/// ```
+///
+/// # Panics
+///
+/// As [`check`] does.
+pub fn check_quickly(tile: &[u8], profile: Profile) -> Result<Option<Fault>, OutOfMemory> {
+    judge(tile, profile, "mvtgate_check_quickly", ffi::check_quickly)
+}
+
+/// All that is to be mended in a tile, in the order of the faults: of each layer with a fault of its version or its name
+/// the first one, and of each feature with any fault the first one. The first of the list is the fault of [`check`]; there
+/// is none exactly where the tile is valid, and one alone where the bytes are no tile.
+///
+/// ```
+/// # use mvtgate::{faults, Fault, Profile};
+/// let tile = b"\x1a\x05\x78\x01\x0a\x01a".repeat(2); // two layers of version 1
+/// assert_eq!(faults(&tile, Profile::Polygon)?, [Fault::Version { layer: 0 }, Fault::Version { layer: 1 }]);
+/// # Ok::<(), mvtgate::OutOfMemory>(())
+/// ```
+///
+/// # Panics
+///
+/// As [`check`] does.
+pub fn faults(tile: &[u8], profile: Profile) -> Result<Vec<Fault>, OutOfMemory> {
+    list(tile, profile, "mvtgate_faults", ffi::faults)
+}
+
+/// The same list with the fault of [`check_quickly`] for each feature, in the time of that call.
+///
+/// # Panics
+///
+/// As [`check`] does.
+pub fn faults_quickly(tile: &[u8], profile: Profile) -> Result<Vec<Fault>, OutOfMemory> {
+    list(tile, profile, "mvtgate_faults_quickly", ffi::faults_quickly)
+}
+
+/// The same of a tile that has to have bytes. No bytes are a valid tile, and also what a failed read leaves: where that may
+/// be, they are an error here.
+///
+/// ```
+/// # use mvtgate::{check_not_empty, CheckError, Profile};
+/// assert_eq!(check_not_empty(b"", Profile::Polygon), Err(CheckError::Empty));
+/// let fault = check_not_empty(b"\x1a\x05", Profile::Polygon)?.expect("the layer is cut");
+/// assert_eq!(fault.code(), 105);
+/// # Ok::<(), CheckError>(())
+/// ```
+///
+/// # Panics
+///
+/// As [`check`] does.
+pub fn check_not_empty(tile: &[u8], profile: Profile) -> Result<Option<Fault>, CheckError> {
+    if tile.is_empty() {
+        return Err(CheckError::Empty);
     }
+    Ok(check(tile, profile)?)
 }
 
 /// Whether the fault is true of the tile by the profile, by a checker that shares no search with [`check`]. It takes no
@@ -118,7 +184,7 @@ pub fn confirm_text(tile: &[u8], text: impl AsRef<[u8]>, profile: Profile) -> Re
 pub fn dump(tile: &[u8]) -> Result<String, DumpError> {
     // (a number of one byte becomes two or three characters; the names of members come on top)
     let guess = tile.len().saturating_mul(4).saturating_add(ffi::TEXT_ROOM);
-    write(tile, guess, "mvtgate_dump", ffi::dump)
+    describe(tile, guess, "mvtgate_dump", ffi::dump)
 }
 
 /// What no rule forbids in a tile and may still be a mistake, in the order of the layers. Like [`dump`] it asks only that
@@ -133,7 +199,7 @@ pub fn dump(tile: &[u8]) -> Result<String, DumpError> {
 ///
 /// As [`check`] does.
 pub fn advise(tile: &[u8]) -> Result<Vec<Advice>, DumpError> {
-    let text = write(tile, ffi::TEXT_ROOM, "mvtgate_advise", ffi::advise)?;
+    let text = describe(tile, ffi::TEXT_ROOM, "mvtgate_advise", ffi::advise)?;
     Ok(advice::read(&text).unwrap_or_else(|| unknown_text(&text)))
 }
 
@@ -160,25 +226,72 @@ pub fn version() -> Version {
     Version { major: number / 10_000, minor: number / 100 % 100, patch: number % 100 }
 }
 
-/// The text that a call writes of a tile. It begins with a room of so many bytes, and calls again where that is too small.
-fn write(tile: &[u8], guess: usize, name: &str, call: ffi::Writer) -> Result<String, DumpError> {
+fn judge(tile: &[u8], profile: Profile, name: &str, call: ffi::Judge) -> Result<Option<Fault>, OutOfMemory> {
+    let mut room = [0; ffi::TEXT_ROOM];
+    let (status, length) = call(profile, tile, &mut room);
+    match status {
+        0 => Ok(None),
+        1 => Ok(Some(read_fault(&room[..length]))),
+        ffi::OUT_OF_MEMORY => Err(OutOfMemory),
+        _ => other_version(name, status),
+    }
+}
+
+fn list(tile: &[u8], profile: Profile, name: &str, call: ffi::Judge) -> Result<Vec<Fault>, OutOfMemory> {
+    match write(LIST_ROOM, name, |room| call(profile, tile, room))? {
+        Written::Whole(_) => Ok(Vec::new()),
+        Written::Fault(lines) => read_lines(&lines),
+    }
+}
+
+/// The text of a tile that is no fault of it.
+fn describe(tile: &[u8], guess: usize, name: &str, call: ffi::Writer) -> Result<String, DumpError> {
+    match write(guess, name, |room| call(tile, room))? {
+        Written::Whole(text) => Ok(String::from_utf8(text).expect("a text of the library is UTF-8")),
+        Written::Fault(text) => Err(DumpError::Fault(read_fault(&text))),
+    }
+}
+
+/// What a call wrote.
+enum Written {
+    /// By the status 0.
+    Whole(Vec<u8>),
+    /// One fault or several, by the status 1.
+    Fault(Vec<u8>),
+}
+
+/// What a call writes. It begins with a room of so many bytes, and calls again where that is too small.
+fn write(guess: usize, name: &str, call: impl Fn(&mut [u8]) -> (i32, usize)) -> Result<Written, OutOfMemory> {
     let mut wanted = guess;
     loop {
-        let mut room = Vec::new();
-        room.try_reserve_exact(wanted).map_err(|_| OutOfMemory)?;
-        room.resize(wanted, 0);
-        let (status, length) = call(tile, &mut room);
+        let mut room = room_of(wanted)?;
+        let (status, length) = call(&mut room);
         match status {
-            0 => {
+            0 | 1 => {
                 room.truncate(length);
-                return Ok(String::from_utf8(room).expect("a text of the library is UTF-8"));
+                return Ok(if status == 0 { Written::Whole(room) } else { Written::Fault(room) });
             }
-            1 => return Err(DumpError::Fault(read_fault(&room[..length]))),
-            ffi::OUT_OF_MEMORY => return Err(DumpError::OutOfMemory),
+            ffi::OUT_OF_MEMORY => return Err(OutOfMemory),
             ffi::ROOM_TOO_SMALL if length > wanted => wanted = length,
             _ => other_version(name, status),
         }
     }
+}
+
+fn room_of(bytes: usize) -> Result<Vec<u8>, OutOfMemory> {
+    let mut room = Vec::new();
+    room.try_reserve_exact(bytes).map_err(|_| OutOfMemory)?;
+    room.resize(bytes, 0);
+    Ok(room)
+}
+
+/// The faults of lines, each of which has its end.
+fn read_lines(text: &[u8]) -> Result<Vec<Fault>, OutOfMemory> {
+    let mut faults = Vec::new();
+    let lines = || text.split_inclusive(|it| *it == b'\n');
+    faults.try_reserve_exact(lines().count()).map_err(|_| OutOfMemory)?;
+    faults.extend(lines().map(|line| read_fault(&line[..line.len() - 1])));
+    Ok(faults)
 }
 
 fn read_fault(text: &[u8]) -> Fault {

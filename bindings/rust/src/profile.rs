@@ -6,7 +6,7 @@ pub enum Profile {
     #[default]
     Polygon = 0,
     /// The polygons of one feature don't cross, touch or lie in each other either, but for a polygon in another's hole.
-    /// For a tile that is made for it this can take a time that grows as the square of its size: give such checks a limit
-    /// of time, for instance in a process of their own.
+    /// For a tile that is made for it this can take a time that grows as the square of its size: judge tiles of others by
+    /// [`check_quickly`](crate::check_quickly) and [`faults_quickly`](crate::faults_quickly).
     Feature = 1,
 }

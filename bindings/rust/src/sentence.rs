@@ -201,7 +201,7 @@ mod tests {
             said(
                 r#"{"code":504,"feature":3,"first":{"edge":1,"ring":5},"layer":0,"polygon":4,"second":{"edge":2,"ring":6},"w":"180","x":"800","y":"-360"}"#
             ),
-            "In feature 3 of layer 0, edge 1 of ring 5 and edge 2 of ring 6 meet at (40/9, -2); the second one is of polygon 4."
+            "In feature 3 of layer 0, edge 1 of ring 5 meets edge 2 of ring 6, of polygon 4, at (40/9, -2)."
         );
         assert_eq!(Advice::NoFeature { layer: 3 }.to_string(), "Layer 3 has no feature.");
     }

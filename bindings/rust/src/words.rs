@@ -1,6 +1,9 @@
-//! The words for each fault and each advice. In a sentence and a place names in braces stand for members of the fault.
+//! The words for each fault, each advice and each other format. In a sentence and a place names in braces stand for members of
+//! the fault.
 //!
 //! Written by bindings/rust/make_words from bindings/faults.json: edit that file, and run this one.
+
+use crate::format::{Format, Rule};
 
 /// What a code, or a kind of advice, means.
 pub(crate) struct Words {
@@ -236,7 +239,7 @@ pub(crate) fn of_code(code: u16) -> &'static Words {
         },
         504 => &Words {
             title: "Edges that meet",
-            sentence: "In feature {feature} of layer {layer}, edge {first.edge} of ring {first.ring} and edge {second.edge} of ring {second.ring} meet at ({x/w}, {y/w}); the second one is of polygon {polygon}.",
+            sentence: "In feature {feature} of layer {layer}, edge {first.edge} of ring {first.ring} meets edge {second.edge} of ring {second.ring}, of polygon {polygon}, at ({x/w}, {y/w}).",
             place: "layer {layer}, feature {feature}, polygon {polygon}, at ({x/w}, {y/w})",
             meaning: "Two edges of a polygon have a point in common other than the vertex that neighbours share: rings cross or touch, each other or themselves. By the profile `feature` the two may also be of different polygons of a feature; the fault is then told for the later one, of which the second edge is.",
             cause: "rings that touch in a vertex, as PostGIS makes them (30 of 100 of its tiles in a sample). The Open Geospatial Consortium's rules allow them, and this gate refuses them on purpose. Also rings that really cross after rounding to the grid (2 of 100 of tilemaker's).",
@@ -333,3 +336,77 @@ pub(crate) fn field_name(field: (&str, u32)) -> Option<&'static str> {
         _ => None,
     }
 }
+
+/// Other formats that are taken for tiles.
+pub(crate) static FORMATS: &[Rule] = &[
+    Rule {
+        format: Format {
+            name: "gzip",
+            title: "Packed by gzip",
+            sentence: "The bytes begin as gzip's do: this is a packed file, and no tile yet.",
+            remedy: "unpack it first (`gunzip -c FILE`; `mvtgate-check` does so itself). What is still gzip after it was unpacked was packed twice.",
+        },
+        begins: &[b"\x1f\x8b"],
+        after: &[],
+    },
+    Rule {
+        format: Format {
+            name: "zlib",
+            title: "Packed by zlib",
+            sentence: "The bytes begin as zlib's do: this is a packed file, and no tile yet.",
+            remedy: "unpack it first (`pigz -dc <FILE`, or `zlib.decompress` of Python; `mvtgate-check` does so itself). What is still zlib after it was unpacked was packed twice.",
+        },
+        begins: &[b"\x78\x01", b"\x78\x5e", b"\x78\x9c", b"\x78\xda"],
+        after: &[],
+    },
+    Rule {
+        format: Format {
+            name: "zstd",
+            title: "Packed by Zstandard",
+            sentence: "The bytes begin as Zstandard's do: this is a packed file, and no tile yet.",
+            remedy: "unpack it first (`zstd -dc FILE`; `mvtgate-check` does so itself where Python's `zstandard` is installed).",
+        },
+        begins: &[b"\x28\xb5\x2f\xfd"],
+        after: &[],
+    },
+    Rule {
+        format: Format {
+            name: "sqlite",
+            title: "Database of SQLite",
+            sentence: "The bytes begin as a database of SQLite does, such as an MBTiles file: this is no tile, but may hold many.",
+            remedy: "judge the tiles in it: `mvtgate-check FILE`, or `mvtgate-planet FILE` for a report of very many.",
+        },
+        begins: &[b"\x53\x51\x4c\x69\x74\x65\x20\x66\x6f\x72\x6d\x61\x74\x20\x33\x00"],
+        after: &[],
+    },
+    Rule {
+        format: Format {
+            name: "pmtiles",
+            title: "PMTiles archive",
+            sentence: "The bytes begin as a PMTiles archive does: this is no tile, but holds many.",
+            remedy: "take the tiles out into an MBTiles file (`pmtiles-convert` of PMTiles' Python package), and judge that: `mvtgate-planet FILE`.",
+        },
+        begins: &[b"\x50\x4d\x54\x69\x6c\x65\x73"],
+        after: &[],
+    },
+    Rule {
+        format: Format {
+            name: "png",
+            title: "PNG picture",
+            sentence: "The bytes begin as a PNG picture does: this is a raster tile, and no vector tile.",
+            remedy: "hand over vector tiles. The metadata of an MBTiles file with vector tiles says that their format is `pbf`.",
+        },
+        begins: &[b"\x89\x50\x4e\x47\x0d\x0a\x1a\x0a"],
+        after: &[],
+    },
+    Rule {
+        format: Format {
+            name: "json",
+            title: "JSON text",
+            sentence: "The bytes begin as JSON does: this is GeoJSON, TileJSON or a server's message, and no tile.",
+            remedy: "read the text (`head -c 300 FILE`). Where a server sent it in place of a tile, look at the answer's status too.",
+        },
+        begins: &[b"\x7b", b"\x5b"],
+        after: &[b"\xef\xbb\xbf", b"\x09", b"\x0a", b"\x0d", b"\x20"],
+    },
+];

@@ -1,43 +1,12 @@
 //! Gives the repository's sample tiles to the library, and compares with the lines that are expected of the program.
 
-use mvtgate::{advise, check, confirm, confirm_text, dump, version, Advice, DumpError, Fault, Profile};
-use std::fs;
-use std::path::{Path, PathBuf};
+mod sample;
+
+use mvtgate::{
+    advise, check, check_not_empty, confirm, confirm_text, dump, version, Advice, CheckError, DumpError, Fault, Profile,
+};
+use sample::{samples, PROFILES, VALID};
 use std::thread;
-
-const VALID: &str = r#"{"ok":true}"#;
-const PROFILES: [Profile; 2] = [Profile::Polygon, Profile::Feature];
-
-/// A tile, and the lines of which `check` may write any one.
-struct Sample {
-    name: String,
-    tile: Vec<u8>,
-    expected: Vec<String>,
-}
-
-fn samples(profile: Profile) -> Vec<Sample> {
-    let tiles = Path::new(env!("CARGO_MANIFEST_DIR")).join("../../tiles");
-    let mut paths: Vec<PathBuf> =
-        fs::read_dir(tiles.join("expected")).unwrap().map(|entry| entry.unwrap().path()).collect();
-    paths.retain(|path| path.extension().map_or(false, |it| it == "check"));
-    paths.sort();
-    assert!(!paths.is_empty());
-    paths.iter().map(|path| sample(&tiles, path, profile)).collect()
-}
-
-fn sample(tiles: &Path, expected: &Path, profile: Profile) -> Sample {
-    let name = expected.file_stem().unwrap().to_str().unwrap().to_string();
-    let of_feature = expected.with_extension("check_feature");
-    let lines = match profile {
-        Profile::Feature if of_feature.exists() => of_feature,
-        _ => expected.to_path_buf(),
-    };
-    Sample {
-        tile: fs::read(tiles.join(&name).with_extension("mvt")).unwrap(),
-        expected: fs::read_to_string(lines).unwrap().lines().map(str::to_string).collect(),
-        name,
-    }
-}
 
 fn line(answer: Option<Fault>) -> String {
     answer.map_or(VALID.to_string(), |fault| fault.text())
@@ -49,6 +18,17 @@ fn each_sample_has_an_expected_answer_by_both_profiles() {
         for sample in samples(profile) {
             let said = line(check(&sample.tile, profile).unwrap());
             assert!(sample.expected.contains(&said), "{}, {:?}: {}", sample.name, profile, said);
+        }
+    }
+}
+
+#[test]
+fn a_tile_that_has_to_have_bytes_has_the_same_answer_unless_it_has_none() {
+    for profile in PROFILES {
+        assert_eq!(check_not_empty(b"", profile), Err(CheckError::Empty));
+        for sample in samples(profile).iter().filter(|it| !it.tile.is_empty()) {
+            let answer = check(&sample.tile, profile).map_err(CheckError::from);
+            assert_eq!(check_not_empty(&sample.tile, profile), answer, "{}, {:?}", sample.name, profile);
         }
     }
 }
@@ -158,6 +138,7 @@ fn several_threads_get_the_same_answers() {
 fn faults_cross_threads_and_are_errors() {
     fn is_error<T: std::error::Error + Send + Sync + 'static>() {}
     is_error::<Fault>();
+    is_error::<CheckError>();
     is_error::<DumpError>();
 }
 
