@@ -8,6 +8,8 @@ one, 2.14, but also a processor of level x86-64-v2; distributions of that glibc 
 installers know no tag for processors. A build stops where the library would need more than the tag says.
 
 The version is that of the repository's file VERSION.
+
+There is no source distribution: what the library is made from is the whole repository, with its proofs.
 """
 import os
 import pathlib
@@ -16,6 +18,7 @@ import shutil
 
 from setuptools import Distribution, setup
 from setuptools.command.build_py import build_py
+from setuptools.command.sdist import sdist
 from wheel.bdist_wheel import bdist_wheel
 
 GLIBC = (2, 34)
@@ -55,6 +58,11 @@ class BuildWithLibrary(build_py):
             shutil.copy(web(name), package / "planet/report")
 
 
+class NoSources(sdist):
+    def run(self):
+        raise SystemExit("setup.py: there is no source distribution; make a wheel: python3 -m build --wheel --no-isolation bindings/python")
+
+
 class WheelOfPlatform(bdist_wheel):
     def get_tag(self):
         return "py3", "none", f"manylinux_{GLIBC[0]}_{GLIBC[1]}_x86_64"
@@ -69,5 +77,5 @@ class DistributionWithLibrary(Distribution):
 setup(
     version=(HERE.parent.parent / "VERSION").read_text().strip(),
     distclass=DistributionWithLibrary,
-    cmdclass={"build_py": BuildWithLibrary, "bdist_wheel": WheelOfPlatform},
+    cmdclass={"build_py": BuildWithLibrary, "sdist": NoSources, "bdist_wheel": WheelOfPlatform},
 )

@@ -9,7 +9,7 @@ import subprocess
 import sys
 import threading
 import time
-from typing import Any, Callable, Iterator, List
+from typing import Any, Callable, Dict, Iterator, List
 
 import pytest
 
@@ -41,6 +41,7 @@ def test_kinds_of_bytes(tmp_path: pathlib.Path) -> None:
         fault = mvtgate.check(it)
         assert fault is not None and fault.text == LINE
         assert mvtgate.confirm(it, fault)
+        assert mvtgate.faults(it) == [fault]
         assert mvtgate.dump(it) == mvtgate.dump(FAULTY)
         assert mvtgate.advise(it) == []
     with open(path, "r+b") as file:
@@ -53,10 +54,24 @@ def test_kinds_of_bytes(tmp_path: pathlib.Path) -> None:
 @pytest.mark.parametrize("empty", [b"", bytearray(), memoryview(b""), array.array("B"), memoryview(FAULTY)[:0]], ids=repr)
 def test_no_bytes(empty: Any) -> None:
     assert mvtgate.check(empty) is None
+    assert mvtgate.check(empty, not_empty=False) is None
+    for profile in Profile:
+        with pytest.raises(mvtgate.EmptyTile, match="no bytes"):
+            mvtgate.check(empty, profile, not_empty=True)
+    assert mvtgate.faults(empty) == []
     assert mvtgate.dump(empty) == {"layers": []}
     with _library.Borrowed(empty) as (address, length):
         # (an object with no bytes may say that they are at null)
         assert (address, length) == (b"", 0)
+
+
+def test_not_empty_changes_no_other_answer() -> None:
+    assert issubclass(mvtgate.EmptyTile, ValueError)
+    for sample in SAMPLES:
+        if sample.tile:
+            assert mvtgate.check(sample.tile, not_empty=True) == mvtgate.check(sample.tile)
+    with pytest.raises(TypeError, match="str"):
+        mvtgate.check("", not_empty=True)  # type: ignore[arg-type]
 
 
 def test_nothing_is_copied() -> None:
@@ -85,7 +100,7 @@ def test_bytes_are_pinned_and_released() -> None:
 
 def test_other_objects() -> None:
     wrong: List[Any] = ["text", None, 5, [1, 2], 1.5, object()]
-    calls: List[Callable[[Any], object]] = [mvtgate.check, mvtgate.dump, mvtgate.advise]
+    calls: List[Callable[[Any], object]] = [mvtgate.check, mvtgate.faults, mvtgate.dump, mvtgate.advise]
     for it in wrong:
         for call in calls:
             with pytest.raises(TypeError, match="a tile is bytes"):
@@ -103,6 +118,8 @@ def test_other_arguments() -> None:
     for profile in wrong:
         with pytest.raises(TypeError, match="profile"):
             mvtgate.check(b"", profile)
+        with pytest.raises(TypeError, match="profile"):
+            mvtgate.faults(b"", profile)
         with pytest.raises(TypeError, match="profile"):
             mvtgate.confirm(b"", "{}", profile)
     no_faults: List[Any] = [None, b"{}", {"code": 201, "layer": 0}]
@@ -147,7 +164,7 @@ def test_threads() -> None:
     for it in threads:
         it.join()
     assert wrong == []
-    assert 1 <= len(_library._rooms) <= 9
+    assert 1 <= len(_library._rooms.unused) <= 9
 
 
 @pytest.fixture(scope="module")
@@ -188,11 +205,21 @@ def test_refused_memory(large_tile: bytes) -> None:
 
 
 def test_statuses_of_no_answer(monkeypatch: pytest.MonkeyPatch) -> None:
-    for name in ("check", "confirm", "dump", "advise"):
+    calls: Dict[str, Callable[[], object]] = {
+        "check": lambda: mvtgate.check(FAULTY),
+        "check_quickly": lambda: mvtgate.check(FAULTY, quick=True),
+        "faults": lambda: mvtgate.faults(FAULTY),
+        "faults_quickly": lambda: mvtgate.faults(FAULTY, quick=True),
+        "confirm": lambda: mvtgate.confirm(FAULTY, LINE),
+        "dump": lambda: mvtgate.dump(FAULTY),
+        "advise": lambda: mvtgate.advise(FAULTY),
+    }
+    for name, call in calls.items():
         for status, error in ((2, MemoryError), (9, RuntimeError)):
-            monkeypatch.setattr(_library.calls, f"mvtgate_{name}", lambda *words, status=status: status)
-            with pytest.raises(error):
-                getattr(mvtgate, name)(*([FAULTY, LINE] if name == "confirm" else [FAULTY]))
+            with monkeypatch.context() as patch:
+                patch.setattr(_library.calls, f"mvtgate_{name}", lambda *words, status=status: status)
+                with pytest.raises(error):
+                    call()
 
 
 def test_profiles_of_the_library() -> None:

@@ -9,7 +9,7 @@ import shutil
 import subprocess
 import sys
 import zipfile
-from typing import Any
+from typing import Any, List
 
 import pytest
 
@@ -68,14 +68,28 @@ def test_in_a_fresh_environment(wheel: pathlib.Path, tmp_path: pathlib.Path) -> 
     for profile, of_profile in (("polygon", "check"), ("feature", "check_feature")):
         for tile in (TOP / "tiles").glob("*.mvt"):
             shutil.copy(tile, tmp_path)
-        said = run_alone(python, "-m", "mvtgate", "check", "--json", "--confirm", "--profile", profile, tmp_path, where=tmp_path)
+        words = ["--json", "--confirm", "--allow-empty", "--profile", profile, str(tmp_path)]
+        said = run_alone(python, "-m", "mvtgate", "check", *words, where=tmp_path)
         assert said.returncode == 1, said.stderr
-        assert said.stderr.startswith(f"{len(list(tmp_path.glob('*.mvt')))} tiles: ")
+        assert said.stderr.splitlines()[-1].startswith(f"{len(list(tmp_path.glob('*.mvt')))} tiles: ")
+        # (the command that the wheel installs says the same)
+        command = subprocess.run([tmp_path / "venv/bin/mvtgate-check", "--jobs", "2", *words], env={"PATH": ""}, cwd=tmp_path, capture_output=True, text=True)
+        assert (command.returncode, command.stdout, command.stderr) == (1, said.stdout, said.stderr)
         expected = {it.stem for it in (TOP / "tiles/expected").glob(f"*.{of_profile}") if '"code"' in it.read_text()}
         assert all(f"/{it}.mvt" in said.stdout for it in expected)
     maps = "import mvtgate; mvtgate.check(b''); print([it.split()[-1] for it in open('/proc/self/maps') if 'libmvtgate' in it])"
     loaded = run_alone(python, "-c", maps, where=tmp_path)
     assert loaded.returncode == 0 and set(re.findall(r"'(.+?)'", loaded.stdout)) == {str(next((tmp_path / "venv").rglob("libmvtgate.so")).resolve())}
+
+
+@pytest.mark.parametrize("kind", [["--sdist"], []], ids=["sdist", "both"])
+def test_there_is_no_source_distribution(kind: List[str], tmp_path: pathlib.Path) -> None:
+    """One would lack the library. Who asks for it, as `python3 -m build` does by itself, is told what to make."""
+    copy_sources(tmp_path)
+    words = [sys.executable, "-m", "build", *kind, "--no-isolation", "--outdir", str(tmp_path / "out"), str(tmp_path / "bindings/python")]
+    run = subprocess.run(words, capture_output=True, text=True)
+    assert run.returncode != 0 and "there is no source distribution; make a wheel: python3 -m build --wheel" in run.stdout + run.stderr
+    assert list(tmp_path.glob("out/*")) == []
 
 
 def test_build_without_the_library(tmp_path: pathlib.Path) -> None:

@@ -153,4 +153,4 @@ def test_document_is_made_from_the_words() -> None:
 
 
 def test_version() -> None:
-    assert mvtgate.version() == VERSION
+    assert mvtgate.version() == mvtgate.__version__ == VERSION

@@ -11,6 +11,9 @@ place. As long as a call runs nothing may write to them, no other thread or proc
 bytes that may change hand over a copy, `bytes(it)`. All calls may be made by several threads at once; the interpreter's lock is
 let go while the library works. They raise TypeError for an object that isn't of the type that is asked, and MemoryError where
 memory was refused, after which they can be called again.
+
+In Python 3.12 an interpreter with a lock of its own (a subinterpreter that doesn't share the main one's) can't import ctypes, nor
+this package: that is an ImportError. Threads of one interpreter judge side by side all the same.
 """
 from __future__ import annotations
 
@@ -22,26 +25,33 @@ from . import _library
 from ._advice import Advice
 from ._dump import Tile
 from ._explain import explain
-from ._faults import Fault, NotAFault, NotATile, RingEdge, fault_of_library
+from ._faults import EmptyTile, Fault, NotAFault, NotATile, RingEdge, fault_of_library
+from ._formats import Format, format_of
 from ._library import LibraryNotFound
+from ._version import __version__
 
 if TYPE_CHECKING:
     from _typeshed import ReadableBuffer
 
 __all__ = [
     "Advice",
+    "EmptyTile",
     "Fault",
+    "Format",
     "LibraryNotFound",
     "NotAFault",
     "NotATile",
     "Profile",
     "RingEdge",
     "Tile",
+    "__version__",
     "advise",
     "check",
     "confirm",
     "dump",
     "explain",
+    "faults",
+    "format_of",
     "version",
 ]
 
@@ -66,10 +76,30 @@ def _number_of(profile: Profile) -> int:
     return profile
 
 
-def check(tile: ReadableBuffer, profile: Profile = Profile.POLYGON) -> Union[Fault, None]:
-    """None for a valid tile, else its first fault in the order that docs/SPECIFICATION.md of the repository gives."""
-    text = _library.check(_number_of(profile), tile)
+def check(tile: ReadableBuffer, profile: Profile = Profile.POLYGON, *, not_empty: bool = False, quick: bool = False) -> Union[Fault, None]:
+    """None for a valid tile, else its first fault in the order that docs/SPECIFICATION.md of the repository gives.
+
+    No bytes are a valid tile, and also what a failed read leaves: with `not_empty` they raise EmptyTile.
+
+    With `quick` the time has a bound by both profiles, which is for whoever judges tiles of others. By
+    Profile.FEATURE the fault may then be a later one of the same feature, where edges of that feature meet. It is true all the
+    same, and the same tiles are valid.
+    """
+    number = _number_of(profile)
+    if not_empty and _library.is_empty(tile):
+        raise EmptyTile("the tile has no bytes")
+    text = _library.check(number, tile, quick)
     return None if text is None else fault_of_library(text)
+
+
+def faults(tile: ReadableBuffer, profile: Profile = Profile.POLYGON, *, quick: bool = False) -> List[Fault]:
+    """All that is to be mended in a tile, in the order of the faults; an empty list for a valid tile.
+
+    Each layer with a fault of its version or its name has that one, and each feature with any fault its first one, or with `quick`
+    the one that `check` would name quickly. So the first of the list is that of `check`. Bytes that are no tile have one fault.
+    """
+    text = _library.faults(_number_of(profile), tile, quick)
+    return [fault_of_library(it) for it in _library.lines_of(text)]
 
 
 def confirm(tile: ReadableBuffer, fault: Union[Fault, str], profile: Profile = Profile.POLYGON) -> bool:

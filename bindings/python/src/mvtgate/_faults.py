@@ -14,6 +14,10 @@ class NotAFault(ValueError):
     """A text that isn't JSON, or isn't the text of a fault, or has a number that is out of range."""
 
 
+class EmptyTile(ValueError):
+    """A tile of no bytes, where one with bytes was asked for."""
+
+
 class NotATile(ValueError):
     """Bytes that are no tile. `fault` is their first wire fault, of code 101 to 111."""
 

@@ -4,8 +4,9 @@ from __future__ import annotations
 import ctypes
 import os
 import pathlib
+import re
 from types import TracebackType
-from typing import TYPE_CHECKING, Callable, List, Optional, Tuple, Type, Union
+from typing import TYPE_CHECKING, Callable, Iterator, List, Optional, Tuple, Type, Union
 
 if TYPE_CHECKING:
     from _typeshed import ReadableBuffer
@@ -22,6 +23,8 @@ OUT_OF_RANGE = 7
 
 # MVTGATE_TEXT_ROOM of mvtgate.h: no fault's text has more bytes
 TEXT_ROOM = 384
+# for the lines of some hundred faults; a longer list has a room of its own
+_LIST_ROOM = 65_536
 
 _FOLDER = pathlib.Path(__file__).resolve().parent
 # (in a checkout, where ./library puts it)
@@ -53,8 +56,12 @@ def _load() -> ctypes.CDLL:
         raise LibraryNotFound(f"mvtgate: cannot load the library: {error} (MVTGATE_LIBRARY may name it)") from error
     # A c_void_p takes an address or a bytes object, of which it passes the address of its bytes: never null, even of b"".
     address, size = ctypes.c_void_p, ctypes.c_size_t
+    judging = [ctypes.c_uint32, address, size, address, size, address]
     arguments = {
-        "mvtgate_check": [ctypes.c_uint32, address, size, address, size, address],
+        "mvtgate_check": judging,
+        "mvtgate_check_quickly": judging,
+        "mvtgate_faults": judging,
+        "mvtgate_faults_quickly": judging,
         "mvtgate_confirm": [ctypes.c_uint32, address, size, address, size],
         "mvtgate_dump": [address, size, address, size, address],
         "mvtgate_advise": [address, size, address, size, address],
@@ -162,29 +169,45 @@ class _Room:
         return str(memoryview(self._text)[: self.length], "utf-8")
 
 
-# Rooms that no call uses. A call takes one, or makes one, and puts it back: so each has a room of its own, in whichever thread,
-# and one in a signal's handler too. (A list's pop and append are atomic.) There are never more than calls at one time.
-_rooms: List[_Room] = []
+class _Rooms:
+    """Rooms of one size that no call uses.
+
+    A call takes one, or makes one, and puts it back: so each has a room of its own, in whichever thread, and one in a signal's
+    handler too. (A list's pop and append are atomic.) There are never more than calls at one time.
+    """
+
+    __slots__ = ("_size", "unused")
+
+    def __init__(self, size: int) -> None:
+        self._size = size
+        self.unused: List[_Room] = []
+
+    def take(self) -> _Room:
+        try:
+            return self.unused.pop()
+        except IndexError:
+            return _Room(self._size)
+
+    def put_back(self, room: _Room) -> None:
+        """Keeps a room, unless it was made for one call's longer text."""
+        if room.size == self._size:
+            self.unused.append(room)
 
 
-def _take_room() -> _Room:
-    try:
-        return _rooms.pop()
-    except IndexError:
-        return _Room(TEXT_ROOM)
+_rooms = _Rooms(TEXT_ROOM)
+_rooms_for_lists = _Rooms(_LIST_ROOM)
 
 
-def _text_of_call(tile: ReadableBuffer, call: Callable[..., int], *before: int) -> Tuple[int, str]:
+def _text_of_call(rooms: _Rooms, tile: ReadableBuffer, call: Callable[..., int], *before: int) -> Tuple[int, str]:
     """Status and text of a call that writes one, in a larger room where it wants one. The text is empty without one."""
     with Borrowed(tile) as (address, length):
-        room = _take_room()
+        room = rooms.take()
         status = call(*before, address, length, *room.words)
         while status == NO_ROOM and room.length > room.size:
             room = _Room(room.length)
             status = call(*before, address, length, *room.words)
     text = room.text() if status in (OK, NO) and room.length else ""
-    if room.size == TEXT_ROOM:
-        _rooms.append(room)
+    rooms.put_back(room)
     _expect(status, OK, NO)
     return status, text
 
@@ -196,21 +219,40 @@ def _expect(status: int, *expected: int) -> None:
         raise RuntimeError(f"mvtgate: the library returned the status {status}, which this package doesn't know")
 
 
-def check(profile: int, tile: ReadableBuffer) -> Optional[str]:
-    """None for a valid tile, or the text of its first fault. MemoryError where memory was refused."""
-    status, text = _text_of_call(tile, calls.mvtgate_check, profile)
+def is_empty(tile: ReadableBuffer) -> bool:
+    """Whether an object has no bytes."""
+    with Borrowed(tile) as (_, length):
+        return length == 0
+
+
+def check(profile: int, tile: ReadableBuffer, is_quick: bool) -> Optional[str]:
+    """None for a valid tile, or the text of its first fault, or of the quick one. MemoryError where memory was refused."""
+    call = calls.mvtgate_check_quickly if is_quick else calls.mvtgate_check
+    status, text = _text_of_call(_rooms, tile, call, profile)
     return None if status == OK else text
+
+
+def faults(profile: int, tile: ReadableBuffer, is_quick: bool) -> str:
+    """A line for each fault of a tile, each with its end. MemoryError where memory was refused."""
+    call = calls.mvtgate_faults_quickly if is_quick else calls.mvtgate_faults
+    _, text = _text_of_call(_rooms_for_lists, tile, call, profile)
+    return text
+
+
+def lines_of(text: str) -> Iterator[str]:
+    """The lines of a text of faults without their ends, one at a time, since there may be millions."""
+    return (it.group() for it in re.finditer(".+", text))
 
 
 def dump(tile: ReadableBuffer) -> Tuple[bool, str]:
     """Whether the bytes are a tile, and the dump, or the text of the first wire fault. MemoryError where memory was refused."""
-    status, text = _text_of_call(tile, calls.mvtgate_dump)
+    status, text = _text_of_call(_rooms, tile, calls.mvtgate_dump)
     return status == OK, text
 
 
 def advise(tile: ReadableBuffer) -> Tuple[bool, str]:
     """Whether the bytes are a tile, and the advice, or the text of the first wire fault. MemoryError where memory was refused."""
-    status, text = _text_of_call(tile, calls.mvtgate_advise)
+    status, text = _text_of_call(_rooms, tile, calls.mvtgate_advise)
     return status == OK, text
 
 

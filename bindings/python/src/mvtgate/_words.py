@@ -28,6 +28,12 @@ def words_of_fault(code: int) -> Dict[str, str]:
     return found
 
 
+def words_of_format(name: str) -> Dict[str, str]:
+    """Title, sentence and remedy of another format. LookupError for a name that none has."""
+    found: Dict[str, Any] = words()["formats"][name]
+    return {key: found[key] for key in ("title", "sentence", "remedy")}
+
+
 def words_of_advice(kind: str) -> Dict[str, str]:
     """Title, sentence and the other words of a kind of advice. LookupError for a kind that no advice has."""
     found: Dict[str, str] = words()["advice"][kind]

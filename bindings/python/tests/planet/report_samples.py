@@ -10,6 +10,7 @@ from collections import Counter
 from dataclasses import dataclass, field
 from typing import Any, Dict, Iterator, List, Mapping, Optional, Tuple
 
+from mvtgate.planet.journal import FORMAT
 from mvtgate.planet.records import Extent, Finding, Judged, Partition, Timed
 
 TOP = pathlib.Path(__file__).resolve().parents[4]
@@ -95,7 +96,7 @@ def _judged(partition: Partition, extent: Extent, tiles: Mapping[Tuple[int, int]
 def run_of(*sources: MemorySource, profile: str = "polygon", advice: bool = False) -> Dict[str, Any]:
     """What the journal's first line has of a run over these sources."""
     return {
-        "format": 1,
+        "format": FORMAT,
         "version": "12.34.56",
         "profile": profile,
         "advice": advice,

@@ -17,6 +17,8 @@ from conftest import SAMPLES, TOP, Sample
 from mvtgate import Fault, Profile
 
 PROGRAM = [sys.executable, "-m", "mvtgate.planet"]
+# the exit statuses, as docs/PLANET.md has them
+VALID_STATUS, FAULTY, UNJUDGED, REFUSED, UNFINISHED = range(5)
 TABLE = "CREATE TABLE tiles (zoom_level INTEGER, tile_column INTEGER, tile_row INTEGER, tile_data BLOB)"
 INDEX = "CREATE UNIQUE INDEX tile_index ON tiles (zoom_level, tile_column, tile_row)"
 _SECONDS = re.compile(r'"seconds": [0-9.e-]+')

@@ -1,7 +1,7 @@
 /* A library that stands before the real one, for tests of what goes wrong. It forwards all calls to the library that
  * SHIM_LIBRARY names. A check takes SHIM_DELAY microseconds more. A tile whose last bytes are one of the marks below is
  * forwarded without them, and what the mark says happens. A slow confirmation writes the number of its process into the
- * file that SHIM_NOTE names. */
+ * file that SHIM_NOTE names. With SHIM_ENDS it ends the process that loads it. */
 #include <dlfcn.h>
 #include <signal.h>
 #include <stddef.h>
@@ -13,7 +13,9 @@
 
 enum { MARK = 8, NOT_CONFIRMED = 1, NO_MEMORY = 2 };
 
-static int (*real_check)(uint32_t, const uint8_t *, size_t, uint8_t *, size_t, size_t *);
+typedef int Judge(uint32_t, const uint8_t *, size_t, uint8_t *, size_t, size_t *);
+
+static Judge *real_check, *real_check_quickly, *real_faults, *real_faults_quickly;
 static int (*real_confirm)(uint32_t, const uint8_t *, size_t, const uint8_t *, size_t);
 static int (*real_dump)(const uint8_t *, size_t, uint8_t *, size_t, size_t *);
 static int (*real_advise)(const uint8_t *, size_t, uint8_t *, size_t, size_t *);
@@ -33,8 +35,13 @@ static void *found(void *library, const char *name)
 __attribute__((constructor)) static void load(void)
 {
     const char *name = getenv("SHIM_LIBRARY"), *said = getenv("SHIM_DELAY");
+    if (getenv("SHIM_ENDS"))
+        raise(SIGKILL);
     void *library = dlopen(name ? name : "libmvtgate.so.0", RTLD_NOW | RTLD_LOCAL);
     *(void **)&real_check = found(library, "mvtgate_check");
+    *(void **)&real_check_quickly = found(library, "mvtgate_check_quickly");
+    *(void **)&real_faults = found(library, "mvtgate_faults");
+    *(void **)&real_faults_quickly = found(library, "mvtgate_faults_quickly");
     *(void **)&real_confirm = found(library, "mvtgate_confirm");
     *(void **)&real_dump = found(library, "mvtgate_dump");
     *(void **)&real_advise = found(library, "mvtgate_advise");
@@ -63,7 +70,8 @@ static void confirm_slowly(void)
     usleep(1500000);
 }
 
-int mvtgate_check(uint32_t profile, const uint8_t *tile, size_t length, uint8_t *text, size_t room, size_t *text_length)
+static int judge(Judge *real, uint32_t profile, const uint8_t *tile, size_t length, uint8_t *text, size_t room,
+                 size_t *text_length)
 {
     if (delay)
         usleep(delay);
@@ -75,7 +83,29 @@ int mvtgate_check(uint32_t profile, const uint8_t *tile, size_t length, uint8_t 
         *text_length = 0;
         return NO_MEMORY;
     }
-    return real_check(profile, tile, unmarked(tile, length), text, room, text_length);
+    return real(profile, tile, unmarked(tile, length), text, room, text_length);
+}
+
+int mvtgate_check(uint32_t profile, const uint8_t *tile, size_t length, uint8_t *text, size_t room, size_t *text_length)
+{
+    return judge(real_check, profile, tile, length, text, room, text_length);
+}
+
+int mvtgate_check_quickly(uint32_t profile, const uint8_t *tile, size_t length, uint8_t *text, size_t room,
+                          size_t *text_length)
+{
+    return judge(real_check_quickly, profile, tile, length, text, room, text_length);
+}
+
+int mvtgate_faults(uint32_t profile, const uint8_t *tile, size_t length, uint8_t *text, size_t room, size_t *text_length)
+{
+    return judge(real_faults, profile, tile, length, text, room, text_length);
+}
+
+int mvtgate_faults_quickly(uint32_t profile, const uint8_t *tile, size_t length, uint8_t *text, size_t room,
+                           size_t *text_length)
+{
+    return judge(real_faults_quickly, profile, tile, length, text, room, text_length);
 }
 
 int mvtgate_confirm(uint32_t profile, const uint8_t *tile, size_t length, const uint8_t *text, size_t text_length)

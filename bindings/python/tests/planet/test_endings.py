@@ -14,7 +14,7 @@ import pytest
 
 from planet.conftest import Shimmed
 from planet.planets import Planet
-from planet.runs import Run, environment, expect_whole, has_gone, journal, run, wait_until
+from planet.runs import FAULTY, PROGRAM, REFUSED, UNFINISHED, Run, environment, expect_whole, faults_text, has_gone, journal, run, wait_until
 
 PARTITION = 16
 PARTITIONS = 1024 // PARTITION
@@ -40,6 +40,17 @@ def test_undisturbed(planet: Planet, tmp_path: pathlib.Path) -> None:
     faulty = len(planet.lines)
     assert it.said == [f"1024 tiles: {1024 - faulty} valid, {faulty} with a fault; see {it.output / 'report.html'}"]
     assert it.stdout == ""
+
+
+def test_nobody_reads_the_progress(planet: Planet, tmp_path: pathlib.Path) -> None:
+    """It goes on, and has the same status."""
+    reads, writes = os.pipe()
+    words = [*PROGRAM, "--output", "out", *map(str, locally(planet))]
+    process = subprocess.Popen(words, cwd=tmp_path, env=environment(), stdin=subprocess.DEVNULL, stdout=writes, stderr=writes)
+    os.close(writes)
+    os.close(reads)
+    assert process.wait(90) == FAULTY
+    assert faults_text(tmp_path / "out") == planet.text
 
 
 def test_killed_workers(planet: Planet, tmp_path: pathlib.Path, shimmed: Shimmed) -> None:
@@ -77,7 +88,7 @@ def test_interrupted(
     workers = it.workers()
     # (a terminal sends it to all processes of the group)
     os.killpg(it.process.pid, which) if to_all else it.process.send_signal(which)
-    assert (it.end(), it.said) == (130, [INTERRUPTED])
+    assert (it.end(), it.said) == (UNFINISHED, [INTERRUPTED])
     assert len(workers) == 2 and all(map(has_gone, workers))
     assert not (it.output / "faults.jsonl").exists()
     if which == signal.SIGINT:
@@ -90,25 +101,32 @@ def test_interrupted_while_workers_start(planet: Planet, tmp_path: pathlib.Path,
     wait_until(lambda: len(it.workers()) == 2 or it.process.poll() is not None)
     workers = it.workers()
     os.killpg(it.process.pid, which)
-    assert (it.end(), it.said) == (130, [INTERRUPTED])
+    assert (it.end(), it.said) == (UNFINISHED, [INTERRUPTED])
     assert all(map(has_gone, workers))
 
 
 class Cluster:
-    """A scheduler and two workers, each a process of its own."""
+    """A scheduler and workers, each a process of its own. `log` is that of the workers."""
 
-    def __init__(self, folder: pathlib.Path, env: Dict[str, str]) -> None:
-        self._folder, self._env = folder, env
+    def __init__(self, folder: pathlib.Path, env: Dict[str, str], workers: int = 2) -> None:
+        self._folder, self.log = folder, folder / "dask_worker"
         self._started: List[subprocess.Popen[bytes]] = []
-        self.scheduler = self._start("dask_scheduler", "--host", "127.0.0.1", "--port", "0", "--scheduler-file", str(folder / "scheduler"), "--no-dashboard")
-        wait_until(lambda: (folder / "scheduler").exists())
-        for _ in range(2):
-            self._start("dask_worker", "--scheduler-file", str(folder / "scheduler"), "--nthreads", "1", "--no-dashboard", "--no-nanny")
+        words = ["--host", "127.0.0.1", "--port", "0", "--scheduler-file", str(folder / "scheduler"), "--no-dashboard"]
+        self.scheduler = self._start("dask_scheduler", words, env)
+        # (a file that is there may not be whole)
+        wait_until(lambda: (folder / "scheduler").exists() and (folder / "scheduler").read_text().endswith("}"), 90)
+        for _ in range(workers):
+            self.add_worker(env, "--no-nanny")
 
-    def _start(self, module: str, *words: str) -> subprocess.Popen[bytes]:
+    def add_worker(self, env: Dict[str, str], nanny: str) -> subprocess.Popen[bytes]:
+        """Starts one, with a nanny that starts it again where it ends, or without."""
+        words = ["--scheduler-file", str(self._folder / "scheduler"), "--host", "127.0.0.1", "--nthreads", "1", "--no-dashboard", nanny]
+        return self._start("dask_worker", words, env)
+
+    def _start(self, module: str, words: List[str], env: Dict[str, str]) -> subprocess.Popen[bytes]:
         with open(self._folder / module, "ab") as log:
             command = [sys.executable, "-m", f"distributed.cli.{module}", *words]
-            it = subprocess.Popen(command, stdin=subprocess.DEVNULL, stdout=log, stderr=log, env=self._env, cwd=self._folder)
+            it = subprocess.Popen(command, stdin=subprocess.DEVNULL, stdout=log, stderr=log, env=env, cwd=self._folder)
         self._started.append(it)
         return it
 
@@ -130,9 +148,10 @@ def test_killed_scheduler(planet: Planet, tmp_path: pathlib.Path, shimmed: Shimm
         it.wait_for_lines(10)
         began = time.monotonic()
         cluster.scheduler.kill()
-        assert it.end() == 2
+        assert it.end() == UNFINISHED
         assert it.said == ["mvtgate-planet: the scheduler has gone, and with it what was under way; the same words go on"]
-        assert time.monotonic() - began < 10
+        # (a question that is under way as the scheduler goes is given up by Dask after 30 seconds)
+        assert time.monotonic() - began < 45
     finally:
         cluster.end()
     done = journal(it.output)
@@ -143,5 +162,12 @@ def test_killed_scheduler(planet: Planet, tmp_path: pathlib.Path, shimmed: Shimm
 
 def test_no_scheduler(planet: Planet, tmp_path: pathlib.Path) -> None:
     it = run(tmp_path / "out", *shared(planet, "tcp://127.0.0.1:1"), env=environment(DASK_DISTRIBUTED__COMM__TIMEOUTS__CONNECT="1s"))
-    assert (it.process.returncode, len(it.said)) == (2, 1)
+    assert (it.process.returncode, len(it.said)) == (UNFINISHED, 1)
     assert it.said[0].startswith("mvtgate-planet: tcp://127.0.0.1:1: ")
+
+
+@pytest.mark.parametrize("address", ["tcp://127.0.0.1:x", "foo://127.0.0.1:1", "nothing"])
+def test_no_address(planet: Planet, tmp_path: pathlib.Path, address: str) -> None:
+    it = run(tmp_path / "out", *shared(planet, address))
+    said = f"mvtgate-planet: {address} is no address of a scheduler, such as tcp://host:8786"
+    assert (it.process.returncode, it.said) == (REFUSED, [said])

@@ -1,14 +1,18 @@
 """Runs that find a journal: that of the same words goes on, whatever its last line is, and every other one is refused."""
 from __future__ import annotations
 
+import json
 import pathlib
+import re
+import signal
+import time
 from typing import List
 
 import pytest
 
 from planet.conftest import Shimmed
 from planet.planets import Planet
-from planet.runs import Run, expect_whole, journal, run
+from planet.runs import REFUSED, UNFINISHED, Run, expect_whole, journal, records, run, wait_until
 
 PARTITION = 16
 
@@ -80,7 +84,7 @@ def test_garbage(tmp_path: pathlib.Path, lines: Lines, words: List[object], garb
     before = path.read_bytes()
     it = run(output, *words)
     reasons = [f"{path}: at byte {length} is no line of a journal", f"{path} is no journal of this version"]
-    assert (it.process.returncode, len(it.said)) == (2, 1)
+    assert (it.process.returncode, len(it.said)) == (REFUSED, 1)
     assert it.said[0].removeprefix("mvtgate-planet: ") in reasons
     assert path.read_bytes() == before
 
@@ -90,7 +94,7 @@ def test_two_runs_at_once(planet: Planet, tmp_path: pathlib.Path, shimmed: Shimm
     first.wait_for_lines(3)
     for second in (run(first.output, *words), run(first.output, *words, "--anew")):
         said = f"mvtgate-planet: {first.output / 'journal.jsonl'}: another run is writing to it"
-        assert (second.process.returncode, second.said) == (2, [said])
+        assert (second.process.returncode, second.said) == (REFUSED, [said])
     first.end()
     expect_whole(planet, first)
 
@@ -103,8 +107,70 @@ def test_other_words(tmp_path: pathlib.Path, lines: Lines, words: List[object], 
     output = tmp_path / "out"
     lines.write(output, 10)
     it = run(output, *words, *other)
-    assert (it.process.returncode, len(it.said)) == (2, 1)
+    assert (it.process.returncode, len(it.said)) == (REFUSED, 1)
     assert f"is of another run ({different} not the same)" in it.said[0] and "--anew" in it.said[0]
+
+
+LEFT = ("advice.jsonl", "faults.jsonl", "page.html", "report.html")
+
+
+def test_anew_removes_what_was_left(planet: Planet, tmp_path: pathlib.Path, shimmed: Shimmed, words: List[object]) -> None:
+    """A new run that is interrupted leaves no results of another one, and nothing else is touched."""
+    output = tmp_path / "out"
+    expect_whole(planet, run(output, *words, "--advice"))
+    (output / "faults.jsonl.part").write_text("of a run that was killed")
+    (output / "notes.txt").write_text("the user's own")
+    assert {"advice.jsonl", "faults.jsonl", "report.html"} <= {it.name for it in output.iterdir()}
+    # (words that are refused remove nothing)
+    assert run(output, *words).process.returncode == REFUSED and (output / "report.html").exists()
+    it = Run(output, planet.path, "--workers", 1, "--partition", PARTITION, "--anew", env=shimmed(1000))
+    wait_until(lambda: not (output / "report.html").exists())
+    it.wait_for_lines(3)
+    it.process.send_signal(signal.SIGINT)
+    assert it.end() == UNFINISHED
+    assert sorted(path.name for path in output.iterdir()) == ["journal.jsonl", "notes.txt"]
+    expect_whole(planet, run(output, *words))
+
+
+def test_results_without_a_journal(planet: Planet, tmp_path: pathlib.Path, shimmed: Shimmed) -> None:
+    """They are another run's, too."""
+    output = tmp_path / "out"
+    output.mkdir()
+    for name in LEFT:
+        (output / name).write_text("another run's")
+    it = Run(output, planet.path, "--workers", 1, "--partition", PARTITION, env=shimmed(1000))
+    it.wait_for_lines(1)
+    it.process.send_signal(signal.SIGINT)
+    assert it.end() == UNFINISHED
+    assert [path.name for path in output.iterdir()] == ["journal.jsonl"]
+
+
+def test_report_has_the_clock_of_all_calls(planet: Planet, tmp_path: pathlib.Path, lines: Lines, words: List[object]) -> None:
+    """A journal whose last call had come to an hour and a half."""
+    output = tmp_path / "out"
+    lines.write(output, 40)
+    path = output / "journal.jsonl"
+    *before, last = path.read_bytes().splitlines(keepends=True)
+    clock = json.loads(last)["clock"]
+    path.write_bytes(b"".join(before) + last.replace(f'"clock":{clock}'.encode(), b'"clock":5400.0'))
+    expect_whole(planet, run(output, *words))
+    report = (output / "report.html").read_text()
+    assert re.findall(r'data-measure="seconds"><dt>Clock time</dt><dd>([^<]*)<', report) == ["1 h 30 min"]
+    [rate] = re.findall(r'data-figure="rate"><dt>Tiles a second</dt><dd><span class="figure">([^<]*)<', report)
+    assert rate == "0.2"  # (1,024 tiles in 5,400 seconds)
+
+
+def test_clock_of_a_call(planet: Planet, tmp_path: pathlib.Path, shimmed: Shimmed) -> None:
+    """The journal's seconds are no fewer than the tiles take, and no more than a watch has gone on."""
+    began = time.monotonic()
+    it = Run(tmp_path / "out", planet.path, "--workers", 1, "--partition", PARTITION, env=shimmed(2000))
+    it.wait_for_lines(45)
+    took = time.monotonic() - began
+    it.end()
+    clocks = [line["clock"] for line in records(it.output / "journal.jsonl")[1:]]
+    assert clocks == sorted(clocks) and clocks[44] <= took
+    # (of 40 partitions each tile takes two thousandths of a second)
+    assert clocks[44] - clocks[4] >= 40 * PARTITION * 0.002
 
 
 def test_anew(planet: Planet, tmp_path: pathlib.Path, lines: Lines, words: List[object]) -> None:

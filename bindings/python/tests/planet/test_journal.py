@@ -11,13 +11,13 @@ import pytest
 import mvtgate
 from conftest import varint
 from mvtgate import Advice, Fault
-from mvtgate.planet.journal import Journal, JournalError
+from mvtgate.planet.journal import FORMAT, Journal, JournalError, NotWritten
 from mvtgate.planet.records import Extent, Finding, Judged, Partition
 from mvtgate.planet.sources import open_source
 from mvtgate.planet.work import Task, judge
 from planet.runs import VALID, Tile, write_database
 
-RUN: Dict[str, Any] = {"format": 1, "version": "0", "sources": [], "began": "now"}
+RUN: Dict[str, Any] = {"format": FORMAT, "version": "0", "sources": [], "began": "now"}
 WHOLE = Partition(0, 3, (0, 0), (7, 7), 64)
 PARTS = [Partition(0, 3, (column, 0), (column, 7), 8) for column in range(8)]
 SINGLES = [Partition(0, 3, (5, row), (5, row), 1) for row in range(8)]
@@ -36,6 +36,50 @@ def test_first_line_and_what_goes_on(tmp_path: pathlib.Path) -> None:
     assert [json.loads(line) for line in (tmp_path / "journal.jsonl").read_text().splitlines()] == [{"run": RUN}]
     with pytest.raises(JournalError, match="version not the same"):
         opened(tmp_path, version="1")
+
+
+def test_clock_of_all_calls(tmp_path: pathlib.Path) -> None:
+    """What earlier calls took counts up to what they did last, however they ended."""
+    path = str(tmp_path / "journal.jsonl")
+    first = Journal(path, RUN, seconds=1000.0)
+    first.add(Judged(PARTS[0], "a"))
+    first.close()
+    second = Journal(path, RUN, seconds=200.0)
+    assert 1200 <= second.seconds < 1210
+    second.split(PARTS[1], SINGLES)
+    second.close()
+    # (it ended before it did anything)
+    Journal(path, RUN, seconds=70.0).close()
+    fourth = Journal(path, RUN, seconds=5.0)
+    assert 1205 <= fourth.seconds < 1220
+    fourth.close()
+    anew = Journal(path, RUN, is_anew=True, seconds=2.0)
+    assert 2 <= anew.seconds < 10
+    anew.close()
+
+
+def test_what_begins(tmp_path: pathlib.Path) -> None:
+    """It is told before the first line of a run, and not where a run goes on."""
+    path, seen = tmp_path / "journal.jsonl", list[bytes]()
+
+    def begin() -> None:
+        seen.append(path.read_bytes())
+
+    for is_anew, times in ((False, 1), (False, 1), (True, 2), (False, 2)):
+        Journal(str(path), RUN, is_anew, on_begin=begin).close()
+        assert seen == [b""] * times
+
+
+def test_faults_are_counted(tmp_path: pathlib.Path) -> None:
+    fault = Finding(3, 4, 5, fault={"code": 201, "layer": 0})
+    journal = opened(tmp_path)
+    journal.add(Judged(PARTS[0], "a", findings=[fault, Finding(3, 5, 0, error="NULL")]))
+    journal.add(Judged(PARTS[1], "a", findings=[fault, fault]))
+    assert journal.faults == 3
+    journal.close()
+    journal = opened(tmp_path)
+    assert journal.faults == 3
+    journal.close()
 
 
 def test_parts_of_parts(tmp_path: pathlib.Path) -> None:
@@ -107,7 +151,7 @@ def test_no_room(tmp_path: pathlib.Path, room: int) -> None:
     journal.add(Judged(PARTS[0], "a"))
     before = (tmp_path / "journal.jsonl").read_bytes()
     setattr(journal, "_file", Early(getattr(journal, "_file"), room))
-    with pytest.raises(JournalError, match="No space left on device; what was written before stands"):
+    with pytest.raises(NotWritten, match="No space left on device; what was written before stands"):
         journal.add(Judged(PARTS[1], "a"))
     assert journal.partitions() == [PARTS[0]]
     journal.close()
@@ -138,7 +182,7 @@ def test_on_the_disk_before_it_counts(tmp_path: pathlib.Path, monkeypatch: pytes
         raise OSError(5, "Input/output error")
 
     monkeypatch.setattr(os, "fsync", fail)
-    with pytest.raises(JournalError, match="Input/output error"):
+    with pytest.raises(NotWritten, match="Input/output error"):
         journal.add(Judged(PARTS[1], "a"))
     assert journal.partitions() == [PARTS[0]]
     journal.close()

@@ -121,7 +121,7 @@ def test_first_names_are_kept() -> None:
     counts.add(302, "c", 1)
     assert counts.codes() == ((301, 8), (302, 1))
     named = [(Label("a"), 2), (Label("b"), 2)]
-    assert counts.layers(301) == (*named, (Label("others", False), 3), (Label("none", False), 1))
+    assert counts.layers(301) == (*named, (Label("none", False), 1), (Label("others", False), 3))
     assert counts.layers(302) == ((Label("others", False), 1),)
 
 
@@ -129,7 +129,10 @@ def test_a_layer_may_be_named_like_a_label() -> None:
     counts = CountsByCode(Labels(9, "none", "others"))
     counts.add(301, "none", 1)
     counts.add(301, None, 1)
+    counts.add(302, None, 2)
+    counts.add(302, "none", 1)
     assert counts.layers(301) == ((Label("none"), 1), (Label("none", False), 1))
+    assert counts.layers(302) == ((Label("none", False), 2), (Label("none"), 1))
 
 
 def test_slowest_of_equal_ones() -> None:

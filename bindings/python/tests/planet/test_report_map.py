@@ -137,7 +137,7 @@ def test_zooms_are_picked(quiet: Chromium, tmp_path: pathlib.Path) -> None:
     one = MemorySource("one", {(2, 1, 1): Sample.of("point"), (3, 2, 2): Sample.of("key_twice")})
     other = MemorySource("other", {(3, 5, 6): Sample.of("no_step", layer="roads")}, "folder")
     page = opened(quiet, write(tmp_path, one, other))
-    assert page.texts("#map-zoom option") == ["one: zoom 2, 1 tile", "one: zoom 3, 1 tile", "other: zoom 3, 1 tile"]
+    assert page.texts("#map-zoom option") == ["zoom 2, 1 tile of one", "zoom 3, 1 tile of one", "zoom 3, 1 tile of other"]
     page.press("map-view", RIGHT)
     assert cell_said(page) == "Tile 3/5/6: code 406 (Step of no length)."
     page.press("map-zoom", UP)

@@ -12,11 +12,11 @@ import pytest
 
 import mvtgate
 from mvtgate.planet import schedule
-from mvtgate.planet.journal import Journal
+from mvtgate.planet.journal import FORMAT, Journal
 from mvtgate.planet.records import Finding, Judged, Partition
 from mvtgate.planet.schedule import Schedule, Stopped
 from mvtgate.planet.sources import SourceChanged, open_source
-from mvtgate.planet.work import OtherVersion, Task
+from mvtgate.planet.work import Task, UnfitWorker
 from planet.runs import INDEX, VALID, Tile, write_database
 
 FAULT = {"code": 201, "layer": 0}
@@ -107,7 +107,7 @@ class Trial:
         task = Task(self.source.path, self.source.stamp(), extent, "polygon", False, mvtgate.version())
         self.client = Client(answer, workers)
         self.path = folder / "journal.jsonl"
-        self.journal = Journal(str(self.path), {"format": 1, "began": ""})
+        self.journal = Journal(str(self.path), {"format": FORMAT, "began": ""})
         self.done: List[Partition] = []
         self.schedule = Schedule(self.client, lambda _: task, self.journal, self.done.append)
 
@@ -270,7 +270,7 @@ def test_tiles_that_end_workers(tmp_path: pathlib.Path, partition: int, with_all
     assert sorted(trial.schedule.unjudged) == [(Partition(0, 6, (1, row), (1, row), 1), reason) for row in (7, 8, 40)]
     assert sum(it.tiles for it in trial.journal.partitions()) == 61
     trial.journal.close()
-    again = Journal(str(trial.path), {"format": 1, "began": ""})
+    again = Journal(str(trial.path), {"format": FORMAT, "began": ""})
     left = [it for whole in trial.source.partitions(0, partition) for it in again.left(whole)]
     assert [it.first[1] for it in left] == [7, 8, 40]
     again.close()
@@ -305,13 +305,13 @@ def test_other_errors_are_told(tmp_path: pathlib.Path) -> None:
 
     trial = Trial(tmp_path, answer, ["a"])
     trial.run(64)
-    assert trial.schedule.unjudged == [(Partition(0, 6, (1, 9), (1, 9), 1), "RuntimeError: disk I/O error")]
+    assert trial.schedule.unjudged == [(Partition(0, 6, (1, 9), (1, 9), 1), "disk I/O error")]
 
 
 ENDS: List[Tuple[Exception, type]] = [
     (SourceChanged("changed"), SourceChanged),
-    (OtherVersion("other"), OtherVersion),
-    (ModuleNotFoundError("No module named 'mvtgate'"), Stopped),
+    (UnfitWorker("other"), UnfitWorker),
+    (ModuleNotFoundError("No module named 'mvtgate'"), UnfitWorker),
     (concurrent.futures.CancelledError("judge"), Stopped),
 ]
 

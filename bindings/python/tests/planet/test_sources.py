@@ -13,7 +13,7 @@ import pytest
 from mvtgate._files import LIMIT
 from mvtgate.planet.sources import Source, open_source
 from planet.planets import Planet, full_zoom
-from planet.runs import INDEX, SAMPLE, TABLE, VALID, Run, Tile, expect_whole, faults_text, records, run, write_database
+from planet.runs import INDEX, REFUSED, SAMPLE, TABLE, UNJUDGED, VALID, Run, Tile, expect_whole, faults_text, records, run, write_database
 
 FAULT = SAMPLE["crossing_edges"].tile
 VIEW = """
@@ -158,14 +158,14 @@ def test_files_that_cannot_be_judged(tmp_path: pathlib.Path, scheduler: str) -> 
     _put(folder, Tile(1, 0, 0, LARGE))
     (folder / "1/0/1.mvt").mkdir()
     it = run(tmp_path / "out", folder, "--scheduler", scheduler)
-    assert it.process.returncode == 2
+    assert it.process.returncode == UNJUDGED
     told = [(line["row"], line["tms_row"], line["size"], line["error"]) for line in records(it.output / "faults.jsonl")]
     assert told == [(0, 1, LIMIT + 1, f"it is larger than {LIMIT} bytes"), (1, 0, 0, "Is a directory")]
 
 
 def refuse(it: Run, *parts: str) -> None:
     """It said one sentence, and left no folder with results."""
-    assert (it.process.returncode, it.stdout, len(it.said)) == (2, "", 1), it.stderr
+    assert (it.process.returncode, it.stdout, len(it.said)) == (REFUSED, "", 1), it.stderr
     assert it.said[0].startswith("mvtgate-planet: ") and all(part in it.said[0] for part in parts), it.said
     assert not it.output.exists()
 

@@ -1,28 +1,29 @@
 """mvtgate-planet FILE..: judges all tiles of MBTiles files, and of folders with files z/x/y.mvt, on all processors.
 
-What was found is written into a folder: faults.jsonl has a line for each tile that isn't valid, and report.html shows it. Where a
-run was interrupted, the same words go on with it. Exit status 0: all tiles are valid. 1: some aren't. 2: some couldn't be judged
-or confirmed, or the run couldn't go on; standard error says why. 130: it was interrupted.
+What was found is written into a folder: faults.jsonl has a line for each tile that isn't valid, or by --all for each fault of it, and
+report.html shows it. Where a run was interrupted, the same words go on with it. Exit status 0: all tiles are valid. 1: some aren't. 2:
+the run has ended, and some tiles couldn't be judged, or their faults not confirmed. 3: these words, this file or this machine won't do.
+4: the run was interrupted, its scheduler has gone or a disk is full; the same words go on with it. 70: a mistake in this program. From 3
+on standard error says why.
 """
 from __future__ import annotations
 
 import argparse
+import contextlib
 import importlib.util
 import os
 import signal
 import sys
+import traceback
 import warnings
-from typing import Any, List, Optional
+from typing import Any, List, NoReturn, Optional
 
 import mvtgate
 
-from .cluster import NoCluster, default_workers
-from .journal import JournalError
-from .outputs import Counts
-from .schedule import Stopped
+from .cluster import default_workers
+from .endings import Ending, Refused, Status, ending_of
+from .outputs import REPORT, Counts
 from .settings import Settings
-from .sources import NotASource, SourceChanged
-from .work import OtherVersion
 
 _PARTITION = 4000
 # what the module alone doesn't need, and Debian's packages of it
@@ -37,16 +38,25 @@ def positive(word: str) -> int:
     return number
 
 
+class Words(argparse.ArgumentParser):
+    """A parser whose exit status for wrong words is that of a run that is refused."""
+
+    def error(self, message: str) -> NoReturn:
+        self.print_usage(sys.stderr)
+        self.exit(Status.REFUSED, f"{self.prog}: {message}\n")
+
+
 def arguments() -> argparse.ArgumentParser:
     """The words that the command takes."""
     first, _, rest = (__doc__ or "").partition("\n\n")
     description = first.replace("mvtgate-planet FILE..: j", "J")
-    reader = argparse.ArgumentParser(prog="mvtgate-planet", description=description, epilog=rest)
+    reader = Words(prog="mvtgate-planet", description=description, epilog=rest)
     reader.add_argument("--version", action="version", version=f"mvtgate-planet {mvtgate.version()}")
     reader.add_argument("file", nargs="*", metavar="FILE", help="an MBTiles file, or a folder with files z/x/y.mvt (or .pbf)")
     reader.add_argument("--list", metavar="NAMES", help="a file with more of them, one a line")
     reader.add_argument("--output", metavar="FOLDER", help="where the results go (the name of the first FILE, with .mvtgate)")
     reader.add_argument("--profile", choices=("polygon", "feature"), default="polygon", help="what polygons are held against (polygon)")
+    reader.add_argument("--all", action="store_true", help="name each faulty layer and feature of a tile, and not the first one alone")
     reader.add_argument("--advice", action="store_true", help="write advice.jsonl, too: what may be a mistake in a valid tile")
     reader.add_argument("--workers", type=positive, metavar="N", help="workers on this machine (one for each processor)")
     reader.add_argument("--scheduler", metavar="ADDRESS", help="use the workers of this Dask scheduler, such as tcp://host:8786")
@@ -56,16 +66,16 @@ def arguments() -> argparse.ArgumentParser:
 
 
 def paths_of(said: argparse.Namespace) -> List[str]:
-    """The files and folders that are named. NotASource where there is none."""
+    """The files and folders that are named. Refused where there is none."""
     paths: List[str] = list(said.file)
     if said.list is not None:
         try:
             with open(said.list, encoding="utf-8", errors="surrogateescape") as file:
                 paths += [line for line in file.read().split("\n") if line]
         except OSError as error:
-            raise NotASource(f"{said.list}: {error.strerror}") from None
+            raise ending_of(error) from None
     if not paths:
-        raise NotASource("no FILE is named")
+        raise Refused("no FILE is named")
     return paths
 
 
@@ -77,6 +87,7 @@ def settings_of(said: argparse.Namespace) -> Settings:
         output=said.output or f"{os.path.basename(os.path.abspath(paths[0]))}.mvtgate",
         profile=said.profile,
         has_advice=said.advice,
+        has_all=said.all,
         workers=said.workers or default_workers(),
         scheduler=said.scheduler,
         partition=said.partition,
@@ -84,9 +95,11 @@ def settings_of(said: argparse.Namespace) -> Settings:
     )
 
 
-def summary(counts: Counts) -> str:
+def summary(counts: Counts, has_all: bool) -> str:
     """The last line."""
     said = [f"{counts.valid} valid", f"{counts.faulty} with a fault"]
+    if has_all:
+        said.append(f"{counts.faults} fault{'' if counts.faults == 1 else 's'} in all")
     if counts.failed:
         said.append(f"{counts.failed} not judged")
     if counts.unconfirmed:
@@ -94,44 +107,58 @@ def summary(counts: Counts) -> str:
     return f"{counts.tiles} tile{'' if counts.tiles == 1 else 's'}: {', '.join(said)}"
 
 
-def is_complete() -> bool:
-    """Whether all is installed. Otherwise says what isn't."""
+def require_packages() -> None:
+    """Refused where one isn't installed."""
     lacking = [name for name in _NEEDED if importlib.util.find_spec(name) is None]
     if lacking:
         packages = ", ".join(_NEEDED[name] for name in lacking)
-        print(f"mvtgate-planet: not installed: {', '.join(lacking)} (Debian's packages {packages})", file=sys.stderr)
-    return not lacking
+        raise Refused(f"not installed: {', '.join(lacking)} (Debian's packages {packages})")
+
+
+def say(text: str) -> None:
+    """A line on standard error, where somebody reads it. The status is the same where nobody does."""
+    with contextlib.suppress(OSError):
+        print(text, file=sys.stderr, flush=True)
+
+
+def go(said: argparse.Namespace) -> Status:
+    """Does the run, and says what came of it."""
+    require_packages()
+    # (it needs them)
+    from .run import Run
+
+    run = Run(settings_of(said))
+    counts = run.go()
+    say(f"{summary(counts, said.all)}; see {os.path.join(run.settings.output, REPORT)}")
+    if counts.failed or counts.unconfirmed:
+        return Status.UNJUDGED
+    return Status.FAULTY if counts.faulty else Status.VALID
+
+
+def interrupt(*_: Any) -> None:
+    raise KeyboardInterrupt
 
 
 def main(words: Optional[List[str]] = None) -> int:
     """Runs the command and returns its exit status."""
     said = arguments().parse_args(words)
-    if not is_complete():
-        return 2
-    # (these need them)
-    from .report import ReportPartsMissing
-    from .run import Run
-
-    def interrupt(*_: Any) -> None:
-        raise KeyboardInterrupt
-
     signal.signal(signal.SIGTERM, interrupt)
     # (of a call of Dask's that an interrupt ends)
     warnings.filterwarnings("ignore", "coroutine .* was never awaited", RuntimeWarning)
     try:
-        run = Run(settings_of(said))
-        counts = run.go()
-    except (NotASource, SourceChanged, JournalError, NoCluster, Stopped, OtherVersion, ReportPartsMissing) as error:
-        print(f"mvtgate-planet: {error}", file=sys.stderr)
-        return 2
-    except OSError as error:
-        print(f"mvtgate-planet: {error.filename or ''}: {error.strerror or error}", file=sys.stderr)
-        return 2
+        return go(said)
+    except (Ending, OSError) as error:
+        ending = ending_of(error) if isinstance(error, OSError) else error
+        status, reason = ending.status, str(ending)
+    except MemoryError:
+        status, reason = Status.UNFINISHED, "memory was refused; the same words go on with it"
     except KeyboardInterrupt:
-        print("mvtgate-planet: interrupted; the same words go on with it", file=sys.stderr)
-        return 130
-    print(f"{summary(counts)}; see {os.path.join(run.settings.output, 'report.html')}", file=sys.stderr)
-    return 2 if counts.failed or counts.unconfirmed else 1 if counts.faulty else 0
+        status, reason = Status.UNFINISHED, "interrupted; the same words go on with it"
+    except Exception:
+        # (Python's own status for it is that of a fault)
+        status, reason = Status.BROKEN, f"this is a mistake in the program: please report it\n{traceback.format_exc()}"
+    say(f"mvtgate-planet: {reason}")
+    return status
 
 
 if __name__ == "__main__":

@@ -9,18 +9,25 @@ import signal
 from multiprocessing import resource_tracker
 from typing import Any, Dict, Iterable, Iterator, Optional
 
+from .endings import Refused, Unfinished, reason_of
+
 # A partition that ends its worker so often is taken to be the reason. It goes on in smaller parts, so nothing is lost where it
 # wasn't.
 _ALLOWED_FAILURES = 2
 # of this process's own scheduler: what it writes down of each task is for looking for mistakes of its own
 _LINES_OF_SCHEDULER = 1000
-
+# (any port: another run may have the usual one)
+_DASHBOARD = "127.0.0.1:0"
 
 _INTERRUPTS = (signal.SIGINT, signal.SIGTERM)
 
 
-class NoCluster(Exception):
-    """A scheduler that can't be reached, or Dask that isn't installed."""
+class NoScheduler(Unfinished):
+    """A scheduler that can't be reached."""
+
+
+class NoCluster(Refused):
+    """No address of a scheduler, or Dask that isn't installed."""
 
 
 def default_workers() -> int:
@@ -40,7 +47,10 @@ def _uninterrupted() -> Iterator[None]:
 
 @contextlib.contextmanager
 def _cluster_of(distributed: Any, workers: int) -> Iterator[Any]:
-    """So many workers of this machine, which end with it. Neither the one nor the other is left half done."""
+    """So many workers of this machine, which end with it. Neither the one nor the other is left half done.
+
+    All listen on the loopback address alone: who reaches a port of theirs can run any program.
+    """
     # (it lets interrupts through when it begins)
     resource_tracker.ensure_running()
     cluster = None
@@ -49,8 +59,10 @@ def _cluster_of(distributed: Any, workers: int) -> Iterator[Any]:
             cluster = distributed.LocalCluster(
                 n_workers=workers,
                 threads_per_worker=1,
-                # (any port: another run may have the usual one)
-                dashboard_address="127.0.0.1:0",
+                host="127.0.0.1",
+                dashboard_address=_DASHBOARD,
+                # (without an address of its own a worker's is that of all networks)
+                worker_dashboard_address=_DASHBOARD,
                 silence_logs="CRITICAL",
                 preload=[f"{__package__}.preload"],
             )
@@ -59,6 +71,18 @@ def _cluster_of(distributed: Any, workers: int) -> Iterator[Any]:
         if cluster is not None:
             with _uninterrupted():
                 cluster.close()
+
+
+def _expect_address(scheduler: str) -> None:
+    """NoCluster where it is no address. (A client that was given none would complain when it goes.)"""
+    addressing: Any = importlib.import_module("distributed.comm.addressing")
+    registry: Any = importlib.import_module("distributed.comm.registry")
+    try:
+        scheme, place = addressing.parse_address(scheduler)
+        registry.get_backend(scheme)
+        addressing.parse_host_port(place)
+    except ValueError:
+        raise NoCluster(f"{scheduler} is no address of a scheduler, such as tcp://host:8786") from None
 
 
 @contextlib.contextmanager
@@ -96,11 +120,12 @@ def client_of(scheduler: Optional[str], workers: int) -> Iterator[Any]:
             stack.enter_context(dask.config.set(settings))
             place: Any = stack.enter_context(_cluster_of(distributed, workers))
         else:
+            _expect_address(scheduler)
             place = scheduler
         try:
             client = distributed.Client(place, set_as_default=False)
-        except (OSError, ValueError) as error:
-            raise NoCluster(f"{scheduler}: {error}") from None
+        except OSError as error:
+            raise NoScheduler(f"{scheduler}: {reason_of(error)}") from None
         yield stack.enter_context(client)
 
 

@@ -1,7 +1,8 @@
 """The journal of a run: a line of JSON for each partition that is done, with all that was found in it.
 
 What is done and what was found are one line, which is on the disk before the run goes on, so they can't come apart. The first
-line says of which run it is. A line that was cut off in the middle of a write is no line, and is taken away.
+line says of which run it is. Each later one has the seconds that all calls took until then, so that a run which goes on knows
+those of the earlier ones, however they ended. A line that was cut off in the middle of a write is no line, and is taken away.
 """
 from __future__ import annotations
 
@@ -9,42 +10,69 @@ import errno
 import fcntl
 import json
 import os
-from typing import Any, BinaryIO, Dict, Iterator, List
+import time
+from typing import Any, BinaryIO, Callable, Dict, Iterator, List
 
+from .endings import Refused, Unfinished, ending_of
 from .records import Judged, Partition
 
-FORMAT = 1
+FORMAT = 2
 
 
-class JournalError(Exception):
-    """A journal that can't be gone on with, or not be written, with the reason."""
+class JournalError(Refused):
+    """A journal that can't be gone on with, with the reason."""
+
+
+class NotWritten(Unfinished):
+    """A journal that a line couldn't be added to, with the reason."""
 
 
 class Journal:
-    """Opened for one run alone. `done` and `splits` are what it has; the lines themselves stay in the file."""
+    """Opened for one call alone, which began `seconds` ago by the clock. The lines themselves stay in the file.
 
-    def __init__(self, path: str, run: Dict[str, Any], is_anew: bool = False) -> None:
+    `faults` is how many tiles with a fault it has. `on_begin` is called where the run begins, before anything is written, and not
+    where it goes on.
+    """
+
+    def __init__(
+        self,
+        path: str,
+        run: Dict[str, Any],
+        is_anew: bool = False,
+        seconds: float = 0.0,
+        on_begin: Callable[[], None] = lambda: None,
+    ) -> None:
         self.path = path
+        self.faults = 0
         self._done: Dict[Partition, int] = {}
         self._splits: Dict[Partition, List[Partition]] = {}
         self._file = self._open()
         self._end = 0
+        self._earlier = 0.0
+        self._began = time.monotonic() - seconds
         try:
-            if is_anew:
-                os.ftruncate(self._file.fileno(), 0)
-            self._read(run)
-            os.ftruncate(self._file.fileno(), self._end)
-            if self._end == 0:
-                self._write({"run": run})
+            self._begin(run, is_anew, on_begin)
+        except OSError as error:
+            self.close()
+            raise ending_of(error, path) from None
         except BaseException:
             self.close()
             raise
+
+    def _begin(self, run: Dict[str, Any], is_anew: bool, on_begin: Callable[[], None]) -> None:
+        if is_anew:
+            os.ftruncate(self._file.fileno(), 0)
+        self._read(run)
+        os.ftruncate(self._file.fileno(), self._end)
+        if self._end == 0:
+            on_begin()
+            self._write({"run": run})
 
     def _open(self) -> BinaryIO:
         try:
             file = open(self.path, "a+b", buffering=0)
         except OSError as error:
-            raise JournalError(f"{self.path}: {error.strerror}") from None
+            raise ending_of(error, self.path) from None
         try:
             fcntl.flock(file, fcntl.LOCK_EX | fcntl.LOCK_NB)
         except OSError as error:
@@ -69,10 +97,13 @@ class Journal:
             raise ValueError(members)
         if self._end == 0:
             self._expect(members, run)
-        elif "judged" in members:
+            return
+        if "judged" in members:
             self._done[Partition.of(members["judged"]["partition"])] = self._end
+            self.faults += sum(it["fault"] is not None for it in members["judged"]["findings"])
         else:
             self._splits[Partition.of(members["split"])] = [Partition.of(it) for it in members["into"]]
+        self._earlier = float(members["clock"])
 
     def _expect(self, members: Dict[str, Any], run: Dict[str, Any]) -> None:
         """The run that is gone on with has to be this one, but for the time when it began."""
@@ -96,19 +127,20 @@ class Journal:
                 left = left[self._file.write(left) :]
             os.fsync(self._file.fileno())
         except OSError as error:
-            raise JournalError(f"{self.path}: {error.strerror}; what was written before stands") from None
+            raise NotWritten(f"{self.path}: {error.strerror}; what was written before stands") from None
         self._end += len(line)
 
     def add(self, judged: Judged) -> None:
         """A partition is done."""
         at = self._end
         assert judged.partition not in self._done
-        self._write({"judged": judged.members()})
+        self._write({"judged": judged.members(), "clock": self._clock()})
         self._done[judged.partition] = at
+        self.faults += len(judged.faults)
 
     def split(self, partition: Partition, into: List[Partition]) -> None:
         """A partition goes on as these parts, also in a later run."""
-        self._write({"split": partition.members(), "into": [it.members() for it in into]})
+        self._write({"split": partition.members(), "into": [it.members() for it in into], "clock": self._clock()})
         self._splits[partition] = into
 
     def left(self, partition: Partition) -> Iterator[Partition]:
@@ -118,6 +150,14 @@ class Journal:
                 yield from self.left(it)
         elif partition not in self._done:
             yield partition
+
+    @property
+    def seconds(self) -> float:
+        """How long this call and all earlier ones took, by the clock."""
+        return self._earlier + time.monotonic() - self._began
+
+    def _clock(self) -> float:
+        return round(self.seconds, 3)
 
     @property
     def tiles(self) -> int:

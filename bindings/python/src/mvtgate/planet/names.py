@@ -91,3 +91,49 @@ def names_of(tile: bytes, fault: Fault) -> Tuple[Optional[str], Optional[int]]:
 def _id_of(feature: memoryview) -> Optional[int]:
     found = next((it for it in _payloads(feature, _ID) if isinstance(it, int)), None)
     return found if found is None or found < 1 << 64 else None
+
+
+class _Walk:
+    """The payloads of the fields of a number, for indices that don't get less."""
+
+    def __init__(self, message: memoryview, number: int) -> None:
+        self._left = (it for it in _payloads(message, number) if isinstance(it, memoryview))
+        self._taken = 0
+        self._last: Optional[memoryview] = None
+
+    def at(self, index: int) -> Optional[memoryview]:
+        """The payload of the field that occurs `index` times before it."""
+        if index >= self._taken:
+            self._last = next(itertools.islice(self._left, index - self._taken, None), None)
+            self._taken = index + 1
+        return self._last
+
+
+class Names:
+    """The same for many faults of one tile, in the order of faults, by two walks over it: for those of layers, and of features."""
+
+    def __init__(self, tile: bytes) -> None:
+        self._tile = memoryview(tile)
+        self._layers = _Walk(self._tile, _LAYER)
+        self._at = -1
+        self._name: Optional[str] = None
+        self._features: Optional[_Walk] = None
+
+    def of(self, fault: Fault) -> Tuple[Optional[str], Optional[int]]:
+        """What `names_of` says of the fault."""
+        # (of two layers with one name the second one, since the order goes by it)
+        index = fault.second if fault.code == 202 else fault.layer
+        if not isinstance(index, int):
+            return None, None
+        if index != self._at:
+            self._go_to(index)
+        feature = None if self._features is None or fault.feature is None else self._features.at(fault.feature)
+        return self._name, None if feature is None else _id_of(feature)
+
+    def _go_to(self, index: int) -> None:
+        if index < self._at:
+            self._layers = _Walk(self._tile, _LAYER)
+        self._at = index
+        layer = self._layers.at(index)
+        self._name = None if layer is None else _name_of(layer)
+        self._features = None if layer is None else _Walk(layer, _FEATURE)

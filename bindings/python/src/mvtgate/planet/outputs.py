@@ -1,17 +1,21 @@
-"""What a run leaves: faults.jsonl, advice.jsonl, report.html, and the counts of its last line."""
+"""What a run leaves: faults.jsonl, advice.jsonl, report.html with its page, and the counts of its last line."""
 from __future__ import annotations
 
 import contextlib
 import json
 import os
 from dataclasses import dataclass
-from typing import IO, Any, Dict, Iterator, List, Optional, Protocol, Sequence, Tuple
+from typing import Any, Dict, Iterator, List, Optional, Protocol, Sequence, Tuple
 
 from .. import _words
+from .further import OneFault
 from .journal import Journal
 from .records import Finding, Judged, Partition, Place
+from .settings import Settings
 from .sources import Source
+from .whole_file import WholeFile
 
+FAULTS, ADVICE, REPORT, PAGE = "faults.jsonl", "advice.jsonl", "report.html", "page.html"
 
 # (`json.dumps` makes a coder for each line where it isn't told the usual)
 _json_of = json.JSONEncoder(ensure_ascii=False).encode
@@ -29,10 +33,11 @@ class Report(Protocol):
 
 @dataclass
 class Counts:
-    """Of all tiles. `unconfirmed` are faults that the checker didn't confirm."""
+    """Of all tiles, and of all faults that were asked for. `unconfirmed` are tiles whose first fault the checker didn't confirm."""
 
     tiles: int = 0
     faulty: int = 0
+    faults: int = 0
     failed: int = 0
     unconfirmed: int = 0
 
@@ -45,6 +50,7 @@ class Counts:
         self.tiles += judged.partition.tiles
         for it in judged.findings:
             self.faulty += it.fault is not None
+            self.faults += it.count
             self.failed += it.fault is None
             self.unconfirmed += it.fault is not None and it.confirmed is not True
 
@@ -54,19 +60,12 @@ class Counts:
         self.failed += partition.tiles
 
 
-@contextlib.contextmanager
-def whole_file(path: str) -> Iterator[IO[str]]:
-    """A file that is there when all of it is."""
-    part = f"{path}.part"
-    try:
-        # (of a path that is no text, bytes are written as JSON's \\udc80 and so on)
-        with open(part, "w", encoding="utf-8", errors="backslashreplace") as file:
-            yield file
-        os.replace(part, path)
-    except BaseException:
-        with contextlib.suppress(OSError):
-            os.remove(part)
-        raise
+def remove_outputs(folder: str) -> None:
+    """Removes what another run has left, so that nobody takes it for what this one finds."""
+    for name in (FAULTS, ADVICE, REPORT, PAGE):
+        for left in (name, f"{name}.part"):
+            with contextlib.suppress(FileNotFoundError):
+                os.remove(os.path.join(folder, left))
 
 
 def place_of(partition: Partition, source: Source, column: int, row: int) -> Dict[str, Any]:
@@ -75,20 +74,31 @@ def place_of(partition: Partition, source: Source, column: int, row: int) -> Dic
     return {"source": source.path, "zoom": place.zoom, "column": column, "row": row, "tms_row": place.tms_row}
 
 
+def _about(it: OneFault) -> Dict[str, Any]:
+    """What a line says of a fault."""
+    sentence = _words.fill(_words.words_of_fault(it.fault["code"])["sentence"], it.fault)
+    return {"layer": it.layer, "feature_id": it.feature_id, "fault": it.fault, "sentence": sentence}
+
+
 def line_of(partition: Partition, source: Source, it: Finding) -> Dict[str, Any]:
     """The line of a tile that isn't valid, or wasn't judged."""
     line = {**place_of(partition, source, it.column, it.row), "size": it.size}
     if it.fault is None:
         return {**line, "error": it.error}
-    return {
-        **line,
-        "seconds": it.seconds,
-        "layer": it.layer,
-        "feature_id": it.feature_id,
-        "fault": it.fault,
-        "sentence": _words.fill(_words.words_of_fault(it.fault["code"])["sentence"], it.fault),
-        "confirmed": it.confirmed,
-    }
+    about = _about(OneFault(it.fault, it.layer, it.feature_id))
+    faulty: Dict[str, Any] = {**line, "seconds": it.seconds, **about, "confirmed": it.confirmed}
+    return faulty if it.format is None else {**faulty, "format": it.format}
+
+
+def lines_of(partition: Partition, source: Source, it: Finding) -> Iterator[Dict[str, Any]]:
+    """The lines of a tile where all faults are asked for: one for each, with its number and how many there are."""
+    line = line_of(partition, source, it)
+    if it.fault is None:
+        yield line
+        return
+    yield {**line, "number": 0, "faults": it.count}
+    for number, further in enumerate(it.further.each() if it.further else (), 1):
+        yield {**line, **_about(further), "confirmed": None, "number": number, "faults": it.count}
 
 
 def unjudged_line(partition: Partition, source: Source, reason: str) -> Dict[str, Any]:
@@ -102,34 +112,52 @@ def advice_line(partition: Partition, source: Source, it: Dict[str, Any]) -> Dic
     return {**place_of(partition, source, it["column"], it["row"]), "count": it["count"], "advice": it["advice"]}
 
 
+class _Lines:
+    """faults.jsonl and advice.jsonl, as far as they are asked for."""
+
+    def __init__(self, settings: Settings, files: contextlib.ExitStack) -> None:
+        self._has_all = settings.has_all
+        self._faults = files.enter_context(WholeFile(os.path.join(settings.output, FAULTS)))
+        self._advice = files.enter_context(WholeFile(os.path.join(settings.output, ADVICE))) if settings.has_advice else None
+
+    def add(self, judged: Judged, source: Source) -> None:
+        """Those of a partition that was judged."""
+        for it in judged.findings:
+            lines = lines_of(judged.partition, source, it) if self._has_all else [line_of(judged.partition, source, it)]
+            for line in lines:
+                _write(self._faults, line)
+        for one in judged.advice if self._advice is not None else ():
+            _write(self._advice, advice_line(judged.partition, source, one))
+
+    def add_unjudged(self, partition: Partition, source: Source, reason: str) -> None:
+        """Those of a partition that no worker could judge."""
+        # (all of its tiles are at one place)
+        for _ in range(partition.tiles):
+            _write(self._faults, unjudged_line(partition, source, reason))
+
+
 def write_outputs(
-    folder: str, journal: Journal, unjudged: List[Tuple[Partition, str]], sources: Sequence[Source], report: Report, has_advice: bool
+    settings: Settings, journal: Journal, unjudged: List[Tuple[Partition, str]], sources: Sequence[Source], report: Report
 ) -> Counts:
     """Writes faults.jsonl and advice.jsonl in the order of the tiles, and hands all to the report."""
     counts = Counts()
     reasons = dict(unjudged)
     with contextlib.ExitStack() as files:
-        faults = files.enter_context(whole_file(os.path.join(folder, "faults.jsonl")))
-        advice = files.enter_context(whole_file(os.path.join(folder, "advice.jsonl"))) if has_advice else None
+        lines = _Lines(settings, files)
         for partition in sorted([*journal.partitions(), *reasons]):
             source = sources[partition.source]
             if partition in reasons:
-                # (all of its tiles are at one place)
-                for _ in range(partition.tiles):
-                    _write(faults, unjudged_line(partition, source, reasons[partition]))
+                lines.add_unjudged(partition, source, reasons[partition])
                 counts.fail(partition)
                 report.add_unjudged(partition, reasons[partition])
                 continue
             judged = journal.judged(partition)
-            for it in judged.findings:
-                _write(faults, line_of(partition, source, it))
-            for one in judged.advice if advice else ():
-                _write(advice, advice_line(partition, source, one))
+            lines.add(judged, source)
             counts.add(judged)
             report.add(judged)
     return counts
 
 
-def _write(file: Optional[IO[str]], line: Dict[str, Any]) -> None:
+def _write(file: Optional[WholeFile], line: Dict[str, Any]) -> None:
     assert file is not None
     file.write(_json_of(line) + "\n")

@@ -9,6 +9,8 @@ import functools
 from dataclasses import dataclass, field
 from typing import Any, Dict, List, Mapping, Optional, Tuple
 
+from .further import Further
+
 # A cell of the report's map is a block of tiles, so that a zoom has at most this many cells in a row or column.
 CELLS = 256
 
@@ -89,7 +91,9 @@ class Finding:
     """A tile that isn't valid: it has a fault, or couldn't be judged, for which `error` says why.
 
     `size` is that of the bytes that were judged, or those that are stored where there are none. `seconds` is the processor's time
-    for judging it. `layer` is the name of the fault's layer and `feature_id` the id of its feature, where it has them.
+    for judging it. `layer` is the name of the fault's layer and `feature_id` the id of its feature, where it has them. `format` is
+    the name of another format, where the bytes are no tile and begin as its files do. `further` has the tile's other faults, where all
+    are asked for, none of which is confirmed.
     """
 
     column: int
@@ -101,6 +105,25 @@ class Finding:
     layer: Optional[str] = None
     feature_id: Optional[int] = None
     confirmed: Optional[bool] = None
+    format: Optional[str] = None
+    further: Optional[Further] = None
+
+    @classmethod
+    def of(cls, members: Mapping[str, Any]) -> Finding:
+        """That of a line of the journal."""
+        found = cls(**members)
+        if found.further is not None:
+            found.further = Further.of(members["further"])
+        return found
+
+    def members(self) -> Dict[str, Any]:
+        """What the journal's line has."""
+        return {**vars(self), "further": None if self.further is None else vars(self.further)}
+
+    @property
+    def count(self) -> int:
+        """How many faults of the tile are known."""
+        return int(self.fault is not None) + (0 if self.further is None else self.further.count)
 
 
 @dataclass(frozen=True)
@@ -138,7 +161,7 @@ class Judged:
         # (`asdict` would copy each fault, at several times the cost of writing it)
         of_types: Dict[str, Any] = {
             "partition": self.partition.members(),
-            "findings": [vars(it) for it in self.findings],
+            "findings": [it.members() for it in self.findings],
             "slowest": [vars(it) for it in self.slowest],
         }
         return {**vars(self), **of_types}
@@ -149,7 +172,7 @@ class Judged:
         of_types: Dict[str, Any] = {
             "partition": Partition.of(members["partition"]),
             "cells": [tuple(it) for it in members["cells"]],
-            "findings": [Finding(**it) for it in members["findings"]],
+            "findings": [Finding.of(it) for it in members["findings"]],
             "slowest": [Timed(**it) for it in members["slowest"]],
         }
         return cls(**{**members, **of_types})

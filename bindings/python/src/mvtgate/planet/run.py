@@ -4,7 +4,6 @@ from __future__ import annotations
 import datetime
 import itertools
 import os
-import shutil
 import time
 import uuid
 from dataclasses import asdict
@@ -12,9 +11,11 @@ from typing import Any, Dict, Iterator, List, Tuple
 
 import mvtgate
 
+from .attendance import Attendance
 from .cluster import client_of
+from .endings import ending_of
 from .journal import FORMAT, Journal
-from .outputs import Counts, write_outputs
+from .outputs import PAGE, REPORT, Counts, remove_outputs, write_outputs
 from .page import built_page
 from .progress import Progress
 from .records import Extent, Partition
@@ -22,6 +23,7 @@ from .report import Report, require_parts
 from .schedule import Schedule
 from .settings import Settings
 from .sources import NotASource, Source, open_source
+from .whole_file import WholeFile
 from .work import Task
 
 
@@ -50,6 +52,7 @@ class Run:
             "version": mvtgate.version(),
             "profile": self.settings.profile,
             "advice": self.settings.has_advice,
+            "all": self.settings.has_all,
             "partition": self.settings.partition,
             "sources": [
                 {
@@ -74,6 +77,7 @@ class Run:
             self.settings.has_advice,
             self._members["version"],
             self._name,
+            self.settings.has_all,
         )
 
     def _left(self, journal: Journal) -> Iterator[Partition]:
@@ -84,14 +88,23 @@ class Run:
 
     def go(self) -> Counts:
         """Does the run, and writes what was found."""
-        os.makedirs(self.settings.output, exist_ok=True)
-        journal = Journal(os.path.join(self.settings.output, "journal.jsonl"), self._members, self.settings.is_anew)
-        before = journal.tiles
+        journal = self._journal()
         try:
             unjudged, workers = self._judge(journal)
-            return self._write(journal, unjudged, workers, before)
+            return self._write(journal, unjudged, workers)
         finally:
             journal.close()
+
+    def _journal(self) -> Journal:
+        """That of the folder. Where the run begins, what another one has left is removed."""
+        folder = self.settings.output
+        try:
+            os.makedirs(folder, exist_ok=True)
+        except OSError as error:
+            raise ending_of(error) from None
+        seconds = time.monotonic() - self._began
+        path = os.path.join(folder, "journal.jsonl")
+        return Journal(path, self._members, self.settings.is_anew, seconds, lambda: remove_outputs(folder))
 
     def _judge(self, journal: Journal) -> Tuple[List[Tuple[Partition, str]], int]:
         """Those that can't be judged, with the reasons, and how many workers there were."""
@@ -99,25 +112,35 @@ class Run:
         first = next(left, None)
         if first is None:
             return [], 0
-        progress = Progress(self._tiles, journal.tiles)
+        progress, attendance = Progress(self._tiles, journal.tiles), Attendance()
+
+        def look(workers: int) -> None:
+            news = attendance.news(workers)
+            progress.add(0, attendance.standing(journal.faults))
+            for it in news:
+                progress.tell(it)
+
+        def take(partition: Partition) -> None:
+            progress.add(partition.tiles, attendance.standing(journal.faults))
+
         try:
-            with client_of(self.settings.scheduler, self.settings.workers) as client:
-                schedule = Schedule(client, self._task_of, journal, lambda it: progress.add(it.tiles))
+            with client_of(self.settings.scheduler, self.settings.workers) as client, attendance.hearing(client):
+                schedule = Schedule(client, self._task_of, journal, take, look)
                 schedule.run(itertools.chain([first], left))
                 return schedule.unjudged, schedule.most_workers
         finally:
             progress.close()
 
-    def _write(self, journal: Journal, unjudged: List[Tuple[Partition, str]], workers: int, before: int) -> Counts:
-        """Writes what was found. So many tiles were judged before, by an earlier run."""
+    def _write(self, journal: Journal, unjudged: List[Tuple[Partition, str]], workers: int) -> Counts:
+        """Writes what was found, by this call and the earlier ones."""
         for source, stamp in zip(self._sources, self._stamps):
             source.check(stamp)
         report = Report(self._members, self._sources)
-        counts = write_outputs(self.settings.output, journal, unjudged, self._sources, report, self.settings.has_advice)
+        counts = write_outputs(self.settings, journal, unjudged, self._sources, report)
         page = built_page()
         if page is not None:
-            shutil.copyfile(page, os.path.join(self.settings.output, "page.html"))
-        path = os.path.join(self.settings.output, "report.html")
-        seconds, tiles = time.monotonic() - self._began, counts.tiles - before
-        report.write(path, seconds, workers, page="page.html" if page else None, tiles=tiles)
+            with WholeFile(os.path.join(self.settings.output, PAGE)) as file:
+                file.write(page.read_bytes().decode())
+        path = os.path.join(self.settings.output, REPORT)
+        report.write(path, journal.seconds, workers, page=PAGE if page else None)
         return counts

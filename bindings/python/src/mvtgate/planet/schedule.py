@@ -19,10 +19,11 @@ from typing import Any, Callable, Deque, Dict, Iterator, List, Optional, Set, Tu
 import mvtgate
 
 from .cluster import versions_of
+from .endings import Unfinished, reason_of
 from .journal import Journal
 from .records import Judged, Partition
 from .sources import SourceChanged
-from .work import OtherVersion, Task, confirm, judge
+from .work import Task, UnfitWorker, confirm, judge
 
 # partitions under way for each thread of a worker, and parts of one that can't be done
 _WINDOW = 4
@@ -35,10 +36,11 @@ _TICK = 1.0
 _PATIENCE = 30.0
 
 _GONE = "the scheduler has gone, and with it what was under way; the same words go on"
+_ENDED = "the worker that judged it ended, each time"
 
 
-class Stopped(Exception):
-    """A run that can't go on, with the reason. What is in the journal stands."""
+class Stopped(Unfinished):
+    """A run whose scheduler has gone."""
 
 
 @dataclass
@@ -52,15 +54,24 @@ class _UnderWay:
 
 
 class Schedule:
-    """Does what is left of a run. `unjudged` are the single tiles that can't be judged, each with the reason."""
+    """Does what is left of a run. `unjudged` are the single tiles that can't be judged, each with the reason.
+
+    `on_done` is told of each partition that is done, and `on_look` each second how many workers there are.
+    """
 
     def __init__(
-        self, client: Any, task_of: Callable[[Partition], Task], journal: Journal, on_done: Callable[[Partition], None]
+        self,
+        client: Any,
+        task_of: Callable[[Partition], Task],
+        journal: Journal,
+        on_done: Callable[[Partition], None],
+        on_look: Callable[[int], None] = lambda _: None,
     ) -> None:
         self._client = client
         self._task_of = task_of
         self._journal = journal
         self._on_done = on_done
+        self._on_look = on_look
         self._name = uuid.uuid4().hex
         self._ended: queue.Queue[Tuple[Any, Any, Optional[Exception]]] = queue.Queue()
         self._under_way: Dict[Any, _UnderWay] = {}
@@ -93,11 +104,16 @@ class Schedule:
         if time.monotonic() - self._looked < _TICK:
             return
         self._expect_scheduler()
-        workers = self._client.scheduler_info()["workers"]
-        self._threads = {address: it["nthreads"] for address, it in workers.items()}
+        try:
+            workers = self._client.scheduler_info()["workers"]
+            self._threads = {address: it["nthreads"] for address, it in workers.items()}
+            self._ask_new_workers()
+        except OSError:
+            # (of a connection that has ended)
+            raise Stopped(_GONE) from None
         self.most_workers = max(self.most_workers, len(self._threads))
-        self._ask_new_workers()
         self._looked = time.monotonic()
+        self._on_look(len(self._threads))
         if len(self._threads) > 1:
             self._several = self._looked
         waiting, self._waiting = self._waiting, []
@@ -115,12 +131,12 @@ class Schedule:
             raise Stopped(_GONE)
 
     def _ask_new_workers(self) -> None:
-        """OtherVersion where one of them can't do the work."""
+        """UnfitWorker where one of them can't do the work."""
         new = self._threads.keys() - self._asked
         self._asked |= new
         for worker, version in versions_of(self._client, new).items() if new else ():
             if version != mvtgate.version():
-                raise OtherVersion(f"worker {worker} has mvtgate {version}, and the run {mvtgate.version()}")
+                raise UnfitWorker(f"worker {worker} has mvtgate {version}, and the run {mvtgate.version()}")
 
     def _fill(self, partitions: Iterator[Partition]) -> None:
         """Hands out partitions until enough are under way."""
@@ -205,10 +221,10 @@ class Schedule:
 
     def _fail(self, it: _UnderWay, error: BaseException) -> None:
         """What becomes of a partition whose call ended with an error."""
-        if isinstance(error, (SourceChanged, OtherVersion)):
+        if isinstance(error, (SourceChanged, UnfitWorker)):
             raise error
         if isinstance(error, ImportError):
-            raise Stopped(f"a worker lacks a part of the program: {error}")
+            raise UnfitWorker(f"a worker lacks a part of the program: {error}")
         # (two tiles at one place stay together)
         parts = self._parts(it.partition) if it.partition.tiles > 1 else []
         if len(parts) > 1:
@@ -221,7 +237,7 @@ class Schedule:
             self._journal.add(it.judged)
             self._on_done(it.partition)
         else:
-            self.unjudged.append((it.partition, _reason(error)))
+            self.unjudged.append((it.partition, _ENDED if _is_ended(error) else reason_of(error)))
             self._on_done(it.partition)
 
     def _parts(self, partition: Partition) -> List[Partition]:
@@ -232,9 +248,3 @@ class Schedule:
 def _is_ended(error: BaseException) -> bool:
     """Whether workers have ended while they had the call."""
     return type(error).__name__ == "KilledWorker"
-
-
-def _reason(error: BaseException) -> str:
-    if _is_ended(error):
-        return "the worker that judged it ended, each time"
-    return f"{type(error).__name__}: {error}"

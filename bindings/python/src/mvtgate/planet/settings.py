@@ -13,6 +13,7 @@ class Settings:
     output: str
     profile: str
     has_advice: bool
+    has_all: bool
     workers: int
     scheduler: Optional[str]
     partition: int

@@ -1,13 +1,18 @@
-"""The bytes of a tile out of those that are stored: by gzip, by zlib, or as they are."""
+"""The bytes of a tile out of those that are stored: by gzip, by zlib, by Zstandard, or as they are."""
 from __future__ import annotations
 
+import importlib
 import zlib
+from typing import Any, List
 
 from .._files import LIMIT
 
 _GZIP = b"\x1f\x8b"
+_ZSTD = b"\x28\xb5\x2f\xfd"
 # (zlib's numbers for a stream with gzip's or with zlib's own head)
 _GZIP_BITS, _ZLIB_BITS = 31, 15
+# (a block of Zstandard has 128 KiB at most and may take 4 bytes, so that so many bytes give 32 MiB)
+_ZSTD_STEP = 1024
 
 
 class NotUnpacked(ValueError):
@@ -22,19 +27,48 @@ def _has_zlib_head(stored: bytes) -> bool:
     return stored[:1] == b"\x78" and len(stored) > 1 and not stored[1] & 32 and int.from_bytes(stored[:2], "big") % 31 == 0
 
 
+def _check_end(name: str, is_ended: bool, left: int) -> None:
+    """NotUnpacked where a stream is cut, or isn't the last of the bytes."""
+    if not is_ended:
+        raise NotUnpacked(f"the {name} stream is cut")
+    if left:
+        raise NotUnpacked(f"there are {left} bytes after the end of the {name} stream")
+
+
+def _check_size(size: int) -> None:
+    if size > LIMIT:
+        raise NotUnpacked(f"it is larger than {LIMIT} bytes")
+
+
 def _inflated(stored: bytes, bits: int, name: str) -> bytes:
     stream = zlib.decompressobj(bits)
     try:
         tile = stream.decompress(stored, LIMIT + 1)
     except zlib.error as error:
         raise NotUnpacked(f"the {name} stream is broken: {error}") from None
-    if len(tile) > LIMIT:
-        raise NotUnpacked(f"it is larger than {LIMIT} bytes")
-    if not stream.eof:
-        raise NotUnpacked(f"the {name} stream is cut")
-    if stream.unused_data:
-        raise NotUnpacked(f"there are {len(stream.unused_data)} bytes after the end of the {name} stream")
+    _check_size(len(tile))
+    _check_end(name, stream.eof, len(stream.unused_data))
     return tile
+
+
+def _of_zstd(stored: bytes) -> bytes:
+    try:
+        zstandard: Any = importlib.import_module("zstandard")
+    except ImportError:
+        raise NotUnpacked("it is packed by Zstandard, and zstandard isn't installed (Debian's package python3-zstandard)") from None
+    stream: Any = zstandard.ZstdDecompressor().decompressobj()
+    parts: List[bytes] = []
+    size = at = 0
+    try:
+        while at < len(stored) and not stream.eof:
+            parts.append(stream.decompress(stored[at : at + _ZSTD_STEP]))
+            at += _ZSTD_STEP
+            size += len(parts[-1])
+            _check_size(size)
+    except zstandard.ZstdError as error:
+        raise NotUnpacked(f"the Zstandard stream is broken: {error}") from None
+    _check_end("Zstandard", stream.eof, len(stream.unused_data) + max(0, len(stored) - at))
+    return b"".join(parts)
 
 
 def unpacked(stored: bytes) -> bytes:
@@ -43,6 +77,7 @@ def unpacked(stored: bytes) -> bytes:
         return _inflated(stored, _GZIP_BITS, "gzip")
     if _has_zlib_head(stored):
         return _inflated(stored, _ZLIB_BITS, "zlib")
-    if len(stored) > LIMIT:
-        raise NotUnpacked(f"it is larger than {LIMIT} bytes")
+    if stored[:4] == _ZSTD:
+        return _of_zstd(stored)
+    _check_size(len(stored))
     return stored

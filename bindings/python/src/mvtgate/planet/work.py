@@ -10,11 +10,14 @@ import json
 import sys
 import time
 from dataclasses import asdict, dataclass
-from typing import Any, Dict, List, Optional, Tuple
+from typing import Any, Dict, Iterator, List, Optional, Tuple
 
 import mvtgate
 
-from .._faults import Fault
+from .. import _library
+from .._faults import fault_of_library
+from .endings import Refused
+from .further import Further
 from .names import names_of
 from .records import Extent, Finding, Judged, Partition, Timed
 from .sources import NotASource, Source, SourceChanged, Stored, open_source
@@ -25,8 +28,8 @@ _SLOWEST = 10
 _MOST_ADVICE = 20
 
 
-class OtherVersion(Exception):
-    """A worker whose version of this package isn't that of the run."""
+class UnfitWorker(Refused):
+    """A worker with another version of this package than the run's, or without a part of it."""
 
 
 @dataclass(frozen=True)
@@ -41,15 +44,16 @@ class Task:
     version: str
     # (a worker may outlive a run: what it opened for one isn't taken for another)
     run: str = ""
+    has_all: bool = False
 
     @property
     def of_profile(self) -> mvtgate.Profile:
         return mvtgate.Profile[self.profile.upper()]
 
     def source(self) -> Source:
-        """The source, opened. SourceChanged where it isn't that of the run, OtherVersion where this worker isn't."""
+        """The source, opened. SourceChanged where it isn't that of the run, UnfitWorker where this worker isn't."""
         if mvtgate.version() != self.version:
-            raise OtherVersion(f"worker {_worker_name()} has mvtgate {mvtgate.version()}, and the run {self.version}")
+            raise UnfitWorker(f"worker {_worker_name()} has mvtgate {mvtgate.version()}, and the run {self.version}")
         try:
             source = _opened(self.path, self.run)
         except NotASource as error:
@@ -108,7 +112,8 @@ class _Judging:
 
     def _judge(self, stored: Stored, tile: bytes) -> None:
         began = time.thread_time_ns()
-        fault = mvtgate.check(tile, self._profile)
+        # (quickly, so that no tile holds a worker for long)
+        told = _library.faults(self._profile, tile, True) if self._task.has_all else _library.check(self._profile, tile, True)
         seconds = (time.thread_time_ns() - began) / 1e9
         self.judged.unpacked += len(tile)
         keep = heapq.heappush if len(self._slowest) < _SLOWEST else heapq.heappushpop
@@ -116,16 +121,17 @@ class _Judging:
         # (first, since memory may be refused, and a tile has one finding)
         if self._task.advice:
             self._advise(stored, tile)
-        if fault is not None:
-            self._find(stored, tile, fault, seconds)
+        if told:
+            self._find(stored, tile, _library.lines_of(told), seconds)
 
-    def _find(self, stored: Stored, tile: bytes, fault: Fault, seconds: float) -> None:
+    def _find(self, stored: Stored, tile: bytes, lines: Iterator[str], seconds: float) -> None:
+        fault = fault_of_library(next(lines))
         layer, feature_id = names_of(tile, fault)
-        self.judged.findings.append(
-            Finding(
-                stored.column, stored.row, len(tile), seconds, fault=fault.members, layer=layer, feature_id=feature_id
-            )
-        )
+        other = mvtgate.format_of(fault, tile)
+        finding = Finding(stored.column, stored.row, len(tile), seconds, fault=fault.members, layer=layer, feature_id=feature_id)
+        finding.format = None if other is None else other.name
+        finding.further = Further.of_lines(tile, lines) if self._task.has_all else None
+        self.judged.findings.append(finding)
 
     def _advise(self, stored: Stored, tile: bytes) -> None:
         try:

@@ -3,7 +3,7 @@ from __future__ import annotations
 
 from collections import Counter
 from dataclasses import dataclass, replace
-from typing import Any, Dict, Generic, Hashable, List, Tuple, TypeVar
+from typing import Any, Dict, Generic, Hashable, Iterator, List, Set, Tuple, TypeVar
 
 from ..records import Finding, Judged, Partition, Place, Timed
 from .counts import Label, Labels
@@ -41,9 +41,21 @@ class Found:
 
 
 def found_in(partition: Partition, finding: Finding) -> Found:
-    """A finding with its place. A name that is very long is cut."""
+    """A finding with its place, for its first fault alone. A name that is very long is cut."""
     layer = None if finding.layer is None else cut(finding.layer)
-    return Found(place_of(partition, finding), replace(finding, layer=layer))
+    return Found(place_of(partition, finding), replace(finding, layer=layer, further=None))
+
+
+def firsts_of_codes(finding: Finding, codes: Set[int]) -> Iterator[Finding]:
+    """Of a tile's further faults the first one of each of these codes, as a finding of its own."""
+    assert finding.further is not None
+    left = set(codes)
+    for it in finding.further.each() if left else ():
+        if it.fault["code"] in left:
+            left.remove(it.fault["code"])
+            yield replace(finding, fault=it.fault, layer=it.layer, feature_id=it.feature_id, confirmed=None, further=None)
+            if not left:
+                return
 
 
 def place_of(partition: Partition, tile: Finding | Timed) -> Place:
@@ -80,6 +92,18 @@ class Unjudged:
         label = self._labels.of(reason)
         self.counts[label] += partition.tiles
         self.partitions.add(label, partition)
+
+
+class FormatsFound:
+    """How many tiles are of each other format, which are no tiles, and the first of them."""
+
+    def __init__(self) -> None:
+        self.counts: Counter[str] = Counter()
+        self.firsts: Firsts[str, Place] = Firsts()
+
+    def add(self, place: Place, name: str) -> None:
+        self.counts[name] += 1
+        self.firsts.add(name, place)
 
 
 class AdviceFound:

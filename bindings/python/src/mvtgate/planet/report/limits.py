@@ -2,6 +2,7 @@
 
 LAYERS = 300  # names of layers that are counted each for itself
 REASONS = 100  # reasons for which tiles weren't judged, likewise
+FIRST_LAYERS = 5  # layers of a code in the table of all codes
 LISTED = 10  # tiles that are listed for each code, each kind of advice and each reason
 PICTURED = 3  # of them, those with a picture
 SLOWEST = 20

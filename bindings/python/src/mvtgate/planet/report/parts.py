@@ -9,13 +9,15 @@ from typing import Any
 
 from markupsafe import Markup
 
+from ..endings import Refused
+
 _FOLDER = pathlib.Path(__file__).resolve().parent
 # (a wheel has them beside this module; a checkout where ./page puts them)
 _PLACES = (_FOLDER, _FOLDER.parents[5] / "web/out")
 _ENDS = ("</script", "<!--", "</style")
 
 
-class ReportPartsMissing(FileNotFoundError):
+class ReportPartsMissing(Refused):
     """The script or the style of the report is nowhere."""
 
 

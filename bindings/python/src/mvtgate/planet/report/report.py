@@ -8,10 +8,10 @@ from typing import Any, Dict, Optional, Sequence, Union
 
 import mvtgate
 
-from ..outputs import whole_file
 from ..records import Finding, Judged, Partition
+from ..whole_file import WholeFile
 from .counts import CountsByCode, Labels
-from .firsts import AdviceFound, Firsts, Found, Slowest, Unjudged, found_in, place_of
+from .firsts import AdviceFound, Firsts, FormatsFound, Found, Slowest, Unjudged, firsts_of_codes, found_in, place_of
 from .html import written
 from .limits import LAYERS
 from .pictures import Dump, Pictures, SourceLike
@@ -24,6 +24,7 @@ class Totals:
 
     tiles: int = 0
     faulty: int = 0
+    faults: int = 0
     unjudged: int = 0
     packed: int = 0
     unpacked: int = 0
@@ -43,11 +44,10 @@ class Totals:
 
 @dataclass(frozen=True)
 class Duration:
-    """How long a run took, how many workers it had, and how many tiles they judged."""
+    """How long a run took, with all its calls, and how many workers the last one had."""
 
     seconds: float
     workers: int
-    tiles: int
 
 
 class Report:
@@ -61,13 +61,21 @@ class Report:
         self.run = run
         self.sources = sources
         self.totals = Totals()
-        self.counts = CountsByCode(Labels(LAYERS, "no layer", "other layers"))
+        layers = Labels(LAYERS, "no layer", "other layers")
+        self.counts = CountsByCode(layers)
+        self.all_counts = CountsByCode(layers)
         self.firsts: Firsts[int, Found] = Firsts()
+        self.formats = FormatsFound()
         self.map = TileMap(run["sources"])
         self.slowest = Slowest()
         self.unjudged = Unjudged()
         self.advice = AdviceFound()
         self._dump = dump
+
+    @property
+    def has_all(self) -> bool:
+        """Whether all faults of a tile were asked for. `counts` has tiles by their first faults, and `all_counts` all faults."""
+        return bool(self.run.get("all"))
 
     def add(self, judged: Judged) -> None:
         """Takes in what was found in a partition."""
@@ -82,6 +90,8 @@ class Report:
             self.counts.add(code, layer, tiles)
         for it in judged.findings:
             self._add_finding(judged.partition, it)
+            if self.has_all and it.fault is not None:
+                self._add_all(judged.partition, it)
         for line in judged.advice:
             self.advice.add(judged.partition, line)
 
@@ -96,6 +106,22 @@ class Report:
         self.totals.refuted += finding.confirmed is False
         if self.firsts.wants(code):
             self.firsts.add(code, found_in(partition, finding))
+        if finding.format is not None:
+            self.formats.add(place_of(partition, finding), finding.format)
+
+    def _add_all(self, partition: Partition, finding: Finding) -> None:
+        """Counts all faults of a tile, and lists it where one of them is among the first of its code."""
+        assert finding.fault is not None
+        self.totals.faults += finding.count
+        self.all_counts.add(finding.fault["code"], finding.layer, 1)
+        if finding.further is None:
+            return
+        for code, layer, count in finding.further.counts:
+            self.all_counts.add(code, layer, count)
+        wanted = {code for code, _, _ in finding.further.counts if code != finding.fault["code"] and self.firsts.wants(code)}
+        for it in firsts_of_codes(finding, wanted):
+            assert it.fault is not None
+            self.firsts.add(it.fault["code"], found_in(partition, it))
 
     def add_unjudged(self, partition: Partition, reason: str) -> None:
         """Takes in a partition that wasn't judged."""
@@ -105,20 +131,13 @@ class Report:
         self.unjudged.add_partition(partition, reason)
 
     def write(
-        self,
-        path: Union[str, os.PathLike[str]],
-        seconds: float,
-        workers: int,
-        page: Optional[str] = "page.html",
-        tiles: Optional[int] = None,
+        self, path: Union[str, os.PathLike[str]], seconds: float, workers: int, page: Optional[str] = "page.html"
     ) -> None:
         """Writes the file, whole or not at all.
 
-        `seconds` is the time by the clock, in which so many `tiles` were judged, where an earlier run had judged the others. `page`
-        is the address of the page that opens tiles; None makes no links. ReportPartsMissing where the script or the style is
-        nowhere.
+        `seconds` is the time by the clock in which all tiles were judged. `page` is the address of the page that opens tiles; None
+        makes no links. ReportPartsMissing where the script or the style is nowhere.
         """
-        duration = Duration(seconds, workers, self.totals.tiles if tiles is None else tiles)
-        text = written(self, Pictures(self.sources, self._dump), duration, page)
-        with whole_file(os.fspath(path)) as file:
+        text = written(self, Pictures(self.sources, self._dump), Duration(seconds, workers), page)
+        with WholeFile(os.fspath(path)) as file:
             file.write(text)

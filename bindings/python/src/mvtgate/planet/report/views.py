@@ -6,12 +6,12 @@ from typing import TYPE_CHECKING, Any, Dict, List, Optional, Sequence
 
 from ..._advice import Advice
 from ..._faults import Fault
-from ..._words import words_of_advice, words_of_fault
+from ..._words import words_of_advice, words_of_fault, words_of_format
 from ..records import Partition, Place
 from .classes import CLASSES, class_of
 from .counts import Label
 from .firsts import Found
-from .limits import PICTURED
+from .limits import FIRST_LAYERS, PICTURED
 from .pictures import Picture, Pictures
 from .texts import capital, counted, moment_text, rate_text, readable, share_text, size_text, time_text
 
@@ -53,7 +53,7 @@ def overview_of(report: Report, duration: Duration) -> View:
             ("valid", "Valid", f"{totals.valid:,}", share_text(totals.valid, totals.tiles)),
             ("faulty", "With a fault", f"{totals.faulty:,}", share_text(totals.faulty, totals.tiles)),
             ("unjudged", "Not judged", f"{totals.unjudged:,}", share_text(totals.unjudged, totals.tiles)),
-            ("rate", "Tiles a second", rate_text(duration.tiles, duration.seconds), _rate_note(report, duration)),
+            ("rate", "Tiles a second", rate_text(totals.tiles, duration.seconds), f"in {time_text(duration.seconds)}"),
         ],
         "measures": [
             ("seconds", "Clock time", time_text(duration.seconds)),
@@ -62,6 +62,7 @@ def overview_of(report: Report, duration: Duration) -> View:
             ("unpacked", "Bytes judged", size_text(totals.unpacked)),
             ("packed", "Bytes stored", size_text(totals.packed)),
             ("profile", "Profile", str(run["profile"])),
+            *([("faults", "Faults in all", f"{totals.faults:,}")] if report.has_all else []),
             ("confirmed", "Faults confirmed", _confirmed_text(report)),
             ("began", "Begun", moment_text(str(run["began"]))),
             ("version", "mvtgate", str(run["version"])),
@@ -71,11 +72,6 @@ def overview_of(report: Report, duration: Duration) -> View:
             for path, it in zip(sources, run["sources"])
         ],
     }
-
-
-def _rate_note(report: Report, duration: Duration) -> str:
-    earlier = report.totals.tiles - duration.tiles
-    return f"{earlier:,} judged before" if earlier else f"in {time_text(duration.seconds)}"
 
 
 def _verdict(report: Report) -> str:
@@ -99,7 +95,7 @@ def _sentences(report: Report) -> List[str]:
             "That is a mistake of the gate: please report it."
         )
     elif totals.faulty and not totals.unasked:
-        said.append("The separate checker confirms each fault.")
+        said.append(f"The separate checker confirms {'the first fault of each tile' if report.has_all else 'each fault'}.")
     if totals.tiles and totals.tiles == totals.valid:
         said.append(f"Each keeps every rule of the gate, by the profile {report.run['profile']}.")
     return said
@@ -124,12 +120,17 @@ def _zooms_text(source: Dict[str, Any]) -> str:
 
 def codes_of(report: Report, pictures: Pictures) -> List[View]:
     """The codes that were found, with their layers and first tiles."""
-    return [_code_view(report, code, tiles, pictures) for code, tiles in report.counts.codes()]
+    tiles = dict(report.counts.codes())
+    # (those of which no tile has its first fault)
+    tiles.update((code, 0) for code, _ in report.all_counts.codes() if code not in tiles)
+    return [_code_view(report, code, count, pictures) for code, count in tiles.items()]
 
 
 def _code_view(report: Report, code: int, tiles: int, pictures: Pictures) -> View:
     listed = report.firsts.of(code)
     words = words_of_fault(code)
+    layers = _layers_view(report, code)
+    shown = layers if len(layers) <= FIRST_LAYERS + 1 else layers[:FIRST_LAYERS]
     return {
         "code": code,
         "class": class_of(code).name,
@@ -138,14 +139,26 @@ def _code_view(report: Report, code: int, tiles: int, pictures: Pictures) -> Vie
         "cause": capital(words["cause"]),
         "remedy": capital(words["remedy"]),
         "tiles": tiles,
-        "layers": [_layer_view(label, count) for label, count in report.counts.layers(code)],
+        "faults": report.all_counts.of(code).total(),
+        "layers": layers,
+        "first_layers": shown,
+        "more_layers": len(layers) - len(shown),
+        "more_tiles": tiles - sum(it["tiles"] for it in shown),
+        "more_faults": sum(it["faults"] for it in layers[len(shown) :]),
         "found": [_found_view(report, it, picture, at) for at, (it, picture) in enumerate(zip(listed, pictures.of(listed)))],
         "pictured": PICTURED,
     }
 
 
-def _layer_view(label: Label, tiles: int) -> View:
-    return {"name": label.text, "is_name": label.is_name, "tiles": tiles}
+def _layers_view(report: Report, code: int) -> List[View]:
+    """The layers of a code: those of tiles by their first fault, and then those that only further faults are in."""
+    tiles, faults = dict(report.counts.layers(code)), dict(report.all_counts.layers(code))
+    labels = [*tiles, *(it for it in faults if it not in tiles)]
+    return [_layer_view(it, tiles.get(it, 0), faults.get(it, 0)) for it in labels]
+
+
+def _layer_view(label: Label, tiles: int, faults: int = 0) -> View:
+    return {"name": label.text, "is_name": label.is_name, "tiles": tiles, "faults": faults}
 
 
 def _layer_of(found: Found) -> View:
@@ -162,6 +175,7 @@ def _found_view(report: Report, found: Found, picture: Optional[Picture], at: in
         "source": source_names(report)[place.source],
         "layer": _layer_of(found),
         "feature_id": finding.feature_id,
+        "format": "" if finding.format is None else words_of_format(finding.format)["title"],
         "size": finding.size,
         "seconds": finding.seconds,
         "confirmed": _CONFIRMED[finding.confirmed],
@@ -176,16 +190,32 @@ def _found_view(report: Report, found: Found, picture: Optional[Picture], at: in
     }
 
 
+def formats_of(report: Report) -> List[View]:
+    """The other formats, the most frequent first, with the words for them and the first tiles."""
+    names = source_names(report)
+    ordered = sorted(report.formats.counts.items(), key=lambda it: (-it[1], it[0]))
+    return [
+        {
+            **words_of_format(name),
+            "name": name,
+            "tiles": tiles,
+            "places": [_place_view(names, it) for it in report.formats.firsts.of(name)],
+        }
+        for name, tiles in ordered
+    ]
+
+
 def zooms_of(report: Report) -> List[View]:
     """The table beside the map."""
     names = source_names(report)
-    return [_zoom_view(names[source], cells) for (source, _), cells in report.map.zooms.items()]
+    return [_zoom_view(source, names[source], cells) for (source, _), cells in report.map.zooms.items()]
 
 
-def _zoom_view(source: str, cells: ZoomCells) -> View:
+def _zoom_view(number: int, source: str, cells: ZoomCells) -> View:
     extent = cells.extent
     return {
         "source": source,
+        "source_number": number,
         "zoom": extent.zoom,
         "tiles": cells.tiles,
         "faulty": cells.faulty,

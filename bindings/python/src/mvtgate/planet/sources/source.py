@@ -6,14 +6,15 @@ import dataclasses
 import os
 from typing import Any, ClassVar, Dict, Iterator, List, NamedTuple, Optional, Tuple
 
+from ..endings import Refused
 from ..records import Extent, Partition
 
 
-class NotASource(Exception):
+class NotASource(Refused):
     """A path that holds no tiles, or whose tiles can't be read, with the reason."""
 
 
-class SourceChanged(Exception):
+class SourceChanged(Refused):
     """A source that isn't what it was when the run began, with what is different."""
 
 

@@ -1,0 +1,70 @@
+"""What came of a tile."""
+from __future__ import annotations
+
+import itertools
+from dataclasses import dataclass
+from typing import Iterable, Iterator, Optional, Sequence
+
+from .._faults import Fault, fault_of_library
+from .._formats import Format
+from .._library import lines_of
+from .names import on_one_line
+
+
+@dataclass(frozen=True)
+class Answer:
+    """A fault, or the reason why a tile wasn't judged, or neither where it is valid.
+
+    `place` is z/x/y for a tile of an MBTiles file. `format` is what the bytes are instead of a tile, where they begin so, and
+    `confirmed` what the separate checker says of the fault, where it was asked. `is_further` says that the tile has had an
+    answer already.
+    """
+
+    file: str
+    place: Optional[str] = None
+    fault: Optional[Fault] = None
+    format: Optional[Format] = None
+    confirmed: Optional[bool] = None
+    error: Optional[str] = None
+    is_further: bool = False
+
+    @property
+    def is_valid(self) -> bool:
+        return self.fault is None and self.error is None
+
+    @property
+    def name(self) -> str:
+        """File and place, on one line."""
+        return on_one_line(self.file) if self.place is None else f"{on_one_line(self.file)} {self.place}"
+
+    @property
+    def sentence(self) -> str:
+        """What is wrong, in a sentence or two."""
+        if self.fault is None:
+            return self.error or "valid"
+        other = f" {self.format.sentence}" if self.format else ""
+        return f"{self.fault.sentence}{other}"
+
+
+@dataclass(frozen=True)
+class Verdict:
+    """The same of all faults that were asked for, as one process hands it to another: short, since there may be very many.
+
+    `lines` has their texts, and `confirmed` says of each what the separate checker says.
+    """
+
+    file: str
+    place: Optional[str] = None
+    lines: str = ""
+    format: Optional[Format] = None
+    confirmed: Optional[Sequence[bool]] = None
+    error: Optional[str] = None
+
+    def answers(self) -> Iterator[Answer]:
+        """An answer for each fault, or one where there is none."""
+        if not self.lines:
+            yield Answer(self.file, self.place, error=self.error)
+        each: Iterable[Optional[bool]] = itertools.repeat(None) if self.confirmed is None else self.confirmed
+        for at, (text, confirmed) in enumerate(zip(lines_of(self.lines), each)):
+            fault = fault_of_library(text)
+            yield Answer(self.file, self.place, fault, self.format, confirmed, is_further=at > 0)
