@@ -6,18 +6,32 @@ import logging
 import pathlib
 import socket
 import sys
-from typing import List, Optional
+from typing import Dict, List, Optional
 
 import mvtgate
 import psycopg2  # type: ignore[import]
-from aiohttp import web
+from aiohttp import hdrs, web
 
+from .application import Parts, application
+from .database import Database, bound_all_waiting
 from .gate import Gate
-from .publishing import Publisher
+from .health import Health
+from .metrics import Metrics
+from .publishing import OnFault, Publisher
 from .server import Server
+from .sharing import Sharing
+from .tilejson import Description
 from .tiles import Tiles
 
 _PROFILES = {"polygon": mvtgate.Profile.POLYGON, "feature": mvtgate.Profile.FEATURE}
+
+
+def _seconds(word: str) -> float:
+    """A time that a query may take. (To PostgreSQL no milliseconds are no bound.)"""
+    seconds = float(word)
+    if not 0.001 <= seconds <= 86400:
+        raise ValueError
+    return seconds
 
 
 def arguments() -> argparse.ArgumentParser:
@@ -26,38 +40,67 @@ def arguments() -> argparse.ArgumentParser:
     reader.add_argument("--dsn", required=True, help="the database, such as 'host=/run/postgresql dbname=map'")
     reader.add_argument("--host", default="127.0.0.1", help="the address to listen on (%(default)s)")
     reader.add_argument("--port", type=int, default=8080, help="the port (%(default)s); 0 takes a free one")
+    reader.add_argument("--public-url", metavar="URL", help="what /tiles.json has before /tiles (the client's own address)")
+    reader.add_argument("--allow-origin", metavar="ORIGIN", default="*", help="whose scripts may read the tiles (%(default)s)")
     reader.add_argument("--profile", choices=_PROFILES, default="polygon", help="what polygons are held against (%(default)s)")
-    reader.add_argument("--repair", action="store_true", help="make a faulty tile anew, on a finer grid")
-    reader.add_argument("--no-gate", action="store_true", help="send tiles unjudged, to measure what the gate costs")
+    reader.add_argument("--exact", action="store_true", help="name a tile's first fault, however long that takes by the profile feature")
+    faulty = reader.add_mutually_exclusive_group()
+    faulty.add_argument("--report-only", action="store_true", help="send a faulty tile all the same, and tell of its fault")
+    faulty.add_argument("--repair", action="store_true", help="make a faulty tile anew, on a finer grid")
+    faulty.add_argument("--no-gate", action="store_true", help="send tiles unjudged, to measure what the gate costs")
     reader.add_argument("--keep", type=pathlib.Path, metavar="FOLDER", help="leave faulty tiles here")
     reader.add_argument("--workers", type=int, default=4, help="how many tiles are made at one time (%(default)s)")
-    reader.add_argument("--max-bytes", type=int, default=2**20, help="the longest tile that is judged and sent (%(default)s)")
+    reader.add_argument("--max-bytes", type=int, default=2**20, help="the longest tile that is judged (%(default)s)")
     reader.add_argument("--max-zoom", type=int, default=22, help="the greatest zoom (%(default)s)")
     reader.add_argument("--max-age", type=int, default=300, help="how many seconds a cache may keep a tile (%(default)s)")
-    reader.add_argument("--query-seconds", type=float, default=10.0, help="how long a query may take (%(default)s)")
+    reader.add_argument("--query-seconds", type=_seconds, default=10.0, help="how long a query may take (%(default)s)")
     return reader
+
+
+def on_fault(said: argparse.Namespace) -> OnFault:
+    """What the words say of faulty tiles."""
+    if said.report_only:
+        return OnFault.REPORT
+    return OnFault.REPAIR if said.repair else OnFault.REFUSE
+
+
+def application_of(said: argparse.Namespace) -> web.Application:
+    """The application that the words describe. psycopg2.OperationalError where there is no such database."""
+    bound_all_waiting(said.query_seconds)
+    database = Database(said.dsn, said.workers, said.query_seconds)
+    health = Health(Database(said.dsn, 1, said.query_seconds))
+    gate = None if said.no_gate else Gate(_PROFILES[said.profile], said.max_bytes, said.exact)
+    metrics = Metrics()
+    publisher = Publisher(Tiles(database), gate, on_fault(said), said.keep, metrics)
+    cached: Dict[str, str] = {hdrs.CACHE_CONTROL: f"public, max-age={said.max_age}"}
+    parts = Parts(
+        Server(publisher, metrics, said.workers, said.max_zoom, cached),
+        Description(said.public_url, said.max_zoom, cached),
+        Sharing(said.allow_origin),
+        health,
+        metrics,
+    )
+    return application(parts, database)
 
 
 def main(words: Optional[List[str]] = None) -> int:
     """Serves until SIGTERM or SIGINT, answers what has come until then, and returns the exit status."""
     reader = arguments()
     said = reader.parse_args(words)
-    if said.no_gate and (said.repair or said.keep):
-        reader.error("--repair and --keep are for tiles that don't pass the gate: not with --no-gate")
+    if said.no_gate and said.keep:
+        reader.error("--keep is for tiles that don't pass the gate: not with --no-gate")
     logging.basicConfig(level=logging.INFO, format="%(asctime)s %(levelname)s %(message)s")
     try:
         if said.keep:
             said.keep.mkdir(parents=True, exist_ok=True)
         listening = socket.create_server((said.host, said.port))
-        tiles = Tiles(said.dsn, said.workers, said.query_seconds)
+        served = application_of(said)
     except (OSError, psycopg2.OperationalError) as error:
         print(f"tile_server: {str(error).strip()}", file=sys.stderr)
         return 1
-    gate = None if said.no_gate else Gate(_PROFILES[said.profile], said.max_bytes)
-    server = Server(Publisher(tiles, gate, said.repair, said.keep), said.workers, said.max_zoom, said.max_age)
     host, port = listening.getsockname()[:2]
     print(f"listening on http://{host}:{port}", flush=True)
-    web.run_app(server.application(), sock=listening, print=lambda *_: None, access_log=None)
+    web.run_app(served, sock=listening, print=lambda *_: None, access_log=None)
     return 0
 
 

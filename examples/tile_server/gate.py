@@ -1,6 +1,7 @@
 """The gate: whether a tile may be sent, and why it may not."""
 from __future__ import annotations
 
+import json
 from dataclasses import dataclass
 from typing import Any, Dict, Optional, Union
 
@@ -9,38 +10,50 @@ from mvtgate import Fault, Profile
 
 
 @dataclass(frozen=True)
-class TooLong:
-    """A tile that isn't judged, since that could take too long."""
+class Unjudged:
+    """Why nothing is known of a tile."""
 
-    length: int
-    limit: int
+    code: str
+    title: str
+    sentence: str
 
-    def __str__(self) -> str:
-        return f"the tile has {self.length} bytes, and {self.limit} are the limit"
+    @property
+    def text(self) -> str:
+        """The same for programs, as JSON."""
+        return json.dumps({"unjudged": self.code}, separators=(",", ":"))
 
 
-# why a tile isn't sent
-Reason = Union[Fault, TooLong]
+OUT_OF_MEMORY = Unjudged("out_of_memory", "Out of memory", "memory for the check was refused")
+
+# why a tile doesn't pass
+Reason = Union[Fault, Unjudged]
 
 
 @dataclass(frozen=True)
 class Gate:
-    """Judges tiles by a profile, up to a length."""
+    """Judges tiles by a profile, up to a length.
+
+    Quick verdicts take a time that grows as n log n with the tile. By Profile.FEATURE exact ones may take its square, and name the
+    feature's first fault also where its edges meet.
+    """
 
     profile: Profile
     max_bytes: int
+    is_exact: bool = False
 
     def reason_against(self, tile: bytes) -> Optional[Reason]:
         """None where the tile may be sent. MemoryError where memory was refused: then nothing is known of the tile."""
         if len(tile) > self.max_bytes:
-            return TooLong(len(tile), self.max_bytes)
-        return mvtgate.check(tile, self.profile)
+            # (to judge it could take too long)
+            sentence = f"the tile has {len(tile)} bytes, and {self.max_bytes} are the limit"
+            return Unjudged("too_long", "Tile too long", sentence)
+        return mvtgate.check(tile, self.profile, quick=not self.is_exact)
 
 
 def told(reason: Reason) -> Dict[str, Any]:
     """A reason as JSON. `fault` is the fault's own text, which `mvtgate confirm` takes."""
-    if isinstance(reason, TooLong):
-        return {"title": "Tile too long", "explanation": [str(reason)]}
+    if isinstance(reason, Unjudged):
+        return {"title": reason.title, "explanation": [reason.sentence]}
     return {
         "code": reason.code,
         "title": reason.title,
@@ -52,4 +65,4 @@ def told(reason: Reason) -> Dict[str, Any]:
 
 def logged(reason: Reason) -> str:
     """A reason as a line of the log has it: in words, and then the fault's own text."""
-    return str(reason) if isinstance(reason, TooLong) else f"{reason} {reason.text}"
+    return reason.sentence if isinstance(reason, Unjudged) else f"{reason} {reason.text}"

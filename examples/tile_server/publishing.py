@@ -1,6 +1,7 @@
 """What becomes of a tile: asked for, judged, perhaps repaired, and published or refused. All of this blocks, so call it in a thread."""
 from __future__ import annotations
 
+import enum
 import logging
 import os
 import pathlib
@@ -10,18 +11,29 @@ from typing import Optional, Union
 
 from mvtgate import Fault
 
-from .gate import Gate, Reason, logged
-from .tiles import PLAIN, REPAIRED, Address, Tiles
+from .gate import OUT_OF_MEMORY, Gate, Reason, logged
+from .metrics import Metrics, labels_of
+from .tiles import PLAIN, REPAIRED, Address, Grid, Tile, Tiles
 
 _log = logging.getLogger(__name__)
 
 
+class OnFault(enum.Enum):
+    """What is done with a tile that doesn't pass the gate."""
+
+    REFUSE = enum.auto()
+    REPAIR = enum.auto()
+    REPORT = enum.auto()
+
+
 @dataclass(frozen=True)
 class Published:
-    """A tile that may be sent. Where it was repaired, `repaired` is the fault that it had."""
+    """A tile that is sent. `repaired` is the fault that it had before a repair; `reported` is why it didn't pass, where it is sent
+    all the same."""
 
     tile: bytes
     repaired: Optional[Fault] = None
+    reported: Optional[Reason] = None
 
 
 @dataclass(frozen=True)
@@ -51,35 +63,64 @@ class Publisher:
 
     tiles: Tiles
     gate: Optional[Gate]
-    is_repairing: bool
+    on_fault: OnFault
     kept: Optional[pathlib.Path]
+    metrics: Metrics
 
     def publish(self, address: Address) -> Outcome:
-        """A tile that passed the gate, or why there is none."""
-        tile = self.tiles.fetch(address, PLAIN)
-        reason = self.gate.reason_against(tile) if self.gate else None
+        """A tile to be sent, or why there is none."""
+        tile = self._fetched(address, PLAIN)
+        if self.on_fault is OnFault.REPORT:
+            return self._reported(address, tile)
+        reason = self._reason_against(tile)
         if reason is None:
-            return Published(tile)
-        if self.kept and isinstance(reason, Fault):
-            self._keep(self.kept, address, tile, reason)
-        if self.is_repairing and isinstance(reason, Fault):
-            return self._repaired(address, reason)
+            return Published(tile.content)
+        self._keep(address, tile, reason)
+        if self.on_fault is OnFault.REPAIR and isinstance(reason, Fault):
+            return self._repaired(address, tile, reason)
         _log.error("tile %s refused: %s", address, logged(reason))
-        return Refused(reason)
+        return self._refused(address, tile, reason)
 
-    def _repaired(self, address: Address, fault: Fault) -> Outcome:
-        assert self.gate is not None
-        tile = self.tiles.fetch(address, REPAIRED)
-        reason = self.gate.reason_against(tile)
+    def _fetched(self, address: Address, grid: Grid) -> Tile:
+        with self.metrics.timed_query():
+            return self.tiles.fetch(address, grid)
+
+    def _reason_against(self, tile: Tile) -> Optional[Reason]:
+        if self.gate is None:
+            return None
+        with self.metrics.check_seconds.time():
+            return self.gate.reason_against(tile.content)
+
+    def _reported(self, address: Address, tile: Tile) -> Published:
+        """Whatever the gate says, or can't say, the tile is sent."""
+        try:
+            reason = self._reason_against(tile)
+        except MemoryError:
+            reason = OUT_OF_MEMORY
+        if reason is not None:
+            self._keep(address, tile, reason)
+            _log.warning("tile %s sent all the same: %s", address, logged(reason))
+            self.metrics.reported.labels(*labels_of(address, tile, reason)).inc()
+        return Published(tile.content, reported=reason)
+
+    def _repaired(self, address: Address, faulty: Tile, fault: Fault) -> Outcome:
+        tile = self._fetched(address, REPAIRED)
+        reason = self._reason_against(tile)
         if reason is None:
             _log.warning("tile %s repaired: it had %s", address, logged(fault))
-            return Published(tile, repaired=fault)
+            self.metrics.repaired.labels(*labels_of(address, faulty, fault)).inc()
+            return Published(tile.content, repaired=fault)
         _log.error("tile %s refused: %s; after the repair: %s", address, logged(fault), logged(reason))
-        return Refused(fault, after_repair=reason)
+        return self._refused(address, faulty, fault, reason)
 
-    @staticmethod
-    def _keep(folder: pathlib.Path, address: Address, tile: bytes, fault: Fault) -> None:
+    def _refused(self, address: Address, tile: Tile, reason: Reason, after_repair: Optional[Reason] = None) -> Refused:
+        self.metrics.refused.labels(*labels_of(address, tile, reason)).inc()
+        return Refused(reason, after_repair)
+
+    def _keep(self, address: Address, tile: Tile, reason: Reason) -> None:
+        if self.kept is None or not isinstance(reason, Fault):
+            return
         try:
-            keep(folder, address, tile, fault)
+            keep(self.kept, address, tile.content, reason)
         except OSError as error:
             _log.error("tile %s not kept: %s", address, error)

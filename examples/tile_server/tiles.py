@@ -1,13 +1,10 @@
-"""Tiles as PostGIS makes them: which there are, the query, and the connections to the database."""
+"""Tiles as PostGIS makes them: which there are, their layers, and the query."""
 from __future__ import annotations
 
-import contextlib
 from dataclasses import dataclass
-from typing import Any, Dict, Iterator
+from typing import Dict, Optional, Tuple
 
-import psycopg2  # type: ignore[import]
-import psycopg2.extensions  # type: ignore[import]
-import psycopg2.pool  # type: ignore[import]
+from .database import Database
 
 
 @dataclass(frozen=True)
@@ -40,8 +37,22 @@ PLAIN = Grid(4096, "source.geometry")
 # what that returns is valid in the sense of ST_MakeValid; and by this method it would wind rings the other way round.
 REPAIRED = Grid(16384, "ST_MakeValid(source.geometry, 'method=structure keepcollapsed=false')")
 
-# the layers of a tile: the table of each, which has its name, and the columns that become tags
-LAYERS = {"areas": "name, properties", "places": "name"}
+
+@dataclass(frozen=True)
+class Layer:
+    """A layer, whose table has its name: the columns that become tags, and the tags with the type of their values."""
+
+    columns: str
+    fields: Dict[str, str]
+
+
+# (of the column `properties`, which is JSON, each key becomes a tag)
+LAYERS = {
+    "areas": Layer(
+        "name, properties", {"name": "String", "crop": "String", "hectares": "Number", "kind": "String", "depth": "Number"}
+    ),
+    "places": Layer("name", {"name": "String"}),
+}
 
 # (The order of the rows is given, so that the same rows make the same bytes. Rows whose geometry is NULL, since ST_AsMVTGeom found
 # nothing of them in the tile, are left out by ST_AsMVT.)
@@ -62,9 +73,9 @@ _MARGIN = 1 / 64
 
 
 def query_of(grid: Grid) -> str:
-    """The query for a tile on such a grid."""
-    layers = (_LAYER.format(layer=layer, columns=columns, geometry=grid.geometry) for layer, columns in LAYERS.items())
-    return _TILE.format(layers=" || ".join(layers))
+    """The query for a tile on such a grid. It answers each layer by itself, which has no bytes where it has no features."""
+    layers = (_LAYER.format(layer=name, columns=it.columns, geometry=grid.geometry) for name, it in LAYERS.items())
+    return _TILE.format(layers=", ".join(layers))
 
 
 def parameters_of(address: Address, grid: Grid) -> Dict[str, float]:
@@ -73,52 +84,25 @@ def parameters_of(address: Address, grid: Grid) -> Dict[str, float]:
     return {**whole, "buffer": round(_MARGIN * grid.extent), "margin": _MARGIN}
 
 
-class Unavailable(Exception):
-    """The database is gone, or took too long: ask again later."""
+@dataclass(frozen=True)
+class Tile:
+    """A tile's bytes, of which there are none where it has no features, and the names of its layers in their order."""
 
+    content: bytes
+    layers: Tuple[str, ...]
 
-class QueryFailed(Exception):
-    """The database refused the query."""
-
-
-class _Connection(psycopg2.extensions.connection):  # type: ignore[misc]
-    """A connection on which each query is a transaction by itself."""
-
-    def __init__(self, *words: Any, **named: Any) -> None:
-        super().__init__(*words, **named)
-        self.autocommit = True
+    def layer(self, number: Optional[int]) -> Optional[str]:
+        """The name of a layer by its number in the tile; None where there is no such layer."""
+        return self.layers[number] if number is not None and number < len(self.layers) else None
 
 
 class Tiles:
-    """Asks the database for tiles, by as many connections as there may be threads that ask. A query ends after `seconds`."""
+    """Asks the database for tiles."""
 
-    def __init__(self, dsn: str, connections: int, seconds: float) -> None:
-        options = f"-c default_transaction_read_only=on -c statement_timeout={round(1000 * seconds)}"
-        # (the pool keeps no more connections than its least number, so that is the greatest too)
-        self._pool: Any = psycopg2.pool.ThreadedConnectionPool(
-            connections, connections, dsn, options=options, connection_factory=_Connection
-        )
+    def __init__(self, database: Database) -> None:
+        self._database = database
 
-    @contextlib.contextmanager
-    def _connection(self) -> Iterator[Any]:
-        """A connection of the pool, which drops one that broke, and opens a new one in its place."""
-        connection = self._pool.getconn()
-        try:
-            yield connection
-        finally:
-            self._pool.putconn(connection)
-
-    def fetch(self, address: Address, grid: Grid) -> bytes:
-        """The tile, which has no bytes where it has no features."""
-        try:
-            with self._connection() as connection, connection.cursor() as cursor:
-                cursor.execute(query_of(grid), parameters_of(address, grid))
-                return bytes(cursor.fetchone()[0])
-        except (psycopg2.OperationalError, psycopg2.InterfaceError) as error:
-            raise Unavailable(str(error).strip()) from error
-        except psycopg2.Error as error:
-            raise QueryFailed(str(error).strip()) from error
-
-    def close(self) -> None:
-        """Closes all connections."""
-        self._pool.closeall()
+    def fetch(self, address: Address, grid: Grid) -> Tile:
+        """The tile at this place."""
+        row = self._database.row(query_of(grid), parameters_of(address, grid))
+        return Tile(b"".join(row), tuple(name for name, layer in zip(LAYERS, row) if len(layer)))

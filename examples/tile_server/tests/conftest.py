@@ -1,15 +1,20 @@
-"""The database and the servers that the tests share, and how a tile is read."""
+"""The database and the servers that the tests share, and how tiles, faults and metrics are read."""
 from __future__ import annotations
 
+import contextlib
 import gzip
 import pathlib
 import tempfile
-from typing import Dict, Iterator, List, Set, Tuple
+import time
+from fractions import Fraction
+from typing import Dict, Iterable, Iterator, List, Optional, Set, Tuple
 
 import mvtgate
 import pytest
-from mvtgate import Profile
+from mvtgate import Fault, Profile
 from mvtgate._dump import Feature, Layer
+from prometheus_client import Metric
+from prometheus_client.parser import text_string_to_metric_families
 
 from running import SECONDS, Database, Reply, Server, map_database, tile_server
 
@@ -18,6 +23,26 @@ FIELD, CLOSE_PONDS, COMMON_CORNER, CLOSE_TO_EDGE, LOOP, TWO_NAMES, NECK, OVERLAP
 PONDS, PLACES, MILESTONES, NOTHING = 20, 24, 26, 30
 PLAIN: Dict[str, str] = {}
 GZIP = {"Accept-Encoding": "gzip"}
+
+# programs for `python3 -c` that are the server, whose gate gets no memory; the second for exact verdicts alone
+OUT_OF_MEMORY = """
+import sys
+from mvtgate import _library
+from tile_server.__main__ import main
+_library.calls.mvtgate_check_quickly = lambda *words: _library.NO_MEMORY
+sys.exit(main())
+"""
+EXACT_OUT_OF_MEMORY = OUT_OF_MEMORY.replace("mvtgate_check_quickly", "mvtgate_check")
+
+# The first fault of each tile, as the comments of tables.sql reason: its code, where it is, and for edges that meet the point.
+Expected = Tuple[int, str, Optional[Tuple[int, int]]]
+FIRST: Dict[int, Expected] = {
+    CLOSE_PONDS: (504, "layer 0, feature 1, polygon 0", (400, 400)),
+    COMMON_CORNER: (504, "layer 0, feature 0, polygon 0", (400, 400)),
+    CLOSE_TO_EDGE: (504, "layer 0, feature 0, polygon 0", (100, 500)),
+    LOOP: (504, "layer 0, feature 0, polygon 0", (400, 100)),
+    TWO_NAMES: (304, "layer 0, feature 0", None),
+}
 
 
 @pytest.fixture(scope="session")
@@ -46,6 +71,52 @@ def repairing(database: Database) -> Iterator[Server]:
     """The same with repairs."""
     with tile_server(database.dsn, "--repair") as running:
         yield running
+
+
+@contextlib.contextmanager
+def locked_areas(database: Database) -> Iterator[None]:
+    """Meanwhile each query for a tile waits."""
+    with database.transaction() as cursor:
+        cursor.execute("LOCK TABLE areas IN ACCESS EXCLUSIVE MODE")
+        yield
+
+
+def waits_for(database: Database, queries: int) -> None:
+    """Waits until so many queries wait for a lock."""
+    end = time.monotonic() + SECONDS
+    while database.number("SELECT count(*) FROM pg_locks WHERE NOT granted") < queries:
+        assert time.monotonic() < end
+        time.sleep(0.02)
+
+
+def families(server: Server) -> Iterable[Metric]:
+    """What /metrics has, as the parser of Prometheus' own package reads it."""
+    read: Iterable[Metric] = text_string_to_metric_families(server.get("/metrics").body.decode())  # type: ignore[no-untyped-call]
+    return read
+
+
+def samples(server: Server, name: str) -> Dict[Tuple[str, ...], float]:
+    """The values of a metric by those of its labels, in the order of the labels' names."""
+    found = [it for family in families(server) for it in family.samples if it.name == name]
+    return {tuple(value for _, value in sorted(it.labels.items())): it.value for it in found}
+
+
+def expect_fault(fault: Fault, wanted: Expected, scale: int = 1) -> None:
+    """Holds a fault against the one that is expected, by its point on a grid that is so much finer."""
+    code, place, point = wanted
+    assert fault.code == code and fault.place.startswith(place)
+    assert fault.point == (None if point is None else tuple(Fraction(scale * it) for it in point))
+
+
+def lines_of(server: Server, column: int) -> List[str]:
+    """The lines of the log about a tile."""
+    return [it for it in server.log().splitlines() if f" tile 6/{column}/20 " in it]
+
+
+def expect_later(answer: Reply, error: str) -> None:
+    """An answer that says to ask again later, and that no cache may keep."""
+    assert (answer.status, answer.json()["error"]) == (503, error)
+    assert answer.headers["Cache-Control"] == "no-store" and int(answer.headers["Retry-After"]) > 0
 
 
 def judged(reply: Reply, profile: Profile = Profile.POLYGON) -> Dict[str, Layer]:

@@ -92,6 +92,23 @@ class Database:
             ended(self._process, signal.SIGINT)
             self._process = None
 
+    @contextlib.contextmanager
+    def frozen(self) -> Iterator[None]:
+        """Meanwhile the server keeps its connections and takes new ones, and says nothing."""
+        assert self._process is not None
+        ours = [self._process.pid]
+        try:
+            # (the first of them makes the others)
+            os.kill(ours[0], signal.SIGSTOP)
+            ours += map(int, pathlib.Path(f"/proc/{ours[0]}/task/{ours[0]}/children").read_text().split())
+            for it in ours[1:]:
+                os.kill(it, signal.SIGSTOP)
+            yield
+        finally:
+            for it in ours:
+                with contextlib.suppress(ProcessLookupError):
+                    os.kill(it, signal.SIGCONT)
+
     def remove(self) -> None:
         """Ends the server and takes away all of its files."""
         self.stop()

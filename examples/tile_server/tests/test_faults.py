@@ -6,7 +6,7 @@ import pathlib
 import subprocess
 import sys
 from fractions import Fraction
-from typing import Any, Dict, List, Optional, Set, Tuple
+from typing import Any, Dict, List, Set, Tuple
 
 import mvtgate
 import pytest
@@ -17,6 +17,7 @@ from conftest import (
     CLOSE_TO_EDGE,
     COMMON_CORNER,
     FIELD,
+    FIRST,
     GZIP,
     LOOP,
     NECK,
@@ -24,23 +25,19 @@ from conftest import (
     PONDS,
     TWO_CORNERS,
     TWO_NAMES,
+    Expected,
+    expect_fault,
     judged,
+    lines_of,
     rectangle,
     rings_of,
 )
 from running import Database, Reply, Server, path_of, tile_server
+from tile_server.gate import Gate
 
 Positions = Set[Tuple[int, int]]
 
-# The first fault of each tile, as the comments of tables.sql reason: its code, where it is, and for edges that meet the point.
-FIRST = {
-    CLOSE_PONDS: (504, "layer 0, feature 1, polygon 0", (400, 400)),
-    COMMON_CORNER: (504, "layer 0, feature 0, polygon 0", (400, 400)),
-    CLOSE_TO_EDGE: (504, "layer 0, feature 0, polygon 0", (100, 500)),
-    LOOP: (504, "layer 0, feature 0, polygon 0", (400, 100)),
-    TWO_NAMES: (304, "layer 0, feature 0", None),
-}
-FIRST_BY_FEATURE = {
+FIRST_BY_FEATURE: Dict[int, Expected] = {
     # (the fault is reported for the later polygon)
     NECK: (504, "layer 0, feature 0, polygon 1", (500, 500)),
     TWO_CORNERS: (504, "layer 0, feature 0, polygon 1", (500, 500)),
@@ -69,15 +66,13 @@ def by_feature(database: Database, request: pytest.FixtureRequest) -> Any:
         yield running, is_repairing
 
 
-def expect_fault(told: Dict[str, Any], wanted: Tuple[int, str, Optional[Tuple[int, int]]], scale: int = 1) -> Fault:
+def expect_told(told: Dict[str, Any], wanted: Expected, scale: int = 1) -> Fault:
     """What an answer says of a fault, and the fault."""
-    code, place, point = wanted
     fault = Fault.from_text(json.dumps(told["fault"]))
-    assert told["code"] == fault.code == code
-    assert told["place"].startswith(place)
-    assert fault.point == (None if point is None else tuple(Fraction(scale * it) for it in point))
+    expect_fault(fault, wanted, scale)
+    assert (told["code"], told["place"]) == (fault.code, fault.place)
     words = told["explanation"]
-    assert words[0] == f"{code}: {told['title']}"
+    assert words[0] == f"{fault.code}: {told['title']}"
     assert any(it.startswith("Cause: ") for it in words) and any(it.startswith("What to do: ") for it in words)
     return fault
 
@@ -92,16 +87,11 @@ def expect_refusal(answer: Reply, column: int) -> Dict[str, Any]:
     return told
 
 
-def lines_of(server: Server, column: int) -> List[str]:
-    """The lines of the log about a tile."""
-    return [it for it in server.log().splitlines() if f" tile 6/{column}/20 " in it]
-
-
 @pytest.mark.parametrize("column", FIRST)
 def test_faulty_tile(server: Server, kept: pathlib.Path, column: int) -> None:
     before = len(lines_of(server, column))
     answer = server.get(path_of(column), {**GZIP, "If-None-Match": "*"})
-    fault = expect_fault(expect_refusal(answer, column), FIRST[column])
+    fault = expect_told(expect_refusal(answer, column), FIRST[column])
     assert "after_repair" not in answer.json()
     (line,) = lines_of(server, column)[before:]
     assert f" ERROR tile 6/{column}/20 refused: {fault.code}: " in line and line.endswith(f" {fault.text}")
@@ -143,8 +133,8 @@ def test_repaired_tile(repairing: Server, column: int) -> None:
 @pytest.mark.parametrize("column", [COMMON_CORNER, TWO_NAMES])
 def test_tile_that_no_repair_mends(repairing: Server, column: int) -> None:
     told = expect_refusal(repairing.get(path_of(column), GZIP), column)
-    first = expect_fault(told, FIRST[column])
-    second = expect_fault(told["after_repair"], FIRST[column], scale=4)
+    first = expect_told(told, FIRST[column])
+    second = expect_told(told["after_repair"], FIRST[column], scale=4)
     line = lines_of(repairing, column)[-1]
     assert f" ERROR tile 6/{column}/20 refused: " in line
     assert f"{first.text}; after the repair: {second.code}: " in line and line.endswith(f" {second.text}")
@@ -172,19 +162,28 @@ def test_touching_polygons_by_feature(by_feature: Tuple[Server, bool], column: i
         return
     told = expect_refusal(answer, column)
     if column in FIRST_BY_FEATURE:
-        expect_fault(told, FIRST_BY_FEATURE[column])
+        expect_told(told, FIRST_BY_FEATURE[column])
     else:
         # (the two parts touch at two points, of which either may be reported)
         fault = Fault.from_text(json.dumps(told["fault"]))
         assert fault.code == 504 and fault.point in [(Fraction(300), Fraction(500)), (Fraction(500), Fraction(300))]
     if is_repairing:
-        expect_fault(told["after_repair"], FIRST_BY_FEATURE[column], scale=4)
+        expect_told(told["after_repair"], FIRST_BY_FEATURE[column], scale=4)
 
 
 @pytest.mark.parametrize("column", [FIELD, PONDS])
 def test_valid_tile_by_feature(by_feature: Tuple[Server, bool], column: int) -> None:
     answer = by_feature[0].get(path_of(column), GZIP)
     assert judged(answer, Profile.FEATURE) and "X-Tile-Repaired" not in answer.headers
+
+
+@pytest.mark.parametrize("is_exact, code", [(False, 504), (True, 507)])
+def test_exact_verdict_by_feature(is_exact: bool, code: int) -> None:
+    """Of two squares that overlap, which PostGIS doesn't make, the first fault is a vertex in the other one, and the quick one where edges meet."""
+    numbers = b"\x09\x00\x00\x1a\x14\x00\x00\x14\x13\x00\x0f\x09\x0a\x09\x1a\x14\x00\x00\x14\x13\x00\x0f"
+    feature = b"\x12\x1a\x18\x03\x22\x16" + numbers
+    reason = Gate(Profile.FEATURE, 1000, is_exact).reason_against(b"\x1a\x21\x78\x02\x0a\x01a" + feature)
+    assert isinstance(reason, Fault) and reason.code == code
 
 
 def test_tile_that_is_too_long(database: Database) -> None:
@@ -203,7 +202,17 @@ def test_without_the_gate_all_is_sent(database: Database) -> None:
         assert fault is not None and fault.code == 504
 
 
-def test_words_that_are_no_call(database: Database) -> None:
-    command = [sys.executable, "-m", "tile_server", "--dsn", database.dsn, "--no-gate", "--repair"]
+@pytest.mark.parametrize(
+    "words, told",
+    [
+        (["--no-gate", "--repair"], "not allowed with"),
+        (["--no-gate", "--report-only"], "not allowed with"),
+        (["--repair", "--report-only"], "not allowed with"),
+        (["--no-gate", "--keep", "/nowhere"], "not with --no-gate"),
+        (["--query-seconds", "0"], "--query-seconds: invalid"),
+    ],
+)
+def test_words_that_are_no_call(database: Database, words: List[str], told: str) -> None:
+    command = [sys.executable, "-m", "tile_server", "--dsn", database.dsn, *words]
     run = subprocess.run(command, capture_output=True, text=True)
-    assert run.returncode == 2 and "not with --no-gate" in run.stderr
+    assert run.returncode == 2 and told in run.stderr

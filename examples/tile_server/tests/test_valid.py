@@ -146,4 +146,4 @@ def test_head(server: Server) -> None:
 
 def test_other_methods(server: Server) -> None:
     answer = server.get(path_of(FIELD), method="POST")
-    assert (answer.status, answer.headers["Allow"]) == (405, "GET,HEAD")
+    assert (answer.status, answer.headers["Allow"]) == (405, "GET,HEAD,OPTIONS")
