@@ -30,6 +30,9 @@ void rattle_dealloc(void *p) { heap_give(p); }
 
 /* The calls of bindings/c/mvtgate.h, and blocks for what JavaScript hands over. */
 int mvtgate_check(unsigned profile, const unsigned char *tile, size tile_length, unsigned char *text, size room, size *length);
+int mvtgate_check_quickly(unsigned profile, const unsigned char *tile, size tile_length, unsigned char *text, size room, size *length);
+int mvtgate_faults(unsigned profile, const unsigned char *tile, size tile_length, unsigned char *text, size room, size *length);
+int mvtgate_faults_quickly(unsigned profile, const unsigned char *tile, size tile_length, unsigned char *text, size room, size *length);
 int mvtgate_confirm(unsigned profile, const unsigned char *tile, size tile_length, const unsigned char *text, size text_length);
 int mvtgate_dump(const unsigned char *tile, size tile_length, unsigned char *text, size room, size *length);
 int mvtgate_advise(const unsigned char *tile, size tile_length, unsigned char *text, size room, size *length);
@@ -43,6 +46,18 @@ EXPORT("forget") void export_forget(void) { heap_forget(); }
 EXPORT("check")
 int export_check(unsigned profile, const unsigned char *tile, size tile_length, unsigned char *text, size room, size *length) {
     return mvtgate_check(profile, tile, tile_length, text, room, length);
+}
+EXPORT("check_quickly")
+int export_check_quickly(unsigned profile, const unsigned char *tile, size tile_length, unsigned char *text, size room, size *length) {
+    return mvtgate_check_quickly(profile, tile, tile_length, text, room, length);
+}
+EXPORT("faults")
+int export_faults(unsigned profile, const unsigned char *tile, size tile_length, unsigned char *text, size room, size *length) {
+    return mvtgate_faults(profile, tile, tile_length, text, room, length);
+}
+EXPORT("faults_quickly")
+int export_faults_quickly(unsigned profile, const unsigned char *tile, size tile_length, unsigned char *text, size room, size *length) {
+    return mvtgate_faults_quickly(profile, tile, tile_length, text, room, length);
 }
 EXPORT("confirm")
 int export_confirm(unsigned profile, const unsigned char *tile, size tile_length, const unsigned char *text, size text_length) {

@@ -18,6 +18,7 @@ import { byId } from './tools/dom.js';
 
 // (so it is in Chromium)
 const NO_FOLDER = "a page that was opened from a disk can't read a folder that is dropped; use 'Choose a folder'";
+const NO_LINK = 'it is no link with a tile, which stands after #tile=';
 
 /** @param {Receiver} receiver */
 export function receiveFiles(receiver) {
@@ -32,9 +33,18 @@ export function receiveFiles(receiver) {
   document.addEventListener('paste', (event) => {
     if (event.target instanceof HTMLTextAreaElement || event.target instanceof HTMLInputElement || !event.clipboardData) return;
     const text = event.clipboardData.getData('text/plain');
-    if (text) receiveLink(receiver, text.slice(text.indexOf('#') + 1), 'pasted link');
+    if (text) receiveText(receiver, text);
     else takeTransfer(receiver, event.clipboardData);
   });
+}
+
+/**
+ * @param {Receiver} receiver
+ * @param {string} text that was pasted
+ */
+function receiveText(receiver, text) {
+  const isLink = receiveLink(receiver, text.slice(text.indexOf('#') + 1), 'pasted link');
+  if (!isLink) receiver.refuse(new Unreadable(NO_LINK), 'pasted text');
 }
 
 /** @param {Receiver} receiver */
@@ -75,14 +85,16 @@ export function receiveLinks(receiver) {
  * @param {Receiver} receiver
  * @param {string} fragment
  * @param {string} name
+ * @returns {boolean} whether a tile, or what is meant as one, stands in it
  */
 function receiveLink(receiver, fragment, name) {
   try {
     const link = readLink(fragment);
-    if (!link) return;
+    if (!link) return false;
     receiver.setProfile(link.profile);
     receiver.take([{ name, file: new Blob([link.bytes]) }]);
   } catch (error) {
     receiver.refuse(error, name);
   }
+  return true;
 }

@@ -2,6 +2,8 @@
 
 import { embeddedModule } from '../gate/embedded.js';
 import { RemoteGate } from '../gate/remote.js';
+import { explainFormat } from '../words/explain.js';
+import { isolated } from '../words/isolated.js';
 import { Answer } from './answer/answer.js';
 import { Checks, newEntry, reasonOf } from './files/checks.js';
 import { FileList } from './files/list.js';
@@ -23,13 +25,16 @@ class Page {
   #checks;
   #answer;
   #status = new Status(() => this.#stop());
-  #list = new FileList({ choose: (entry) => this.#choose(entry), enter: () => this.#answer.focus() });
+  #list = new FileList({ choose: (entry) => this.#chosenByUser(entry), enter: () => this.#answer.focus() });
 
-  /** @param {RemoteGate} gate */
-  constructor(gate) {
+  /**
+   * @param {RemoteGate} gate of the checks, which may be stopped
+   * @param {RemoteGate} gateOfAnswer of what is said of the file that is shown
+   */
+  constructor(gate, gateOfAnswer) {
     this.#gate = gate;
-    this.#checks = new Checks(gate, (entry) => this.#changed(entry));
-    this.#answer = new Answer(this.#checks, gate);
+    this.#checks = new Checks(gate, (entry) => this.#changed(entry), explainFormat);
+    this.#answer = new Answer(this.#checks, gateOfAnswer);
   }
 
   async start() {
@@ -48,9 +53,7 @@ class Page {
     const receiver = {
       take: (/** @type {Source[]} */ sources) => this.#take(sources),
       setProfile: (/** @type {Profile} */ profile) => this.#setProfile(profile),
-      refuse: (/** @type {unknown} */ error, /** @type {string} */ name) => {
-        this.#status.say('ready', `The ${name} couldn't be read: ${reasonOf(error)}.`);
-      },
+      refuse: (/** @type {unknown} */ error, /** @type {string} */ name) => this.#tell(`The ${name} couldn't be read: ${reasonOf(error)}.`),
     };
     receiveFiles(receiver);
     receiveLinks(receiver);
@@ -62,7 +65,7 @@ class Page {
     }
     byId('clear', HTMLElement).addEventListener('click', () => this.#clear());
     byId('again', HTMLElement).addEventListener('click', () => this.#again());
-    this.#copyOnClick('copy-fault', () => this.#answer.entry?.said ?? '');
+    this.#copyOnClick('copy-fault', () => this.#answer.said);
     this.#copyOnClick('copy-link', () => location.href.replace(/#.*/, '') + this.#answer.link);
     this.#setProfile(chosenProfile()); // (a browser may restore it when the page is loaded again)
   }
@@ -83,7 +86,7 @@ class Page {
 
   /** @param {Source[]} sources */
   #take(sources) {
-    if (!sources.length) return this.#status.say('ready', 'No file there is named like a tile.');
+    if (!sources.length) return this.#tell('No file there is named like a tile.');
     const entries = sources.map(({ name, file }) => newEntry(name, file));
     this.#awaited = entries.length === 1 ? entries[0] : null;
     this.#list.add(entries);
@@ -98,11 +101,26 @@ class Page {
     this.#checks.setProfile(profile);
   }
 
+  /**
+   * Says something of what came in, while files may be checked.
+   * @param {string} sentence
+   */
+  #tell(sentence) {
+    if (this.#checks.isBusy) this.#status.announce(sentence);
+    else this.#status.say('ready', sentence);
+  }
+
+  /** @param {Entry} entry */
+  #chosenByUser(entry) {
+    this.#choose(entry);
+    this.#sayState(entry);
+  }
+
   /** @param {Entry} entry */
   #choose(entry) {
     this.#list.mark(entry);
     this.#answer.show(entry);
-    document.title = `${entry.name}: ${verdictText(entry)} - mvtgate`;
+    document.title = `${isolated(entry.name)}: ${verdictText(entry)} - mvtgate`;
   }
 
   /** @param {Entry} entry whose state changed */
@@ -118,10 +136,11 @@ class Page {
 
   /** @param {Entry} entry */
   #sayState(entry) {
+    const name = isolated(entry.name);
     const { entries, counts, isBusy } = this.#checks;
     const isOne = entries.length === 1;
-    if (isBusy) this.#status.say('working', isOne ? `Checking ${entry.name} ..` : `Checking ${counted(entries.length, 'file')} ..`);
-    else this.#status.say('done', isOne ? `${entry.name}: ${verdictText(entry)}.` : totalsText(counts));
+    if (isBusy) this.#status.say('working', isOne ? `Checking ${name} ..` : `Checking ${counted(entries.length, 'file')} ..`);
+    else this.#status.say('done', isOne ? `${name}: ${verdictText(entry)}.` : totalsText(counts));
   }
 
   #stop() {
@@ -150,4 +169,5 @@ function chosenProfile() {
   return byId('feature', HTMLInputElement).checked ? 'feature' : 'polygon';
 }
 
-new Page(new RemoteGate(embeddedModule(document))).start();
+const module = embeddedModule(document);
+new Page(new RemoteGate(module), new RemoteGate(module)).start();

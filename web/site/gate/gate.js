@@ -3,9 +3,13 @@
  *
  * @typedef {'polygon' | 'feature'} Profile
  * @typedef {'confirmed' | 'not confirmed' | 'not JSON' | 'not a fault' | 'out of range'} Confirmation
+ * @typedef {{count: number, texts: string[]}} Faults how many faults a tile has, and the texts of the first ones
+ * @typedef {import('./instance.js').Exports} Exports
+ * @typedef {import('./instance.js').Address} Address
  */
 import { OutOfMemory } from './errors.js';
 import { Instance } from './instance.js';
+import { firstLines } from './lines.js';
 
 /** @type {{[profile in Profile]: number}} */
 const NUMBER_OF_PROFILE = { polygon: 0, feature: 1 };
@@ -21,6 +25,12 @@ const CONFIRMATIONS = { 0: 'confirmed', 1: 'not confirmed', 5: 'not JSON', 6: 'n
 /** In bytes: no text of a fault is longer. */
 const FAULT_ROOM = 384;
 
+/** In bytes: a text of faults that is longer is written once more, in a room of its own length. */
+const FAULTS_ROOM = 1024 * 1024;
+
+/** How many faults of a tile leave the module: the text of all may have hundreds of megabytes. */
+const FAULTS_LIMIT = 2000;
+
 /** In bytes: the size of a length in the module's memory. */
 const LENGTH_ROOM = 8;
 
@@ -35,6 +45,12 @@ function numberOf(profile) {
   if (!Object.hasOwn(NUMBER_OF_PROFILE, profile)) throw new RangeError(`there is no profile ${profile}`);
   return NUMBER_OF_PROFILE[profile];
 }
+
+/**
+ * @param {Uint8Array} tile
+ * @returns {number} in bytes: room for what most tiles hold, so that they are gone over once
+ */
+const recordRoom = (tile) => 4096 + 4 * tile.length;
 
 /**
  * @param {number} status
@@ -90,13 +106,46 @@ export class Gate {
    * @returns {string | null} the text of the tile's first fault; null for a valid tile
    */
   check(tile, profile) {
+    return this.#judge('check', tile, profile);
+  }
+
+  /**
+   * @param {Uint8Array} tile
+   * @param {Profile} profile
+   * @returns {string | null} the text of the fault that is found in a time that grows little faster than the tile, in the first
+   *   layer or feature that has one; null for a valid tile
+   */
+  checkQuickly(tile, profile) {
+    return this.#judge('check_quickly', tile, profile);
+  }
+
+  /**
+   * @param {'check' | 'check_quickly'} call
+   * @param {Uint8Array} tile
+   * @param {Profile} profile
+   * @returns {string | null}
+   */
+  #judge(call, tile, profile) {
     const number = numberOf(profile);
     return this.#call((instance) => {
       const [at, text, length] = [instance.put(tile), instance.take(FAULT_ROOM), instance.take(LENGTH_ROOM)];
-      const status = instance.exports.check(number, at, BigInt(tile.length), text, BigInt(FAULT_ROOM), length);
+      const status = instance.exports[call](number, at, BigInt(tile.length), text, BigInt(FAULT_ROOM), length);
       if (status === NO_MEMORY) throw new OutOfMemory();
       if (status > FAULT) throw unexpected(status);
       return status === FAULT ? instance.text(text, instance.length(length)) : null;
+    });
+  }
+
+  /**
+   * @param {Uint8Array} tile
+   * @param {Profile} profile
+   * @returns {Faults} one fault of each layer and feature that has any, in order; the first is that of checkQuickly
+   */
+  faultsQuickly(tile, profile) {
+    const number = numberOf(profile);
+    return this.#write(tile, FAULTS_ROOM, (exports, ...given) => exports.faults_quickly(number, ...given), (instance, at, bytes) => {
+      const { count, length } = firstLines(instance.bytes(at, bytes), FAULTS_LIMIT);
+      return { count, texts: instance.text(at, length).split('\n').slice(0, -1) };
     });
   }
 
@@ -124,8 +173,10 @@ export class Gate {
    *   is no tile
    */
   dump(tile) {
-    const { text, isFault } = this.#write('dump', tile);
-    return isFault ? { record: null, fault: text } : { record: text, fault: null };
+    return this.#write(tile, recordRoom(tile), (exports, ...given) => exports.dump(...given), (instance, at, length, isFault) => {
+      const text = instance.text(at, length);
+      return isFault ? { record: null, fault: text } : { record: text, fault: null };
+    });
   }
 
   /**
@@ -134,26 +185,32 @@ export class Gate {
    *   for which it is no tile
    */
   advise(tile) {
-    const { text, isFault } = this.#write('advise', tile);
-    return isFault ? { advice: null, fault: text } : { advice: text, fault: null };
+    return this.#write(tile, recordRoom(tile), (exports, ...given) => exports.advise(...given), (instance, at, length, isFault) => {
+      const text = instance.text(at, length);
+      return isFault ? { advice: null, fault: text } : { advice: text, fault: null };
+    });
   }
 
   /**
-   * @param {'dump' | 'advise'} call
+   * Has a text of any length written.
+   *
+   * @template Answer
    * @param {Uint8Array} tile
-   * @returns {{text: string, isFault: boolean}}
+   * @param {number} firstRoom in bytes; where it is too small, the call is made again
+   * @param {(exports: Exports, tile: Address, tileLength: bigint, text: Address, room: bigint, length: Address) => number} call
+   * @param {(instance: Instance, text: Address, length: number, isFault: boolean) => Answer} read
+   * @returns {Answer}
    */
-  #write(call, tile) {
+  #write(tile, firstRoom, call, read) {
     return this.#call((instance) => {
       const [at, length] = [instance.put(tile), instance.take(LENGTH_ROOM)];
-      // (a guess, so that most tiles are gone over once)
-      let room = 4096 + 4 * tile.length;
+      let room = firstRoom;
       for (;;) {
         const text = instance.take(room);
-        const status = instance.exports[call](at, BigInt(tile.length), text, BigInt(room), length);
+        const status = call(instance.exports, at, BigInt(tile.length), text, BigInt(room), length);
         if (status === NO_MEMORY) throw new OutOfMemory();
         if (status > NO_ROOM) throw unexpected(status);
-        if (status !== NO_ROOM) return { text: instance.text(text, instance.length(length)), isFault: status === FAULT };
+        if (status !== NO_ROOM) return read(instance, text, instance.length(length), status === FAULT);
         instance.exports.free(text);
         room = instance.length(length);
       }

@@ -2,13 +2,16 @@
  * An instance of the gate's module and its memory. Sizes and addresses have 64 bits in the module, so they are BigInts.
  *
  * @typedef {bigint} Address
+ * @typedef {(profile: number, tile: Address, tileLength: bigint, text: Address, room: bigint, length: Address) => number} OfProfile
  * @typedef {{
  *   memory: WebAssembly.Memory,
  *   malloc: (size: bigint) => Address,
  *   free: (at: Address) => void,
  *   forget: () => void,
  *   version: () => number,
- *   check: (profile: number, tile: Address, tileLength: bigint, text: Address, room: bigint, length: Address) => number,
+ *   check: OfProfile,
+ *   check_quickly: OfProfile,
+ *   faults_quickly: OfProfile,
  *   confirm: (profile: number, tile: Address, tileLength: bigint, text: Address, textLength: bigint) => number,
  *   dump: (tile: Address, tileLength: bigint, text: Address, room: bigint, length: Address) => number,
  *   advise: (tile: Address, tileLength: bigint, text: Address, room: bigint, length: Address) => number,
@@ -62,11 +65,19 @@ export class Instance {
   /**
    * @param {Address} at
    * @param {number} length
+   * @returns {Uint8Array} a view of as many bytes, up to the next call
+   */
+  bytes(at, length) {
+    return new Uint8Array(this.exports.memory.buffer, Number(at), length);
+  }
+
+  /**
+   * @param {Address} at
+   * @param {number} length
    * @returns {string} the text of as many bytes of UTF-8
    */
   text(at, length) {
-    const bytes = new Uint8Array(this.exports.memory.buffer, Number(at), length);
-    const text = decoded(bytes);
+    const text = decoded(this.bytes(at, length));
     if (text === '' && length !== 0) throw new OutOfMemory();
     return text;
   }

@@ -3,6 +3,9 @@
  *
  * @typedef {import('./gate.js').Profile} Profile
  * @typedef {import('./gate.js').Confirmation} Confirmation
+ * @typedef {import('./gate.js').Faults} Faults
+ * @typedef {{fault: string | null, milliseconds: number, memory: number}} Judged the text of a fault, or null for a valid tile; the
+ *   time of the check, and the size in bytes to which the module's memory grew
  * @typedef {import('./serve.js').Question} Question
  * @typedef {import('./serve.js').Reply} Reply
  * @typedef {{answer: any, milliseconds: number, memory: number}} Answered
@@ -108,12 +111,39 @@ export class RemoteGate {
   /**
    * @param {Uint8Array} tile
    * @param {Profile} profile
-   * @returns {Promise<{fault: string | null, milliseconds: number, memory: number}>} the text of the tile's first fault, or null
-   *   for a valid tile; the time of the check, and the size in bytes to which the module's memory grew
+   * @returns {Promise<Judged>} the tile's first fault
    */
-  async check(tile, profile) {
-    const { answer, milliseconds, memory } = await this.#askOf('check', tile, profile);
+  check(tile, profile) {
+    return this.#judge('check', tile, profile);
+  }
+
+  /**
+   * @param {Uint8Array} tile
+   * @param {Profile} profile
+   * @returns {Promise<Judged>} the same with the fault that is found quickly
+   */
+  checkQuickly(tile, profile) {
+    return this.#judge('checkQuickly', tile, profile);
+  }
+
+  /**
+   * @param {'check' | 'checkQuickly'} call
+   * @param {Uint8Array} tile
+   * @param {Profile} profile
+   * @returns {Promise<Judged>}
+   */
+  async #judge(call, tile, profile) {
+    const { answer, milliseconds, memory } = await this.#askOf(call, tile, profile);
     return { fault: answer, milliseconds, memory };
+  }
+
+  /**
+   * @param {Uint8Array} tile
+   * @param {Profile} profile
+   * @returns {Promise<Faults>} one fault of each layer and feature that has any, in order, as far as they are found quickly
+   */
+  async faultsQuickly(tile, profile) {
+    return (await this.#askOf('faultsQuickly', tile, profile)).answer;
   }
 
   /**

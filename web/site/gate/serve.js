@@ -1,7 +1,8 @@
 /**
  * What a worker does with the messages of remote.js: `load` compiles the module, any other call asks the gate.
  *
- * @typedef {{id: number, call: 'load' | 'check' | 'confirm' | 'dump' | 'advise', given: any[]}} Question
+ * @typedef {'check' | 'checkQuickly' | 'faultsQuickly' | 'confirm' | 'dump' | 'advise'} Call
+ * @typedef {{id: number, call: 'load' | Call, given: any[]}} Question
  * @typedef {{id: number, answer: any, milliseconds: number, memory: number}
  *   | {id: number, error: {name: string, message: string}, memory: number}} Reply the memory is the size in bytes to which the
  *   module's memory grew

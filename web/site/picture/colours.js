@@ -43,7 +43,7 @@ const COLOURS = {
  */
 export function colourProperties() {
   const of = (/** @type {0|1} */ scheme) => Object.entries(COLOURS).map(([name, pair]) => `--picture-${name}: ${pair[scheme]};`).join(' ');
-  return `:root { ${of(0)} }\n@media (prefers-color-scheme: dark) { :root { ${of(1)} } }\n`;
+  return `:root { ${of(0)} }\n@media screen and (prefers-color-scheme: dark) { :root { ${of(1)} } }\n`;
 }
 
 /**

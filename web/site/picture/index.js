@@ -11,6 +11,7 @@
 // data-from and data-to of edges, such as '0 8'; and data-extent.
 
 import { typeName } from '../tile/layers.js';
+import { isolated } from '../words/isolated.js';
 import { pictureOfBytes } from './kinds/bytes.js';
 import { pictureOfCommands } from './kinds/commands.js';
 import { pictureOfFeature } from './kinds/feature.js';
@@ -72,7 +73,7 @@ export function pictureOfFault(fault, tile, record) {
  */
 function featurePlace(fault, { id, type }, { name }) {
   const idText = id === null || id === undefined ? '' : `, id ${id}`;
-  const layerText = `layer ${fault.layer} (${cut(JSON.stringify(name), LONGEST_NAME)})`;
+  const layerText = `layer ${fault.layer} (${isolated(cut(JSON.stringify(name), LONGEST_NAME))})`;
   return { name: 'feature', text: `${fault.feature} of ${layerText}, ${typeName(type)}${idText}` };
 }
 

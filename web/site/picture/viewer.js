@@ -70,10 +70,9 @@ export class Viewer {
     if (kind === 'map' && tile) this.addView('The map', tile);
     else this.addView('The whole', box);
     if (close) this.addView('Close view', close);
-    const host = elementWith('div', 'picture-views'), hint = elementWith('p', 'picture-hint');
+    const host = elementWith('div', 'picture-views');
     host.append(...this.panes);
-    hint.textContent = keysText(this.picture);
-    return [host, hint, ...(kind === 'map' ? [this.status] : [])];
+    return [host, hintOf(this.picture), ...(kind === 'map' ? [this.status] : [])];
   }
 
   /**
@@ -198,6 +197,20 @@ export class Viewer {
  */
 function elementWith(name, className) {
   return Object.assign(document.createElement(name), { className });
+}
+
+/**
+ * How a picture is zoomed and moved, for what the reader has: a mouse with keys, fingers, or both.
+ * @param {Picture} picture
+ * @returns {HTMLElement}
+ */
+function hintOf(picture) {
+  const hint = elementWith('p', 'picture-hint');
+  const byMouse = elementWith('span', 'picture-hint-mouse'), byFingers = elementWith('span', 'picture-hint-fingers');
+  byMouse.textContent = `Zoom by Ctrl and the wheel, or by the wheel after a click. ${keysText(picture)} `;
+  byFingers.textContent = 'Zoom and move by two fingers.';
+  hint.append(byMouse, byFingers);
+  return hint;
 }
 
 /**

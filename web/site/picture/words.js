@@ -1,6 +1,7 @@
 // Texts of positions, rings and polygons.
 
 import { vertexCount } from '../tile/rings.js';
+import { isolated } from '../words/isolated.js';
 
 /** @typedef {import('./kinds/polygons.js').Feature} Feature */
 /** @typedef {import('./types.js').Place} Place */
@@ -36,13 +37,15 @@ export function ringText({ figure, groups }, ring) {
 }
 
 /**
- * A line for each ring, as far as they aren't too many.
+ * A line for each ring, those at fault first, as far as there aren't too many.
  * @param {Feature} of
  * @param {number[]} rings
+ * @param {Set<number>} atFault some of them
  * @returns {Place[]}
  */
-export function ringPlaces(of, rings) {
-  const places = rings.slice(0, MOST_PLACES).map((ring) => ({ name: `ring ${ring}`, text: ringText(of, ring) }));
+export function ringPlaces(of, rings, atFault) {
+  const ordered = [...atFault, ...rings.filter((ring) => !atFault.has(ring))];
+  const places = ordered.slice(0, MOST_PLACES).map((ring) => ({ name: `ring ${ring}`, text: ringText(of, ring) }));
   return rings.length > MOST_PLACES ? [...places, { name: 'more rings', text: String(rings.length - MOST_PLACES) }] : places;
 }
 
@@ -84,5 +87,5 @@ export function cut(text, most) {
  * @returns {string}
  */
 export function shortText(bytes) {
-  return JSON.stringify(cut(new TextDecoder().decode(bytes.subarray(0, 4 * LONGEST_TEXT)), LONGEST_TEXT));
+  return isolated(JSON.stringify(cut(new TextDecoder().decode(bytes.subarray(0, 4 * LONGEST_TEXT)), LONGEST_TEXT)));
 }

@@ -12,5 +12,9 @@ function dataOf(identifier) {
   return JSON.parse(byId(identifier, HTMLScriptElement).text);
 }
 
+// (a canvas keeps the colours of the screen, unless it is drawn anew for paper)
+addEventListener('beforeprint', () => document.documentElement.classList.add('on-paper'));
+addEventListener('afterprint', () => document.documentElement.classList.remove('on-paper'));
+
 new Pictures(dataOf('page-data')).start();
 if (document.getElementById('map-view')) new MapView(dataOf('map-data')).start();

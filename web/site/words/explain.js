@@ -1,6 +1,10 @@
-/** Faults and advice in plain words, those of bindings/faults.json. Node can't import it as it stands; fill.js does the work. */
+/**
+ * Faults, advice and other formats in plain words, those of bindings/faults.json. Node can't import it as it stands; fill.js and formats.js
+ * do the work.
+ */
 import words from '../../../bindings/faults.json';
 import { adviceInWords, faultInWords } from './fill.js';
+import { formatInWords } from './formats.js';
 
 /** @typedef {import('./fill.js').Explanation} Explanation */
 
@@ -18,4 +22,13 @@ export function explainFault(fault) {
  */
 export function explainAdvice(advice) {
   return adviceInWords(words, advice);
+}
+
+/**
+ * @param {import('./fill.js').Members} fault
+ * @param {Uint8Array} tile
+ * @returns {import('./formats.js').Format | null} what the bytes of a tile with this fault are, where that is known
+ */
+export function explainFormat(fault, tile) {
+  return formatInWords(words.formats, fault, tile);
 }

@@ -1,30 +1,44 @@
 // Files that are checked one after another, over a gate that answers when the test says so.
 import assert from 'node:assert/strict';
-import { test } from 'node:test';
+import { mock, test } from 'node:test';
 import { setImmediate } from 'node:timers/promises';
-import { gzipSync } from 'node:zlib';
+import { deflateSync, gzipSync } from 'node:zlib';
 import { Checks, newEntry } from '../../site/app/files/checks.js';
 import { OutOfMemory, Stopped } from '../../site/gate/errors.js';
 
 const FAULT = '{"code":201,"layer":0}';
+const QUICK_FAULT = '{"code":201,"layer":1}';
 
 /** Bytes for which the gate has a fault begin with this one, and those for which it has no memory with the next. */
 const FAULTY = 1, GREEDY = 2;
+
+/** Bytes whose second one is this are of another format. */
+const PICTURE = 8, FORMAT = { title: 'Picture', sentence: 'It is a picture.', remedy: 'hand over a tile.' };
 
 /** The checker doesn't confirm the fault of bytes whose second one is this. */
 const DOUBTED = 9;
 
 class Gate {
-  /** @type {{profile: string, answer: () => void, reject: (error: Error) => void}[]} */
+  /** @type {{profile: string, fault: string, answer: () => void, reject: (error: Error) => void}[]} */
   waiting = [];
   stops = 0;
 
   /** @param {Uint8Array} tile @param {string} profile */
   check(tile, profile) {
+    return this.#judge(tile, profile, FAULT);
+  }
+
+  /** @param {Uint8Array} tile @param {string} profile */
+  checkQuickly(tile, profile) {
+    return this.#judge(tile, profile, QUICK_FAULT);
+  }
+
+  /** @param {Uint8Array} tile @param {string} profile @param {string} fault */
+  #judge(tile, profile, fault) {
     return new Promise((resolve, reject) => {
       const answer = () => (tile[0] === GREEDY ? reject(new OutOfMemory())
-        : resolve({ fault: tile[0] === FAULTY ? FAULT : null, milliseconds: 2, memory: 65536 }));
-      this.waiting.push({ profile, answer, reject });
+        : resolve({ fault: tile[0] === FAULTY ? fault : null, milliseconds: 2, memory: 65536 }));
+      this.waiting.push({ profile, fault, answer, reject });
     });
   }
 
@@ -49,7 +63,7 @@ class Gate {
 /** @param {...number[]} files their bytes */
 function begin(...files) {
   const gate = new Gate();
-  const checks = new Checks(/** @type {any} */ (gate), () => undefined);
+  const checks = new Checks(/** @type {any} */ (gate), () => undefined, (_, tile) => (tile[1] === PICTURE ? FORMAT : null));
   const entries = files.map((bytes, at) => newEntry(`tile ${at}`, new Blob([Uint8Array.from(bytes)])));
   checks.add(entries);
   const states = () => entries.map(({ state }) => state);
@@ -80,6 +94,12 @@ test('a fault that the checker does not confirm is marked so', async () => {
   assert.deepEqual(entries.map(({ isConfirmed }) => isConfirmed), [false, true]);
 });
 
+test('a file with a fault has the format of its bytes, and a valid one has none', async () => {
+  const { gate, entries } = begin([FAULTY, PICTURE], [FAULTY, 0], [0, PICTURE]);
+  for (let answers = 0; answers < 3; answers += 1) await gate.answer();
+  assert.deepEqual(entries.map(({ format }) => format), [FORMAT, null, null]);
+});
+
 test('a file that is packed is unpacked, and a damaged one has a reason', async () => {
   const packed = [...gzipSync(Uint8Array.from([FAULTY, 5, 5]))];
   const { gate, checks, entries, states } = begin(packed, packed.slice(0, -3));
@@ -89,6 +109,14 @@ test('a file that is packed is unpacked, and a damaged one has a reason', async 
   assert.ok(entries[0].isPacked);
   assert.equal(entries[0].size, 3);
   assert.equal(entries[1].reason, 'the gzip file is damaged');
+});
+
+test('a file that is packed by zlib is unpacked', async () => {
+  const { gate, entries, states } = begin([...deflateSync(Uint8Array.from([FAULTY, 5, 5]))]);
+  await gate.answer();
+  assert.deepEqual(states(), ['fault']);
+  assert.ok(entries[0].isPacked);
+  assert.equal(entries[0].size, 3);
 });
 
 test('a stop ends the check that goes on and those that wait, and a next check works', async () => {
@@ -122,9 +150,60 @@ test('another profile checks all files again', async () => {
   assert.deepEqual(gate.waiting.map(({ profile }) => profile), ['feature']);
   checks.setProfile('feature');
   assert.equal(gate.stops, 1);
-  await gate.answer();
-  await gate.answer();
+  for (let answers = 0; answers < 3; answers += 1) await gate.answer(); // (a fault is first looked for quickly)
   assert.deepEqual(states(), ['valid', 'fault']);
+});
+
+/** @param {number} first byte of a file that is checked by `feature`, of which the quick answer has come */
+async function quicklyChecked(first) {
+  const { gate, checks } = begin();
+  checks.setProfile('feature');
+  const entry = newEntry('tile', new Blob([Uint8Array.of(first)]));
+  checks.add([entry]);
+  while (!gate.waiting.length) await setImmediate();
+  assert.equal(gate.waiting[0].fault, QUICK_FAULT);
+  await gate.answer();
+  return { gate, checks, entry };
+}
+
+test('by feature a tile that is valid by the quick answer needs no other', async () => {
+  const { gate, entry } = await quicklyChecked(0);
+  assert.equal(entry.state, 'valid');
+  assert.equal(gate.waiting.length, 0);
+});
+
+test('by feature the first fault is the answer where it is found', async () => {
+  const { gate, entry } = await quicklyChecked(FAULTY);
+  assert.equal(entry.state, 'checking');
+  await gate.answer();
+  assert.deepEqual([entry.state, entry.said, entry.isLeast, gate.stops], ['fault', FAULT, true, 0]);
+});
+
+test('by feature the quick fault is the answer where the first one takes too long', async () => {
+  mock.timers.enable({ apis: ['setTimeout'] });
+  try {
+    const { gate, entry } = await quicklyChecked(FAULTY);
+    mock.timers.tick(10000);
+    assert.deepEqual([entry.state, gate.stops], ['checking', 0]);
+    mock.timers.tick(6); // (three times what the quick answer took)
+    for (let turn = 0; turn < 5; turn += 1) await setImmediate();
+    assert.deepEqual([entry.state, entry.said, entry.isLeast, entry.isConfirmed, gate.stops], ['fault', QUICK_FAULT, false, true, 1]);
+  } finally {
+    mock.timers.reset();
+  }
+});
+
+test('a stop ends the search for the first fault', async () => {
+  mock.timers.enable({ apis: ['setTimeout'] });
+  try {
+    const { gate, checks, entry } = await quicklyChecked(FAULTY);
+    checks.stop();
+    for (let turn = 0; turn < 5; turn += 1) await setImmediate();
+    mock.timers.tick(20000);
+    assert.deepEqual([entry.state, gate.stops], ['stopped', 1]);
+  } finally {
+    mock.timers.reset();
+  }
 });
 
 test('files that are taken away are checked no more', async () => {

@@ -2,9 +2,9 @@
 import assert from 'node:assert/strict';
 import { readFileSync } from 'node:fs';
 import { test } from 'node:test';
-import { gzipSync } from 'node:zlib';
+import { deflateSync, gzipSync } from 'node:zlib';
 import { base64OfBytes, bytesOfBase64, readLink, writeLink } from '../../site/app/files/link.js';
-import { unpack } from '../../site/app/files/gzip.js';
+import { unpack } from '../../site/app/files/packing.js';
 import { Unreadable } from '../../site/app/files/read.js';
 
 const ALL_BYTES = Uint8Array.from({ length: 256 }, (_, byte) => byte);
@@ -49,6 +49,14 @@ test('a tile that gzip makes shorter is packed', async () => {
   const link = readLink(await writeLink(tile, 'polygon') ?? '');
   assert.ok(link && link.bytes.length < 1000);
   assert.deepEqual(await unpack(link.bytes), tile);
+});
+
+test('bytes that would be taken for packed ones are packed once more', async () => {
+  for (const tile of [gzipSync(point), deflateSync(point), Uint8Array.of(0x78, 0x01)]) {
+    const link = readLink(await writeLink(new Uint8Array(tile), 'polygon') ?? '');
+    assert.ok(link);
+    assert.deepEqual(await unpack(link.bytes), new Uint8Array(tile));
+  }
 });
 
 test('there is no link to a tile that is too large', async () => {

@@ -17,7 +17,11 @@ test('sizes', () => {
 });
 
 test('times', () => {
-  assert.deepEqual([0.04, 9.94, 10, 999, 1000, 71234].map(timeText), ['0.0 ms', '9.9 ms', '10 ms', '999 ms', '1.0 s', '71.2 s']);
+  assert.deepEqual([1, 1.26, 9.94, 10, 999, 1000, 71234].map(timeText), ['1 ms', '1.3 ms', '9.9 ms', '10 ms', '999 ms', '1.0 s', '71.2 s']);
+});
+
+test('a time below what a coarse clock can tell is no zero', () => {
+  assert.deepEqual([0, 0.04, 0.99].map(timeText), ['less than 1 ms', 'less than 1 ms', 'less than 1 ms']);
 });
 
 test('lists', () => {

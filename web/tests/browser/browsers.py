@@ -4,7 +4,7 @@ from __future__ import annotations
 import base64
 import json
 import pathlib
-from typing import Any, Dict, List, Protocol, Sequence
+from typing import Any, Dict, List, Protocol, Sequence, Tuple
 
 from selenium import webdriver
 from selenium.webdriver.chrome.options import Options
@@ -15,6 +15,8 @@ from marionette import Marionette
 
 WIDTH, HEIGHT = 1200, 900
 SCRIPT_TIME = 120  # seconds that a script may take
+CONTROL = 2  # the modifier of the developer tools
+CONTROL_KEY = "\ue009"  # in WebDriver
 # without a window, and as root in a container
 SWITCHES = ("--headless=new", "--no-sandbox", "--disable-gpu", "--disable-dev-shm-usage")
 # keeps what a page complains of, where the browser's log doesn't have it
@@ -36,6 +38,17 @@ class Browser(Protocol):
     def script(self, text: str, *words: Any) -> Any: ...
 
     def type(self, identifier: str, text: str) -> None: ...
+
+    def click(self, x: float, y: float) -> None: ...
+
+    def wheel(self, x: float, y: float, by: int, *, control: bool = False) -> None:
+        """Turns the wheel there by so many pixels, down for more than 0, with the control key or without."""
+
+    def paste(self, text: str) -> None:
+        """Has the text on the clipboard, and pastes it by the keys for that."""
+
+    def printed(self) -> bytes:
+        """The page on paper, as a PDF file."""
 
     def complaints(self) -> List[str]:
         """The errors and warnings in the console since the last call."""
@@ -61,6 +74,26 @@ class Firefox:
 
     def type(self, identifier: str, text: str) -> None:
         self._marionette.send_keys(identifier, text)
+
+    def click(self, x: float, y: float) -> None:
+        move = {"type": "pointerMove", "x": round(x), "y": round(y), "duration": 0}
+        buttons = [{"type": kind, "button": 0} for kind in ("pointerDown", "pointerUp")]
+        self._marionette.perform([{"type": "pointer", "id": "mouse", "actions": [move, *buttons]}])
+
+    def wheel(self, x: float, y: float, by: int, *, control: bool = False) -> None:
+        turn = {"type": "scroll", "x": round(x), "y": round(y), "deltaX": 0, "deltaY": by, "duration": 0}
+        pause = {"type": "pause"}
+        keys = [{"type": kind, "value": CONTROL_KEY} for kind in ("keyDown", "keyUp")] if control else [pause, pause]
+        actions = {"wheel": [pause, turn, pause], "key": [keys[0], pause, keys[1]]}
+        self._marionette.perform([{"type": kind, "id": kind, "actions": it} for kind, it in actions.items()])
+
+    def paste(self, text: str) -> None:
+        self._marionette.script("return navigator.clipboard.writeText(arguments[0])", text)
+        keys = [("keyDown", CONTROL_KEY), ("keyDown", "v"), ("keyUp", "v"), ("keyUp", CONTROL_KEY)]
+        self._marionette.perform([{"type": "key", "id": "keys", "actions": [{"type": kind, "value": it} for kind, it in keys]}])
+
+    def printed(self) -> bytes:
+        return base64.b64decode(self._marionette.call("WebDriver:Print", {})["value"])
 
     def complaints(self) -> List[str]:
         lines = self._marionette.complaints()
@@ -112,6 +145,24 @@ class Chromium:
     def click(self, x: float, y: float) -> None:
         for kind in ("mousePressed", "mouseReleased"):
             self.tools("Input.dispatchMouseEvent", type=kind, x=x, y=y, button="left", clickCount=1)
+
+    def wheel(self, x: float, y: float, by: int, *, control: bool = False) -> None:
+        self.tools("Input.dispatchMouseEvent", type="mouseWheel", x=x, y=y, deltaX=0, deltaY=by, modifiers=CONTROL if control else 0)
+
+    def touch(self, kind: str, *places: Tuple[float, float]) -> None:
+        """Fingers there: 'touchStart', 'touchMove', or 'touchEnd' without places."""
+        points = [{"x": x, "y": y, "id": at} for at, (x, y) in enumerate(places)]
+        self.tools("Input.dispatchTouchEvent", type=kind, touchPoints=points)
+
+    def paste(self, text: str) -> None:
+        self.tools("Browser.grantPermissions", permissions=["clipboardReadWrite", "clipboardSanitizedWrite"])
+        self.tools("Runtime.evaluate", expression=f"navigator.clipboard.writeText({json.dumps(text)})", awaitPromise=True, userGesture=True)
+        self.tools("Browser.resetPermissions")
+        self.tools("Input.dispatchKeyEvent", type="keyDown", key="v", code="KeyV", modifiers=CONTROL, commands=["paste"])
+        self.tools("Input.dispatchKeyEvent", type="keyUp", key="v", code="KeyV", modifiers=CONTROL)
+
+    def printed(self) -> bytes:
+        return base64.b64decode(self.tools("Page.printToPDF")["data"])
 
     def use_scheme(self, scheme: str) -> None:
         """Shows pages in 'light' or 'dark', at once."""

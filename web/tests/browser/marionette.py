@@ -10,9 +10,9 @@ import socket
 import subprocess
 import tempfile
 import time
-from typing import Any, Dict, List
+from typing import Any, Dict, List, Sequence
 
-START_TIME = 60.0  # seconds
+START_TIME = 180.0  # seconds, on a machine that does much else
 PAGE_ERROR = re.compile(r"^JavaScript (?:error|warning): (?:file|http|blob|data):.*", re.MULTILINE)
 ELEMENT_KEY = "element-6066-11e4-a52e-4f735466cecf"  # by which WebDriver marks an element
 PREFERENCES = {
@@ -22,6 +22,7 @@ PREFERENCES = {
     "browser.startup.homepage_override.mstone": "ignore",
     "datareporting.policy.dataSubmissionEnabled": False,
     "app.update.disabledForTesting": True,
+    "dom.events.testing.asyncClipboard": True,  # (so that a script may fill the clipboard without a click)
     "browser.download.folderList": 2,
     "browser.download.useDownloadDir": True,
 }
@@ -84,6 +85,10 @@ class Marionette:
     def send_keys(self, identifier: str, text: str) -> None:
         found = self.call("WebDriver:FindElement", {"using": "css selector", "value": f"#{identifier}"})["value"]
         self.call("WebDriver:ElementSendKeys", {"id": found[ELEMENT_KEY], "text": text})
+
+    def perform(self, sources: Sequence[Dict[str, Any]]) -> None:
+        """What keys, a pointer or a wheel do (https://www.w3.org/TR/webdriver2/#actions), in the same ticks."""
+        self.call("WebDriver:PerformActions", {"actions": sources})
 
     def complaints(self) -> List[str]:
         """The errors of scripts of pages so far. (The browser's own are in the log too.)"""

@@ -24,6 +24,24 @@ def accepted(name: str, profile: str) -> List[str]:
     return lines.read_text().splitlines()
 
 
+# of one layer each, with one fault, which is the only one that their features have; the first is valid by `polygon`
+FAULTY_LAYERS = ("polygon_on_polygon", "version_one", "odd_tags", "no_step", "ring_without_area", "crossing_edges", "hole_outside", "hole_in_hole")
+NAME_OF_LAYER = b"\n\x01a"  # the field
+
+
+def faulty_layers() -> bytes:
+    """These layers as one tile, in which all have different names."""
+    parts = [path_of(name).read_bytes() for name in FAULTY_LAYERS]
+    return b"".join(it.replace(NAME_OF_LAYER, b"\n\x01" + bytes([ord("b") + at]), 1) for at, it in enumerate(parts))
+
+
+def faults_of_layers(profile: str) -> List[Dict[str, Any]]:
+    """The members of that tile's faults, in order: those of layers come before those of features."""
+    lines = [accepted(name, profile)[0] for name in FAULTY_LAYERS]
+    faults = [{**json.loads(line), "layer": at} for at, line in enumerate(lines) if line != YES]
+    return sorted(faults, key=lambda it: "feature" in it)
+
+
 def link_of(tile: bytes, profile: str = "polygon") -> str:
     """The part of an address after # that has a tile in it."""
     text = base64.urlsafe_b64encode(tile).decode().rstrip("=")

@@ -10,7 +10,7 @@ import pytest
 from access import NAMED_ROLES, PHONE, low_contrasts, press_tab, roles_and_names, small_targets
 from browsers import WIDTH, Chromium
 from page import Page
-from samples import path_of
+from samples import faulty_layers, path_of
 
 DOWN, UP, HOME, END, PAGE_DOWN, ENTER = "\ue015", "\ue013", "\ue011", "\ue010", "\ue00f", "\ue007"  # keys, in WebDriver
 
@@ -22,15 +22,19 @@ STATES: Dict[str, List[str]] = {
     "valid": ["writers_order"],
     "advice": ["empty"],
     "many": ["hole_in_hole", "point", "no_step"],
+    "faults": [],
 }
 
 
 @pytest.fixture(params=list(STATES))
-def state(request: pytest.FixtureRequest, page: Page) -> Page:
+def state(request: pytest.FixtureRequest, page: Page, tmp_path: pathlib.Path) -> Page:
     """The page in one of these states, with all that can be opened open."""
-    names = STATES[request.param]
-    if names:
-        page.choose(*map(path_of, names))
+    paths = [path_of(name) for name in STATES[request.param]]
+    if request.param == "faults":
+        paths = [tmp_path / "faulty.mvt"]
+        paths[0].write_bytes(faulty_layers())
+    if paths:
+        page.choose(*paths)
         page.script("document.querySelectorAll('details').forEach((it) => { it.open = true })")
         page.script("document.querySelector('#features [role=option]')?.click()")
     return page
@@ -137,6 +141,23 @@ def test_tab_goes_through_all_controls(chromium: Chromium, page: Page) -> None:
         raise AssertionError("the focus doesn't come to the end of the page")
     assert {"folder", "polygon", "list", "clear", "copy-link", "said", "copy-fault", "search", "features", "Zoom in"} <= stops
     assert any(it.startswith("The whole.") for it in stops)
+
+
+def test_tab_goes_through_the_faults(chromium: Chromium, page: Page, tmp_path: pathlib.Path) -> None:
+    """The list and its buttons, of which the one that leads nowhere can be reached and says so, come one after the other."""
+    path = tmp_path / "faulty.mvt"
+    path.write_bytes(faulty_layers())
+    page.choose(path)
+    page.script("document.getElementById('faults-list').focus()")
+    stops = []
+    for _ in range(3):
+        name, outline, area, _ = page.script(FOCUSED)
+        assert outline != "none" and area > 0, name
+        stops.append(name)
+        press_tab(chromium)
+    assert stops == ["faults-list", "previous-fault", "next-fault"]
+    found = roles_and_names(chromium)
+    assert {("listbox", "All faults"), ("button", "Previous fault"), ("button", "Next fault"), ("region", "All faults")} <= set(found)
 
 
 def test_keys_of_the_list(page: Page) -> None:

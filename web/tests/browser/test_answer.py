@@ -3,6 +3,7 @@ from __future__ import annotations
 
 import json
 import pathlib
+import re
 import time
 import xml.etree.ElementTree as xml
 from typing import Iterator, List
@@ -13,8 +14,8 @@ from browsers import Chromium
 from conftest import FILE_ADDRESS, opened
 from page import Page
 from pictures import named_by
-from samples import WORDS, YES, accepted, link_of, path_of
-from wire import layer, point
+from samples import WORDS, YES, accepted, faults_of_layers, faulty_layers, link_of, path_of
+from wire import POLYGON, feature, layer, point, zigzag
 
 SVG = "{http://www.w3.org/2000/svg}"
 
@@ -22,13 +23,43 @@ SVG = "{http://www.w3.org/2000/svg}"
 def test_words(page: Page) -> None:
     page.choose(path_of("crossing_edges"))
     words = WORDS["faults"]["504"]
-    meeting = "In feature 0 of layer 0, edge 0 of ring 0 and edge 2 of ring 0 meet at (40/9, 40/9)"
-    assert page.text("sentence") == f"{meeting}; the second one is of polygon 0."
+    assert page.text("sentence") == "In feature 0 of layer 0, edge 0 of ring 0 meets edge 2 of ring 0, of polygon 0, at (40/9, 40/9)."
     assert page.texts("#facts dt") == ["Place", "What it means", "Cause", "What to do"]
     said = [words[key].replace("`", "") for key in ("meaning", "cause", "remedy")]
     assert page.texts("#facts dd") == ["layer 0, feature 0, polygon 0, at (40/9, 40/9)", *said]
     assert page.text("size") == f"{path_of('crossing_edges').stat().st_size} bytes"
     assert page.text("time").endswith(" ms") and page.text("memory").endswith("iB")
+
+
+def test_time(page_in_each: Page) -> None:
+    """A tile that takes next to no time; Firefox' clock goes by whole milliseconds."""
+    page_in_each.choose(path_of("point"))
+    assert re.fullmatch(r"less than 1 ms|[1-9]\d*(\.[1-9])? ms", page_in_each.text("time"))
+
+
+def test_rings_at_fault_among_many(page_in_each: Page, tmp_path: pathlib.Path) -> None:
+    """Holes in rows, of which one was moved onto the one before it."""
+    page = page_in_each
+    tile = tmp_path / "many_holes.mvt"
+    tile.write_bytes(layer("lakes", [feature(POLYGON, square_with_holes(300, moved=268))]))
+    page.choose(tile)
+    fault = json.loads(page.fault)
+    assert (fault["code"], fault["first"]["ring"], fault["second"]["ring"]) == (504, 268, 269)
+    names = page.texts("#picture .picture-places th")
+    assert {"ring 268", "ring 269"} <= set(names)
+    assert "more rings" in names
+
+
+def square_with_holes(count: int, moved: int) -> List[int]:
+    """A square of 1000, and holes of 4 in rows of 30."""
+    numbers, (x, y) = [9, 0, 0, 26, 2000, 0, 0, 2000, 1999, 0, 15], (0, 1000)
+    for hole in range(count):
+        left, top = (10 * (hole % 30) + 10, 10 * (hole // 30) + 10)
+        if hole == moved:
+            left, top = left - 8, top + 2
+        numbers += [9, zigzag(left - x), zigzag(top - y), 26, 0, 8, 8, 0, 0, 7, 15]
+        x, y = left + 4, top
+    return numbers
 
 
 def test_profiles(page: Page) -> None:
@@ -117,6 +148,26 @@ def test_copies(clipboard: Chromium, page: Page, http_address: str) -> None:
         assert copied(clipboard) == text
 
 
+def test_copy_and_picture_of_the_chosen_fault(clipboard: Chromium, page: Page, http_address: str, tmp_path: pathlib.Path) -> None:
+    tile = tmp_path / "faulty.mvt"
+    tile.write_bytes(faulty_layers())
+    page = opened(clipboard, http_address)
+    page.choose(tile)
+    page.click("#faults-list li:nth-child(3)")
+    page.until_done()
+    page.click("#copy-fault")
+    page.until("return document.getElementById('copy-fault').textContent === 'Copied'")
+    assert json.loads(copied(clipboard)) == faults_of_layers("polygon")[2]
+    for it in saved_by(page, clipboard.downloads):
+        assert_shows(xml.fromstring(it.read_text()), copied(clipboard))
+        it.unlink()
+    page.click("#copy-link")
+    page.until("return document.getElementById('copy-link').textContent === 'Copied'")
+    page = opened(clipboard, copied(clipboard))
+    page.until_done()
+    assert [json.loads(it["fault"]) for it in page.elements("#faults-list li")] == faults_of_layers("polygon")
+
+
 def test_copy_without_a_clipboard(clipboard: Chromium, page: Page) -> None:
     page.choose(path_of("crossing_edges"))
     page.script("Object.defineProperty(navigator, 'clipboard', { value: undefined, configurable: true })")
@@ -142,13 +193,17 @@ def test_no_link_to_a_large_tile(page: Page, tmp_path: pathlib.Path) -> None:
 def test_saved_picture(chromium: Chromium, page: Page, name: str) -> None:
     page.choose(path_of(name))
     for it in saved_by(page, chromium.downloads):
-        root = xml.fromstring(it.read_text())
-        assert root.tag == f"{SVG}svg"
-        assert not [part.tag for part in root.iter() if part.tag in (f"{SVG}script", f"{SVG}foreignObject")]
-        shown = [{key[5:]: value for key, value in part.attrib.items() if key.startswith("data-")} for part in root.iter()]
-        for wanted in named_by(json.loads(page.fault)):
-            assert any(wanted.items() <= it.items() for it in shown), wanted
+        assert_shows(xml.fromstring(it.read_text()), page.fault)
         it.unlink()
+
+
+def assert_shows(root: xml.Element, fault: str) -> None:
+    """The picture shows what the fault names, and holds no script."""
+    assert root.tag == f"{SVG}svg"
+    assert not [part.tag for part in root.iter() if part.tag in (f"{SVG}script", f"{SVG}foreignObject")]
+    shown = [{key[5:]: value for key, value in part.attrib.items() if key.startswith("data-")} for part in root.iter()]
+    for wanted in named_by(json.loads(fault)):
+        assert any(wanted.items() <= it.items() for it in shown), wanted
 
 
 def saved_by(page: Page, folder: pathlib.Path) -> List[pathlib.Path]:

@@ -1,9 +1,10 @@
-"""The ways in: a choice, a drop, a folder, a paste, a link; files packed by gzip, damaged ones, and ones that are too large."""
+"""The ways in: a choice, a drop, a folder, a paste, a link; files packed by gzip or zlib, damaged ones, and ones that are too large."""
 from __future__ import annotations
 
 import gzip
 import pathlib
-from typing import List
+import zlib
+from typing import Callable, Dict, List
 
 import pytest
 
@@ -114,16 +115,49 @@ def test_link_without_a_tile(chromium: Chromium) -> None:
     assert page.is_visible("status")
 
 
-def test_paste_of_a_link(page: Page) -> None:
-    page.script(
-        """
-        const data = new DataTransfer();
-        data.setData('text/plain', 'https://tiles.example/' + arguments[0]);
-        document.body.dispatchEvent(new ClipboardEvent('paste', { clipboardData: data, bubbles: true }));""",
-        link_of(CROSSING.read_bytes()),
-    )
+def test_paste_of_a_link(page_in_each: Page) -> None:
+    page = page_in_each
+    page.browser.paste("https://tiles.example/" + link_of(CROSSING.read_bytes()))
     page.until_shown("pasted link")
     assert page.fault in accepted("crossing_edges", "polygon")
+
+
+NO_LINK = "The pasted text couldn't be read: it is no link with a tile, which stands after #tile=."
+IS_SEEN = """
+const { top, bottom } = document.getElementById('status').getBoundingClientRect();
+return document.getElementById('status').checkVisibility() && top >= 0 && bottom <= innerHeight"""
+
+
+@pytest.mark.parametrize("text", ["14/8802/5373", "https://tiles.example/14/8802/5373.mvt", "https://tiles.example/#tiles"])
+def test_paste_of_another_text(page_in_each: Page, text: str) -> None:
+    page = page_in_each
+    page.browser.paste(text)
+    page.until("return document.getElementById('status').textContent === arguments[0]", NO_LINK)
+    assert page.script(IS_SEEN)
+
+
+def test_paste_of_another_text_beside_an_answer(page_in_each: Page) -> None:
+    """It is told where the reader is, and no longer than to the next choice."""
+    page = page_in_each
+    page.choose(CROSSING, POINT)
+    page.script("document.querySelector('.proved').scrollIntoView()")
+    page.browser.paste("14/8802/5373")
+    page.until("return document.getElementById('status').textContent === arguments[0]", NO_LINK)
+    page.until(IS_SEEN)
+    page.click("#list [role=option]:last-child")
+    page.until_shown("point.mvt")
+    assert page.text("status") == "2 files: 1 valid and 1 with a fault."
+
+
+def test_paste_into_a_field(page_in_each: Page) -> None:
+    """It is the field's own."""
+    page = page_in_each
+    page.choose(CROSSING)
+    before = page.text("status")
+    page.script("document.getElementById('search').focus()")
+    page.browser.paste("roads")
+    page.until("return document.getElementById('search').value === 'roads'")
+    assert page.text("status") == before
 
 
 def test_samples_of_the_page(page: Page) -> None:
@@ -135,26 +169,37 @@ def test_samples_of_the_page(page: Page) -> None:
         assert link == link_of(path_of(name).read_bytes(), profile)
 
 
-def test_gzip(page_in_each: Page, tmp_path: pathlib.Path) -> None:
+PACKINGS: Dict[str, Callable[[bytes, int], bytes]] = {"gzip": gzip.compress, "zlib": zlib.compress}
+by_each_packing = pytest.mark.parametrize("packing", PACKINGS)
+
+
+@by_each_packing
+@pytest.mark.parametrize("level", [1, 6, 9])
+def test_packed(page_in_each: Page, tmp_path: pathlib.Path, packing: str, level: int) -> None:
     page = page_in_each
-    packed = gzip.compress(CROSSING.read_bytes())
-    page.choose(written(tmp_path, "crossing.mvt.gz", packed))
+    packed = PACKINGS[packing](CROSSING.read_bytes(), level)
+    page.choose(written(tmp_path, "crossing.mvt", packed))
     assert page.fault in accepted("crossing_edges", "polygon")
     assert page.text("size") == f"{CROSSING.stat().st_size} bytes, unpacked from {len(packed)} bytes"
 
 
-def test_damaged_gzip(page_in_each: Page, tmp_path: pathlib.Path) -> None:
+@by_each_packing
+@pytest.mark.parametrize("damage", ["cut", "sum", "more"])
+def test_damaged_packing(page_in_each: Page, tmp_path: pathlib.Path, packing: str, damage: str) -> None:
     page = page_in_each
-    packed = gzip.compress(CROSSING.read_bytes())
-    page.choose(written(tmp_path, "cut.gz", packed[:-9]))
-    assert (page.verdict, page.text("sentence")) == ("Couldn't be read", "The gzip file is damaged.")
+    packed = PACKINGS[packing](CROSSING.read_bytes(), 9)
+    sum_at = len(packed) - (8 if packing == "gzip" else 4)
+    wrong_sum = packed[:sum_at] + bytes([packed[sum_at] ^ 1]) + packed[sum_at + 1 :]
+    page.choose(written(tmp_path, "damaged", {"cut": packed[:-9], "sum": wrong_sum, "more": packed + b"more"}[damage]))
+    assert (page.verdict, page.text("sentence")) == ("Couldn't be read", f"The {packing} file is damaged.")
     assert not page.is_visible("details")
 
 
-def test_gzip_that_unpacks_to_too_much(page_in_each: Page, tmp_path: pathlib.Path) -> None:
+@by_each_packing
+def test_unpacks_to_too_much(page_in_each: Page, tmp_path: pathlib.Path, packing: str) -> None:
     page = page_in_each
-    page.choose(written(tmp_path, "zeros.gz", gzip.compress(bytes(TILE_LIMIT + 1), 1)))
-    assert page.text("sentence") == "The gzip file unpacks to more than 67,108,864 bytes, the limit."
+    page.choose(written(tmp_path, "zeros", PACKINGS[packing](bytes(TILE_LIMIT + 1), 1)))
+    assert page.text("sentence") == f"The {packing} file unpacks to more than 67,108,864 bytes, the limit."
 
 
 def test_file_that_is_too_large(page_in_each: Page, tmp_path: pathlib.Path) -> None:

@@ -16,6 +16,10 @@ def varint(number: int) -> bytes:
     return bytes(spelled)
 
 
+def zigzag(step: int) -> int:
+    return 2 * step if step >= 0 else -2 * step - 1
+
+
 def field(number: int, payload: Union[int, bytes]) -> bytes:
     if isinstance(payload, int):
         return varint(number << 3) + varint(payload)

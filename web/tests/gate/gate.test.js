@@ -2,7 +2,7 @@ import assert from 'node:assert/strict';
 import { test } from 'node:test';
 import { OutOfMemory } from '../../site/gate/errors.js';
 import { Gate } from '../../site/gate/gate.js';
-import { SAMPLES, YES, moduleBytes, sample } from '../samples.js';
+import { SAMPLES, YES, faultyLayers, moduleBytes, sample } from '../samples.js';
 import { withGreatestMemory } from './small_memory.js';
 import { feature, tileOf } from '../wire.js';
 
@@ -11,6 +11,12 @@ import { feature, tileOf } from '../wire.js';
 const gate = new Gate(new WebAssembly.Module(moduleBytes()));
 /** @type {Profile[]} */
 const PROFILES = ['polygon', 'feature'];
+
+/** @param {string} text of a fault */
+function placeOf(text) {
+  const { layer, feature } = JSON.parse(text);
+  return { layer, feature };
+}
 
 test('there are sample tiles', () => {
   assert.ok(SAMPLES.length > 100);
@@ -23,8 +29,37 @@ for (const { name, tile, lines } of SAMPLES) {
       assert.ok(lines[profile].includes(fault ?? YES), `${fault} is none of ${lines[profile]}`);
       if (fault !== null) assert.equal(gate.confirm(tile, fault, profile), 'confirmed');
     });
+
+    test(`all faults of ${name} by ${profile}`, () => {
+      const { count, texts } = gate.faultsQuickly(tile, profile);
+      const [first] = lines[profile];
+      assert.deepEqual(placeOf(texts[0] ?? YES), placeOf(first));
+      assert.equal(texts[0] ?? null, gate.checkQuickly(tile, profile));
+      if (profile === 'polygon') assert.equal(texts[0] ?? null, gate.check(tile, profile));
+      assert.equal(count, texts.length);
+      for (const text of texts) assert.equal(gate.confirm(tile, text, profile), 'confirmed');
+    });
   }
 }
+
+for (const profile of PROFILES) {
+  test(`faults of many layers by ${profile}`, () => {
+    const { tile, faults } = faultyLayers();
+    const { count, texts } = gate.faultsQuickly(tile, profile);
+    assert.deepEqual(texts.map((text) => JSON.parse(text)), faults[profile]);
+    assert.equal(count, profile === 'feature' ? 20 : 19);
+    for (const text of texts) assert.equal(gate.confirm(tile, text, profile), 'confirmed');
+  });
+}
+
+// (a line to a place without a start, in each feature: their text is longer than the first room for it)
+test('more faults than leave the module', () => {
+  const tile = tileOf(Array(50000).fill(feature(1, [10, 2, 2])));
+  const { count, texts } = gate.faultsQuickly(tile, 'polygon');
+  assert.equal(count, 50000);
+  assert.equal(texts.length, 2000);
+  texts.forEach((text, at) => assert.deepEqual(JSON.parse(text), { code: 401, feature: at, index: 0, layer: 0 }));
+});
 
 test('no fault of another tile is true of a valid one', () => {
   const valid = SAMPLES.filter(({ lines }) => lines.feature[0] === YES);
@@ -89,7 +124,7 @@ test('the version', () => {
 test('a call leaves nothing for the next one', () => {
   const other = new Gate(new WebAssembly.Module(moduleBytes()));
   const tile = tileOf(Array(2000).fill(feature(0, [])));
-  const calls = () => [other.check(tile, 'polygon'), other.dump(tile), other.advise(tile), other.confirm(tile, '[', 'polygon')];
+  const calls = () => [other.check(tile, 'polygon'), other.faultsQuickly(tile, 'feature'), other.dump(tile), other.advise(tile), other.confirm(tile, '[', 'polygon')];
   const first = calls();
   const { memory } = other;
   for (let at = 0; at < 50; at++) assert.deepEqual(calls(), first);
@@ -99,6 +134,7 @@ test('a call leaves nothing for the next one', () => {
 test('a profile that there is not', () => {
   assert.throws(() => gate.check(sample('point'), /** @type {any} */ ('neither')), RangeError);
   assert.throws(() => gate.check(sample('point'), /** @type {any} */ ('toString')), RangeError);
+  assert.throws(() => gate.faultsQuickly(sample('point'), /** @type {any} */ ('neither')), RangeError);
 });
 
 /**
@@ -113,6 +149,8 @@ test('memory that is refused for the tile ends the call, and not the next one', 
   const small = gateOf(64);
   const large = new Uint8Array(64 * 65536);
   assert.throws(() => small.check(large, 'polygon'), OutOfMemory);
+  assert.throws(() => small.checkQuickly(large, 'polygon'), OutOfMemory);
+  assert.throws(() => small.faultsQuickly(large, 'polygon'), OutOfMemory);
   assert.throws(() => small.confirm(large, '{}', 'polygon'), OutOfMemory);
   assert.throws(() => small.dump(large), OutOfMemory);
   assert.throws(() => small.advise(large), OutOfMemory);

@@ -50,6 +50,8 @@ test('all calls answer', async () => {
   assert.ok(fault?.includes('"code":504') && milliseconds > 0 && memory > 65536);
   assert.equal(await gate.confirm(tile, fault, 'polygon'), 'confirmed');
   assert.equal(await gate.confirm(tile, '{"code":201,"layer":0}', 'polygon'), 'not confirmed');
+  assert.equal((await gate.checkQuickly(tile, 'feature')).fault, fault);
+  assert.deepEqual(await gate.faultsQuickly(tile, 'feature'), { count: 1, texts: [fault] });
   assert.equal((await gate.dump(tile)).fault, null);
   assert.equal((await gate.advise(tile)).advice, '{"advice":[]}');
 });

@@ -22,6 +22,8 @@ export function answerer(module) {
     const bytes = bytesOf(tile);
     return JSON.stringify({
       check: PROFILES.map((profile) => gate.check(bytes, profile)),
+      check_quickly: PROFILES.map((profile) => gate.checkQuickly(bytes, profile)),
+      faults_quickly: PROFILES.map((profile) => gate.faultsQuickly(bytes, profile)),
       confirm: faults.map((/** @type {string} */ fault) => PROFILES.map((profile) => gate.confirm(bytes, fault, profile))),
       dump: gate.dump(bytes),
       advise: gate.advise(bytes),

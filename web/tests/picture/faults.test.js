@@ -119,6 +119,34 @@ test('the table has the point as a fraction and as a decimal, and the edges', ()
   assert.equal(shown('crossing_behind_hole').text('point'), 'x = 3700/77 = 48.051948…, y = 3200/77 = 41.558441…');
 });
 
+/** The numbers of a square with 300 small squares as holes in rows of 30; the one of ring 269 is moved onto that of ring 268. */
+function manyHoles() {
+  const numbers = [9, 0, 0, 26, 2000, 0, 0, 2000, 1999, 0, 15]; // (it ends at (0, 1000))
+  let [x, y] = [0, 1000];
+  const zigzag = (/** @type {number} */ step) => (step < 0 ? -2 * step - 1 : 2 * step);
+  for (let hole = 0; hole < 300; hole += 1) {
+    const [left, top] = hole === 268 ? [282, 92] : [10 * (hole % 30) + 10, 10 * Math.floor(hole / 30) + 10];
+    numbers.push(9, zigzag(left - x), zigzag(top - y), 26, 0, 8, 8, 0, 0, 7, 15);
+    [x, y] = [left + 4, top];
+  }
+  return numbers;
+}
+
+test('of many rings the table has those at fault, and some of the others', () => {
+  const feature = { id: null, type: 3, tags: [], geometry: manyHoles() };
+  const record = { layers: [{ name: 'a', version: 2, extent: 4096, keys: [], values: [], features: [feature] }] };
+  const fault = { code: 504, layer: 0, feature: 0, polygon: 0, first: { ring: 268, edge: 1 }, second: { ring: 269, edge: 0 }, x: '282', y: '94', w: '1' };
+  const picture = pictureOfFault(fault, new Uint8Array(), record);
+  const rings = picture?.places.filter(({ name }) => /ring/.test(name)) ?? [];
+  assert.deepEqual(rings.slice(0, 4), [
+    { name: 'ring 268', text: 'hole of 4 vertices, doubled area -32' },
+    { name: 'ring 269', text: 'hole of 4 vertices, doubled area -32' },
+    { name: 'ring 0', text: 'exterior of 4 vertices, doubled area 2000000' },
+    { name: 'ring 1', text: 'hole of 4 vertices, doubled area -32' },
+  ]);
+  assert.deepEqual(rings.slice(-1), [{ name: 'more rings', text: '261' }]); // (40 of 301 are listed)
+});
+
 test('of a feature with several polygons the others are faint', () => {
   const { picture } = shown('second_polygon'), elements = elementsOf(picture, picture.tile);
   assert.deepEqual(elements.ring.map((it) => it['data-ring']), [2]);

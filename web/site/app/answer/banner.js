@@ -1,7 +1,7 @@
 // The verdict on a file, first of all that is said of it.
 
 import { explainFault } from '../../words/explain.js';
-import { byId, prose } from '../tools/dom.js';
+import { byId, element, prose } from '../tools/dom.js';
 
 /** @typedef {import('../files/checks.js').Entry} Entry */
 /** @typedef {import('../files/checks.js').Fault} Fault */
@@ -9,6 +9,7 @@ import { byId, prose } from '../tools/dom.js';
 
 const CONFIRMED = 'The separate checker confirms this fault.';
 const NOT_CONFIRMED = "The separate checker doesn't confirm this fault. That is a mistake of the gate: please report it.";
+const NOT_LEAST = "The search for the feature's first fault took too long and was ended, so this may be a later one of that feature.";
 
 /**
  * The verdict in a few words, and a sentence.
@@ -39,6 +40,22 @@ function sentenceOf(reason) {
 }
 
 /**
+ * What bytes are that are no tile, and what to do with them.
+ * @param {Entry} entry
+ */
+function formatParts({ state, format }) {
+  return state === 'fault' && format ? [element('b', {}, format.sentence), ' What to do: ', ...prose(format.remedy)] : [];
+}
+
+/**
+ * What is said of a fault beside itself.
+ * @param {Pick<Entry, 'isConfirmed'|'isLeast'>} fault
+ */
+export function checkerText({ isConfirmed, isLeast }) {
+  return `${isConfirmed ? CONFIRMED : NOT_CONFIRMED}${isLeast ? '' : ` ${NOT_LEAST}`}`;
+}
+
+/**
  * @param {Entry} entry
  * @param {Profile} profile
  */
@@ -49,6 +66,7 @@ export function showBanner(entry, profile) {
   byId('verdict', HTMLElement).textContent = verdict;
   byId('code', HTMLElement).textContent = entry.fault && entry.state === 'fault' ? `Code ${entry.fault.code}` : '';
   byId('sentence', HTMLElement).replaceChildren(...prose(sentence));
-  byId('checker', HTMLElement).textContent = entry.state !== 'fault' ? '' : entry.isConfirmed ? CONFIRMED : NOT_CONFIRMED;
+  byId('format', HTMLElement).replaceChildren(...formatParts(entry));
+  byId('checker', HTMLElement).textContent = entry.state === 'fault' ? checkerText(entry) : '';
   byId('again', HTMLElement).hidden = entry.state !== 'stopped' && entry.state !== 'unreadable';
 }

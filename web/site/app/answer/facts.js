@@ -5,15 +5,16 @@ import { byId, element, fillTerms, prose } from '../tools/dom.js';
 import { counted, digits, shortSize, sizeText, timeText } from '../tools/text.js';
 
 /** @typedef {import('../files/checks.js').Entry} Entry */
+/** @typedef {import('../files/checks.js').Fault} Fault */
 
 /** How many pieces of advice are listed. */
 const LISTED = 50;
 
-/** @param {Entry} entry */
-export function showFacts(entry) {
-  const fault = entry.state === 'fault' ? entry.fault : null;
-  byId('fault', HTMLElement).hidden = fault === null;
-  if (!fault) return;
+/**
+ * @param {string} text of a fault
+ * @param {Fault} fault its members
+ */
+export function showFacts(text, fault) {
   const { place, meaning, cause, remedy } = explainFault(fault);
   fillTerms(byId('facts', HTMLElement), [
     ['Place', place],
@@ -21,7 +22,7 @@ export function showFacts(entry) {
     ['Cause', prose(cause)],
     ['What to do', prose(remedy)],
   ]);
-  byId('said', HTMLElement).replaceChildren(...breakable(entry.said));
+  byId('said', HTMLElement).replaceChildren(...breakable(text));
 }
 
 /**

@@ -35,10 +35,10 @@ export class Contents {
   };
   #layers = new LayerList(byId('layers', HTMLElement), () => this.#look());
   #features = new Listbox(byId('features', HTMLElement), {
-    choose: (index) => this.#select(this.#places[index]),
+    choose: (index) => this.select(this.#places[index]),
     enter: () => this.#chosen.focus(),
   });
-  #map = new PicturePanel(byId('map', HTMLElement), (place) => this.#select(place));
+  #map = new PicturePanel(byId('map', HTMLElement), (place) => this.select(place));
   #drawing = new PicturePanel(byId('record-picture', HTMLElement));
 
   constructor() {
@@ -108,8 +108,11 @@ export class Contents {
     return this.#places.findIndex((it) => it.layer === place?.layer && it.feature === place.feature);
   }
 
-  /** @param {FeaturePlace} place */
-  #select(place) {
+  /**
+   * Shows a feature as the one that is chosen; none for null.
+   * @param {FeaturePlace|null} place
+   */
+  select(place) {
     this.#selected = place;
     this.#features.mark(this.#indexOf(place));
     this.#map.select(place);

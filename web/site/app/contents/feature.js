@@ -1,6 +1,7 @@
 // A feature and its record: id, type, tags and the numbers of its geometry.
 
 import { typeName, valueText } from '../../tile/layers.js';
+import { isolated } from '../../words/isolated.js';
 import { element, fillTerms } from '../tools/dom.js';
 import { counted, digits } from '../tools/text.js';
 import { tagsOf } from './record.js';
@@ -25,8 +26,8 @@ export function featureLine(record, place) {
   const tag = tags.find(({ key }) => key === 'name') ?? tags[0];
   const parts = [typeName(feature.type)];
   if (feature.id !== null) parts.push(`id ${feature.id}`);
-  if (tag) parts.push(`${tag.key}: ${tag.value}`);
-  return { title: `${layer.name}, feature ${place.feature}`, more: parts.join(', ') };
+  if (tag) parts.push(`${isolated(tag.key)}: ${isolated(tag.value)}`);
+  return { title: `${isolated(layer.name)}, feature ${place.feature}`, more: parts.join(', ') };
 }
 
 /**
@@ -39,7 +40,7 @@ export function showRecord(parts, record, place) {
   const layer = record.layers[place.layer];
   const feature = layer.features[place.feature];
   fillTerms(parts.terms, [
-    ['Layer', `${layer.name} (layer ${place.layer})`],
+    ['Layer', `${isolated(layer.name)} (layer ${place.layer})`],
     ['Feature', String(place.feature)],
     ['Id', feature.id === null ? 'none' : String(feature.id)],
     ['Type', typeName(feature.type)],

@@ -1,6 +1,7 @@
 // The list of layers: which are chosen, and the keys and values of each.
 
 import { featureCounts, valueText } from '../../tile/layers.js';
+import { isolated } from '../../words/isolated.js';
 import { element } from '../tools/dom.js';
 import { counted, digits } from '../tools/text.js';
 
@@ -38,6 +39,7 @@ export class LayerList {
 
   /** @param {Layer} layer */
   #line(layer) {
+    const name = isolated(layer.name);
     const box = element('input', { type: 'checkbox' });
     box.checked = true;
     box.addEventListener('change', this.#changed);
@@ -45,8 +47,8 @@ export class LayerList {
     return element('li', {},
       element('label', {}, box, element('span', { class: 'layer-name' }, layer.name || '(no name)')),
       element('p', { class: 'small' }, `${featureCounts(layer)}; extent ${digits(layer.extent)}, version ${layer.version}`),
-      this.#texts(`${counted(layer.keys.length, 'key')} of ${layer.name}`, layer.keys.length, (at) => layer.keys[at]),
-      this.#texts(`${counted(layer.values.length, 'value')} of ${layer.name}`, layer.values.length, (at) => valueText(layer.values[at])));
+      this.#texts(`${counted(layer.keys.length, 'key')} of ${name}`, layer.keys.length, (at) => layer.keys[at]),
+      this.#texts(`${counted(layer.values.length, 'value')} of ${name}`, layer.values.length, (at) => valueText(layer.values[at])));
   }
 
   /**

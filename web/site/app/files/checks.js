@@ -1,13 +1,15 @@
 // The files, and the check of one after another.
 
 import { OutOfMemory, Stopped } from '../../gate/errors.js';
-import { isGzip, unpack } from './gzip.js';
+import { packingOf, unpack } from './packing.js';
 import { readFile, Unreadable } from './read.js';
 
 /** @typedef {import('./link.js').Profile} Profile */
-/** @typedef {Pick<import('../../gate/remote.js').RemoteGate, 'check'|'confirm'|'stop'>} Gate */
+/** @typedef {Pick<import('../../gate/remote.js').RemoteGate, 'check'|'checkQuickly'|'confirm'|'stop'>} Gate */
+/** @typedef {import('../../gate/remote.js').Judged} Judged */
 /** @typedef {'waiting'|'checking'|'valid'|'fault'|'unreadable'|'stopped'} State */
 /** @typedef {import('../../picture/types.js').Fault} Fault the members of a fault's text */
+/** @typedef {import('../../words/formats.js').Format} Format */
 
 /**
  * What is known of a file. `said` is the text of the fault; `reason` says why there is no verdict.
@@ -19,6 +21,8 @@ import { readFile, Unreadable } from './read.js';
  * @property {number} size of the tile, unpacked
  * @property {string} said
  * @property {Fault|null} fault
+ * @property {Format|null} format what the bytes are, where they are no tile and that is known
+ * @property {boolean} isLeast whether the fault is known to be the tile's first one
  * @property {boolean} isConfirmed
  * @property {number} milliseconds
  * @property {number} memory
@@ -26,6 +30,9 @@ import { readFile, Unreadable } from './read.js';
  */
 
 /** @typedef {Pick<Entry, 'state'> & Partial<Entry>} Result */
+
+/** In milliseconds: how long a tile's first fault is looked for, beside three times as long as its quick one took. */
+const LEAST_TIME = 10000;
 
 /** @typedef {Record<State, number>} Counts how many files are in each state */
 
@@ -36,7 +43,8 @@ import { readFile, Unreadable } from './read.js';
  */
 export function newEntry(name, file) {
   return {
-    name, file, state: 'waiting', isPacked: false, size: 0, said: '', fault: null, isConfirmed: false, milliseconds: 0, memory: 0, reason: '',
+    name, file, state: 'waiting', isPacked: false, size: 0, said: '', fault: null, format: null, isLeast: true, isConfirmed: false, milliseconds: 0,
+    memory: 0, reason: '',
   };
 }
 
@@ -54,6 +62,7 @@ export class Checks {
   profile = 'polygon';
   #gate;
   #changed;
+  #formatOf;
   #isRunning = false;
   /** @type {{entry: Entry}|null} the check that goes on */
   #current = null;
@@ -63,10 +72,12 @@ export class Checks {
   /**
    * @param {Gate} gate
    * @param {(entry: Entry) => void} changed is called after each change of an entry's state
+   * @param {(fault: Fault, tile: Uint8Array) => Format|null} formatOf
    */
-  constructor(gate, changed) {
+  constructor(gate, changed, formatOf) {
     this.#gate = gate;
     this.#changed = changed;
+    this.#formatOf = formatOf;
   }
 
   get isBusy() {
@@ -174,11 +185,37 @@ export class Checks {
   async #judge(entry, isCurrent) {
     const tile = await this.tileOf(entry);
     if (!isCurrent()) throw new Stopped();
-    const { fault, milliseconds, memory } = await this.#gate.check(tile, this.profile);
-    const measured = { size: tile.length, milliseconds, memory };
-    if (fault === null) return { state: 'valid', said: '', fault: null, isConfirmed: false, ...measured };
-    const confirmed = await this.#gate.confirm(tile, fault, this.profile);
-    return { state: 'fault', said: fault, fault: JSON.parse(fault), isConfirmed: confirmed === 'confirmed', ...measured };
+    const { fault, milliseconds, memory, isLeast } = await this.#verdictOn(tile);
+    const measured = { size: tile.length, milliseconds, memory, isLeast };
+    if (fault === null) return { state: 'valid', said: '', fault: null, format: null, isConfirmed: false, ...measured };
+    const isConfirmed = (await this.#gate.confirm(tile, fault, this.profile)) === 'confirmed';
+    const members = JSON.parse(fault);
+    return { state: 'fault', said: fault, fault: members, format: this.#formatOf(members, tile), isConfirmed, ...measured };
+  }
+
+  /**
+   * The first fault of a tile. By `feature` the time for it may grow with the square of the vertices, so a fault that is found quickly is
+   * looked for before it, and stands where the first one isn't found in some time.
+   * @param {Uint8Array} tile
+   * @returns {Promise<Judged & {isLeast: boolean}>}
+   */
+  async #verdictOn(tile) {
+    if (this.profile === 'polygon') return { ...await this.#gate.check(tile, this.profile), isLeast: true };
+    const quick = await this.#gate.checkQuickly(tile, this.profile);
+    if (quick.fault === null) return { ...quick, isLeast: true };
+    let isOver = false;
+    const clock = setTimeout(() => {
+      isOver = true;
+      this.#gate.stop();
+    }, LEAST_TIME + 3 * quick.milliseconds);
+    try {
+      return { ...await this.#gate.check(tile, this.profile), isLeast: true };
+    } catch (error) {
+      if (isOver) return { ...quick, isLeast: false };
+      throw error;
+    } finally {
+      clearTimeout(clock);
+    }
   }
 
   /**
@@ -203,8 +240,8 @@ function isUnderWay(entry) {
  */
 async function readTile(entry) {
   const bytes = await readFile(entry.file);
-  entry.isPacked = isGzip(bytes);
-  return entry.isPacked ? unpack(bytes) : bytes;
+  entry.isPacked = packingOf(bytes) !== null;
+  return unpack(bytes);
 }
 
 /**

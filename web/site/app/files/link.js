@@ -1,7 +1,7 @@
 // A tile in an address: #tile=BASE64&profile=feature. The base64 is that of RFC 4648 with the letters for addresses, - and _;
-// those of the common alphabet are read too. The bytes may be those of a gzip file.
+// those of the common alphabet are read too. The bytes may be packed by gzip or zlib.
 
-import { pack } from './gzip.js';
+import { pack, packingOf } from './packing.js';
 import { LINK_LIMIT } from './limits.js';
 import { Unreadable } from './read.js';
 
@@ -42,7 +42,8 @@ export function readLink(fragment) {
 }
 
 /**
- * The part of an address after #, for a tile: packed where that is shorter. Null where it is too long.
+ * The part of an address after #, for a tile: packed where that is shorter, and where its own bytes would be taken for packed ones. Null
+ * where it is too long.
  * @param {Uint8Array} tile
  * @param {Profile} profile
  * @returns {Promise<string|null>}
@@ -50,8 +51,8 @@ export function readLink(fragment) {
 export async function writeLink(tile, profile) {
   if (tile.length > LINK_LIMIT * 16) return null; // (few tiles are packed to less than a sixteenth)
   const packed = await pack(tile);
-  const shorter = packed.length < tile.length ? packed : tile;
-  return shorter.length > LINK_LIMIT ? null : linkOf(base64OfBytes(shorter), profile);
+  const carried = packed.length < tile.length || packingOf(tile) ? packed : tile;
+  return carried.length > LINK_LIMIT ? null : linkOf(base64OfBytes(carried), profile);
 }
 
 /**

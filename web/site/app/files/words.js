@@ -16,8 +16,16 @@ export function verdictText(entry) {
     case 'valid': return 'valid';
     case 'stopped': return 'stopped';
     case 'unreadable': return `couldn't be read: ${entry.reason}`;
-    default: return entry.fault ? `${entry.fault.code}: ${explainFault(entry.fault).title}` : '';
+    default: return entry.fault ? faultText(entry.fault, entry.format) : '';
   }
+}
+
+/**
+ * @param {import('./checks.js').Fault} fault
+ * @param {import('./checks.js').Format|null} format
+ */
+function faultText(fault, format) {
+  return `${fault.code}: ${explainFault(fault).title}${format ? ` (${format.title})` : ''}`;
 }
 
 /**

@@ -38,12 +38,13 @@ export function shortSize(bytes) {
 }
 
 /**
- * A time with as many digits as it is worth.
+ * A time with as many digits as it is worth. (The clock of some browsers goes by whole milliseconds.)
  * @param {number} milliseconds
  */
 export function timeText(milliseconds) {
-  if (milliseconds >= 1000) return `${(milliseconds / 1000).toFixed(1)} s`;
-  return milliseconds >= 10 ? `${milliseconds.toFixed(0)} ms` : `${milliseconds.toFixed(1)} ms`;
+  if (milliseconds < 1) return 'less than 1 ms';
+  if (milliseconds < 10) return `${Number(milliseconds.toFixed(1))} ms`;
+  return milliseconds < 1000 ? `${milliseconds.toFixed(0)} ms` : `${(milliseconds / 1000).toFixed(1)} s`;
 }
 
 /**

@@ -1,6 +1,7 @@
 // The picture of a fault of layers (201, 202): the layers as a list.
 
 import { featureCounts } from '../../tile/layers.js';
+import { isolated } from '../../words/isolated.js';
 import { tree } from '../tree.js';
 
 /** @typedef {import('../types.js').Picture} Picture */
@@ -20,13 +21,18 @@ export function pictureOfLayers(fault, { layers }) {
   return {
     kind: 'layers', title: 'The layers of the tile',
     words: fault.code === 201 ? `Layer ${named[0]} has version ${layers[named[0]].version}, and version 2 is required.`
-      : `Layers ${named[0]} and ${named[1]} are both named ${JSON.stringify(layers[named[0]].name)}.`,
+      : `Layers ${named[0]} and ${named[1]} are both named ${nameText(layers[named[0]])}.`,
     places: rows.map(({ ordinal, layer, says }) => ({
       name: `layer ${ordinal}`,
-      text: `${JSON.stringify(layer.name)}, version ${layer.version}, ${featureCounts(layer)}${says && `: ${says}`}`,
+      text: `${nameText(layer)}, version ${layer.version}, ${featureCounts(layer)}${says && `: ${says}`}`,
     })),
     plane: null, strip: (width) => stripOf(rows, width), box: null, close: null, tile: null,
   };
+}
+
+/** @param {Layer} layer */
+function nameText({ name }) {
+  return isolated(JSON.stringify(name));
 }
 
 /**

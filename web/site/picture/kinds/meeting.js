@@ -161,7 +161,7 @@ function placesOf(rings, { first, second, point, polygon, other, shown }) {
     { name: 'first edge', text: edgeText(first), sample: 'first-edge' },
     { name: 'second edge', text: edgeText(second), sample: 'second-edge' },
     { name: other === polygon ? 'polygon' : 'polygons', text: other === polygon ? String(polygon) : `${other} and ${polygon}` },
-    ...ringPlaces(rings, shown),
+    ...ringPlaces(rings, shown, new Set([first.ring, second.ring])),
   ];
 }
 

@@ -1,4 +1,5 @@
-// Wheel, fingers, mouse and keys over an element, as calls.
+// Wheel, fingers, mouse and keys over an element, as calls. The page can be scrolled over it all the same: one finger is the page's, and
+// two are the element's; the wheel is the element's with the control or command key, and after a click into it until it loses the focus.
 
 /**
  * Places and distances are in pixels of the element.
@@ -15,6 +16,7 @@
 const CLICK_ROOM = 5; // pixels that a pointer may move in a click
 const WHEEL_SPEED = 0.0018;
 const PINCH_SPEED = 0.01; // of two fingers on a touchpad, which browsers report as a wheel with the control key
+const MOST_PINCH = 0.22; // by one event, so that a mouse's wheel with the control key is no faster than without
 const DOUBLE_CLICK = 2;
 const LINE = 16, PAGE = 400; // pixels of the wheel's other units
 
@@ -26,6 +28,7 @@ const LINE = 16, PAGE = 400; // pixels of the wheel's other units
 export function listen(element, handlers) {
   const control = new AbortController();
   listenToPointers(element, handlers, control.signal);
+  keepTwoFingers(element, control.signal);
   listenToWheel(element, handlers, control.signal);
   element.addEventListener('keydown', (event) => {
     if (event.ctrlKey || event.metaKey || event.altKey || event.target !== element) return;
@@ -63,7 +66,9 @@ function listenToPointers(element, handlers, signal) {
     handlers.point(place.x, place.y);
     if (!before) return;
     moved += Math.abs(place.x - before.x) + Math.abs(place.y - before.y);
-    if (moved > CLICK_ROOM) move(pointers, event.pointerId, place, handlers);
+    if (moved <= CLICK_ROOM) return;
+    if (event.pointerType === 'touch' && pointers.size === 1) pointers.set(event.pointerId, place);
+    else move(pointers, event.pointerId, place, handlers);
   }, { signal });
   element.addEventListener('pointerup', (event) => {
     const place = placeOf(element, event);
@@ -74,15 +79,32 @@ function listenToPointers(element, handlers, signal) {
 }
 
 /**
+ * Has the browser scroll nothing by two fingers.
+ * @param {HTMLElement} element
+ * @param {AbortSignal} signal
+ */
+function keepTwoFingers(element, signal) {
+  const keep = (/** @type {TouchEvent} */ event) => {
+    if (event.touches.length > 1 && event.cancelable) event.preventDefault();
+  };
+  element.addEventListener('touchstart', keep, { signal, passive: false });
+  element.addEventListener('touchmove', keep, { signal, passive: false });
+}
+
+/**
  * @param {HTMLElement} element
  * @param {Handlers} handlers
  * @param {AbortSignal} signal
  */
 function listenToWheel(element, handlers, signal) {
+  let wasClicked = false;
+  element.addEventListener('pointerdown', (event) => { wasClicked ||= event.button === 0 && event.pointerType !== 'touch'; }, { signal });
+  element.addEventListener('blur', () => { wasClicked = false; }, { signal });
   element.addEventListener('wheel', (event) => {
+    if (!event.ctrlKey && !event.metaKey && !wasClicked) return;
     event.preventDefault();
     const { x, y } = placeOf(element, event);
-    handlers.zoom(Math.exp(-wheelPixels(event) * (event.ctrlKey ? PINCH_SPEED : WHEEL_SPEED)), x, y);
+    handlers.zoom(Math.exp(-turned(event)), x, y);
   }, { signal, passive: false });
   element.addEventListener('dblclick', (event) => {
     const { x, y } = placeOf(element, event);
@@ -91,11 +113,13 @@ function listenToWheel(element, handlers, signal) {
 }
 
 /**
+ * How far a wheel was turned, as the logarithm of what it zooms by; more than 0 shows more.
  * @param {WheelEvent} event
  * @returns {number}
  */
-function wheelPixels({ deltaY, deltaMode }) {
-  return deltaY * (deltaMode === 1 ? LINE : deltaMode === 2 ? PAGE : 1);
+function turned({ deltaY, deltaMode, ctrlKey }) {
+  const pixels = deltaY * (deltaMode === 1 ? LINE : deltaMode === 2 ? PAGE : 1);
+  return ctrlKey ? Math.min(Math.max(pixels * PINCH_SPEED, -MOST_PINCH), MOST_PINCH) : pixels * WHEEL_SPEED;
 }
 
 /**

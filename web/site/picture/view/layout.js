@@ -4,17 +4,18 @@ import { colourProperties, withProperties } from '../colours.js';
 import { STYLES } from '../style.js';
 
 const LAYOUT = `
-.picture-figure { margin: 0; display: grid; gap: .75rem; min-width: 0; }
-.picture-caption-box { display: grid; gap: .15rem; }
+.picture-figure { margin: 0; display: grid; grid-template-columns: minmax(0, 1fr); gap: .75rem; min-width: 0; }
+.picture-caption-box { display: grid; grid-template-columns: minmax(0, 1fr); gap: .15rem; }
 .picture-title { font-weight: 600; }
 .picture-views { display: grid; grid-template-columns: repeat(auto-fit, minmax(min(100%, 17rem), 1fr)); gap: .75rem; }
 .picture-pane { display: grid; box-sizing: border-box; gap: .35rem; min-width: 0; align-content: start; }
 .picture-pane[hidden] { display: none; }
 .picture-view {
   position: relative; width: 100%; aspect-ratio: 1; min-height: 15rem; max-height: min(34rem, 75vh); border: 1px solid $extent;
-  border-radius: 6px; background: $outside; overflow: hidden; touch-action: none; cursor: grab; user-select: none;
+  border-radius: 6px; background: $outside; overflow: hidden; touch-action: pan-x pan-y; cursor: grab; user-select: none;
 }
 .picture-view:active { cursor: grabbing; }
+.picture-view:focus { border-color: $second; }
 .picture-view:focus-visible, .picture-controls button:focus-visible { outline: 3px solid $second; outline-offset: 1px; }
 .picture-view svg { display: block; width: 100%; height: 100%; transform-origin: 0 0; }
 .picture-view [data-feature] { cursor: pointer; }
@@ -31,7 +32,9 @@ const LAYOUT = `
 .picture-readout:empty { display: none; }
 .picture-hint { margin: 0; font-size: .875rem; color: $faint; }
 .picture-status { margin: 0; min-height: 1.5em; }
-@media (hover: none) { .picture-hint { display: none; } }
+.picture-hint-fingers { display: none; }
+@media (any-pointer: coarse) { .picture-hint-fingers { display: inline; } }
+@media (hover: none) and (pointer: coarse) { .picture-hint-mouse { display: none; } }
 .picture-strip-box { overflow-x: auto; border: 1px solid $extent; border-radius: 6px; background: $paper; }
 .picture-strip-box svg { display: block; }
 .picture-places { border-collapse: collapse; width: 100%; font-size: .95rem; }
@@ -44,6 +47,15 @@ const LAYOUT = `
 .picture-places td { padding: .15rem 0; font-variant-numeric: tabular-nums; overflow-wrap: anywhere; }
 .picture-sample { vertical-align: middle; margin-inline-end: .5rem; }
 .picture-locator { fill: none; stroke: $mark; stroke-width: 1.5; stroke-dasharray: 4 3; }
+@media print {
+  .picture-controls, .picture-hint, .picture-readout { display: none; }
+  .picture-figure { display: block; }
+  .picture-figure > * { margin-block-end: .75rem; }
+  .picture-view { max-width: 34rem; }
+  .picture-caption-box { break-after: avoid; }
+  .picture-view, .picture-strip-box { break-inside: avoid; }
+  .picture-strip-box svg { width: 100%; height: auto; }
+}
 `;
 
 let isInstalled = false;

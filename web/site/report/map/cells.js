@@ -1,7 +1,7 @@
 // The cells of the map, as the report has them.
 
 import { bytesOfBase64 } from '../../app/files/link.js';
-import { unpack } from '../../app/files/gzip.js';
+import { unpack } from '../../app/files/packing.js';
 
 /**
  * The tiles of a source at a zoom. A cell has 2 ** shift columns and rows of them. `cells` are the packed numbers of the cells.

@@ -40,6 +40,7 @@ export class MapView {
     this.#view.addEventListener('keydown', (event) => this.#pressed(event));
     new ResizeObserver(() => this.#draw()).observe(this.#view);
     matchMedia('(prefers-color-scheme: dark)').addEventListener('change', () => this.#draw());
+    for (const event of ['beforeprint', 'afterprint']) addEventListener(event, () => this.#draw());
     this.#choose(this.#data.zooms.length - 1);
   }
 
