@@ -7,22 +7,28 @@ is_silent() {
     local said
     said=$("$@" 2>&1 >/dev/null) || return 1
     # (these are about the machine's list of pages, in which ours aren't)
-    said=$(grep -vE 'outdated mandoc.db|referenced manual not found: Xr mvtgate ' <<<"$said" || true)
+    said=$(grep -vE 'outdated mandoc.db|referenced manual not found: Xr mvtgate' <<<"$said" || true)
     [ -z "$said" ] || { echo "$said"; return 1; }
 }
 
 # lint PAGE: what mandoc has to say goes to its standard output.
 lint() { mandoc -T lint "$1" >&2 || true; }
 
-# The options of the manual page are those of the program's help.
-options_of_planet() {
-    diff <(PYTHONPATH=bindings/python/src "$python" -m mvtgate.planet --help | grep -oE -- '--[a-z]+' | sort -u) \
-        <(sed -n 's/^\.It Fl Fl //p' packaging/mvtgate-planet.1 | sed 's/ , Fl Fl /\n/; s/ Ar.*//' | sed 's/^/--/' | sort -u)
+# options_of MODULE PAGE: whether the options of a manual page are those of a program's help.
+options_of() {
+    diff <(PYTHONPATH=bindings/python/src "$python" -m "$1" --help | grep -oE -- '--[a-z-]+' | sort -u) \
+        <(sed -n 's/^\.It Fl Fl //p' "$2" | sed 's/ , Fl Fl /\n/; s/ Ar.*//' | sed 's/^/--/' | sort -u)
+}
+
+# The exit statuses of the manual page are those of the help.
+statuses_of_check() {
+    diff <(PYTHONPATH=bindings/python/src "$python" -m mvtgate.checking.command --help | tr '\n' ' ' | sed 's/.*Exit *status//' |
+        grep -oE '[0-9]+:' | tr -d :) <(sed -n 's/^\.It \([0-9][0-9]*\)$/\1/p' packaging/mvtgate-check.1)
 }
 
 test_pages() {
     local page
-    for page in packaging/mvtgate.1 packaging/mvtgate.3 packaging/mvtgate-planet.1; do
+    for page in packaging/mvtgate.1 packaging/mvtgate.3 packaging/mvtgate-check.1 packaging/mvtgate-planet.1; do
         ! has /usr/bin/mandoc "the lint of $page" || expect "the lint of $page" is_silent lint $page
         ! has /usr/bin/groff "groff's warnings on $page" || expect "groff's warnings on $page" is_silent groff -ww -mandoc -Tutf8 -z $page
         ! has /usr/bin/man "the warnings of man on $page" ||
@@ -31,22 +37,29 @@ test_pages() {
     expect "the faults of mvtgate.1" "$python" packaging/tests/manual.py faults
     ! has /usr/bin/mandoc "the statuses of mvtgate.1" ||
         expect "the statuses of mvtgate.1" "$python" packaging/tests/manual.py statuses ./mvtgate
-    expect "the options of mvtgate-planet.1" options_of_planet
+    expect "the options of mvtgate-planet.1" options_of mvtgate.planet packaging/mvtgate-planet.1
+    expect "the options of mvtgate-check.1" options_of mvtgate.checking.command packaging/mvtgate-check.1
+    expect "the statuses of mvtgate-check.1" statuses_of_check
     expect "the functions of mvtgate.3" "$python" packaging/tests/manual.py functions
     expect "the constants of mvtgate.3" "$python" packaging/tests/manual.py constants
 }
 
-# offered WORD..: what the function of the completion offers for the words, of which the last one is at the cursor.
-offered() {
+# offered_by PROGRAM WORD..: what the function of the program's completion offers for the words, of which the last one is at
+# the cursor.
+offered_by() {
     # shellcheck disable=SC2016
     bash --norc -c '
-        . packaging/mvtgate.bash-completion
+        name=_${1//-/_}
+        . "packaging/$1.bash-completion"
         compopt() { COMPREPLY+=("a file by readline: $*"); }
-        [ "$(complete -p mvtgate)" = "complete -F _mvtgate mvtgate" ] || echo "there is no completion"
+        [ "$(complete -p "$1")" = "complete -F $name $1" ] || echo "there is no completion"
         COMP_WORDS=("$@") COMP_CWORD=$(($# - 1))
-        _mvtgate
-        echo "${COMPREPLY[*]}"' bash mvtgate "$@"
+        $name
+        echo "${COMPREPLY[*]}"' bash "$@"
 }
+
+offered() { offered_by mvtgate "$@"; }
+offered_by_check() { offered_by mvtgate-check "$@"; }
 
 # Lines 'WORDS|OFFERS': what is offered after these words; the last one is at the cursor, and is empty after a space.
 offers='|check confirm dump fields help --help --version
@@ -56,16 +69,19 @@ x|
 nothing |
 check |FILE
 check a |
-check -|--profile --advice --help
-check --a|--advice
+check -|--profile --all --quick --advice --not-empty --help
+check --a|--all --advice
+check --q|--quick
+check --all --a|--advice
 check --profile |polygon feature
 check --profile f|feature
 check --profile =|polygon feature
 check --profile = p|polygon
 check --profile = polygon |FILE
-check --profile polygon -|--advice --help
+check --profile polygon -|--all --quick --advice --not-empty --help
 check --profile feature a |
-check --advice -|--profile --help
+check --advice -|--profile --all --quick --not-empty --help
+check --not-empty --n|
 confirm |FILE
 confirm -|--profile --help
 confirm a |FILE
@@ -80,27 +96,53 @@ help |check confirm dump fields
 help d|dump
 help dump |'
 
+# The same for mvtgate-check.
+offers_of_check='|FILE
+x|FILE
+--q|--quick --quiet
+--al|--all --allow-empty
+--jobs |
+--jobs 2 |FILE
+--profile |polygon feature
+--profile f|feature
+--profile =|polygon feature
+--profile = p|polygon
+--profile = polygon |FILE
+--junit |FILE
+--sarif = |FILE
+a --js|--json
+-- -|FILE'
+
+# test_offers PROGRAM LINES
 test_offers() {
     local line words wanted
     while IFS= read -r line; do
         mapfile -td ' ' words < <(printf '%s ' "${line%|*}")
         wanted=${line#*|}
-        expect "the completion of 'mvtgate ${line%|*}'" are_lines "${wanted/FILE/a file by readline: -o default}" offered "${words[@]}"
-    done <<<"$offers"
+        expect "the completion of '$1 ${line%|*}'" are_lines "${wanted/FILE/a file by readline: -o default}" offered_by "$1" "${words[@]}"
+    done <<<"$2"
+}
+
+# The options that are offered are those of the help.
+offers_all_of_check() {
+    diff <(PYTHONPATH=bindings/python/src "$python" -m mvtgate.checking.command --help | grep -oE -- '--[a-z-]+' | sort -u) \
+        <(offered_by_check -- | tr ' ' '\n' | sort -u)
 }
 
 # offers_all COMMAND: whether the options that the program's help of a command has, or its own, are those that are offered.
 offers_all() {
     local words=()
     [ -z "$1" ] || words=("$1")
-    diff <(./mvtgate "${words[@]}" --help | grep -oE -- '^ .*--[a-z]+' | grep -oE -- '--[a-z]+' | sort -u) \
+    diff <(./mvtgate "${words[@]}" --help | grep -oE -- '^ +(-., )?--[a-z-]+' | grep -oE -- '--[a-z-]+' | sort -u) \
         <(offered "${words[@]}" -- | tr ' ' '\n' | sort -u)
 }
 
 test_documents() {
     local it
     test_pages
-    test_offers
+    test_offers mvtgate "$offers"
+    test_offers mvtgate-check "$offers_of_check"
+    expect "the options of mvtgate-check" offers_all_of_check
     for it in "" check confirm dump fields; do
         expect "the options of 'mvtgate $it'" offers_all "$it"
     done

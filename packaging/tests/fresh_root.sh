@@ -93,7 +93,7 @@ has_documents() {
 # what are_samples_right calls
 by_package() { inside mvtgate check "/tmp/tiles/$1.mvt"; }
 by_tar() { inside "/opt/a folder/$tar_name/bin/mvtgate" check "/tmp/tiles/$1.mvt"; }
-by_program() { inside /opt/judge <"tiles/$1.mvt" && echo '{"ok":true}'; }
+by_program() { by_example "$1" inside /opt/judge; }
 by_module() {
     local line
     line=$(awk -v name="$1.mvt" '$1 == name { print $2 }' "$room/by_module")
@@ -109,9 +109,9 @@ build_for() {
     [ -z "$is_debian" ] || inside ldconfig -p | grep -F "libmvtgate.so.${version%%.*} (libc6,x86-64) => $(inside realpath -s "$2" | sed 's,^/usr/lib/,/lib/,')"
 }
 
-# The module answers for each tile, and its command counts them right.
+# The module answers for each tile, and its command counts them right, by both of its names.
 run_module() {
-    local valid faulty
+    local valid faulty all it
     # shellcheck disable=SC2016
     inside python3 -c 'import pathlib, mvtgate
 for it in pathlib.Path("/tmp/tiles").iterdir():
@@ -119,17 +119,26 @@ for it in pathlib.Path("/tmp/tiles").iterdir():
     print(it.name, fault.text if fault else "{\"ok\":true}")' >"$room/by_module"
     valid=$(cat tiles/expected/*.check | grep -cxF '{"ok":true}')
     faulty=$(($(find tiles/expected -name '*.check' | wc -l) - valid))
-    ends_with 1 inside python3 -m mvtgate check --confirm /tmp/tiles >"$room/command" 2>"$room/summary"
-    [ "$(cat "$room/summary")" = "$((valid + faulty)) tiles: $valid valid, $faulty with a fault" ]
+    all="$((valid + faulty)) tiles: $valid valid, $faulty with a fault"
+    ends_with 1 inside mvtgate-check --confirm --allow-empty --jobs 2 /tmp/tiles >"$room/command" 2>"$room/summary"
+    [ "$(tail -n 1 "$room/summary")" = "$all" ]
     [ "$(grep -c '(confirmed)$' "$room/command")" = "$faulty" ]
+    ends_with 1 inside python3 -m mvtgate check --confirm --allow-empty /tmp/tiles 2>"$room/summary" | cmp - "$room/command"
+    [ "$(tail -n 1 "$room/summary")" = "$all" ]
+    [ "$(inside mvtgate-check --version)" = "mvtgate-check $version" ]
+    for it in mvtgate-check mvtgate-planet; do
+        gunzip -c "$root/usr/share/man/man1/$it.1.gz" | cmp - "packaging/$it.1"
+    done
+    cmp "$root/usr/share/bash-completion/completions/mvtgate-check" packaging/mvtgate-check.bash-completion
     [ "$(inside python3 -c 'import importlib.metadata; print(importlib.metadata.version("mvtgate"))')" = "$version" ]
 }
 
 # As packaging/README.md says, with the packages in any order.
 by_apt() {
-    inside sh -ec 'cd /tmp && apt-get install -y ./python3-mvtgate_*.deb ./libmvtgate-dev_*.deb ./mvtgate_*.deb'
+    # (without the packages that the module's programs recommend, of which mvtgate-planet says that they are missing)
+    inside sh -ec 'cd /tmp && apt-get install -y --no-install-recommends ./python3-mvtgate_*.deb ./libmvtgate-dev_*.deb ./mvtgate_*.deb'
     [ "$(inside mvtgate --version)" = "mvtgate $version" ]
-    ends_with 2 inside mvtgate-planet /tmp/tiles 2>"$room/planet"
+    ends_with 3 inside mvtgate-planet /tmp/tiles 2>"$room/planet"
     [[ $(cat "$room/planet") == *"not installed: distributed, jinja2, tqdm "* ]]
 }
 

@@ -44,7 +44,7 @@ build_consumer() {
 
 # what are_samples_right calls
 by_installed() { "$prefix/bin/mvtgate" check "tiles/$1.mvt"; }
-by_consumer() { "$consumer" <"tiles/$1.mvt" && echo '{"ok":true}'; }
+by_consumer() { by_example "$1" "$consumer"; }
 
 test_consumers() {
     local consumer=$room/judge_static
