@@ -6,7 +6,7 @@ A name is a shape and its number of vertices, as comb_1000, or its size, as tria
 import math
 import sys
 
-from inputs import CLOSE_PATH, DELIMITED, LINE_TO, MOVE_TO, NAMED, POLYGON, Dice, command, feature, field, packed, parameters, varint, write_inputs
+from inputs import CLOSE_PATH, DELIMITED, LINE_TO, MOVE_TO, NAMED, POLYGON, Dice, command, feature, field, packed, parameters, ring, varint, write_inputs
 
 # coordinates lie from -2^30 to 2^30
 REACH = 1 << 29
@@ -300,6 +300,36 @@ def rows_of_triangles(left):
     return b"".join(rows)
 
 
+def sliver(height):
+    """A long thin triangle that begins one above where the one before it ended: from (0, y) it goes to (1, y + height), and ends
+    at (0, y + 1). So those of one height stand in each other's bounds, and don't meet."""
+    return triangle((0, 1), (1, height), (-1, 1 - height))
+
+
+def slivers_in(size):
+    """A height, and how many slivers of it fit: their bounds all overlap, and one vertical line meets all of them."""
+    # (a sliver has at least 13 bytes, and begins 2 above the one before it)
+    height = 2 * (size // 13)
+    return height, (size - REST) // len(sliver(height))
+
+
+def slivers_met_halfway(size):
+    """Slivers, of which the one in the middle crosses the one before it."""
+    height, count = slivers_in(size)
+    half = count // 2
+    return filled(sliver(height) * half + sliver(height - 3) + sliver(height) * (count - half - 1))
+
+
+# two squares that cross, to the right of where the ring before them ended, so that the sweep comes to them late
+PAIR = packed([*ring((99, 0), (4, 0), (0, 4), (-4, 0)), *ring((2, -2), (4, 0), (0, 4), (-4, 0))])
+
+
+def slivers_met_late(size):
+    """Slivers, and after them a pair: where the first polygons are swept over by halves, most sweeps go over most slivers."""
+    height, count = slivers_in(size)
+    return filled(sliver(height) * count + PAIR)
+
+
 def equal_polygons(size):
     """As many of the smallest polygons as fit, all at one position but for the last one."""
     one = triangle((0, -1), (1, 0), (-1, 1))
@@ -363,14 +393,30 @@ def spiral(size):
 
 def zigzag(size):
     """A ring of two bytes a vertex that goes from side to side on its way up: one line meets nearly all of its edges."""
+    return filled(zigzag_ring(size, -1))
+
+
+def zigzag_ring(size, left):
+    """The numbers of such a ring, which goes back along its left side and ends there, at y = -1."""
     dice = Dice(2)
     turns = [x for _ in range(4096) for x in (dice.between(0, 15), dice.between(40, 55))]
     steps = packed(parameters([(to - x, 1) for x, to in zip(turns, turns[1:] + turns[:1])]))
     blocks = (size - 128) // len(steps)
     height = blocks * len(turns)
     begin = packed([command(MOVE_TO, 1), *parameters([(turns[0], 0)]), command(LINE_TO, height + 2)])
-    end = packed([*parameters([(-1 - turns[0], 1), (0, -2 - height)]), command(CLOSE_PATH, 1)])
-    return filled(begin + steps * blocks + end)
+    end = packed([*parameters([(left - turns[0], 1), (0, -2 - height)]), command(CLOSE_PATH, 1)])
+    return begin + steps * blocks + end
+
+
+def triangles_in_zigzag(size):
+    """How many triangles go into a zigzag that is met late."""
+    return size // 1000
+
+
+def zigzag_met_late(size):
+    """A zigzag with a column of small triangles in it, and after them a pair: each sweep by halves goes over the whole zigzag."""
+    column = triangle((1, 1), (1, 0), (-1, 1)) + triangle((0, 1), (1, 0), (-1, 1)) * (triangles_in_zigzag(size) - 1)
+    return filled(zigzag_ring(size - len(column) - len(PAIR), -9) + column + PAIR)
 
 
 SHAPES = {it.__name__: it for it in (comb, lying_comb, star, coast, small_polygons, holes, nested_holes, late_meeting, islands, islands_in_holes, late_pair, middle_pair, slivers, coasts)}
@@ -378,7 +424,10 @@ INPUTS = {f"{name}_{count}": lambda shape=shape, count=count: tile(shape(count))
 # by their names, what fills a size
 SIZED = {
     it.__name__: it
-    for it in (zigzag, triangle_holes, triangles, triangles_in_hole, nested_polygons, nested_islands, nested_triangles, equal_polygons, equal_holes, column, column_with_side, overlapping_column, spiral)
+    for it in (
+        *(zigzag, triangle_holes, triangles, triangles_in_hole, nested_polygons, nested_islands, nested_triangles, equal_polygons),
+        *(equal_holes, column, column_with_side, overlapping_column, spiral, slivers_met_halfway, slivers_met_late, zigzag_met_late),
+    )
 }
 INPUTS |= {f"{name}_64_mib": lambda write=write: write(64 << 20) for name, write in SIZED.items()}
 

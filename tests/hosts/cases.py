@@ -12,6 +12,8 @@ from typing import Any, Callable, Dict, List, NamedTuple, Tuple
 from network import Host
 from runs import Cluster, Judged, Libraries, Run, expect, is_of, wait_for
 
+# exit statuses
+REFUSED, UNFINISHED = 3, 4
 # what Dask is given: the shortest time that it takes (a connection that says nothing for so long has ended)
 TIMEOUT = "11s"
 # By docs/PLANET.md a run goes on so many seconds after a host fell silent, at the latest, and a silent scheduler is reported
@@ -101,7 +103,7 @@ def different_copy(it: Bench) -> None:
         (it.missing, "there is no such file or folder"),
     ):
         run = cluster.client(it.first, it.third, tiles, tiles.parent.name).end()
-        expect(run.status == 2, "status", run.status, run.said[-500:])
+        expect(run.status == REFUSED, "status", run.status, run.said[-500:])
         expect(f"{tiles}" in run.said and words in run.said and names_worker(run.said, it.second), run.said[-500:])
 
 
@@ -122,7 +124,7 @@ def unfit_worker(it: Bench) -> None:
         cluster.wait_for(worker)
         run = cluster.client(it.first, it.third, it.shared, "run").end()
         it.second.end(worker)
-        expect(run.status == 2, "status", run.status)
+        expect(run.status == REFUSED, "status", run.status)
         expect(words in run.said and names_worker(run.said, it.second), run.said)
 
 
@@ -198,7 +200,7 @@ def lose_scheduler(it: Bench, cluster: Cluster, seconds: float) -> None:
         print(f"    it was told {time.monotonic() - cut:.1f} s after the host fell silent")
     finally:
         it.third.join()
-    expect(run.status == 2 and "mvtgate-planet: the scheduler has gone" in run.said, run.status, run.said[-500:])
+    expect(run.status == UNFINISHED and "mvtgate-planet: the scheduler has gone" in run.said, run.status, run.said[-500:])
     expect("Traceback" not in run.said, run.said[-2000:])
     before = tuple(run.journal())
     for host, worker in workers.items():
