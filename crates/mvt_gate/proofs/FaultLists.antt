@@ -4,7 +4,6 @@ use Rattle.std.proofs.lemmas.Option.{same_Some, none-some}
 use Rattle.mvt_confirm.proofs.Features.TileFeatures.{one_feature_of}
 use Rattle.mvt_confirm.proofs.Validity.ShownParts.{shown_by_parts}
 use Rattle.mvt_confirm.proofs.Validity.TrueFaults.{no_fault_of_tile}
-use Rattle.mvt_confirm.proofs.Validity.ValidParts.{geometry_kept}
 use Rattle.mvt_confirm.specs.Geometry.{IsFaultOfGeometryBy}
 use Rattle.mvt_confirm.specs.Shows.{OfTile, ShowsBy}
 use Rattle.mvt_confirm.specs.Valid.{IsValidGeometryBy}
@@ -13,17 +12,17 @@ use Rattle.mvt_fault.specs.TrueFaults.{IsWireFault}
 use Rattle.mvt_fault.specs.declared.fault.Fault.{Fault}
 use Rattle.mvt_fault.specs.declared.profile.Profile.{Profile}
 use Rattle.mvt_tile.specs.FirstFaults.{AreFirstFaults, AreInOrder, IsFaultOfLayer, IsFirstFault, of_feature as first_of_feature, of_layer as first_of_layer, OneOf}
-use Rattle.mvt_tile.specs.RuleFaults.{Breaks, BreaksAnyRule, IsFaultOfFeature, IsSound}
+use Rattle.mvt_tile.proofs.RuleFaults.FreeFaults.{least_or_holds}
+use Rattle.mvt_tile.specs.FreeFaults.{IsLeastOr, of_least, of_free}
+use Rattle.mvt_tile.specs.RuleFaults.{Breaks, BreaksAnyRule, Frees, IsFaultOfFeature}
 use Rattle.mvt_wire.proofs.Parts.Tiles.{one_tile}
 use Rattle.mvt_wire.specs.Rules.{IsFeatureOf}
 use Rattle.mvt_wire.specs.Tile.{FeatureRecord, LayerRecord, TileRecord, IsTile}
 use Rattle.mvt_gate.proofs.FaultSubjects.{AreOfTheirFeature, HasFeature, HasLayer, layer_or_feature, subject_of_feature, subject_of_geometry, subject_of_layer, subject_of_wire}
-use Rattle.mvt_gate.proofs.QuickFaults.{quick_by_parts}
 use Rattle.mvt_gate.proofs.Verdicts.{first_of_wire}
 use Rattle.mvt_gate.specs.Calls.Faults.{AreFoundBy}
-use Rattle.mvt_gate.specs.Calls.Polygons.{IsFaultOfGeometryFor}
-use Rattle.mvt_gate.specs.FaultList.{Subject, of_layer, of_feature, subject_of, IsFirstOfItsSubject, AreFaultsFor}
-use Rattle.mvt_gate.specs.Quick.{IsQuickFaultOfGeometryBy, ShowsFor}
+use Rattle.mvt_gate.specs.FaultList.{Subject, of_layer, of_feature, subject_of, IsFirstOfItsSubject, IsListedFor, AreFaultsFor}
+use Rattle.mvt_gate.specs.Quick.{IsFreeFor}
 use Rattle.mvt_gate.specs.declared.quick.Search.{Search}
 use Rattle.mvt_gate.specs.declared.quick.Search.TheVariants.{Least, Quick}
 
@@ -88,51 +87,73 @@ module _ (bytes : List ℕ) (Shown : Fault → Type 0) (IsBroken : Breaks) (thei
       of_rules (inl tags) = inl (inr (record { layer = layer; feature = feature; layer_record = layer_record; feature_record = it; there = there; broken = tags }))
       of_rules (inr broken) = inr (record { layer = layer; feature = feature; layer_record = layer_record; feature_record = it; there = there; broken = broken })
 
-  -- so each of a tile's first faults is the first with its subject
-  pub each_of_tile : (tile : TileRecord) (fault : Fault) → IsTile bytes tile → IsFirstFault IsBroken tile fault → IsFirstOfItsSubject Shown fault
-  each_of_tile tile fault is (first_of_layer layer first) = first_of_its_layer tile layer fault is first
-  each_of_tile tile fault is (first_of_feature layer feature layer_record it there first) = first_of_its_feature tile layer feature layer_record it fault is there first
+  -- a free one of a feature is true
+  free_of_its_feature : (tile : TileRecord) (layer feature : ℕ) (layer_record : LayerRecord) (it : FeatureRecord) (fault : Fault) → IsTile bytes tile → IsFeatureOf tile layer feature layer_record it
+      → IsFaultOfFeature IsBroken layer_record it layer feature fault → Shown fault
+  free_of_its_feature tile layer feature layer_record it fault is there (inl tags) =
+      (by_parts fault).1 (inr (tile, is, inl (inr (record { layer = layer; feature = feature; layer_record = layer_record; feature_record = it; there = there; broken = tags }))))
+  free_of_its_feature tile layer feature layer_record it fault is there (inr broken) =
+      (by_parts fault).1 (inr (tile, is, inr (record { layer = layer; feature = feature; layer_record = layer_record; feature_record = it; there = there; broken = broken })))
+
+  -- so each of a tile's first faults is the first with its subject, or a free one
+  pub each_of_tile : (IsFree : Frees) (tile : TileRecord) (fault : Fault) → IsTile bytes tile → IsFirstFault IsFree IsBroken tile fault → IsFirstOfItsSubject Shown fault ⊎ (IsFree fault × Shown fault)
+  each_of_tile IsFree tile fault is (first_of_layer layer first) = inl (first_of_its_layer tile layer fault is first)
+  each_of_tile IsFree tile fault is (first_of_feature layer feature layer_record it there (of_least first)) = inl (first_of_its_feature tile layer feature layer_record it fault is there first)
+  each_of_tile IsFree tile fault is (first_of_feature layer feature layer_record it there (of_free free holds none)) =
+      inr (free, free_of_its_feature tile layer feature layer_record it fault is there holds)
 
 -- Lists by a search
 
--- the kept rule is that of valid geometries, so whatever fault is true has one of its subject among the tile's first faults
-every_of_tile : (profile : Profile) (bytes : List ℕ) (IsBroken : Breaks) (theirs : AreOfTheirFeature IsBroken) (tile : TileRecord) (faults : List Fault) (fault : Fault) → IsTile bytes tile
-    → AreFirstFaults IsBroken (IsValidGeometryBy profile) tile faults → ShowsBy profile bytes fault → HasOneOf faults (subject_of fault)
-every_of_tile profile bytes IsBroken theirs tile faults fault is first shown =
-    elim (layer_or_feature (IsFaultOfGeometryBy profile) (subject_of_geometry profile) tile fault
-    (of_tile bytes (ShowsBy profile bytes) (IsFaultOfGeometryBy profile) (subject_of_geometry profile) (shown_by_parts profile bytes) tile fault is shown)) [
-      | inl of ↦
-          let (at, it, there, least) = first.layers of.layer fault of.its in
-          (at, it, there, subject_of_layer tile of.layer it least.holds ∙ sym of.subject)
-      | inr of ↦ elim (first.features of.layer of.feature of.layer_record of.feature_record of.there) [
-        | inl (at, it, there, least) ↦ (at, it, there, subject_of_feature IsBroken theirs of.layer_record of.feature_record of.layer of.feature it least.holds ∙ sym of.subject)
-        | inr sound ↦ elim of.its [
-          | inl tags ↦ absurd (sound.faultless fault (inl tags))
-          | inr broken ↦ absurd (geometry_kept profile of.feature_record of.layer of.feature fault sound.kept broken)
+-- the fault that a search lists
+pub listed : (search : Search) (profile : Profile) (bytes : List ℕ) (fault : Fault) → IsFirstOfItsSubject (ShowsBy profile bytes) fault ⊎ (IsFreeFor search profile fault × ShowsBy profile bytes fault) → IsListedFor search profile bytes fault
+listed Least profile bytes fault (inl first) = first
+listed Least profile bytes fault (inr both) = absurd both.0
+listed Quick profile bytes fault its = its
+
+module _ (search : Search) (profile : Profile) (bytes : List ℕ) where
+  -- the kept rule is that of valid geometries, so whatever fault is true has one of its subject among the tile's first faults
+  every_of_tile : (tile : TileRecord) (faults : List Fault) (fault : Fault) → IsTile bytes tile
+      → AreFirstFaults (IsFreeFor search profile) (IsFaultOfGeometryBy profile) (IsValidGeometryBy profile) tile faults → ShowsBy profile bytes fault → HasOneOf faults (subject_of fault)
+  every_of_tile tile faults fault is first shown =
+      elim (layer_or_feature (IsFaultOfGeometryBy profile) (subject_of_geometry profile) tile fault
+      (of_tile bytes (ShowsBy profile bytes) (IsFaultOfGeometryBy profile) (subject_of_geometry profile) (shown_by_parts profile bytes) tile fault is shown)) [
+        | inl of ↦
+            let (at, it, there, least) = first.layers of.layer fault of.its in
+            (at, it, there, subject_of_layer tile of.layer it least.holds ∙ sym of.subject)
+        | inr of ↦ elim (first.features of.layer of.feature of.layer_record of.feature_record of.there) [
+          | inl (at, it, there, found) ↦ (
+            at,
+            it,
+            there,
+            subject_of_feature (IsFaultOfGeometryBy profile) (subject_of_geometry profile) of.layer_record of.feature_record of.layer of.feature it
+                (least_or_holds (IsFreeFor search profile) (IsFaultOfFeature (IsFaultOfGeometryBy profile) of.layer_record of.feature_record of.layer of.feature) it found) ∙ sym of.subject,
+          )
+          | inr sound ↦ absurd (sound.faultless fault of.its)
         ]
       ]
-    ]
 
-module _ (search : Search) (profile : Profile) (bytes : List ℕ) (IsBroken : Breaks) (theirs : AreOfTheirFeature IsBroken)
-    (by_parts : (fault : Fault) → ShowsFor search profile bytes fault ↔ (IsWireFault bytes fault ⊎ OfTile bytes (λ tile. BreaksAnyRule IsBroken tile fault))) where
   -- the first faults of a tile are its list
-  pub list_of_tile : (tile : TileRecord) (faults : List Fault) → IsTile bytes tile → AreFirstFaults IsBroken (IsValidGeometryBy profile) tile faults → AreFaultsFor search profile bytes faults
+  list_of_tile : (tile : TileRecord) (faults : List Fault) → IsTile bytes tile → AreFirstFaults (IsFreeFor search profile) (IsFaultOfGeometryBy profile) (IsValidGeometryBy profile) tile faults → AreFaultsFor search profile bytes faults
   list_of_tile tile faults is first = record {
-    each = λ at fault there. each_of_tile bytes (ShowsFor search profile bytes) IsBroken theirs by_parts tile fault is (first.each at fault there);
-    every = λ fault shown. every_of_tile profile bytes IsBroken theirs tile faults fault is first shown;
+    each = λ at fault there.
+        listed search profile bytes fault
+        (each_of_tile bytes (ShowsBy profile bytes) (IsFaultOfGeometryBy profile) (subject_of_geometry profile) (shown_by_parts profile bytes) (IsFreeFor search profile) tile fault is (first.each at fault there));
+    every = λ fault shown. every_of_tile tile faults fault is first shown;
     in_order = first.in_order;
   }
 
   -- the first wire fault alone is that of bytes that have one
-  pub list_of_wire : (fault : Fault) → IsLeast (IsWireFault bytes) fault → AreFaultsFor search profile bytes (fault ∷ [])
+  list_of_wire : (fault : Fault) → IsLeast (IsWireFault bytes) fault → AreFaultsFor search profile bytes (fault ∷ [])
   list_of_wire fault least = record {
     each = each;
     every = λ other shown. (0, fault, refl, subject_of_wire bytes fault least.holds ∙ sym (subject_of_wire bytes other (wire_alone other shown)));
     in_order = in_order;
   }
     where
-      each : (at : ℕ) (it : Fault) → slice_get (fault ∷ []) at ≡ Some it → IsFirstOfItsSubject (ShowsFor search profile bytes) it
-      each zero it there = subst (IsFirstOfItsSubject (ShowsFor search profile bytes)) (same_Some fault it there) (first_of_bytes bytes (ShowsFor search profile bytes) IsBroken theirs by_parts fault least)
+      each : (at : ℕ) (it : Fault) → slice_get (fault ∷ []) at ≡ Some it → IsListedFor search profile bytes it
+      each zero it there =
+          subst (IsListedFor search profile bytes) (same_Some fault it there)
+          (listed search profile bytes fault (inl (first_of_bytes bytes (ShowsBy profile bytes) (IsFaultOfGeometryBy profile) (subject_of_geometry profile) (shown_by_parts profile bytes) fault least)))
       each (suc at) it there = absurd (none-some it there)
 
       wire_alone : (other : Fault) → ShowsBy profile bytes other → IsWireFault bytes other
@@ -146,15 +167,6 @@ module _ (search : Search) (profile : Profile) (bytes : List ℕ) (IsBroken : Br
       in_order at (suc later) it other less there its = absurd (none-some other its)
 
   -- so is what is found in any bytes
-  list_of_found : (faults : List Fault) → AreFoundBy IsBroken (IsValidGeometryBy profile) bytes faults → AreFaultsFor search profile bytes faults
-  list_of_found faults (inl (fault, least, is)) = subst (AreFaultsFor search profile bytes) (sym is) (list_of_wire fault least)
-  list_of_found faults (inr (tile, is, first)) = list_of_tile tile faults is first
-
--- a quick fault of a geometry is of its feature
-subject_of_quick : (profile : Profile) (it : FeatureRecord) (layer feature : ℕ) (fault : Fault) → IsQuickFaultOfGeometryBy profile it layer feature fault → subject_of fault ≡ of_feature layer feature
-subject_of_quick profile it layer feature fault quick = subject_of_geometry profile it layer feature fault quick.broken
-
--- what is found by the rule of a search is its list
-pub list_found : (search : Search) (profile : Profile) (bytes : List ℕ) (faults : List Fault) → AreFoundBy (IsFaultOfGeometryFor search profile) (IsValidGeometryBy profile) bytes faults → AreFaultsFor search profile bytes faults
-list_found Least profile bytes = list_of_found Least profile bytes (IsFaultOfGeometryBy profile) (subject_of_geometry profile) (shown_by_parts profile bytes)
-list_found Quick profile bytes = list_of_found Quick profile bytes (IsQuickFaultOfGeometryBy profile) (subject_of_quick profile) (quick_by_parts profile bytes)
+  pub list_found : (faults : List Fault) → AreFoundBy (IsFreeFor search profile) (IsFaultOfGeometryBy profile) (IsValidGeometryBy profile) bytes faults → AreFaultsFor search profile bytes faults
+  list_found faults (inl (fault, least, is)) = subst (AreFaultsFor search profile bytes) (sym is) (list_of_wire fault least)
+  list_found faults (inr (tile, is, first)) = list_of_tile tile faults is first

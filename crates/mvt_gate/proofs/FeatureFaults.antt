@@ -13,16 +13,14 @@ use Rattle.mvt_polygon.proofs.Holes.ApartFaults.{ends_within}
 use Rattle.mvt_polygon.specs.Apart.{IsApartFault, IsFirstApartFault}
 use Rattle.mvt_polygon.specs.Feature.{IsCause, IsClear, IsFirstFault, front_of}
 use Rattle.mvt_polygon.specs.Meeting.{IsMeetingOf, NoMeeting}
-use Rattle.mvt_polygon.specs.QuickFeature.{IsClearIf, IsFirstFaultIf, IsTold}
 use Rattle.mvt_polygon.specs.declared.apart.ApartFault.{ApartFault}
 use Rattle.mvt_polygon.specs.declared.feature.FeatureCause.{FeatureCause}
 use Rattle.mvt_polygon.specs.declared.feature.FeatureCause.TheVariants.{Meeting, Nesting, Apart}
 use Rattle.mvt_polygon.specs.declared.feature.FeatureFault.{FeatureFault}
 use Rattle.mvt_polygon.specs.declared.meeting.Meeting.{Meeting as MeetingOf}
-use Rattle.mvt_gate.proofs.CountedFaults.{AreGoodBefore, IsFirstWhere, IsGoodPolygon}
 use Rattle.mvt_gate.proofs.PolygonFaults.{HasGoodHoles, in_polygon_is_least, meeting_is_least}
 use Rattle.mvt_gate.proofs.PolygonParts.{apart_in_whole, apart_of_front, edge_in_whole, enclosed_in_whole, first_hole_is_least, hole_within, meeting_of_front, meeting_within}
-use Rattle.mvt_gate.specs.Calls.Polygons.{IsReportable, fault_of_apart, fault_of_cause, fault_of_meeting, front_place, rings_at}
+use Rattle.mvt_gate.specs.Calls.Polygons.{AreValidBefore, IsFirstOfRings, IsReportable, fault_of_apart, fault_of_cause, fault_of_meeting, front_place, rings_at}
 use Rattle.mvt_gate.specs.declared.polygons.PolygonPlace.{PolygonPlace}
 
 -- Polygons without a fault
@@ -49,39 +47,9 @@ valid_of_none parts sound clear = record {
   polygons = λ polygon its there. valid_of_clear parts polygon its there (clear polygon its there);
 }
 
--- Faults of which those of a polygon in another are told only if this is so
-
--- where all are told, the first is of these
-told_always : (cause : FeatureCause) → IsTold (Unit {0}) cause
-told_always (Meeting found) = tt
-told_always (Nesting fault) = tt
-told_always (Apart found) = tt
-
-pub first_of_all_polygons : (parts : List (List Position)) (fault : FeatureFault) → IsFirstFault parts fault → IsFirstFaultIf (Unit {0}) parts fault
-first_of_all_polygons parts fault found = record {
-  there = found.there;
-  before = λ polygon its less there.
-      let clear = found.before polygon its less there in
-      record { apart = clear.apart; nested = clear.placed.nested; alone = λ always. clear.placed.alone };
-  is = found.is;
-  told = told_always fault.cause;
-}
-
--- a polygon without a fault that is told is good
-good_of_clear : (Alone : Type 0) (parts : List (List Position)) (polygon : ℕ) (its : PolygonRings) → IsPolygon parts polygon its → IsClearIf Alone parts polygon its → IsGoodPolygon Alone Feature parts its
-good_of_clear Alone parts polygon its there clear =
-    let good = enclosed_in_whole parts its (ends_within parts polygon its there) clear.nested in
-    record {
-      apart = apart_by_front parts its clear.apart;
-      enclosed = good.enclosed;
-      side_by_side = good.side_by_side;
-      beside = λ alone vertex other other_rings other_there inside.
-          clear.alone alone vertex other (record { polygon_rings = its; there = there; other_rings = other_rings; other_there = other_there; inside = inside });
-    }
-
--- so are those before the first one that has one
-good_before_fault : (Alone : Type 0) (parts : List (List Position)) (fault : FeatureFault) → IsFirstFaultIf Alone parts fault → AreGoodBefore Alone Feature parts fault.polygon
-good_before_fault Alone parts fault found earlier its less there = good_of_clear Alone parts earlier its there (found.before earlier its less there)
+-- the polygons before the first one that has a fault are valid
+valid_before : (parts : List (List Position)) (fault : FeatureFault) → IsFirstFault parts fault → AreValidBefore Feature parts fault.polygon
+valid_before parts fault found earlier its less there = valid_of_clear parts earlier its there (found.before earlier its less there)
 
 -- Polygons in others
 
@@ -119,36 +87,36 @@ by_vertex vertex other place another (inr same) = inr (
   ),
 )
 
--- The first fault that counts
+-- The first fault
 
 -- a meeting of the front is the first fault of the feature
-least_of_front : (Alone : Type 0) (parts : List (List Position)) (place : PolygonPlace) (found : MeetingOf) → IsPolygonOf parts place.polygon (rings_at place) → AreGoodBefore Alone Feature parts place.polygon
-    → IsMeetingOf (part_of parts (front_of (rings_at place))) found → IsFirstWhere Alone Feature parts place.layer place.feature (fault_of_meeting (front_place place) found)
-least_of_front Alone parts place found of_it good meets =
-    meeting_is_least Alone Feature parts place.layer place.feature place.polygon (edge_in_whole 0 found.first_ring found.first_edge) (edge_in_whole 0 found.second_ring found.second_edge)
-    found.point.x found.point.y found.point.w good
-    (meeting_of_front Alone parts place.polygon (rings_at place) found (ends_within parts place.polygon (rings_at place) of_it.there) of_it good meets)
+least_of_front : (parts : List (List Position)) (place : PolygonPlace) (found : MeetingOf) → IsPolygonOf parts place.polygon (rings_at place) → AreValidBefore Feature parts place.polygon
+    → IsMeetingOf (part_of parts (front_of (rings_at place))) found → IsFirstOfRings Feature parts place.layer place.feature (fault_of_meeting (front_place place) found)
+least_of_front parts place found of_it valid meets =
+    meeting_is_least Feature parts place.layer place.feature place.polygon (edge_in_whole 0 found.first_ring found.first_edge) (edge_in_whole 0 found.second_ring found.second_edge)
+    found.point.x found.point.y found.point.w valid
+    (meeting_of_front parts place.polygon (rings_at place) found (ends_within parts place.polygon (rings_at place) of_it.there) of_it valid meets)
 
 -- so is the first vertex that is inside another polygon, where the polygon has no other fault
-least_of_apart : (Alone : Type 0) (parts : List (List Position)) (place : PolygonPlace) (found : ApartFault) → IsPolygonOf parts place.polygon (rings_at place) → AreGoodBefore Alone Feature parts place.polygon → AreApartBy Feature parts (rings_at place)
-    → HasGoodHoles parts (rings_at place) → Alone → IsFirstApartFault parts place.polygon found → IsFirstWhere Alone Feature parts place.layer place.feature (fault_of_apart place found)
-least_of_apart Alone parts place found of_it good apart holes alone least =
-    in_polygon_is_least Alone Feature parts place.layer place.feature place.polygon found.vertex found.other (rings_at place) of_it good apart holes alone
+least_of_apart : (parts : List (List Position)) (place : PolygonPlace) (found : ApartFault) → IsPolygonOf parts place.polygon (rings_at place) → AreValidBefore Feature parts place.polygon → AreApartBy Feature parts (rings_at place)
+    → HasGoodHoles parts (rings_at place) → IsFirstApartFault parts place.polygon found → IsFirstOfRings Feature parts place.layer place.feature (fault_of_apart place found)
+least_of_apart parts place found of_it valid apart good least =
+    in_polygon_is_least Feature parts place.layer place.feature place.polygon found.vertex found.other (rings_at place) of_it valid apart good
     (in_other parts place.polygon found.vertex found.other of_it.sound least.holds)
     (λ vertex other wrong. by_vertex found.vertex found.other vertex other (least.first vertex other (of_other parts place.polygon vertex other wrong)))
 
 -- what is wrong with the first polygon that has a fault is the first fault
-least_of_cause : (Alone : Type 0) (parts : List (List Position)) (place : PolygonPlace) (cause : FeatureCause) → IsPolygonOf parts place.polygon (rings_at place) → AreGoodBefore Alone Feature parts place.polygon
-    → IsCause parts place.polygon (rings_at place) cause → IsTold Alone cause → IsFirstWhere Alone Feature parts place.layer place.feature (fault_of_cause place cause)
-least_of_cause Alone parts place (Meeting found) of_it good is told = least_of_front Alone parts place found of_it good is
-least_of_cause Alone parts place (Nesting fault) of_it good is told =
-    first_hole_is_least Alone Feature parts place fault (ends_within parts place.polygon (rings_at place) of_it.there) of_it good (apart_by_front parts (rings_at place) is.0) is.1
-least_of_cause Alone parts place (Apart found) of_it good is told =
-    least_of_apart Alone parts place found of_it good (apart_by_front parts (rings_at place) is.0)
-    (enclosed_in_whole parts (rings_at place) (ends_within parts place.polygon (rings_at place) of_it.there) is.1) told is.2
+least_of_cause : (parts : List (List Position)) (place : PolygonPlace) (cause : FeatureCause) → IsPolygonOf parts place.polygon (rings_at place) → AreValidBefore Feature parts place.polygon
+    → IsCause parts place.polygon (rings_at place) cause → IsFirstOfRings Feature parts place.layer place.feature (fault_of_cause place cause)
+least_of_cause parts place (Meeting found) of_it valid is = least_of_front parts place found of_it valid is
+least_of_cause parts place (Nesting fault) of_it valid is =
+    first_hole_is_least Feature parts place fault (ends_within parts place.polygon (rings_at place) of_it.there) of_it valid (apart_by_front parts (rings_at place) is.0) is.1
+least_of_cause parts place (Apart found) of_it valid is =
+    least_of_apart parts place found of_it valid (apart_by_front parts (rings_at place) is.0)
+    (enclosed_in_whole parts (rings_at place) (ends_within parts place.polygon (rings_at place) of_it.there) is.1) is.2
 
 -- its rings are there
-reportable_of_cause : (parts : List (List Position)) (place : PolygonPlace) (cause : FeatureCause) → IsPolygon parts place.polygon (rings_at place) → IsCause parts place.polygon (rings_at place) cause → IsReportable place cause
+pub reportable_of_cause : (parts : List (List Position)) (place : PolygonPlace) (cause : FeatureCause) → IsPolygon parts place.polygon (rings_at place) → IsCause parts place.polygon (rings_at place) cause → IsReportable place cause
 reportable_of_cause parts place (Meeting found) there is = meeting_within parts (front_of (rings_at place)) found (ends_within parts place.polygon (rings_at place) there) is
 reportable_of_cause parts place (Nesting fault) there is = hole_within parts place fault (ends_within parts place.polygon (rings_at place) there) is.1
 reportable_of_cause parts place (Apart found) there is = tt
@@ -158,10 +126,6 @@ abbrev pub place_in : ℕ → ℕ → FeatureFault → PolygonPlace
 place_in layer feature fault = record { layer = layer; feature = feature; polygon = fault.polygon; exterior = fault.exterior; after = fault.after }
 
 -- so of the fault that is found
-pub least_of_found : (Alone : Type 0) (parts : List (List Position)) (layer feature : ℕ) (fault : FeatureFault) → ArePolygonRings parts → IsFirstFaultIf Alone parts fault
-    → IsFirstWhere Alone Feature parts layer feature (fault_of_cause (place_in layer feature fault) fault.cause)
-least_of_found Alone parts layer feature fault sound found =
-    least_of_cause Alone parts (place_in layer feature fault) fault.cause (record { sound = sound; there = found.there }) (good_before_fault Alone parts fault found) found.is found.told
-
-pub reportable_of_found : (Alone : Type 0) (parts : List (List Position)) (layer feature : ℕ) (fault : FeatureFault) → IsFirstFaultIf Alone parts fault → IsReportable (place_in layer feature fault) fault.cause
-reportable_of_found Alone parts layer feature fault found = reportable_of_cause parts (place_in layer feature fault) fault.cause found.there found.is
+pub least_of_found : (parts : List (List Position)) (layer feature : ℕ) (fault : FeatureFault) → ArePolygonRings parts → IsFirstFault parts fault → IsFirstOfRings Feature parts layer feature (fault_of_cause (place_in layer feature fault) fault.cause)
+least_of_found parts layer feature fault sound found =
+    least_of_cause parts (place_in layer feature fault) fault.cause (record { sound = sound; there = found.there }) (valid_before parts fault found) found.is

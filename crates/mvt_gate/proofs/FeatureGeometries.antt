@@ -2,10 +2,9 @@
 use Rattle.std.proofs.Common.{◌≡◌, ◌≢◌, ℕ, List, Option, Result, IfOk, IfNone, IfSome, refl, sym, ◌∙◌, subst, arith}
 use Rattle.std.proofs.lemmas.Option.{IfSome_then}
 use Rattle.std.proofs.lemmas.Result.{IfOk-weaker}
-use Rattle.mvt_confirm.proofs.Validity.ValidParts.{geometry_kept}
+use Rattle.mvt_confirm.specs.Geometry.{IsFaultOfGeometryBy}
 use Rattle.mvt_confirm.specs.Valid.{AreValidRingsBy, IsValidGeometryBy}
 use Rattle.mvt_draw.specs.Geometry.{IsCommandFault}
-use Rattle.mvt_fault.specs.Place.{IsLeast}
 use Rattle.mvt_fault.specs.declared.command.CommandCode.{CommandCode}
 use Rattle.mvt_fault.specs.declared.fault.Fault.{Fault}
 use Rattle.mvt_fault.specs.declared.fault.Fault.TheVariants.{Command}
@@ -13,17 +12,17 @@ use Rattle.mvt_fault.specs.declared.profile.Profile.{Profile}
 use Rattle.mvt_plane.specs.Commands.Figure.{polygon}
 use Rattle.mvt_plane.specs.FeatureGeometry.{HasFigure, HasRings, type_number}
 use Rattle.mvt_plane.specs.Position.{Position}
+use Rattle.mvt_tile.specs.FreeFaults.{IsLeastOr, of_least}
 use Rattle.mvt_tile.specs.View.{kind_number}
 use Rattle.mvt_tile.specs.declared.record.Kind.{Kind}
 use Rattle.mvt_tile.specs.declared.record.Kind.TheVariants.{Unknown, Point, LineString, Polygon}
 use Rattle.mvt_wire.proofs.NothingFound.{IfNone_then}
 use Rattle.mvt_wire.specs.Tile.{FeatureRecord}
-use Rattle.mvt_gate.proofs.CountedFaults.{quick_of_first}
 use Rattle.mvt_gate.proofs.FirstFaults.{command_is_least}
 use Rattle.mvt_gate.proofs.ValidGeometries.{valid_of_rings}
-use Rattle.mvt_gate.specs.Calls.Polygons.{IsFaultOfGeometryFor, IsFirstOfRingsFor}
+use Rattle.mvt_gate.specs.Calls.Polygons.{IsFirstOfRingsFor}
+use Rattle.mvt_gate.specs.Quick.{IsFreeFor}
 use Rattle.mvt_gate.specs.declared.quick.Search.{Search}
-use Rattle.mvt_gate.specs.declared.quick.Search.TheVariants.{Least, Quick}
 
 -- what is known where nothing is found
 abbrev WhereNone : {E : Type 0} → Result (Option Fault) E → Type 0 → Type 0
@@ -43,7 +42,7 @@ module _ {E : Type 0} (search : Search) (profile : Profile) (found : Result (Opt
 
   -- the first fault of its rings is the first of its geometry
   pub least_by_rings : (parts drawn : List (List Position)) (layer ordinal : ℕ) → parts ≡ drawn → ((it : FeatureRecord) → IsIt it → it.kind ≡ type_number polygon) → ((it : FeatureRecord) → IsIt it → HasRings (type_number polygon) it.geometry drawn)
-      → IfOk found (λ fault. IfSome fault (IsFirstOfRingsFor search profile parts layer ordinal)) → IfOk found (λ fault. IfSome fault (λ first. (it : FeatureRecord) → IsIt it → IsLeast (IsFaultOfGeometryFor search profile it layer ordinal) first))
+      → IfOk found (λ fault. IfSome fault (IsFirstOfRingsFor search profile parts layer ordinal)) → IfOk found (λ fault. IfSome fault (λ first. (it : FeatureRecord) → IsIt it → IsLeastOr (IsFreeFor search profile) (IsFaultOfGeometryBy profile it layer ordinal) first))
   least_by_rings parts drawn layer ordinal all kind has =
       IfOk-weaker found _ _
       (λ fault some. IfSome_then fault some
@@ -63,15 +62,8 @@ other_kind kind it other same is = other_number kind other (same ∙ is)
 pub valid_by_figure : (profile : Profile) (it : FeatureRecord) → it.kind ≢ type_number polygon → HasFigure it.kind it.geometry → IsValidGeometryBy profile it
 valid_by_figure profile it other has = record { figure = has; polygons = λ rings drawn. absurd (other drawn.typed) }
 
--- a fault of the commands is the first of the feature's geometry, by either search
+-- a fault of the commands is the first of the feature's geometry
 pub least_by_commands : (search : Search) (profile : Profile) (it : FeatureRecord) (kind : ℕ) (code : CommandCode) (index layer ordinal : ℕ) → it.kind ≡ kind → IsCommandFault kind it.geometry code index
-    → IsLeast (IsFaultOfGeometryFor search profile it layer ordinal) (Command code layer ordinal index)
-least_by_commands Least profile it kind code index layer ordinal type_is bad = command_is_least profile it layer ordinal code index (subst (λ (n : ℕ). IsCommandFault n it.geometry code index) (sym type_is) bad)
-least_by_commands Quick profile it kind code index layer ordinal type_is bad =
-    quick_of_first profile it layer ordinal (Command code layer ordinal index) tt
-    (command_is_least profile it layer ordinal code index (subst (λ (n : ℕ). IsCommandFault n it.geometry code index) (sym type_is) bad))
-
--- what is searched for is a fault of the geometry, so a valid one has none
-pub kept_for : (search : Search) (profile : Profile) (it : FeatureRecord) (layer ordinal : ℕ) (fault : Fault) → IsValidGeometryBy profile it → ¬ IsFaultOfGeometryFor search profile it layer ordinal fault
-kept_for Least profile it layer ordinal fault valid broken = geometry_kept profile it layer ordinal fault valid broken
-kept_for Quick profile it layer ordinal fault valid quick = geometry_kept profile it layer ordinal fault valid quick.broken
+    → IsLeastOr (IsFreeFor search profile) (IsFaultOfGeometryBy profile it layer ordinal) (Command code layer ordinal index)
+least_by_commands search profile it kind code index layer ordinal type_is bad =
+    of_least (command_is_least profile it layer ordinal code index (subst (λ (n : ℕ). IsCommandFault n it.geometry code index) (sym type_is) bad))

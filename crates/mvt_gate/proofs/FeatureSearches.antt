@@ -1,39 +1,69 @@
 -- What either search finds in a feature whose polygons are kept apart.
-use Rattle.std.proofs.Common.{ℕ, List, Some, None}
+use Rattle.std.proofs.Common.{ℕ, inl, inr, List, [], ◌∷◌, take, Some, None}
+use Rattle.mvt_confirm.specs.Geometry.{IsFaultOfGeometryBy, command, ring, meeting, outside, hole_in_hole, in_polygon}
+use Rattle.mvt_confirm.specs.PolygonFault.{IsPolygonOf}
 use Rattle.mvt_confirm.specs.Valid.{AreValidRingsBy}
+use Rattle.mvt_fault.proofs.Places.{ComesFirst-reflexive}
+use Rattle.mvt_fault.specs.Place.{ComesFirst, place_of}
+use Rattle.mvt_fault.specs.declared.fault.Fault.{Fault}
+use Rattle.mvt_fault.specs.declared.profile.Profile.{Profile}
 use Rattle.mvt_fault.specs.declared.profile.Profile.TheVariants.{Feature}
+use Rattle.mvt_plane.specs.Geometry.Polygon.{IsPolygon}
 use Rattle.mvt_plane.specs.Geometry.Ring.{ArePolygonRings}
 use Rattle.mvt_plane.specs.Position.{Position}
-use Rattle.mvt_polygon.specs.Meeting.{NoMeeting}
-use Rattle.mvt_polygon.specs.QuickFeature.{IsFirstFaultIf}
+use Rattle.mvt_polygon.proofs.Features.FeatureShares.{HasFault, found_is_there}
+use Rattle.mvt_polygon.proofs.Holes.ApartFaults.{ends_within}
+use Rattle.mvt_polygon.specs.QuickFeature.{IsAnyMeeting, IsMeetingCause}
+use Rattle.mvt_polygon.specs.declared.feature.FeatureCause.{FeatureCause}
+use Rattle.mvt_polygon.specs.declared.feature.FeatureCause.TheVariants.{Meeting, Nesting, Apart}
 use Rattle.mvt_polygon.specs.declared.feature.FeatureFault.{FeatureFault}
-use Rattle.mvt_gate.proofs.CountedFaults.{first_of_all, first_quick}
-use Rattle.mvt_gate.proofs.FeatureFaults.{first_of_all_polygons, least_of_found, place_in, valid_of_none}
-use Rattle.mvt_gate.specs.Calls.Polygons.{IsFeatureAnswerFor, IsFirstOfRingsFor, fault_of_cause}
+use Rattle.mvt_tile.specs.FreeFaults.{of_least, of_free}
+use Rattle.mvt_wire.specs.Tile.{FeatureRecord}
+use Rattle.mvt_gate.proofs.FeatureFaults.{least_of_found, place_in, reportable_of_cause, valid_of_none}
+use Rattle.mvt_gate.proofs.PolygonParts.{edge_in_whole, meeting_of_its_edge}
+use Rattle.mvt_gate.specs.Calls.Polygons.{IsFeatureAnswerFor, IsFirstOfRingsFor, IsReportable, fault_of_cause, rings_at}
+use Rattle.mvt_gate.specs.declared.polygons.PolygonPlace.{PolygonPlace}
 use Rattle.mvt_gate.specs.declared.quick.Search.{Search}
 use Rattle.mvt_gate.specs.declared.quick.Search.TheVariants.{Least, Quick}
 
--- faults of polygons in others count: always, or where no edges meet wrongly
-abbrev pub CountFor : Search → List (List Position) → Type 0
-CountFor Least parts = Unit {0}
-CountFor Quick parts = NoMeeting parts
+-- faults of one feature's geometry have places that begin alike
+begins_alike : (profile : Profile) (it : FeatureRecord) (layer feature : ℕ) (fault : Fault) → IsFaultOfGeometryBy profile it layer feature fault → ComesFirst (2 ∷ layer ∷ feature ∷ []) (take 3 (place_of fault))
+begins_alike profile it layer feature fault (command code index bad) = ComesFirst-reflexive (2 ∷ layer ∷ feature ∷ [])
+begins_alike profile it layer feature fault (ring code number of) = ComesFirst-reflexive (2 ∷ layer ∷ feature ∷ [])
+begins_alike profile it layer feature fault (meeting number first second x y w of) = ComesFirst-reflexive (2 ∷ layer ∷ feature ∷ [])
+begins_alike profile it layer feature fault (outside number hole vertex of) = ComesFirst-reflexive (2 ∷ layer ∷ feature ∷ [])
+begins_alike profile it layer feature fault (hole_in_hole number hole vertex other of) = ComesFirst-reflexive (2 ∷ layer ∷ feature ∷ [])
+begins_alike profile it layer feature fault (in_polygon number vertex other of) = ComesFirst-reflexive (2 ∷ layer ∷ feature ∷ [])
 
--- the fault that is found is the first that counts
-pub first_for : (search : Search) (parts : List (List Position)) (fault : FeatureFault) → IsFeatureAnswerFor search parts (Some fault) → IsFirstFaultIf (CountFor search parts) parts fault
-first_for Least parts fault answer = first_of_all_polygons parts fault answer
-first_for Quick parts fault answer = answer
+-- a meeting of any polygon may be named
+meeting_is_free : (parts : List (List Position)) (place : PolygonPlace) (cause : FeatureCause) → IsPolygonOf parts place.polygon (rings_at place) → IsMeetingCause parts (rings_at place) cause → IsFirstOfRingsFor Quick Feature parts place.layer place.feature (fault_of_cause place cause)
+meeting_is_free parts place (Meeting found) of_it is = λ it has.
+    of_free tt
+    (meeting place.polygon (edge_in_whole 0 found.first_ring found.first_edge) (edge_in_whole 0 found.second_ring found.second_edge) found.point.x found.point.y found.point.w
+    (parts, has, meeting_of_its_edge parts place.polygon (rings_at place) found (ends_within parts place.polygon (rings_at place) of_it.there) of_it is.1 is.0))
+    (λ other broken. begins_alike Feature it place.layer place.feature other broken)
+meeting_is_free parts place (Nesting fault) of_it is = absurd is
+meeting_is_free parts place (Apart found) of_it is = absurd is
 
--- so it is the first of its feature that is searched for
+-- the fault that is found is the first of its feature, or such a meeting
 pub least_for : (search : Search) (parts : List (List Position)) (layer feature : ℕ) (fault : FeatureFault) → ArePolygonRings parts → IsFeatureAnswerFor search parts (Some fault)
     → IsFirstOfRingsFor search Feature parts layer feature (fault_of_cause (place_in layer feature fault) fault.cause)
-least_for Least parts layer feature fault sound answer =
-    first_of_all Feature parts layer feature (fault_of_cause (place_in layer feature fault) fault.cause)
-    (least_of_found (CountFor Least parts) parts layer feature fault sound (first_for Least parts fault answer))
-least_for Quick parts layer feature fault sound answer =
-    first_quick Feature parts layer feature (fault_of_cause (place_in layer feature fault) fault.cause)
-    (least_of_found (CountFor Quick parts) parts layer feature fault sound (first_for Quick parts fault answer))
+least_for Least parts layer feature fault sound answer = λ it has. of_least (least_of_found parts layer feature fault sound answer it has)
+least_for Quick parts layer feature fault sound (inl first) = λ it has. of_least (least_of_found parts layer feature fault sound first it has)
+least_for Quick parts layer feature fault sound (inr meets) = meeting_is_free parts (place_in layer feature fault) fault.cause (record { sound = sound; there = meets.there }) meets.is
 
 -- where none is found, all polygons are valid
 pub valid_for : (search : Search) (parts : List (List Position)) → ArePolygonRings parts → IsFeatureAnswerFor search parts None → AreValidRingsBy Feature parts
 valid_for Least parts sound clear = valid_of_none parts sound clear
 valid_for Quick parts sound clear = valid_of_none parts sound clear
+
+-- what is found is of a polygon that is there
+has_found : (search : Search) (parts : List (List Position)) (fault : FeatureFault) → IsFeatureAnswerFor search parts (Some fault) → HasFault parts fault
+has_found Least parts fault first = record { there = first.there; is = first.is }
+has_found Quick parts fault answer = found_is_there parts (Some fault) answer
+
+-- so its rings are
+pub reportable_for : (search : Search) (parts : List (List Position)) (layer feature : ℕ) (fault : FeatureFault) → IsFeatureAnswerFor search parts (Some fault) → IsReportable (place_in layer feature fault) fault.cause
+reportable_for search parts layer feature fault answer =
+    let found = has_found search parts fault answer in
+    reportable_of_cause parts (place_in layer feature fault) fault.cause found.there found.is

@@ -21,10 +21,6 @@ use Rattle.mvt_polygon.specs.Rings.{IsFirstRingFault}
 use Rattle.mvt_polygon.specs.declared.rings.RingFault.{RingFault}
 use Rattle.mvt_wire.specs.Tile.{FeatureRecord}
 use Rattle.mvt_plane.proofs.Spelling.Geometries.{one_type}
-use Rattle.mvt_gate.proofs.CountedFaults.{quick_of_first}
-use Rattle.mvt_gate.specs.Calls.Polygons.{IsFaultOfGeometryFor}
-use Rattle.mvt_gate.specs.declared.quick.Search.{Search}
-use Rattle.mvt_gate.specs.declared.quick.Search.TheVariants.{Least, Quick}
 
 -- A feature and its rings
 
@@ -91,16 +87,9 @@ before_rings profile it layer feature parts found other has least (hole_in_hole 
 before_rings profile it layer feature parts found other has least (in_polygon number vertex another of) = inr (refl, inr (refl, inr (refl, inl (omega arith))))
 
 -- it is the first fault of the feature's geometry
-ring_is_least : (profile : Profile) (it : FeatureRecord) (layer feature : ℕ) (parts : List (List Position)) (found : RingFault) → HasRings it.kind it.geometry parts → IsFirstRingFault parts found
+pub ring_is_least : (profile : Profile) (it : FeatureRecord) (layer feature : ℕ) (parts : List (List Position)) (found : RingFault) → HasRings it.kind it.geometry parts → IsFirstRingFault parts found
     → IsLeast (IsFaultOfGeometryBy profile it layer feature) (Ring found.code layer feature found.ring)
 ring_is_least profile it layer feature parts found has least = record {
   holds = ring found.code found.ring (parts, has, least.broken);
   least = λ other broken. before_rings profile it layer feature parts found other has least broken;
 }
-
--- by either search
-pub ring_is_first : (search : Search) (profile : Profile) (it : FeatureRecord) (layer feature : ℕ) (parts : List (List Position)) (found : RingFault) → HasRings it.kind it.geometry parts → IsFirstRingFault parts found
-    → IsLeast (IsFaultOfGeometryFor search profile it layer feature) (Ring found.code layer feature found.ring)
-ring_is_first Least profile it layer feature parts found has least = ring_is_least profile it layer feature parts found has least
-ring_is_first Quick profile it layer feature parts found has least =
-    quick_of_first profile it layer feature (Ring found.code layer feature found.ring) tt (ring_is_least profile it layer feature parts found has least)

@@ -2,7 +2,6 @@ pub mod AdviceAnswers
 pub mod AdviceTexts
 pub mod CheckAnswers
 pub mod ConfirmAnswers
-pub mod CountedFaults
 pub mod DrawnRings
 pub mod DumpAnswers
 pub mod DumpLists
@@ -21,7 +20,6 @@ pub mod PolygonFaults
 pub mod PolygonParts
 pub mod PolygonPlaces
 pub mod PolygonWalk
-pub mod QuickFaults
 pub mod QuickVerdicts
 pub mod ValidGeometries
 pub mod Verdicts

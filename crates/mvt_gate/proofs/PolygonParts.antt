@@ -26,10 +26,9 @@ use Rattle.mvt_polygon.specs.Nesting.{IsNestFault, outside, in_hole, IsFirstNest
 use Rattle.mvt_polygon.specs.declared.meeting.Meeting.{Meeting}
 use Rattle.mvt_polygon.specs.declared.nesting.NestFault.{NestFault}
 use Rattle.mvt_polygon.specs.declared.nesting.NestFault.TheVariants.{Outside, InHole}
-use Rattle.mvt_gate.proofs.CountedFaults.{AreGoodBefore, IsFirstWhere}
 use Rattle.mvt_gate.proofs.PolygonFaults.{HasGoodHoles, IsFirstHole, in_hole_is_least, outside_is_least}
 use Rattle.mvt_gate.proofs.PolygonWalk.{begins_in_turn}
-use Rattle.mvt_gate.specs.Calls.Polygons.{AreWithin, fault_of_hole, rings_at}
+use Rattle.mvt_gate.specs.Calls.Polygons.{AreValidBefore, AreWithin, IsFirstOfRings, fault_of_hole, rings_at}
 use Rattle.mvt_gate.specs.declared.polygons.PolygonPlace.{PolygonPlace}
 
 -- Rings
@@ -101,10 +100,10 @@ meeting_in_whole profile parts polygon its found within of_it meets =
 
 -- The rings up to a polygon's last one
 
--- where the polygons before this one are good in their feature, the second edge of a meeting in the front is the polygon's
-second_in_front : (Alone : Type 0) (parts : List (List Position)) (polygon : ℕ) (its : PolygonRings) (found : Meeting) → IsPolygonOf parts polygon its → AreGoodBefore Alone Feature parts polygon → IsMeetingOfWhole parts (front_of its) found
+-- where the polygons before this one are valid in their feature, the second edge of a meeting in the front is the polygon's
+second_in_front : (parts : List (List Position)) (polygon : ℕ) (its : PolygonRings) (found : Meeting) → IsPolygonOf parts polygon its → AreValidBefore Feature parts polygon → IsMeetingOfWhole parts (front_of its) found
     → IsRingOf its (0 + found.second_ring)
-second_in_front Alone parts polygon its found of_it valid whole = elim (cases_lt (0 + found.second_ring) its.exterior) [
+second_in_front parts polygon its found of_it valid whole = elim (cases_lt (0 + found.second_ring) its.exterior) [
   | inl before ↦
       let there = whole.meets.other_there in
       let home = polygon_of_ring parts (0 + found.second_ring) of_it.sound (slice_get_within parts (0 + found.second_ring) there.ring there.there) in
@@ -117,15 +116,32 @@ second_in_front Alone parts polygon its found of_it valid whole = elim (cases_lt
 ]
 
 -- so it is a meeting of the polygon, in its feature
-pub meeting_of_front : (Alone : Type 0) (parts : List (List Position)) (polygon : ℕ) (its : PolygonRings) (found : Meeting) → its.after ≤ length parts → IsPolygonOf parts polygon its → AreGoodBefore Alone Feature parts polygon → IsMeetingOf (part_of parts (front_of its)) found
+pub meeting_of_front : (parts : List (List Position)) (polygon : ℕ) (its : PolygonRings) (found : Meeting) → its.after ≤ length parts → IsPolygonOf parts polygon its → AreValidBefore Feature parts polygon → IsMeetingOf (part_of parts (front_of its)) found
     → IsMeetingBy Feature parts polygon (edge_in_whole 0 found.first_ring found.first_edge) (edge_in_whole 0 found.second_ring found.second_edge) found.point
-meeting_of_front Alone parts polygon its found within of_it valid meets =
+meeting_of_front parts polygon its found within of_it valid meets =
     let whole = in_whole_of parts (front_of its) found within meets in
     record {
       polygon_rings = its;
       of = of_it;
       first_in = whole.first_in.before;
-      second_in = second_in_front Alone parts polygon its found of_it valid whole;
+      second_in = second_in_front parts polygon its found of_it valid whole;
+      in_order = whole.in_order;
+      bounded = whole.bounded;
+      meets = whole.meets;
+    }
+
+-- also where its second edge is known to be the polygon's
+pub meeting_of_its_edge : (parts : List (List Position)) (polygon : ℕ) (its : PolygonRings) (found : Meeting) → its.after ≤ length parts → IsPolygonOf parts polygon its → IsRingOf its found.second_ring → IsMeetingOf (part_of parts (front_of its)) found
+    → IsMeetingBy Feature parts polygon (edge_in_whole 0 found.first_ring found.first_edge) (edge_in_whole 0 found.second_ring found.second_edge) found.point
+meeting_of_its_edge parts polygon its found within of_it second_in meets =
+    let whole = in_whole_of parts (front_of its) found within meets in
+    let from = second_in.from in
+    let before = second_in.before in
+    record {
+      polygon_rings = its;
+      of = of_it;
+      first_in = whole.first_in.before;
+      second_in = record { from = omega arith; before = omega arith };
       in_order = whole.in_order;
       bounded = whole.bounded;
       meets = whole.meets;
@@ -264,12 +280,12 @@ hole_within parts place (InHole ring vertex other) within least =
     (wrong.hole.before, wrong.other_hole.before)
 
 -- where no edges meet wrongly, it is the first fault of the feature
-pub first_hole_is_least : (Alone : Type 0) (profile : Profile) (parts : List (List Position)) (place : PolygonPlace) (fault : NestFault) → place.after ≤ length parts → IsPolygonOf parts place.polygon (rings_at place)
-    → AreGoodBefore Alone profile parts place.polygon → AreApartBy profile parts (rings_at place) → IsFirstNestFault (part_of parts (rings_at place)) fault
-    → IsFirstWhere Alone profile parts place.layer place.feature (fault_of_hole place fault)
-first_hole_is_least Alone profile parts place (Outside ring vertex) within of_it valid apart least =
-    outside_is_least Alone profile parts place.layer place.feature place.polygon (place.exterior + ring) vertex (rings_at place) of_it valid apart
+pub first_hole_is_least : (profile : Profile) (parts : List (List Position)) (place : PolygonPlace) (fault : NestFault) → place.after ≤ length parts → IsPolygonOf parts place.polygon (rings_at place)
+    → AreValidBefore profile parts place.polygon → AreApartBy profile parts (rings_at place) → IsFirstNestFault (part_of parts (rings_at place)) fault
+    → IsFirstOfRings profile parts place.layer place.feature (fault_of_hole place fault)
+first_hole_is_least profile parts place (Outside ring vertex) within of_it valid apart least =
+    outside_is_least profile parts place.layer place.feature place.polygon (place.exterior + ring) vertex (rings_at place) of_it valid apart
     (outside_in_whole parts (rings_at place) ring vertex within least.holds) (outside_is_first parts (rings_at place) ring vertex within least)
-first_hole_is_least Alone profile parts place (InHole ring vertex other) within of_it valid apart least =
-    in_hole_is_least Alone profile parts place.layer place.feature place.polygon (place.exterior + ring) vertex (place.exterior + other) (rings_at place) of_it valid apart
+first_hole_is_least profile parts place (InHole ring vertex other) within of_it valid apart least =
+    in_hole_is_least profile parts place.layer place.feature place.polygon (place.exterior + ring) vertex (place.exterior + other) (rings_at place) of_it valid apart
     (in_hole_in_whole parts (rings_at place) ring vertex other within least.holds) (in_hole_is_first parts (rings_at place) ring vertex other within least)

@@ -18,7 +18,6 @@ use Rattle.mvt_polygon.specs.Nesting.{IsNestFault, IsFirstNestFault}
 use Rattle.mvt_polygon.specs.Rings.{rings_of, AreProperRings}
 use Rattle.mvt_polygon.specs.declared.meeting.Meeting.{Meeting}
 use Rattle.mvt_polygon.specs.declared.nesting.NestFault.{NestFault}
-use Rattle.mvt_gate.proofs.CountedFaults.{first_of_all, good_before}
 use Rattle.mvt_gate.proofs.PolygonFaults.{HasGoodHoles, meeting_is_least}
 use Rattle.mvt_gate.proofs.PolygonParts.{meeting_within, apart_in_whole, enclosed_in_whole, edge_in_whole, meeting_in_whole, hole_within, first_hole_is_least}
 use Rattle.mvt_gate.proofs.PolygonWalk.{HasPassed, polygon_here, one_passed, all_passed}
@@ -52,10 +51,9 @@ meeting_is_within rings place found within meets =
 pub least_of_meeting : (profile : Profile) (rings : List (Vec Position Global)) (place : PolygonPlace) (found : Meeting) → place.after ≤ length rings → IsPolygonOf (rings_of rings) place.polygon (rings_at place)
     → AreValidBefore profile (rings_of rings) place.polygon → IsMeetingOf (Own rings place) found → IsFirstOfRings profile (rings_of rings) place.layer place.feature (fault_of_meeting place found)
 least_of_meeting profile rings place found within of_it valid meets =
-    first_of_all profile (rings_of rings) place.layer place.feature (fault_of_meeting place found)
-    (meeting_is_least (Unit {0}) profile (rings_of rings) place.layer place.feature place.polygon (edge_in_whole place.exterior found.first_ring found.first_edge) (edge_in_whole place.exterior found.second_ring found.second_edge)
-    found.point.x found.point.y found.point.w (good_before (Unit {0}) profile (rings_of rings) place.polygon valid)
-    (meeting_in_whole profile (rings_of rings) place.polygon (rings_at place) found (within_rings rings place within) of_it (subst (λ (parts : List (List Position)). IsMeetingOf parts found) (own_part rings place) meets)))
+    meeting_is_least profile (rings_of rings) place.layer place.feature place.polygon (edge_in_whole place.exterior found.first_ring found.first_edge) (edge_in_whole place.exterior found.second_ring found.second_edge)
+    found.point.x found.point.y found.point.w valid
+    (meeting_in_whole profile (rings_of rings) place.polygon (rings_at place) found (within_rings rings place within) of_it (subst (λ (parts : List (List Position)). IsMeetingOf parts found) (own_part rings place) meets))
 
 -- where no edges of the slice meet wrongly, none of the polygon do
 pub apart_by_slice : (rings : List (Vec Position Global)) (place : PolygonPlace) → ((first second : EdgeNumber) (point : RationalPoint) → ¬ MeetsWrongly (Own rings place) first second point) → AreApartBy Polygon (rings_of rings) (rings_at place)
@@ -91,8 +89,7 @@ pub least_of_hole : (profile : Profile) (rings : List (Vec Position Global)) (pl
     → AreValidBefore profile (rings_of rings) place.polygon → AreApartBy profile (rings_of rings) (rings_at place) → IsFirstNestFault (Own rings place) fault
     → IsFirstOfRings profile (rings_of rings) place.layer place.feature (fault_of_hole place fault)
 least_of_hole profile rings place fault within of_it valid apart least =
-    first_of_all profile (rings_of rings) place.layer place.feature (fault_of_hole place fault)
-    (first_hole_is_least (Unit {0}) profile (rings_of rings) place fault (within_rings rings place within) of_it (good_before (Unit {0}) profile (rings_of rings) place.polygon valid) apart (first_in_part rings place fault least))
+    first_hole_is_least profile (rings_of rings) place fault (within_rings rings place within) of_it valid apart (first_in_part rings place fault least)
 
 -- a valid polygon is passed
 pub polygon_passed : (rings : List (Vec Position Global)) (polygon exterior after : ℕ) → ArePolygonRings (rings_of rings) → HasPassed (rings_of rings) polygon exterior → exterior < length rings → exterior < after → after ≤ length rings

@@ -13,7 +13,6 @@ use Rattle.mvt_plane.specs.FeatureGeometry.{HasRings}
 use Rattle.mvt_plane.specs.Position.{Position}
 use Rattle.mvt_tile.specs.RuleFaults.{IsAfterTags}
 use Rattle.mvt_wire.specs.Tile.{FeatureRecord}
-use Rattle.mvt_gate.specs.Quick.{IsQuickFaultOfGeometryBy}
 
 -- the rings of valid polygons
 pub valid_of_rings : (profile : Profile) (it : FeatureRecord) (parts : List (List Position)) → HasRings it.kind it.geometry parts → AreValidRingsBy profile parts → IsValidGeometryBy profile it
@@ -32,7 +31,3 @@ after_tags profile it layer feature fault (meeting number first second x y w of)
 after_tags profile it layer feature fault (outside number hole vertex of) = (3, number ∷ 1 ∷ hole ∷ vertex ∷ 505 ∷ 0 ∷ [], omega arith, refl)
 after_tags profile it layer feature fault (hole_in_hole number hole vertex other of) = (3, number ∷ 1 ∷ hole ∷ vertex ∷ 506 ∷ other ∷ [], omega arith, refl)
 after_tags profile it layer feature fault (in_polygon number vertex other of) = (3, number ∷ 2 ∷ vertex ∷ 507 ∷ other ∷ 0 ∷ [], omega arith, refl)
-
--- so do the quick ones
-pub quick_after_tags : (profile : Profile) (it : FeatureRecord) (layer feature : ℕ) (fault : Fault) → IsQuickFaultOfGeometryBy profile it layer feature fault → IsAfterTags layer feature (place_of fault)
-quick_after_tags profile it layer feature fault quick = after_tags profile it layer feature fault quick.broken

@@ -13,7 +13,9 @@ use Rattle.mvt_fault.specs.TrueFaults.{IsWireFault}
 use Rattle.mvt_fault.specs.declared.fault.Fault.{Fault}
 use Rattle.mvt_fault.specs.declared.profile.Profile.{Profile}
 use Rattle.mvt_tile.proofs.WireFaults.Tiles.{is_tile}
-use Rattle.mvt_tile.specs.RuleFaults.{Breaks, BreaksAnyRule, KeepsRules}
+use Rattle.mvt_tile.proofs.RuleFaults.FreeFaults.{lifted}
+use Rattle.mvt_tile.specs.FreeFaults.{IsLeastOr}
+use Rattle.mvt_tile.specs.RuleFaults.{Breaks, BreaksAnyRule, Frees, KeepsRules}
 use Rattle.mvt_wire.proofs.Parts.Tiles.{one_tile}
 use Rattle.mvt_wire.specs.Tile.{IsTile, TileRecord}
 use Rattle.mvt_wire.specs.WireFault.{WireFault}
@@ -21,6 +23,7 @@ use Rattle.mvt_wire.specs.declared.cause.WireCause.{WireCause}
 use Rattle.mvt_wire.specs.declared.scope.Scope.{Scope}
 use Rattle.mvt_gate.specs.Check.{IsCheckAnswerBy}
 use Rattle.mvt_gate.specs.FaultLine.{fault_line}
+use Rattle.mvt_gate.specs.Quick.{IsFreeBy, IsQuickFaultBy}
 use Rattle.mvt_gate.specs.Verdict.{IsVerdictBy}
 use Rattle.mvt_gate.specs.declared.engine.Outcome.{Outcome}
 use Rattle.mvt_gate.specs.declared.engine.Outcome.TheVariants as outcomes
@@ -65,6 +68,19 @@ module _ (bytes : List ℕ) (Shown : Fault → Type 0) (IsBroken : Breaks) (by_p
         ];
       }
 
+  -- so is what is found of it where some are free
+  pub found_of_tile : (IsFree : Frees) (fault : Fault) → ((scope : Scope) (cause : WireCause) → ¬ WireFault bytes scope cause)
+      → ((tile : TileRecord) → IsTile bytes tile → IsLeastOr IsFree (BreaksAnyRule IsBroken tile) fault) → IsLeastOr IsFree Shown fault
+  found_of_tile IsFree fault none first =
+      let tile = is_tile bytes none in
+      lifted IsFree (BreaksAnyRule IsBroken tile.0) fault Shown (λ holds. (by_parts fault).1 (inr (tile.0, tile.1, holds)))
+      (λ other shows. elim ((by_parts other).0 shows) [
+        | inl its ↦ absurd (no_fault_of_tile bytes tile.0 other tile.1 its)
+        | inr broken ↦
+            let same : broken.0 ≡ tile.0 = one_tile bytes broken.0 tile.0 broken.1 tile.1 in
+            inl (subst (λ (it : TileRecord). BreaksAnyRule IsBroken it other) same broken.2)
+      ]) (first tile.0 tile.1)
+
 -- so by a profile
 pub least_of_wire : (profile : Profile) (bytes : List ℕ) (fault : Fault) → IsLeast (IsWireFault bytes) fault → IsLeast (ShowsBy profile bytes) fault
 least_of_wire profile bytes = first_of_wire bytes (ShowsBy profile bytes) (IsFaultOfGeometryBy profile) (shown_by_parts profile bytes)
@@ -72,6 +88,11 @@ least_of_wire profile bytes = first_of_wire bytes (ShowsBy profile bytes) (IsFau
 pub least_of_tile : (profile : Profile) (bytes : List ℕ) (fault : Fault) → ((scope : Scope) (cause : WireCause) → ¬ WireFault bytes scope cause)
     → ((tile : TileRecord) → IsTile bytes tile → IsLeast (BreaksAnyRule (IsFaultOfGeometryBy profile) tile) fault) → IsLeast (ShowsBy profile bytes) fault
 least_of_tile profile bytes = first_of_tile bytes (ShowsBy profile bytes) (IsFaultOfGeometryBy profile) (shown_by_parts profile bytes)
+
+-- and quickly
+pub quick_of_tile : (profile : Profile) (bytes : List ℕ) (fault : Fault) → ((scope : Scope) (cause : WireCause) → ¬ WireFault bytes scope cause)
+    → ((tile : TileRecord) → IsTile bytes tile → IsLeastOr (IsFreeBy profile) (BreaksAnyRule (IsFaultOfGeometryBy profile) tile) fault) → IsQuickFaultBy profile bytes fault
+quick_of_tile profile bytes = found_of_tile bytes (ShowsBy profile bytes) (IsFaultOfGeometryBy profile) (shown_by_parts profile bytes) (IsFreeBy profile)
 
 -- the verdict on bytes that aren't valid names a fault that is true of them
 pub fault_of_invalid : (profile : Profile) (bytes : List ℕ) (verdict : Verdict) → IsVerdictBy profile bytes verdict → ¬ ValidBy profile bytes → (fault : Fault) × (verdict ≡ No fault) × ShowsBy profile bytes fault

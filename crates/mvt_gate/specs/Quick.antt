@@ -1,16 +1,16 @@
--- The faults that can be found quickly, whatever the tile: all but those of polygons in others, where edges of their feature
--- meet wrongly.
+-- The faults that can be found quickly, whatever the tile: the first one; or, where polygons are kept apart and edges of a
+-- feature meet wrongly, any meeting of them.
 use Rattle.std.specs.Prelude.{ℕ, List}
-use Rattle.mvt_confirm.specs.Feature.{IsFeatureIn}
-use Rattle.mvt_confirm.specs.Geometry.{IsFaultOfGeometryBy}
 use Rattle.mvt_confirm.specs.Shows.{ShowsBy}
 use Rattle.mvt_confirm.specs.Valid.{AreAllApart}
 use Rattle.mvt_fault.specs.declared.fault.Fault.{Fault}
-use Rattle.mvt_fault.specs.declared.fault.Fault.TheVariants.{InPolygon}
+use Rattle.mvt_fault.specs.declared.fault.Fault.TheVariants.{Meeting}
 use Rattle.mvt_fault.specs.declared.profile.Profile.{Profile}
+use Rattle.mvt_fault.specs.declared.profile.Profile.TheVariants as profiles
 use Rattle.mvt_plane.specs.FeatureGeometry.{HasRings}
 use Rattle.mvt_plane.specs.Position.{Position}
-use Rattle.mvt_wire.specs.Tile.{FeatureRecord, LayerRecord}
+use Rattle.mvt_tile.specs.FreeFaults.{IsLeastOr}
+use Rattle.mvt_wire.specs.Tile.{FeatureRecord}
 use Rattle.mvt_gate.specs.declared.quick.Search.{Search}
 use Rattle.mvt_gate.specs.declared.quick.Search.TheVariants.{Least, Quick}
 
@@ -18,34 +18,24 @@ use Rattle.mvt_gate.specs.declared.quick.Search.TheVariants.{Least, Quick}
 abbrev pub HasNoMeeting : FeatureRecord → Type 0
 HasNoMeeting feature_record = (rings : List (List Position)) → HasRings feature_record.kind feature_record.geometry rings → AreAllApart rings
 
--- Of one feature's geometry
+-- the fault is a meeting
+abbrev pub IsMeeting : Fault → Type 0
+IsMeeting (Meeting layer feature polygon first second x y w) = Unit {0}
+IsMeeting _ = ⊥
 
--- a fault of the feature is quick, unless it is of a polygon in another where edges meet
-abbrev pub IsQuick : FeatureRecord → Fault → Type 0
-IsQuick feature_record (InPolygon layer feature polygon vertex other) = HasNoMeeting feature_record
-IsQuick feature_record _ = Unit {0}
+-- where polygons are kept apart, any meeting may be named in place of the first fault
+abbrev pub IsFreeBy : Profile → Fault → Type 0
+IsFreeBy profiles.Polygon = λ fault. ⊥
+IsFreeBy profiles.Feature = IsMeeting
 
--- the feature has this fault of its geometry, and it is quick
-pub record IsQuickFaultOfGeometryBy (profile : Profile) (feature_record : FeatureRecord) (layer feature : ℕ) (fault : Fault) : Type 0 where
-  pub broken : IsFaultOfGeometryBy profile feature_record layer feature fault
-  pub quick : IsQuick feature_record fault
-
--- Of a tile's bytes
-
--- so it is for a fault of one of the features of the bytes, and each other fault is quick
-abbrev pub IsQuickIn : List ℕ → Fault → Type 0
-IsQuickIn bytes (InPolygon layer feature polygon vertex other) =
-    (layer_record : LayerRecord) (feature_record : FeatureRecord) → IsFeatureIn bytes layer feature layer_record feature_record → HasNoMeeting feature_record
-IsQuickIn bytes _ = Unit {0}
-
--- the fault is true of the bytes, and it is quick
-pub record ShowsQuicklyBy (profile : Profile) (bytes : List ℕ) (fault : Fault) : Type 0 where
-  pub shown : ShowsBy profile bytes fault
-  pub quick : IsQuickIn bytes fault
+-- Of all faults that are true of the bytes, the first; or such a meeting, where no fault that is true is of an earlier layer or
+-- feature.
+abbrev pub IsQuickFaultBy : Profile → List ℕ → Fault → Type 0
+IsQuickFaultBy profile bytes = IsLeastOr (IsFreeBy profile) (ShowsBy profile bytes)
 
 -- By a search
 
--- the faults that are searched for: all that are true of the bytes, or the quick ones alone
-abbrev pub ShowsFor : Search → Profile → List ℕ → Fault → Type 0
-ShowsFor Least = ShowsBy
-ShowsFor Quick = ShowsQuicklyBy
+-- the faults that may be named in place of the first one: none, or these
+abbrev pub IsFreeFor : Search → Profile → Fault → Type 0
+IsFreeFor Least profile = λ fault. ⊥
+IsFreeFor Quick profile = IsFreeBy profile

@@ -5,7 +5,7 @@ use Rattle.mvt_confirm.specs.Valid.{ValidBy}
 use Rattle.mvt_fault.specs.Place.{IsLeast}
 use Rattle.mvt_fault.specs.declared.profile.Profile.{Profile}
 use Rattle.mvt_fault.specs.declared.profile.Profile.TheVariants.{Polygon}
-use Rattle.mvt_gate.specs.Quick.{ShowsQuicklyBy}
+use Rattle.mvt_gate.specs.Quick.{IsQuickFaultBy}
 use Rattle.mvt_gate.specs.declared.quick.Search.{Search}
 use Rattle.mvt_gate.specs.declared.quick.Search.TheVariants.{Least, Quick}
 use Rattle.mvt_gate.specs.declared.verdict.Verdict.{Verdict}
@@ -21,10 +21,10 @@ IsVerdictBy profile bytes (No fault) = IsLeast (ShowsBy profile bytes) fault
 abbrev pub IsVerdict : List ℕ → Verdict → Type 0
 IsVerdict = IsVerdictBy Polygon
 
--- The bytes are a valid tile by the profile; or of all the quick faults that are true of them, the one that is named comes first.
+-- the bytes are a valid tile by the profile; or the fault is true of them and is named quickly
 abbrev pub IsQuickVerdictBy : Profile → List ℕ → Verdict → Type 0
 IsQuickVerdictBy profile bytes Yes = ValidBy profile bytes
-IsQuickVerdictBy profile bytes (No fault) = IsLeast (ShowsQuicklyBy profile bytes) fault
+IsQuickVerdictBy profile bytes (No fault) = IsQuickFaultBy profile bytes fault
 
 -- the verdict, by a search
 abbrev pub IsVerdictFor : Search → Profile → List ℕ → Verdict → Type 0

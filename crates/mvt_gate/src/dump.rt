@@ -13,10 +13,11 @@ use crate::engine;
 use crate::engine::{EngineFault, Outcome, Task, fault_line};
 use crate::tally::Tally;
 use mvt_tile::{ReadFault, read_tile};
-pub(crate) use part::{Part, push_list};
+pub use part::{Part, push_list};
 use std::alloc::{AllocError, Global};
 use std::io::{Read, Write};
 pub use text::dump_text;
+pub use value::push_string;
 
 /// Reads a whole tile, of at most 67,108,864 bytes, and writes the line of what it holds, with one
 /// LF: the text of `dump_text` for a tile by the Mapbox Vector Tile Specification 2.1, section 4,

@@ -126,9 +126,9 @@ pub fn fault_line(alloc: Global, fault: &Fault) -> Result<String, AllocError>
     Ok(line)
 }
 
-/// Reads all that the reader gives. `others` is how often the engine's other devices were
-/// interrupted.
-fn read_whole<R: Read>(
+/// Reads all that the reader gives, of at most 67,108,864 bytes. `others` is how often the engine's
+/// other devices were interrupted. The errors are `Read`, `TooLarge` and `Memory`.
+pub fn read_whole<R: Read>(
     alloc: Global,
     reader: &mut Tally<R>,
     others: u64,
@@ -172,7 +172,11 @@ fn read_whole<R: Read>(
 
 /// Writes the whole line and flushes. `others` is how often the engine's other devices were
 /// interrupted. The only error is `Write`.
-fn write_whole<W: Write>(writer: &mut Tally<W>, line: &[u8], others: u64) -> Result<(), EngineFault>
+pub fn write_whole<W: Write>(
+    writer: &mut Tally<W>,
+    line: &[u8],
+    others: u64,
+) -> Result<(), EngineFault>
     requires fresh { counts_of writer.old ≡ no_counts }
     requires patient { others ≤ interruption_limit }
 

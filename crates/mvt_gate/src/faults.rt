@@ -9,7 +9,8 @@ ghost use Rattle.mvt_tile.specs.RuleFaults.{IsAfterTags};
 ghost use Rattle.mvt_wire.specs.Tile.{FeatureRecord};
 ghost use Rattle.mvt_gate.specs.Calls.Faults.{AreFoundBy};
 ghost use Rattle.mvt_gate.specs.FaultList.{AreFaultsFor};
-ghost use Rattle.mvt_gate.specs.Quick.{ShowsFor, ShowsQuicklyBy};
+ghost use Rattle.mvt_gate.specs.Verdict.{IsQuickVerdictBy, IsVerdictFor};
+ghost use Rattle.mvt_gate.specs.declared.verdict.Verdict.{Verdict};
 
 use crate::geometry::{FeatureGeometry, PolygonGeometry, QuickGeometry};
 use crate::quick::Search;
@@ -42,8 +43,9 @@ pub fn faults_with(alloc: Global, profile: Profile, bytes: &[u8]) -> Result<Vec<
     faults_for(alloc, Search::Least, profile, bytes)
 }
 
-/// The same list with the first quick fault of each feature, in the time of `judge_quickly`, whose
-/// fault is the first of the list. The same layers and features have a fault in it.
+/// The same list in the time of `judge_quickly`, whose fault is the first of the list: of a feature
+/// where edges meet, any meeting may stand in place of its first fault. The same layers and features
+/// have a fault in it.
 pub fn faults_quickly(
     alloc: Global,
     profile: Profile,
@@ -55,9 +57,9 @@ pub fn faults_quickly(
         ↔ ValidBy profile bytes.now) }
     ensures each_is_true { IfOk result (λ faults. (at : ℕ) (fault : Fault)
         → slice_get faults.items at ≡ Some fault → ShowsBy profile bytes.now fault) }
-    ensures first_is_least { IfOk result (λ faults. (fault : Fault)
+    ensures first_is_quick { IfOk result (λ faults. (fault : Fault)
         → slice_get faults.items 0 ≡ Some fault
-        → IsLeast (ShowsQuicklyBy profile bytes.now) fault) }
+        → IsQuickVerdictBy profile bytes.now (Verdict.No fault)) }
     ensures wire_fault_alone { IfOk result (λ faults. (at : ℕ) (fault : Fault)
         → slice_get faults.items at ≡ Some fault → IsWireFault bytes.now fault
         → faults.items ≡ fault ∷ []) }
@@ -78,9 +80,9 @@ pub fn faults_for(
         ↔ ValidBy profile bytes.now) }
     ensures each_is_true { IfOk result (λ faults. (at : ℕ) (fault : Fault)
         → slice_get faults.items at ≡ Some fault → ShowsBy profile bytes.now fault) }
-    ensures first_is_least { IfOk result (λ faults. (fault : Fault)
+    ensures first_is_verdict { IfOk result (λ faults. (fault : Fault)
         → slice_get faults.items 0 ≡ Some fault
-        → IsLeast (ShowsFor search profile bytes.now) fault) }
+        → IsVerdictFor search profile bytes.now (Verdict.No fault)) }
     ensures wire_fault_alone { IfOk result (λ faults. (at : ℕ) (fault : Fault)
         → slice_get faults.items at ≡ Some fault → IsWireFault bytes.now fault
         → faults.items ≡ fault ∷ []) }
@@ -116,7 +118,7 @@ fn faults_by<R: FeatureRule>(
     requires after_tags { (feature_record : FeatureRecord) (layer feature : ℕ) (fault : Fault)
         → R.IsBroken feature_record layer feature fault
         → IsAfterTags layer feature (place_of fault) }
-    ensures { IfOk result (λ faults. AreFoundBy R.IsBroken R.IsKept bytes.now faults.items) }
+    ensures { IfOk result (λ faults. AreFoundBy R.IsFree R.IsBroken R.IsKept bytes.now faults.items) }
 {
     let Some(fault) = wire_fault(bytes) else {
         return rule_faults(alloc, bytes, rule);

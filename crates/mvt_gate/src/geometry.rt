@@ -2,17 +2,17 @@
 ghost use Rattle.std.specs.Prelude.{◌≡◌, None, IfOk, IfNone, IfSome};
 ghost use Rattle.mvt_confirm.specs.Geometry.{IsFaultOfGeometryBy};
 ghost use Rattle.mvt_confirm.specs.Valid.{IsValidGeometryBy};
-ghost use Rattle.mvt_fault.specs.Place.{IsLeast};
 ghost use Rattle.mvt_fault.specs.declared.fault.Fault.{Fault};
 ghost use Rattle.mvt_fault.specs.declared.profile.Profile.{Profile};
 ghost use Rattle.mvt_fault.specs.declared.profile.Profile.TheVariants as profiles;
 ghost use Rattle.mvt_plane.specs.Commands.Figure.{polygon};
 ghost use Rattle.mvt_plane.specs.FeatureGeometry.{HasFigure, type_number};
 ghost use Rattle.mvt_tile.specs.FeatureBytes.{Shows};
+ghost use Rattle.mvt_tile.specs.FreeFaults.{IsLeastOr};
 ghost use Rattle.mvt_tile.specs.View.{kind_number};
 ghost use Rattle.mvt_wire.specs.Tile.{FeatureRecord};
-ghost use Rattle.mvt_gate.specs.Calls.Polygons.{IsFaultOfGeometryFor};
-ghost use Rattle.mvt_gate.specs.Quick.{IsQuickFaultOfGeometryBy};
+ghost use Rattle.mvt_gate.specs.Quick.{IsFreeFor};
+ghost use Rattle.mvt_gate.specs.declared.quick.Search.TheVariants as searches;
 
 use crate::polygons::rings_fault;
 use crate::quick::Search;
@@ -42,8 +42,8 @@ impl GeometryRule {
         }
     }
 
-    /// Stores the first fault of a feature's geometry by the profile, of those that are searched
-    /// for, in `found`, which is None before, and stays so where the geometry is valid. The only
+    /// Stores the first fault of a feature's geometry by the profile, or quickly any meeting of its
+    /// edges, in `found`, which is None before, and stays so where the geometry is valid. The only
     /// error is that memory was refused.
     fn find_fault_by(
         &mut self,
@@ -58,12 +58,13 @@ impl GeometryRule {
         requires { found.old ≡ None }
         ensures none { IfOk result (λ _. IfNone found.new ((it : FeatureRecord)
             → Shows feature.now it → (fault : Fault)
-            → ¬ IsFaultOfGeometryFor search profile it layer ordinal fault)) }
+            → ¬ IsFaultOfGeometryBy profile it layer ordinal fault)) }
         ensures kept { IfOk result (λ _. IfNone found.new ((it : FeatureRecord)
             → Shows feature.now it → IsValidGeometryBy profile it)) }
-        ensures least { IfOk result (λ _. IfSome found.new (λ fault. (it : FeatureRecord)
+        ensures found { IfOk result (λ _. IfSome found.new (λ fault. (it : FeatureRecord)
             → Shows feature.now it
-            → IsLeast (IsFaultOfGeometryFor search profile it layer ordinal) fault)) }
+            → IsLeastOr (IsFreeFor search profile)
+            (IsFaultOfGeometryBy profile it layer ordinal) fault)) }
     {
         match feature.kind() {
             Kind::Polygon => {
@@ -102,9 +103,10 @@ impl GeometryRule {
         requires { (it : FeatureRecord) → Shows feature.now it → it.kind ≡ type_number polygon }
         ensures kept { IfOk result (λ found. IfNone found ((it : FeatureRecord)
             → Shows feature.now it → IsValidGeometryBy profile it)) }
-        ensures least { IfOk result (λ found. IfSome found (λ fault. (it : FeatureRecord)
+        ensures found { IfOk result (λ found. IfSome found (λ fault. (it : FeatureRecord)
             → Shows feature.now it
-            → IsLeast (IsFaultOfGeometryFor search profile it layer ordinal) fault)) }
+            → IsLeastOr (IsFreeFor search profile)
+            (IsFaultOfGeometryBy profile it layer ordinal) fault)) }
     {
         match self.rings.draw(alloc, feature.geometry()) {
             Ok(()) => rings_fault(
@@ -144,6 +146,8 @@ impl PolygonGeometry {
 
 impl FeatureRule for PolygonGeometry {
     ghost IsBroken = { IsFaultOfGeometryBy profiles.Polygon };
+
+    ghost IsFree = { IsFreeFor searches.Least profiles.Polygon };
 
     ghost IsKept = { IsValidGeometryBy profiles.Polygon };
 
@@ -186,6 +190,8 @@ impl FeatureGeometry {
 impl FeatureRule for FeatureGeometry {
     ghost IsBroken = { IsFaultOfGeometryBy profiles.Feature };
 
+    ghost IsFree = { IsFreeFor searches.Least profiles.Feature };
+
     ghost IsKept = { IsValidGeometryBy profiles.Feature };
 
     fn find_fault(
@@ -209,7 +215,7 @@ impl FeatureRule for FeatureGeometry {
     }
 }
 
-/// The same rule, whose faults are those that are found quickly.
+/// The same rule, of which any meeting may be found in place of a feature's first fault.
 #[derive(Drop)]
 pub(crate) struct QuickGeometry {
     rule: GeometryRule,
@@ -225,7 +231,9 @@ impl QuickGeometry {
 }
 
 impl FeatureRule for QuickGeometry {
-    ghost IsBroken = { IsQuickFaultOfGeometryBy profiles.Feature };
+    ghost IsBroken = { IsFaultOfGeometryBy profiles.Feature };
+
+    ghost IsFree = { IsFreeFor searches.Quick profiles.Feature };
 
     ghost IsKept = { IsValidGeometryBy profiles.Feature };
 

@@ -2,7 +2,6 @@
 //! `check`, with advice or without, of `dump` and of `confirm`; but of the meetings of edges in one
 //! polygon `check` may name any. And what a quick verdict and a list say of all faults.
 ghost use Rattle.std.specs.Prelude.{◌≡◌, ◌↔◌, ◌⊎◌, ◌++◌, ℕ, List, Some, slice_get, take};
-ghost use Rattle.mvt_confirm.specs.Feature.{IsFeatureIn};
 ghost use Rattle.mvt_confirm.specs.Shows.{ShowsBy};
 ghost use Rattle.mvt_confirm.specs.Valid.{ValidBy};
 ghost use Rattle.mvt_fault.specs.Place.{AreMeetingsInOne, ComesFirst, IsLeast, place_of};
@@ -14,14 +13,12 @@ ghost use Rattle.mvt_gate.specs.Check.{IsCheckAnswerBy};
 ghost use Rattle.mvt_gate.specs.Confirm.{IsConfirmAnswerBy};
 ghost use Rattle.mvt_gate.specs.Dump.{IsDumpAnswer};
 ghost use Rattle.mvt_gate.specs.FaultLine.{fault_line};
-ghost use Rattle.mvt_gate.specs.FaultList.{AreFaultsFor, of_feature, subject_of};
+ghost use Rattle.mvt_gate.specs.FaultList.{AreFaultsFor, HasNoMeetingIn, IsFirstOfItsSubject, subject_of};
 ghost use Rattle.mvt_gate.specs.Fields.{IsFieldsAnswer};
-ghost use Rattle.mvt_gate.specs.Quick.{HasNoMeeting, ShowsQuicklyBy};
 ghost use Rattle.mvt_gate.specs.Verdict.{IsQuickVerdictBy, IsVerdictBy};
 ghost use Rattle.mvt_gate.specs.declared.engine.Outcome.{Outcome};
 ghost use Rattle.mvt_gate.specs.declared.quick.Search.{Search};
 ghost use Rattle.mvt_gate.specs.declared.verdict.Verdict.{Verdict};
-ghost use Rattle.mvt_wire.specs.Tile.{FeatureRecord, LayerRecord};
 
 /// Whatever the input is, there is an answer of `fields`, and no other answer and no other line.
 pub fn one_fields_answer()
@@ -84,19 +81,13 @@ pub fn one_confirm_answer()
         (first ≡ second) × (line ≡ other) }
 {}
 
-/// A quick fault is true of the bytes, and bytes that have none are valid: those of which a fault is
-/// true have a quick one.
-pub fn quick_faults()
-    ensures shown { (profile : Profile) (bytes : List ℕ) (fault : Fault)
-        → ShowsQuicklyBy profile bytes fault → ShowsBy profile bytes fault }
-    ensures none { (profile : Profile) (bytes : List ℕ)
-        → ((fault : Fault) → ¬ ShowsQuicklyBy profile bytes fault) → ValidBy profile bytes }
-{}
-
-/// No fault that is true of the bytes is of an earlier layer or feature than the quick verdict's, by
-/// the first three numbers of their places. The quick verdict is the judge's by the profile that
-/// checks each polygon by itself, and where no edges of its fault's feature meet wrongly.
+/// A quick verdict's fault is true of the bytes, and no fault that is true of them is of an earlier
+/// layer or feature, by the first three numbers of their places. The quick verdict is the judge's by
+/// the profile that checks each polygon by itself, and where no edges of its fault's feature meet
+/// wrongly.
 pub fn quick_verdicts()
+    ensures shown { (profile : Profile) (bytes : List ℕ) (fault : Fault)
+        → IsQuickVerdictBy profile bytes (Verdict.No fault) → ShowsBy profile bytes fault }
     ensures none_earlier { (profile : Profile) (bytes : List ℕ) (fault other : Fault)
         → IsQuickVerdictBy profile bytes (Verdict.No fault) → ShowsBy profile bytes other
         → ComesFirst (take 3 (place_of fault)) (take 3 (place_of other)) }
@@ -105,11 +96,20 @@ pub fn quick_verdicts()
         ↔ IsVerdictBy profiles.Polygon bytes verdict }
     ensures where_apart { (profile : Profile) (bytes : List ℕ) (fault : Fault)
         → IsQuickVerdictBy profile bytes (Verdict.No fault)
-        → ((layer feature : ℕ) (layer_record : LayerRecord) (feature_record : FeatureRecord)
-        → subject_of fault ≡ of_feature layer feature
-        → IsFeatureIn bytes layer feature layer_record feature_record
-        → HasNoMeeting feature_record)
+        → HasNoMeetingIn bytes (subject_of fault)
         → IsVerdictBy profile bytes (Verdict.No fault) }
+{}
+
+/// A fault of a quick list is the first of its layer or feature by the profile that checks each
+/// polygon by itself, and where no edges of its feature meet wrongly.
+pub fn quick_faults()
+    ensures by_polygon { (bytes : List ℕ) (faults : List Fault)
+        → AreFaultsFor Search.Quick profiles.Polygon bytes faults
+        ↔ AreFaultsFor Search.Least profiles.Polygon bytes faults }
+    ensures where_apart { (profile : Profile) (bytes : List ℕ) (faults : List Fault)
+        → AreFaultsFor Search.Quick profile bytes faults → (at : ℕ) (fault : Fault)
+        → slice_get faults at ≡ Some fault → HasNoMeetingIn bytes (subject_of fault)
+        → IsFirstOfItsSubject (ShowsBy profile bytes) fault }
 {}
 
 /// No two faults of a list are of one layer or of one feature.

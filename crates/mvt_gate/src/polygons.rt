@@ -21,10 +21,10 @@ use std::alloc::{AllocError, Global};
 
 /// The first fault of the rings that the geometry of a feature draws, or None where they are those
 /// of polygons that are valid by the profile: faults that rings have of their own come first, and
-/// then those of the polygons that are searched for, one polygon after another. `layer` and
+/// then those of the polygons, one polygon after another, or quickly any meeting. `layer` and
 /// `feature` are the ordinals of the layer in its tile and of the feature in its layer, which the
 /// fault reports. The only error is that memory was refused.
-pub(crate) fn rings_fault(
+pub fn rings_fault(
     alloc: Global,
     search: Search,
     profile: Profile,
@@ -36,7 +36,7 @@ pub(crate) fn rings_fault(
     requires { (numbers : List ℕ) × HasRings (type_number polygon) numbers (rings_of rings.now) }
     ensures valid { IfOk result (λ found.
         IfNone found (AreValidRingsBy profile (rings_of rings.now))) }
-    ensures least { IfOk result (λ found.
+    ensures found { IfOk result (λ found.
         IfSome found (IsFirstOfRingsFor search profile (rings_of rings.now) layer feature)) }
 {
     if let Some(fault) = check_rings(rings) {

@@ -1,13 +1,14 @@
 //! The verdict whose work is bounded also where polygons of a feature cross.
 ghost use Rattle.std.specs.Prelude.{◌≡◌, ◌↔◌, IfNone, IfOk, IfSome};
+ghost use Rattle.mvt_confirm.specs.Geometry.{IsFaultOfGeometryBy};
 ghost use Rattle.mvt_confirm.specs.Shows.{ShowsBy};
 ghost use Rattle.mvt_confirm.specs.Valid.{IsValidGeometryBy, ValidBy};
-ghost use Rattle.mvt_fault.specs.Place.{IsLeast};
 ghost use Rattle.mvt_fault.specs.declared.fault.Fault.{Fault};
 ghost use Rattle.mvt_fault.specs.declared.profile.Profile.TheVariants as profiles;
+ghost use Rattle.mvt_tile.specs.FreeFaults.{IsLeastOr};
 ghost use Rattle.mvt_tile.specs.RuleFaults.{BreaksAnyRule, KeepsRules};
 ghost use Rattle.mvt_wire.specs.Tile.{IsTile, TileRecord};
-ghost use Rattle.mvt_gate.specs.Quick.{IsQuickFaultOfGeometryBy};
+ghost use Rattle.mvt_gate.specs.Quick.{IsFreeBy};
 ghost use Rattle.mvt_gate.specs.Verdict.{IsQuickVerdictBy, IsVerdictFor};
 ghost use Rattle.mvt_gate.specs.declared.verdict.Verdict.{Verdict};
 
@@ -23,18 +24,16 @@ pub enum Search {
     /// All, so that the first one is that of least place. By the profile `Profile::Feature` that may
     /// take the vertices of a feature squared, where its edges meet.
     Least,
-    /// All but those of a polygon in another, where edges of their feature meet wrongly. Where there
-    /// is a fault at all, a feature has one of these.
+    /// The first one too, but that by the profile `Profile::Feature` any meeting of edges may be named
+    /// in place of it. So none has to be searched for before that.
     Quick,
 }
 
-/// The same as `judge_with`, with bounded work by both profiles: n log n, and in a feature of whose
-/// polygons edges meet as many times that as their number has binary digits, and twice more. It says
+/// The same as `judge_with`, with bounded work by both profiles: n log n, whatever the tile. It says
 /// Yes exactly where `judge_with` does. Otherwise its fault is true of the bytes, and no true fault is
 /// of an earlier layer or feature; it is that of `judge_with` by the profile `Profile::Polygon`, and
-/// where no edges of its feature's polygons meet wrongly. In a feature where they do, no fault of a
-/// polygon in another is looked for (`specs/Quick.antt`), so a later fault of that feature may be
-/// named.
+/// where no edges of its feature's polygons meet wrongly. In a feature where they do, any meeting may
+/// be named in place of its first fault (`specs/Quick.antt`).
 ///
 /// The only error is that memory was refused, and so it is answered for a feature of 2^32 vertices or
 /// more: such a tile has more than 8.6 GB.
@@ -81,14 +80,16 @@ fn judge_features(alloc: Global, bytes: &[u8]) -> Result<Verdict, AllocError>
     }
 }
 
-/// The first quick fault of a tile, or None where it keeps all rules. The bytes have no wire fault.
+/// The first fault of a tile, or any meeting of the first feature with a fault, or None where it keeps
+/// all rules. The bytes have no wire fault.
 fn fault_of_features(alloc: Global, bytes: &[u8]) -> Result<Option<Fault>, AllocError>
     requires { (tile : TileRecord) × IsTile bytes.now tile }
     ensures none { IfOk result (λ found. IfNone found ((tile : TileRecord) → IsTile bytes.now tile
         → KeepsRules (IsValidGeometryBy profiles.Feature) tile)) }
-    ensures least { IfOk result (λ found. IfSome found (λ fault. (tile : TileRecord)
+    ensures found { IfOk result (λ found. IfSome found (λ fault. (tile : TileRecord)
         → IsTile bytes.now tile
-        → IsLeast (BreaksAnyRule (IsQuickFaultOfGeometryBy profiles.Feature) tile) fault)) }
+        → IsLeastOr (IsFreeBy profiles.Feature)
+        (BreaksAnyRule (IsFaultOfGeometryBy profiles.Feature) tile) fault)) }
 {
     rule_fault(alloc, bytes, &mut QuickGeometry::new(alloc))
 }

@@ -1,11 +1,9 @@
 -- The first fault of a feature's polygons.
 pub mod CountedFaults
-pub mod FaultsIf
 pub mod FeatureAnswers
 pub mod FeatureFronts
 pub mod FeatureShares
 pub mod FirstFaults
-pub mod FirstHoles
 pub mod FirstMeetings
 pub mod FirstPolygons
 pub mod FirstRings
@@ -14,7 +12,6 @@ pub mod GatheredLists
 pub mod GatheredPolygons
 pub mod GatheredSteps
 pub mod LaterPolygons
-pub mod OwnMeetings
 pub mod PartedAnswers
 pub mod QuickAnswers
 pub mod SweepShares

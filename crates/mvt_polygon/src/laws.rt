@@ -4,17 +4,17 @@ ghost use Rattle.std.specs.Prelude.{◌↔◌, List, Option, None};
 ghost use Rattle.mvt_plane.specs.Position.{Position};
 ghost use Rattle.mvt_polygon.specs.Feature.{IsFeatureAnswer, IsFirstFault};
 ghost use Rattle.mvt_polygon.specs.Meeting.{NoMeeting};
-ghost use Rattle.mvt_polygon.specs.QuickFeature.{IsFirstQuickFault, IsQuickAnswer};
+ghost use Rattle.mvt_polygon.specs.QuickFeature.{IsQuickAnswer, IsQuickFault};
 ghost use Rattle.mvt_polygon.specs.declared.feature.FeatureFault.{FeatureFault};
 
-/// Where no edges of a feature meet wrongly, its first quick fault is its first fault. A feature
-/// with a fault has a quick one, and one with a quick fault has a fault: nothing is answered for
-/// both or for neither.
+/// Where no edges of a feature meet wrongly, its quick fault is its first fault. A feature with a
+/// fault has a quick one, and one with a quick fault has a fault: nothing is answered for both or
+/// for neither.
 pub fn quick_faults()
     ensures same { (rings : List (List Position)) (found : Option FeatureFault) → NoMeeting rings
         → IsQuickAnswer rings found ↔ IsFeatureAnswer rings found }
-    ensures there { (rings : List (List Position)) (fault : FeatureFault) → IsFirstFault rings fault
-        → ¬ IsQuickAnswer rings None }
+    ensures first { (rings : List (List Position)) (fault : FeatureFault) → IsFirstFault rings fault
+        → IsQuickFault rings fault }
     ensures holds { (rings : List (List Position)) (fault : FeatureFault)
-        → IsFirstQuickFault rings fault → ¬ IsFeatureAnswer rings None }
+        → IsQuickFault rings fault → ¬ IsFeatureAnswer rings None }
 {}

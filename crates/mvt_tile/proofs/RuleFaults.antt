@@ -3,6 +3,7 @@ pub mod Advised
 pub mod FeatureFaults
 pub mod FeatureScan
 pub mod FirstFaults
+pub mod FreeFaults
 pub mod Gathered
 pub mod GatheredScan
 pub mod HeldPlaces

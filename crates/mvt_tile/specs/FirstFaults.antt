@@ -1,11 +1,12 @@
--- The faults of a tile by its rules, one of each layer and one of each feature that has any: its first.
-use Rattle.std.specs.Prelude.{◌≡◌, ◌≢◌, ℕ, ◌<◌, ◌⊎◌, List, ◌∷◌, Some, slice_get}
+-- The faults of a tile by its rules, one of each layer and one of each feature that has any: its first, or a free one.
+use Rattle.std.specs.Prelude.{◌≡◌, ◌≢◌, ℕ, ◌<◌, ◌⊎◌, List, ◌∷◌, Some, slice_get, take}
 use Rattle.mvt_fault.specs.Place.{ComesFirst, IsLeast, place_of}
 use Rattle.mvt_fault.specs.TrueFaults.{IsFaultOfLayers}
 use Rattle.mvt_fault.specs.declared.fault.Fault.{Fault}
 use Rattle.mvt_wire.specs.Rules.{IsFeatureOf}
 use Rattle.mvt_wire.specs.Tile.{FeatureRecord, LayerRecord, TileRecord}
-use Rattle.mvt_tile.specs.RuleFaults.{Breaks, Keeps, IsFaultOfFeature, IsSound}
+use Rattle.mvt_tile.specs.FreeFaults.{IsLeastOr}
+use Rattle.mvt_tile.specs.RuleFaults.{Breaks, Frees, Keeps, IsFaultOfFeature, IsSound}
 
 -- the fault is of this layer, by its place: of two layers of one name, of the second
 abbrev pub IsOfLayer : ℕ → Fault → Type 0
@@ -16,18 +17,18 @@ pub record IsFaultOfLayer (tile : TileRecord) (layer : ℕ) (fault : Fault) : Ty
   pub broken : IsFaultOfLayers tile fault
   pub of_layer : IsOfLayer layer fault
 
--- the fault is the first of a layer, or the first of a feature
-pub data IsFirstFault (IsBroken : Breaks) (tile : TileRecord) (fault : Fault) : Type 0 where
-  of_layer : (layer : ℕ) → IsLeast (IsFaultOfLayer tile layer) fault → IsFirstFault IsBroken tile fault
+-- the fault is the first of a layer, or the first of a feature, or a free one of it
+pub data IsFirstFault (IsFree : Frees) (IsBroken : Breaks) (tile : TileRecord) (fault : Fault) : Type 0 where
+  of_layer : (layer : ℕ) → IsLeast (IsFaultOfLayer tile layer) fault → IsFirstFault IsFree IsBroken tile fault
   of_feature : (layer feature : ℕ) (layer_record : LayerRecord) (feature_record : FeatureRecord) → IsFeatureOf tile layer feature layer_record feature_record
-      → IsLeast (IsFaultOfFeature IsBroken layer_record feature_record layer feature) fault → IsFirstFault IsBroken tile fault
+      → IsLeastOr IsFree (IsFaultOfFeature IsBroken layer_record feature_record layer feature) fault → IsFirstFault IsFree IsBroken tile fault
 
--- the first place comes before the second
+-- the first place comes before the second by the first three numbers, which say of which layer or feature it is
 pub record ComesBefore (place other : List ℕ) : Type 0 where
-  pub first : ComesFirst place other
-  pub differ : place ≢ other
+  pub first : ComesFirst (take 3 place) (take 3 other)
+  pub differ : take 3 place ≢ take 3 other
 
--- the faults stand in the order of their places, no place twice
+-- the faults stand in the order of their places, and no feature has two
 abbrev pub AreInOrder : List Fault → Type 0
 AreInOrder faults = (at later : ℕ) (fault other : Fault) → at < later → slice_get faults at ≡ Some fault → slice_get faults later ≡ Some other
     → ComesBefore (place_of fault) (place_of other)
@@ -37,10 +38,10 @@ abbrev pub OneOf : List Fault → (Fault → Type 0) → Type 0
 OneOf faults Holds = (at : ℕ) × (fault : Fault) × (slice_get faults at ≡ Some fault) × Holds fault
 
 -- the first fault of each layer and of each feature that has one, in the order of their places, and no others
-pub record AreFirstFaults (IsBroken : Breaks) (IsKept : Keeps) (tile : TileRecord) (faults : List Fault) : Type 0 where
-  pub each : (at : ℕ) (fault : Fault) → slice_get faults at ≡ Some fault → IsFirstFault IsBroken tile fault
+pub record AreFirstFaults (IsFree : Frees) (IsBroken : Breaks) (IsKept : Keeps) (tile : TileRecord) (faults : List Fault) : Type 0 where
+  pub each : (at : ℕ) (fault : Fault) → slice_get faults at ≡ Some fault → IsFirstFault IsFree IsBroken tile fault
   pub in_order : AreInOrder faults
   pub layers : (layer : ℕ) (fault : Fault) → IsFaultOfLayer tile layer fault → OneOf faults (IsLeast (IsFaultOfLayer tile layer))
   -- a feature that has none keeps the rules
   pub features : (layer feature : ℕ) (layer_record : LayerRecord) (feature_record : FeatureRecord) → IsFeatureOf tile layer feature layer_record feature_record
-      → OneOf faults (IsLeast (IsFaultOfFeature IsBroken layer_record feature_record layer feature)) ⊎ IsSound IsBroken IsKept layer_record feature_record layer feature
+      → OneOf faults (IsLeastOr IsFree (IsFaultOfFeature IsBroken layer_record feature_record layer feature)) ⊎ IsSound IsBroken IsKept layer_record feature_record layer feature

@@ -13,6 +13,10 @@ Breaks = FeatureRecord → ℕ → ℕ → Fault → Type 0
 abbrev pub Keeps : Type 1
 Keeps = FeatureRecord → Type 0
 
+-- which faults may be found in place of the first one
+abbrev pub Frees : Type 1
+Frees = Fault → Type 0
+
 -- a place of the feature with these ordinals, after the places of its tags
 abbrev pub IsAfterTags : ℕ → ℕ → List ℕ → Type 0
 IsAfterTags layer feature place = (part : ℕ) × (rest : List ℕ) × (1 ≤ part) × (place ≡ 2 ∷ layer ∷ feature ∷ part ∷ rest)

@@ -32,7 +32,7 @@ impl<'a> FeatureBytes<'a> {
 
     /// The feature that a part of the bytes holds.
     #[inline(never)]
-    pub(crate) fn new(part: Part<'a>) -> FeatureBytes<'a>
+    pub fn new(part: Part<'a>) -> FeatureBytes<'a>
         requires { (feature_record : FeatureRecord) × Holds IsFeature part feature_record }
         ensures { (feature_record : FeatureRecord) → Holds IsFeature part.entry feature_record
             → Shows result feature_record }

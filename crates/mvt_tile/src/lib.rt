@@ -14,6 +14,7 @@ mod wire;
 
 pub use advice::{Advice, advise};
 pub use feature_bytes::FeatureBytes;
+pub use lists::list_of;
 pub use read::{ReadFault, read_tile};
 pub use record::{Feature, Kind, Layer, Tile, Value};
 pub use rules::{FeatureRule, check_layers, check_tags, rule_fault, rule_faults};

@@ -13,7 +13,7 @@ pub(crate) fn push_item<T: Drop>(items: &mut Vec<T>, item: T) -> Result<(), Allo
 }
 
 /// All numbers that are left, as a list. The only error is that memory was refused.
-pub(crate) fn list_of<N: NumberSource + Drop>(
+pub fn list_of<N: NumberSource + Drop>(
     alloc: Global,
     mut numbers: N,
 ) -> Result<Vec<u32>, AllocError>

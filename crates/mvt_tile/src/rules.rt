@@ -8,6 +8,7 @@ ghost use Rattle.mvt_wire.specs.Tile.{FeatureRecord, TileRecord, IsTile};
 ghost use Rattle.mvt_tile.specs.Calls.FeatureRules.{FindsInTile};
 ghost use Rattle.mvt_tile.specs.Calls.PassedLayers.{EndsLayers, passed, PassesLayers};
 ghost use Rattle.mvt_tile.specs.Calls.RuleFaults.{AreAfterTags};
+ghost use Rattle.mvt_tile.specs.FreeFaults.{IsLeastOr};
 ghost use Rattle.mvt_tile.specs.RuleFaults.{IsAfterTags, BreaksAnyRule, KeepsRules};
 
 mod faults;
@@ -42,7 +43,8 @@ pub use tags::check_tags;
 /// and different names (Mapbox Vector Tile Specification 2.1, section 4.1), the tags of each
 /// feature are pairs of a key and a value of its layer, no key twice (section 4.4), and each
 /// feature keeps the further rule. The layers' faults come first; then the first feature that has a
-/// fault decides, and its tags come before the further rule. The bytes must have no wire fault
+/// fault decides, and its tags come before the further rule; of that the fault may be a free one,
+/// where the rule has such. The bytes must have no wire fault
 /// (`wire_fault`), and the rule's faults must come after those of the tags of their feature in the
 /// order of faults. The bytes are read again: each layer at most once, or twice where a tag names a
 /// key or a value that the layer doesn't have. No record of the tile is built. Its memory is for
@@ -60,7 +62,11 @@ pub fn rule_fault<R: FeatureRule>(
         → IsAfterTags layer_index feature_index (place_of fault) }
     ensures none { IfOk result (λ found. IfNone found ((tile : TileRecord) → IsTile bytes.now tile
         → KeepsRules R.IsKept tile)) }
-    ensures least { IfOk result (λ found. IfSome found (λ fault. (tile : TileRecord)
+    ensures found { IfOk result (λ found. IfSome found (λ fault. (tile : TileRecord)
+        → IsTile bytes.now tile
+        → IsLeastOr R.IsFree (BreaksAnyRule R.IsBroken tile) fault)) }
+    ensures least { ((fault : Fault) → ¬ R.IsFree fault)
+        → IfOk result (λ found. IfSome found (λ fault. (tile : TileRecord)
         → IsTile bytes.now tile
         → IsLeast (BreaksAnyRule R.IsBroken tile) fault)) }
 {
@@ -92,7 +98,7 @@ fn walk_layers<'a, R: FeatureRule>(
     ensures ends { OnOk result ((tile : TileRecord) → IsTile bytes.now tile
         → EndsLayers layers.new tile) }
     ensures finds { OnOk result ((tile : TileRecord) → IsTile bytes.now tile
-        → passed layers.new ≡ length tile.layers → FindsInTile R.IsBroken R.IsKept tile found.new) }
+        → passed layers.new ≡ length tile.layers → FindsInTile R.IsFree R.IsBroken R.IsKept tile found.new) }
 {
     let mut room = FeatureRoom::new(alloc);
     let mut layer_index = 0;

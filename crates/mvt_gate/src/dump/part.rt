@@ -8,8 +8,9 @@ ghost use Rattle.mvt_gate.specs.Dump.{list_data};
 use std::alloc::{AllocError, Global};
 use std::fmt::Write;
 
-/// A part of a tile, or a piece of advice on one.
-pub(crate) trait Part {
+/// What is written as a part of a JSON text: a part of a tile, a piece of advice on one, or what
+/// became of a feature.
+pub trait Part {
     // the part as JSON
     ghost part_data: { Self → Data };
 
@@ -21,11 +22,7 @@ pub(crate) trait Part {
 }
 
 /// Writes a list as an array.
-pub(crate) fn push_list<P: Part>(
-    alloc: Global,
-    text: &mut String,
-    list: &[P],
-) -> Result<(), AllocError>
+pub fn push_list<P: Part>(alloc: Global, text: &mut String, list: &[P]) -> Result<(), AllocError>
     ensures { OnOk result (string_bytes text.new
         ≡ string_bytes text.old ++ compact_text (list_data P.part_data list.now)) }
 {

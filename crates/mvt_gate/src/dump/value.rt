@@ -20,8 +20,8 @@ impl<'a> Part for &'a str {
     }
 }
 
-/// Writes a string, with quotes and escapes.
-pub(crate) fn push_string(alloc: Global, text: &mut String, content: &str) -> Result<(), AllocError>
+/// Writes a string as JSON after a text, with quotes and escapes.
+pub fn push_string(alloc: Global, text: &mut String, content: &str) -> Result<(), AllocError>
     ensures { OnOk result (string_bytes text.new
         ≡ string_bytes text.old ++ compact_text (string content.now)) }
 {

@@ -13,8 +13,8 @@ use mvt_plane::{Count, Point};
 use mvt_polygon::{FeatureCause, FeatureFault, check_feature, check_feature_quickly};
 use std::alloc::{AllocError, Global};
 
-/// The first fault of the polygons of a feature, one after another, of those that are searched for;
-/// or None where all of them are valid and apart. No ring has a fault of its own. The only error is
+/// The first fault of the polygons of a feature, one after another, or quickly any meeting of their
+/// edges; or None where all of them are valid and apart. No ring has a fault of its own. The only error is
 /// that memory was refused.
 pub(super) fn feature_fault(
     alloc: Global,
@@ -28,7 +28,7 @@ pub(super) fn feature_fault(
     requires drawn { AreProperRings (rings_of rings.now) }
     ensures valid { IfOk result (λ found.
         IfNone found (AreValidRingsBy Feature (rings_of rings.now))) }
-    ensures least { IfOk result (λ found.
+    ensures found { IfOk result (λ found.
         IfSome found (IsFirstOfRingsFor search Feature (rings_of rings.now) layer feature)) }
 {
     let Some(found) = first_fault(alloc, search, rings, count)? else {
@@ -44,7 +44,7 @@ pub(super) fn feature_fault(
     Ok(Some(cause_fault(place, found.cause)))
 }
 
-/// The first polygon of a feature with a fault that is searched for.
+/// The first polygon of a feature with a fault, or quickly any meeting.
 fn first_fault(
     alloc: Global,
     search: Search,

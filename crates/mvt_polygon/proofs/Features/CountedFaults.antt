@@ -8,7 +8,6 @@ use Rattle.mvt_plane.specs.Position.{Position}
 use Rattle.mvt_polygon.specs.Calls.Alone.{earlier_of, own_fault}
 use Rattle.mvt_polygon.specs.Calls.FeatureParts.{fault_after, IsFirstLater, IsFirstMisplaced, IsMisplacedBy}
 use Rattle.mvt_polygon.specs.Calls.Gathered.{cause_moved, fault_moved}
-use Rattle.mvt_polygon.specs.Calls.QuickParts.{IsFirstWithHole, IsNestCause}
 use Rattle.mvt_polygon.specs.Feature.{IsCountedCause, IsCountedFault, rings_in}
 use Rattle.mvt_polygon.specs.PolygonFault.{meeting_in}
 use Rattle.mvt_polygon.specs.Work.{IsCounted, vertex_count}
@@ -88,12 +87,6 @@ fewer_in_first : (rings : List (List Position)) (ring_count : ℕ) (it : Polygon
 fewer_in_first rings ring_count it further within = omega (arith, ap vertex_count (part_in_first rings ring_count it further within), fewer_in_part (take ring_count rings) it)
 
 -- where these were swept over, so much was counted for what isn't a meeting
-counted_nesting : (rings : List (List Position)) (its : List (List Position)) (it : PolygonRings) (vertices least : ℕ) (cause : FeatureCause) (before after : Counted) → vertices ≤ least → IsNestCause its it cause → raised least before.probes ≤ after.probes
-    → IsCountedCause vertices before after cause
-counted_nesting rings its it vertices least (Meeting meeting) before after within is counted = absurd is
-counted_nesting rings its it vertices least (Nesting fault) before after within is counted = omega arith
-counted_nesting rings its it vertices least (Apart fault) before after within is counted = absurd is
-
 counted_misplaced : (its : List (List Position)) (polygon : ℕ) (it : PolygonRings) (vertices least : ℕ) (cause : FeatureCause) (before after : Counted) → vertices ≤ least → IsMisplacedBy its polygon it cause → raised least before.probes ≤ after.probes
     → IsCountedCause vertices before after cause
 counted_misplaced its polygon it vertices least (Meeting meeting) before after within is counted = absurd is
@@ -110,15 +103,6 @@ module _ (rings : List (List Position)) (count ring_count : ℕ) (are : AreFirst
       let within = ends_in_first rings ring_count fault.polygon it are.whole (begins_among_first rings ring_count fault.polygon it are.whole.within is.there) there in
       counted_misplaced (take ring_count rings) fault.polygon it (vertex_count (part_of rings it)) (vertex_count (take ring_count rings)) fault.cause before after (fewer_in_first rings ring_count it there.further within) is.is swept
 
-  -- one with a hole that isn't where it should be
-  pub counted_hole_in_front : (found : Option FeatureFault) → IfSome found (IsFirstWithHole (take ring_count rings)) → IfSome found (IsCountedFault rings before after)
-  counted_hole_in_front None is = tt
-  counted_hole_in_front (Some fault) is =
-      let it = rings_in fault in
-      let there = polygon_of_first rings ring_count fault.polygon it are.whole is.there in
-      let within = ends_in_first rings ring_count fault.polygon it are.whole (begins_among_first rings ring_count fault.polygon it are.whole.within is.there) there in
-      counted_nesting rings (take ring_count rings) it (vertex_count (part_of rings it)) (vertex_count (take ring_count rings)) fault.cause before after (fewer_in_first rings ring_count it there.further within) is.is swept
-
   -- one in a later polygon
   pub counted_in_later : (until : ℕ) (found : Option FeatureFault) → until ≤ count → IfSome found (IsFirstLater rings count until) → IfSome found (IsCountedFault rings before after)
   counted_in_later until None up_to is = tt
@@ -128,6 +112,12 @@ module _ (rings : List (List Position)) (count ring_count : ℕ) (are : AreFirst
       let within = ends_in_first rings ring_count fault.polygon it are.whole (are.begins fault.polygon it is.there (omega arith)) is.there in
       let few = fewer_in_first rings ring_count it is.there.further within in
       subst (IsCountedCause (vertex_count (part_of rings it)) before after) (sym is.cause) (omega (arith, few, swept))
+
+-- where all were swept over, any polygon that is misplaced
+pub counted_in_all : (rings : List (List Position)) (before after : Counted) (found : Option FeatureFault) → raised (vertex_count rings) before.probes ≤ after.probes → IfSome found (IsFirstMisplaced rings) → IfSome found (IsCountedFault rings before after)
+counted_in_all rings before after None swept is = tt
+counted_in_all rings before after (Some fault) swept is =
+    counted_misplaced rings fault.polygon (rings_in fault) (vertex_count (part_of rings (rings_in fault))) (vertex_count rings) fault.cause before after (fewer_in_part rings (rings_in fault)) is.is swept
 
 -- the polygon after the front
 pub counted_after : (rings : List (List Position)) (polygons : List (ℕ × ℕ)) (count : ℕ) (meeting : Option MeetingOf) (before after : Counted) → IfSome meeting (λ _. ticked before.tests ≤ after.tests) → IfSome (option_map (fault_after polygons count) meeting) (IsCountedFault rings before after)

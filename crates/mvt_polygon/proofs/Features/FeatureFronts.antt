@@ -1,7 +1,6 @@
 -- The polygons of a feature that are marked, and those that aren't: edges of theirs that meet, and vertices inside them.
 use Rattle.std.proofs.Common.{◌≡◌, ◌≢◌, ℕ, suc, ◌+◌, ◌-◌, ◌<◌, ◌≤◌, ◌⊎◌, inl, inr, Bool, true, false, List, length, slice_get, slice_index, Some, sym, ◌∙◌, ap, subst, arith}
 use Rattle.std.proofs.lemmas.Bool.{cases_lt, cases_order}
-use Rattle.std.proofs.lemmas.Option.{slice_get_within}
 use Rattle.mvt_plane.specs.Geometry.Meeting.{EdgeNumber, MeetsWrongly}
 use Rattle.mvt_plane.specs.Geometry.Nesting.{IsInsidePolygon, IsInPolygon}
 use Rattle.mvt_plane.specs.Geometry.Part.{part_of}
@@ -24,7 +23,7 @@ use Rattle.mvt_polygon.proofs.Features.GatheredLists.{IsMarked, IsUnmarked, mark
 use Rattle.mvt_polygon.proofs.Features.GatheredPolygons.{size_of, start_of, rank_of, block_of, parts, places, is_it, ends, place_at, ring_at, first_at, block_within, parts_copies, polygon_at, ranked}
 use Rattle.mvt_polygon.proofs.Cells.Islands.{edges_by_hole, vertices_by_hole}
 use Rattle.mvt_polygon.proofs.Placed.PolygonOrder.{of_list, in_turn, home_of}
-use Rattle.mvt_polygon.proofs.Vertices.RingCopies.{ring_within, meets_there, meets_back, none_meet, part_copies, front_copies, count_of_front}
+use Rattle.mvt_polygon.proofs.Vertices.RingCopies.{ring_within, meets_there, meets_back, part_copies, front_copies, count_of_front}
 
 -- an edge's number by that of its ring
 abbrev numbered : ℕ → ℕ → EdgeNumber
@@ -200,17 +199,6 @@ module _ (rings : List (List Position)) (polygons : List (ℕ × ℕ)) (marks : 
       let another = is_before polygon second.ring within (omega arith) in
       none_of_any (suc polygon) first second point one.number another.number within own none one.before another.before one.of_it another.of_it
       (meets_there (part_of rings (front_of it)) rings (λ (ring : ℕ). ring) copies first second point meets)
-
-  -- so none of any rings do, where none of the gathered ones do
-  pub none_of_all : AreOwnApart (length polygons) → NoMeeting own_parts → NoMeeting rings
-  none_of_all own none first second point meets =
-      let one = home_of rings polygons able listed first.ring (slice_get_within rings first.ring meets.one_there.ring meets.one_there.there) in
-      let another = home_of rings polygons able listed second.ring (slice_get_within rings second.ring meets.other_there.ring meets.other_there.there) in
-      none_of_any (length polygons) first second point one.0 another.0 (omega arith) own
-      (λ polygon within marked.
-      let block = block_of polygons marks polygon in
-      none_meet (part_of own_parts (front_of block)) own_parts (λ (ring : ℕ). ring) (front_copies own_parts block (block_within rings polygons marks able listed polygon within marked)) none)
-      one.1 another.1 one.2 another.2 meets
 
   -- Vertices inside other polygons
 

@@ -1,22 +1,20 @@
--- The first fault of a feature, of that of its marked polygons, which are gathered, and that of the others. Polygons in
--- others are told if something is so.
-use Rattle.std.proofs.Common.{◌≡◌, ℕ, suc, ◌<◌, ◌≤◌, inl, inr, Bool, true, false, cond, ltb, List, length, slice_index, Option, Some, None, option_map, IfSome, refl, sym, ◌∙◌, ap, subst, arith}
+-- The first fault of a feature, of that of its marked polygons, which are gathered, and that of the others.
+use Rattle.std.proofs.Common.{◌≡◌, ℕ, suc, ◌+◌, ◌-◌, ◌<◌, ◌≤◌, inl, inr, Bool, true, false, cond, ltb, List, length, slice_index, Option, Some, None, option_map, IfSome, refl, sym, ◌∙◌, ap, subst, arith}
 use Rattle.std.proofs.lemmas.Bool.{cases_lt, ltb-true, ltb-false}
 use Rattle.mvt_plane.specs.Geometry.Part.{part_of}
-use Rattle.mvt_plane.specs.Geometry.Polygon.{PolygonRings, IsPolygon}
+use Rattle.mvt_plane.specs.Geometry.Polygon.{PolygonRings, IsPolygon, IsRingOf}
 use Rattle.mvt_plane.specs.Position.{Position}
 use Rattle.mvt_plane.specs.Geometry.Ring.{ArePolygonRings}
 use Rattle.mvt_polygon.specs.Calls.Alone.{IsFine, AreFineBefore, IsOwnCause, IsFirstAlone, IsAloneAnswer, earlier_of}
 use Rattle.mvt_polygon.specs.Apart.{IsApartFault, IsFirstApartFault}
-use Rattle.mvt_polygon.specs.Feature.{front_of, IsCause, rings_in}
+use Rattle.mvt_polygon.specs.Feature.{front_of, IsPlaced, IsClear, IsCause, rings_in, IsFirstFault, IsFeatureAnswer}
 use Rattle.mvt_polygon.specs.Calls.FeatureParts.{listed_at}
 use Rattle.mvt_polygon.specs.Calls.Gathered.{cause_moved, fault_moved, IsCauseWithin, IsFaultWithin}
 use Rattle.mvt_polygon.specs.Calls.Islands.{AreMarked}
-use Rattle.mvt_polygon.specs.Calls.QuickParts.{IsAnswerIf}
 use Rattle.mvt_polygon.specs.Meeting.{IsMeetingOf, NoMeeting, first_of, second_of}
 use Rattle.mvt_polygon.specs.Nesting.{IsFirstNestFault, IsNestFault}
 use Rattle.mvt_polygon.specs.Polygons.{ArePolygons}
-use Rattle.mvt_polygon.specs.QuickFeature.{IsClearIf, IsFirstFaultIf, IsTold}
+use Rattle.mvt_polygon.specs.QuickFeature.{IsAnyMeeting, IsMeetingCause, IsQuickAnswer}
 use Rattle.mvt_polygon.specs.declared.apart.ApartFault.{ApartFault}
 use Rattle.mvt_polygon.specs.declared.feature.FeatureCause.{FeatureCause}
 use Rattle.mvt_polygon.specs.declared.feature.FeatureCause.TheVariants.{Meeting, Nesting, Apart}
@@ -24,11 +22,30 @@ use Rattle.mvt_polygon.specs.declared.feature.FeatureFault.{FeatureFault}
 use Rattle.mvt_polygon.specs.declared.nesting.NestFault.{NestFault}
 use Rattle.mvt_polygon.proofs.Features.FeatureFronts.{AreOwnApart, AreFrontsApart, none_of_front, marked_in_no_unmarked, unmarked_in_none, fault_back, fault_there}
 use Rattle.mvt_polygon.proofs.Features.GatheredLists.{IsMarked, IsUnmarked, marked_or_not, total_after}
-use Rattle.mvt_polygon.proofs.Features.GatheredPolygons.{size_of, rank_of, block_of, parts, places, numbers, is_it, ends, number_at, block_within, gathered_of, place_of, parts_copies, polygon_at, ranked, same_part, count_of_parts, count_of_places, count_of_numbers}
+use Rattle.mvt_polygon.proofs.Features.GatheredPolygons.{size_of, start_of, rank_of, block_of, parts, places, numbers, is_it, ends, place_at, number_at, block_within, gathered_of, place_of, parts_copies, polygon_at, ranked, same_part, count_of_parts, count_of_places, count_of_numbers}
 use Rattle.mvt_polygon.proofs.Placed.PolygonOrder.{of_list, in_turn}
 use Rattle.mvt_polygon.proofs.Vertices.RingCopies.{AreCopies, ring_within, meeting_there, front_copies, count_of_front}
 
-module _ (Told : Type 0) (rings : List (List Position)) (polygons : List (ℕ × ℕ)) (marks : List Bool) (able : ArePolygonRings rings) (listed : ArePolygons rings polygons) (apart : AreMarked rings polygons marks) where
+-- The polygon that a fault names
+
+-- it has this fault
+pub record HasFault (rings : List (List Position)) (fault : FeatureFault) : Type 0 where
+  pub there : IsPolygon rings fault.polygon (rings_in fault)
+  pub is : IsCause rings fault.polygon (rings_in fault) fault.cause
+
+-- a meeting is one of the causes
+cause_of_meeting : (rings : List (List Position)) (polygon : ℕ) (it : PolygonRings) (cause : FeatureCause) → IsMeetingCause rings it cause → IsCause rings polygon it cause
+cause_of_meeting rings polygon it (Meeting meeting) is = is.0
+cause_of_meeting rings polygon it (Nesting fault) is = absurd is
+cause_of_meeting rings polygon it (Apart fault) is = absurd is
+
+-- so it has what is found
+pub found_is_there : (rings : List (List Position)) (found : Option FeatureFault) → IsQuickAnswer rings found → IfSome found (HasFault rings)
+found_is_there rings None is = tt
+found_is_there rings (Some fault) (inl first) = record { there = first.there; is = first.is }
+found_is_there rings (Some fault) (inr meets) = record { there = meets.there; is = cause_of_meeting rings fault.polygon (rings_in fault) fault.cause meets.is }
+
+module _ (rings : List (List Position)) (polygons : List (ℕ × ℕ)) (marks : List Bool) (able : ArePolygonRings rings) (listed : ArePolygons rings polygons) (apart : AreMarked rings polygons marks) where
   -- the gathered rings, and which rings and polygons they are
   abbrev own_parts : List (List Position)
   own_parts = parts rings polygons marks able listed
@@ -45,7 +62,7 @@ module _ (Told : Type 0) (rings : List (List Position)) (polygons : List (ℕ ×
 
   -- those before a number are clear in the gathered feature
   abbrev pub AreSharedClear : ℕ → Type 0
-  AreSharedClear to = (polygon : ℕ) → polygon < to → IsMarked marks polygon → IsClearIf Told own_parts (rank_of marks polygon) (block_of polygons marks polygon)
+  AreSharedClear to = (polygon : ℕ) → polygon < to → IsMarked marks polygon → IsClear own_parts (rank_of marks polygon) (block_of polygons marks polygon)
 
   -- the rings up to a marked polygon's last one are copies too
   place_before : (polygon ring : ℕ) → polygon < length polygons → IsMarked marks polygon → ring < (block_of polygons marks polygon).after → slice_index own_places ring < (listed_at polygons polygon).after
@@ -138,21 +155,14 @@ module _ (Told : Type 0) (rings : List (List Position)) (polygons : List (ℕ ×
     pub there : rings_in fault ≡ listed_at polygons fault.polygon
     pub before : AreSharedClear fault.polygon
     pub is : IsSharedCause fault.polygon fault.cause
-    pub told : IsTold Told fault.cause
 
   -- or nothing, where none has one
   abbrev pub IsSharedAnswer : Option FeatureFault → Type 0
   IsSharedAnswer (Some fault) = IsFirstShared fault
   IsSharedAnswer None = AreSharedClear (length polygons)
 
-  -- what may be told may be by the numbers of the feature
-  told_moved : (cause : FeatureCause) → IsTold Told cause → IsTold Told (cause_moved own_places own_numbers cause)
-  told_moved (Meeting meeting) told = told
-  told_moved (Nesting fault) told = told
-  told_moved (Apart fault) told = told
-
   -- what is found in the gathered feature
-  first_shared : (fault : FeatureFault) → IsFirstFaultIf Told own_parts fault → IsFirstShared (fault_moved polygons own_places own_numbers fault)
+  first_shared : (fault : FeatureFault) → IsFirstFault own_parts fault → IsFirstShared (fault_moved polygons own_places own_numbers fault)
   first_shared fault is =
       let its = ranked rings polygons marks able listed fault.polygon (rings_in fault) is.there in
       let rank = its.rank in
@@ -168,11 +178,10 @@ module _ (Told : Type 0) (rings : List (List Position)) (polygons : List (ℕ ×
             let among = its.within in
             is.before (rank_of marks polygon) (block_of polygons marks polygon) (omega arith) (polygon_at rings polygons marks able listed polygon (omega arith) marked);
         is = subst (λ (n : ℕ). IsSharedCause n (cause_moved own_places own_numbers fault.cause)) number (shared_cause its.polygon fault.cause its.within its.marked cause);
-        told = told_moved fault.cause is.told;
       }
 
   -- what is answered for it
-  pub shared_answer : (found : Option FeatureFault) → IsAnswerIf Told own_parts found → IsSharedAnswer (option_map (fault_moved polygons own_places own_numbers) found)
+  pub shared_answer : (found : Option FeatureFault) → IsFeatureAnswer own_parts found → IsSharedAnswer (option_map (fault_moved polygons own_places own_numbers) found)
   shared_answer (Some fault) is = first_shared fault is
   shared_answer None is = λ polygon within marked. is (rank_of marks polygon) (block_of polygons marks polygon) (polygon_at rings polygons marks able listed polygon within marked)
 
@@ -197,7 +206,7 @@ module _ (Told : Type 0) (rings : List (List Position)) (polygons : List (ℕ ×
       omega arith
 
   -- of any fault
-  fault_within : (fault : FeatureFault) → IsFirstFaultIf Told own_parts fault → IsFaultWithin polygons own_places own_numbers fault
+  fault_within : (fault : FeatureFault) → HasFault own_parts fault → IsFaultWithin polygons own_places own_numbers fault
   fault_within fault is =
       let its = ranked rings polygons marks able listed fault.polygon (rings_in fault) is.there in
       let rank = its.rank in
@@ -213,47 +222,45 @@ module _ (Told : Type 0) (rings : List (List Position)) (polygons : List (ℕ ×
       }
 
   -- of any answer
-  pub found_within : (found : Option FeatureFault) → IsAnswerIf Told own_parts found → IfSome found (IsFaultWithin polygons own_places own_numbers)
+  pub found_within : (found : Option FeatureFault) → IfSome found (HasFault own_parts) → IfSome found (IsFaultWithin polygons own_places own_numbers)
   found_within (Some fault) is = fault_within fault is
   found_within None is = tt
 
   -- All polygons
 
-  -- a polygon that isn't marked is clear where it is fine and no edges up to its own meet
-  unmarked_clear : (polygon : ℕ) → IsUnmarked marks polygon → NoMeeting (part_of rings (front_of (listed_at polygons polygon))) → IsFine rings (listed_at polygons polygon) → IsClearIf Told rings polygon (listed_at polygons polygon)
-  unmarked_clear polygon unmarked none fine = record {
-    apart = none;
+  -- a polygon that isn't marked is placed where it is fine
+  unmarked_placed : (polygon : ℕ) → IsUnmarked marks polygon → IsFine rings (listed_at polygons polygon) → IsPlaced rings polygon (listed_at polygons polygon)
+  unmarked_placed polygon unmarked fine = record {
     nested = fine.nested;
-    alone = λ _ vertex other wrong. unmarked_in_none rings polygons marks able listed apart polygon vertex other unmarked fine.apart wrong;
+    alone = λ vertex other wrong. unmarked_in_none rings polygons marks able listed apart polygon vertex other unmarked fine.apart wrong;
   }
 
   -- a marked one
-  marked_clear : (polygon : ℕ) → polygon < length polygons → IsMarked marks polygon → NoMeeting (part_of rings (front_of (listed_at polygons polygon))) → IsClearIf Told own_parts (rank_of marks polygon) (block_of polygons marks polygon)
-      → IsClearIf Told rings polygon (listed_at polygons polygon)
-  marked_clear polygon within marked none clear = record {
-    apart = none;
-    nested = subst (λ (all : List (List Position)). (wrong : NestFault) → ¬ IsNestFault all wrong) (same_part rings polygons marks able listed polygon within marked) clear.nested;
-    alone = λ told vertex other wrong. elim (marked_or_not marks other) [
+  marked_placed : (polygon : ℕ) → polygon < length polygons → IsMarked marks polygon → IsClear own_parts (rank_of marks polygon) (block_of polygons marks polygon) → IsPlaced rings polygon (listed_at polygons polygon)
+  marked_placed polygon within marked clear = record {
+    nested = subst (λ (all : List (List Position)). (wrong : NestFault) → ¬ IsNestFault all wrong) (same_part rings polygons marks able listed polygon within marked) clear.placed.nested;
+    alone = λ vertex other wrong. elim (marked_or_not marks other) [
       | inr unmarked ↦ marked_in_no_unmarked rings polygons marks able listed apart polygon vertex other marked unmarked wrong
-      | inl other_marked ↦ clear.alone told vertex (rank_of marks other) (fault_back rings polygons marks able listed apart polygon vertex other marked other_marked wrong)
+      | inl other_marked ↦ clear.placed.alone vertex (rank_of marks other) (fault_back rings polygons marks able listed apart polygon vertex other marked other_marked wrong)
     ];
   }
 
   -- so all before a number are clear, where those that are marked are and the others are fine
-  clear_before : (to polygon : ℕ) → to ≤ length polygons → AreFineBefore rings polygons marks to → AreSharedClear to → polygon < to → IsClearIf Told rings polygon (listed_at polygons polygon)
-  clear_before to polygon within fine shared less =
-      let none = none_of_front rings polygons marks able listed apart polygon (omega arith)
-      (λ other before unmarked. (fine other (omega arith) unmarked).apart)
-      (λ other before marked. (shared other (omega arith) marked).apart) in
-      elim (marked_or_not marks polygon) [
-        | inl marked ↦ marked_clear polygon (omega arith) marked none (shared polygon less marked)
-        | inr unmarked ↦ unmarked_clear polygon unmarked none (fine polygon less unmarked)
-      ]
+  clear_before : (to polygon : ℕ) → to ≤ length polygons → AreFineBefore rings polygons marks to → AreSharedClear to → polygon < to → IsClear rings polygon (listed_at polygons polygon)
+  clear_before to polygon within fine shared less = record {
+    apart = none_of_front rings polygons marks able listed apart polygon (omega arith)
+        (λ other before unmarked. (fine other (omega arith) unmarked).apart)
+        (λ other before marked. (shared other (omega arith) marked).apart);
+    placed = elim (marked_or_not marks polygon) [
+      | inl marked ↦ marked_placed polygon (omega arith) marked (shared polygon less marked)
+      | inr unmarked ↦ unmarked_placed polygon unmarked (fine polygon less unmarked)
+    ];
+  }
 
   -- so are all polygons
-  all_clear : (to : ℕ) → to ≤ length polygons → AreFineBefore rings polygons marks to → AreSharedClear to → (polygon : ℕ) (it : PolygonRings) → polygon < to → IsPolygon rings polygon it → IsClearIf Told rings polygon it
+  all_clear : (to : ℕ) → to ≤ length polygons → AreFineBefore rings polygons marks to → AreSharedClear to → (polygon : ℕ) (it : PolygonRings) → polygon < to → IsPolygon rings polygon it → IsClear rings polygon it
   all_clear to within fine shared polygon it less is =
-      subst (IsClearIf Told rings polygon) (sym (of_list rings polygons able listed polygon it is).1) (clear_before to polygon within fine shared less)
+      subst (IsClear rings polygon) (sym (of_list rings polygons able listed polygon it is).1) (clear_before to polygon within fine shared less)
 
   -- no edges of the rings up to a polygon's last one meet, where those before it are fine and its own don't meet
   none_from_own : (polygon : ℕ) → polygon < length polygons → IsUnmarked marks polygon → AreFineBefore rings polygons marks polygon → AreSharedClear polygon → NoMeeting (part_of rings (listed_at polygons polygon))
@@ -313,9 +320,43 @@ module _ (Told : Type 0) (rings : List (List Position)) (polygons : List (ℕ ×
       ap (λ (n : ℕ). part_of rings (listed_at polygons n)) number ∙ sym (same_part rings polygons marks able listed its.polygon its.within its.marked) ∙ sym (ap (part_of own_parts) its.block)
 
   -- of any answer
-  pub moved_parts : (found : Option FeatureFault) → IsAnswerIf Told own_parts found → IfSome found (λ fault. part_of rings (rings_in (fault_moved polygons own_places own_numbers fault)) ≡ part_of own_parts (rings_in fault))
+  pub moved_parts : (found : Option FeatureFault) → IfSome found (HasFault own_parts) → IfSome found (λ fault. part_of rings (rings_in (fault_moved polygons own_places own_numbers fault)) ≡ part_of own_parts (rings_in fault))
   moved_parts (Some fault) is = moved_part fault is.there
   moved_parts None is = tt
+
+  -- Meetings
+
+  -- a ring of a marked polygon is one of it in the feature
+  ring_there : (polygon ring : ℕ) → polygon < length polygons → IsMarked marks polygon → IsRingOf (block_of polygons marks polygon) ring → IsRingOf (listed_at polygons polygon) (slice_index own_places ring)
+  ring_there polygon ring within marked of =
+      let from = of.from in
+      let before = of.before in
+      let further = (is_it rings polygons marks able listed polygon within).further in
+      let at : ℕ = ring - start_of polygons marks polygon in
+      let place : slice_index own_places (start_of polygons marks polygon + at) ≡ (listed_at polygons polygon).exterior + at = place_at rings polygons marks able listed polygon at within marked (omega arith) in
+      let same : ring ≡ start_of polygons marks polygon + at = omega arith in
+      let its : slice_index own_places ring ≡ (listed_at polygons polygon).exterior + at = ap (slice_index own_places) same ∙ place in
+      record { from = omega arith; before = omega arith }
+
+  -- one of a marked polygon, by the numbers of the feature
+  meeting_at : (polygon : ℕ) (cause : FeatureCause) → polygon < length polygons → IsMarked marks polygon → IsMeetingCause own_parts (block_of polygons marks polygon) cause → IsMeetingCause rings (listed_at polygons polygon) (cause_moved own_places own_numbers cause)
+  meeting_at polygon (Meeting meeting) within marked is = (
+    meeting_there (part_of own_parts (front_of (block_of polygons marks polygon))) (part_of rings (front_of (listed_at polygons polygon))) (slice_index own_places) (fronts_copies polygon within marked) meeting is.0,
+    ring_there polygon meeting.second_ring within marked is.1,
+  )
+  meeting_at polygon (Nesting fault) within marked is = absurd is
+  meeting_at polygon (Apart fault) within marked is = absurd is
+
+  -- any of the gathered feature is one of the feature
+  pub meeting_moved : (fault : FeatureFault) → IsAnyMeeting own_parts fault → IsAnyMeeting rings (fault_moved polygons own_places own_numbers fault)
+  meeting_moved fault is =
+      let its = ranked rings polygons marks able listed fault.polygon (rings_in fault) is.there in
+      let number : its.polygon ≡ slice_index own_numbers fault.polygon = sym (ap (slice_index own_numbers) its.rank ∙ number_at rings polygons marks able listed its.polygon its.within its.marked) in
+      let cause = meeting_at its.polygon fault.cause its.within its.marked (subst (λ (it : PolygonRings). IsMeetingCause own_parts it fault.cause) its.block is.is) in
+      record {
+        there = subst (λ (n : ℕ). IsPolygon rings n (listed_at polygons n)) number (is_it rings polygons marks able listed its.polygon its.within);
+        is = subst (λ (n : ℕ). IsMeetingCause rings (listed_at polygons n) (cause_moved own_places own_numbers fault.cause)) number cause;
+      }
 
   -- The first fault
 
@@ -337,36 +378,28 @@ module _ (Told : Type 0) (rings : List (List Position)) (polygons : List (ℕ ×
   shared_is polygon (Nesting fault) within marked fine shared is = (none_from_shared polygon within marked fine shared is.0, is.1)
   shared_is polygon (Apart fault) within marked fine shared is = (none_from_shared polygon within marked fine shared is.0, is.1, is.2)
 
-  -- a fault of a polygon by itself may be told
-  own_told : (it : PolygonRings) (cause : FeatureCause) → IsOwnCause rings it cause → IsTold Told cause
-  own_told it (Meeting meeting) is = tt
-  own_told it (Nesting fault) is = tt
-  own_told it (Apart fault) is = absurd is
-
   -- that of a polygon that isn't marked
-  first_is_own : (fault : FeatureFault) → IsFirstAlone rings polygons marks fault → AreSharedClear fault.polygon → IsFirstFaultIf Told rings fault
+  first_is_own : (fault : FeatureFault) → IsFirstAlone rings polygons marks fault → AreSharedClear fault.polygon → IsFirstFault rings fault
   first_is_own fault first shared =
       let within = first.within in
       record {
         there = subst (IsPolygon rings fault.polygon) (sym first.there) (is_it rings polygons marks able listed fault.polygon within);
         before = λ polygon it less is. all_clear fault.polygon (omega arith) first.before shared polygon it less is;
         is = own_is fault.polygon (rings_in fault) fault.cause within first.unmarked first.there first.before shared first.is;
-        told = own_told (rings_in fault) fault.cause first.is;
       }
 
   -- that of a marked one
-  first_is_shared : (fault : FeatureFault) → IsFirstShared fault → AreFineBefore rings polygons marks fault.polygon → IsFirstFaultIf Told rings fault
+  first_is_shared : (fault : FeatureFault) → IsFirstShared fault → AreFineBefore rings polygons marks fault.polygon → IsFirstFault rings fault
   first_is_shared fault first fine =
       let within = first.within in
       record {
         there = subst (IsPolygon rings fault.polygon) (sym first.there) (is_it rings polygons marks able listed fault.polygon within);
         before = λ polygon it less is. all_clear fault.polygon (omega arith) fine first.before polygon it less is;
         is = subst (λ (it : PolygonRings). IsCause rings fault.polygon it fault.cause) (sym first.there) (shared_is fault.polygon fault.cause within first.marked fine first.before first.is);
-        told = first.told;
       }
 
   -- the first of two
-  of_two : (fault its : FeatureFault) → IsFirstAlone rings polygons marks fault → IsFirstShared its → (test : Bool) → ltb fault.polygon its.polygon ≡ test → IsFirstFaultIf Told rings (cond test fault its)
+  of_two : (fault its : FeatureFault) → IsFirstAlone rings polygons marks fault → IsFirstShared its → (test : Bool) → ltb fault.polygon its.polygon ≡ test → IsFirstFault rings (cond test fault its)
   of_two fault its own shared true is =
       let less : fault.polygon < its.polygon = ltb-true fault.polygon its.polygon is in
       first_is_own fault own (λ polygon before marked. shared.before polygon (omega arith) marked)
@@ -375,7 +408,7 @@ module _ (Told : Type 0) (rings : List (List Position)) (polygons : List (ℕ ×
       first_is_shared its shared (λ polygon before unmarked. own.before polygon (omega arith) unmarked)
 
   -- the answer for all polygons
-  pub answer_of_both : (one other : Option FeatureFault) → IsAloneAnswer rings polygons marks one → IsSharedAnswer other → IsAnswerIf Told rings (earlier_of one other)
+  pub answer_of_both : (one other : Option FeatureFault) → IsAloneAnswer rings polygons marks one → IsSharedAnswer other → IsFeatureAnswer rings (earlier_of one other)
   answer_of_both (Some fault) (Some its) own shared = of_two fault its own shared (ltb fault.polygon its.polygon) refl
   answer_of_both (Some fault) None own shared = let within = own.within in first_is_own fault own (λ polygon before marked. shared polygon (omega arith) marked)
   answer_of_both None (Some its) own shared = let within = shared.within in first_is_shared its shared (λ polygon before unmarked. own polygon (omega arith) unmarked)

@@ -7,18 +7,18 @@ use Rattle.mvt_plane.specs.Position.{Position}
 use Rattle.mvt_plane.specs.Geometry.Ring.{ArePolygonRings}
 use Rattle.mvt_polygon.specs.Calls.Alone.{IsAloneAnswer, earlier_of, vertices_alone}
 use Rattle.mvt_polygon.specs.Work.{vertex_count}
-use Rattle.mvt_polygon.specs.Feature.{AddsSweeps, AreAtMost, IsCountedFault, rings_in}
+use Rattle.mvt_polygon.specs.Feature.{AddsSweeps, AreAtMost, IsCountedFault, IsFeatureAnswer, rings_in}
 use Rattle.mvt_polygon.specs.Calls.FeatureParts.{listed_at}
 use Rattle.mvt_polygon.specs.Calls.Gathered.{gathered_rings, gathered_places, gathered_numbers, fault_moved, IsFaultWithin}
 use Rattle.mvt_polygon.specs.Calls.Islands.{AreMarked}
-use Rattle.mvt_polygon.specs.Calls.QuickParts.{IsAnswerIf}
 use Rattle.mvt_polygon.specs.Meeting.{NoMeeting}
 use Rattle.mvt_polygon.specs.Polygons.{ArePolygons}
+use Rattle.mvt_polygon.specs.QuickFeature.{IsQuickAnswer}
 use Rattle.mvt_polygon.specs.Rings.{AreProperRings}
 use Rattle.mvt_polygon.specs.declared.feature.FeatureFault.{FeatureFault}
 use Rattle.mvt_status.specs.Counts.{bits, raised}
 use Rattle.mvt_polygon.proofs.Features.CountedFaults.{counted_earlier, counted_from, counted_moved, counted_to}
-use Rattle.mvt_polygon.proofs.Features.FeatureShares.{answer_of_both, shared_answer, found_within, moved_parts, IsSharedAnswer}
+use Rattle.mvt_polygon.proofs.Features.FeatureShares.{HasFault, answer_of_both, found_is_there, shared_answer, found_within, moved_parts, IsSharedAnswer}
 use Rattle.mvt_polygon.proofs.Features.FirstPolygons.{listed_within}
 use Rattle.mvt_polygon.proofs.Features.GatheredLists.{IsMarked, marked_or_not, total_marked, total_unmarked}
 use Rattle.mvt_polygon.proofs.Features.GatheredPolygons.{is_it, rank_of, parts_able, parts_copies, parts_drawn, places, ranked}
@@ -96,8 +96,12 @@ module _ (rings : List (List Position)) (polygons : List (ℕ × ℕ)) (marks : 
         → ((many : ℕ) → AreAtMost all many → AddsSweeps (bits many + 2) (vertex_count all) between after) → (many : ℕ) → AreAtMost rings many → AddsSweeps (bits many + 2) (vertex_count rings) before after
     both_counted before between after first second many few = both_sweeps (bits many + 2) before between after (omega arith) first (second many (all_few many few))
 
+    -- the work of the others is that of some sweeps
+    pub some_sweeps : (between after : Counted) → ((many : ℕ) → AreAtMost all many → AddsSweeps (bits many + 2) (vertex_count all) between after) → AddsSweeps (bits (length polygons) + 2) (vertex_count all) between after
+    some_sweeps between after second = second (length polygons) (all_few (length polygons) (λ polygon it is_it. listed_within rings polygons polygon it listed is_it))
+
     -- no gathered edges meet where none do
-    pub none_of_gathered : NoMeeting rings → NoMeeting all
+    none_of_gathered : NoMeeting rings → NoMeeting all
     none_of_gathered none =
         subst NoMeeting (sym gathered)
         (none_meet (gathered_rings rings polygons marks (length polygons)) rings (slice_index (places rings polygons marks able listed)) (parts_copies rings polygons marks able listed) none)
@@ -117,40 +121,46 @@ module _ (rings : List (List Position)) (polygons : List (ℕ × ℕ)) (marks : 
 
     module _ (apart : AreMarked rings polygons marks) (its_places its_numbers : List ℕ) (places_are : its_places ≡ gathered_places polygons marks (length polygons)) (numbers_are : its_numbers ≡ gathered_numbers marks (length polygons)) where
       -- what is found of the gathered ones names known numbers
-      pub all_within : (Told : Type 0) (found : Option FeatureFault) → IsAnswerIf Told all found → IfSome found (IsFaultWithin polygons its_places its_numbers)
-      all_within Told found is =
+      pub all_within : (found : Option FeatureFault) → IsQuickAnswer all found → IfSome found (IsFaultWithin polygons its_places its_numbers)
+      all_within found is =
           subst (λ (numbers : List ℕ). IfSome found (IsFaultWithin polygons its_places numbers)) (sym numbers_are)
           (subst (λ (places : List ℕ). IfSome found (IsFaultWithin polygons places (gathered_numbers marks (length polygons)))) (sym places_are)
-          (found_within Told rings polygons marks able listed apart found (subst (λ (rings_of_it : List (List Position)). IsAnswerIf Told rings_of_it found) gathered is)))
+          (found_within rings polygons marks able listed apart found (subst (λ (rings_of_it : List (List Position)). IfSome found (HasFault rings_of_it)) gathered (found_is_there all found is))))
 
       -- its polygon has the same rings
-      pub all_parts : (Told : Type 0) (found : Option FeatureFault) → IsAnswerIf Told all found → IfSome found (λ fault. part_of rings (rings_in (fault_moved polygons its_places its_numbers fault)) ≡ part_of all (rings_in fault))
-      all_parts Told found is =
+      all_parts : (found : Option FeatureFault) → IsQuickAnswer all found → IfSome found (λ fault. part_of rings (rings_in (fault_moved polygons its_places its_numbers fault)) ≡ part_of all (rings_in fault))
+      all_parts found is =
           subst (λ (its : List (List Position)). IfSome found (λ fault. part_of rings (rings_in (fault_moved polygons its_places its_numbers fault)) ≡ part_of its (rings_in fault))) (sym gathered)
           (subst (λ (numbers : List ℕ). IfSome found (λ fault. part_of rings (rings_in (fault_moved polygons its_places numbers fault)) ≡ part_of (gathered_rings rings polygons marks (length polygons)) (rings_in fault))) (sym numbers_are)
-          (moved_parts Told rings polygons marks able listed apart found (subst (λ (rings_of_it : List (List Position)). IsAnswerIf Told rings_of_it found) gathered is)))
+          (moved_parts rings polygons marks able listed apart found (subst (λ (rings_of_it : List (List Position)). IfSome found (HasFault rings_of_it)) gathered (found_is_there all found is))))
+
+      -- what is counted where a fault of theirs is found
+      pub moved_found : (found moved : Option FeatureFault) (before between after : Counted) → IsQuickAnswer all found → moved ≡ option_map (fault_moved polygons its_places its_numbers) found
+          → AddsSweeps 1 (vertices_alone rings polygons marks (length polygons)) before between → IfSome found (IsCountedFault all between after) → IfSome moved (IsCountedFault rings before after)
+      moved_found found moved before between after is moved_is first shared =
+          subst (λ (answer : Option FeatureFault). IfSome answer (IsCountedFault rings before after)) (sym moved_is)
+          (counted_from rings (option_map (fault_moved polygons its_places its_numbers) found) before between after first.no_fewer_tests first.no_fewer_probes
+          (counted_moved rings all polygons its_places its_numbers between after found (all_parts found is) shared))
 
       -- what both count where a fault is found
-      pub both_found : (Told : Type 0) (one found moved result : Option FeatureFault) (before between after : Counted) → IsAnswerIf Told all found → moved ≡ option_map (fault_moved polygons its_places its_numbers) found → result ≡ earlier_of one moved
-          → AddsSweeps 1 (vertices_alone rings polygons marks (length polygons)) before between → ((many : ℕ) → AreAtMost all many → AddsSweeps (bits many + 2) (vertex_count all) between after)
+      pub both_found : (sweeps : ℕ) (one found moved result : Option FeatureFault) (before between after : Counted) → IsQuickAnswer all found → moved ≡ option_map (fault_moved polygons its_places its_numbers) found → result ≡ earlier_of one moved
+          → AddsSweeps 1 (vertices_alone rings polygons marks (length polygons)) before between → AddsSweeps sweeps (vertex_count all) between after
           → IfSome one (IsCountedFault rings before between) → IfSome found (IsCountedFault all between after) → IfSome result (IsCountedFault rings before after)
-      both_found Told one found moved result before between after is moved_is result_is first second own shared =
-          let more = second (length polygons) (all_few (length polygons) (λ polygon it is_it. listed_within rings polygons polygon it listed is_it)) in
-          subst (λ (answer : Option FeatureFault). IfSome answer (IsCountedFault rings before after)) (sym (result_is ∙ ap (earlier_of one) moved_is))
-          (counted_earlier rings one (option_map (fault_moved polygons its_places its_numbers) found) before after (counted_to rings one before between after more.no_fewer_tests more.no_fewer_probes own)
-          (counted_from rings (option_map (fault_moved polygons its_places its_numbers) found) before between after first.no_fewer_tests first.no_fewer_probes
-          (counted_moved rings all polygons its_places its_numbers between after found (all_parts Told found is) shared)))
+      both_found sweeps one found moved result before between after is moved_is result_is first more own shared =
+          subst (λ (answer : Option FeatureFault). IfSome answer (IsCountedFault rings before after)) (sym result_is)
+          (counted_earlier rings one moved before after (counted_to rings one before between after more.no_fewer_tests more.no_fewer_probes own)
+          (moved_found found moved before between after is moved_is first shared))
 
       -- the answer for all
-      pub both_answer : (Told : Type 0) (one found moved result : Option FeatureFault) → IsAloneAnswer rings polygons marks one → IsAnswerIf Told all found → moved ≡ option_map (fault_moved polygons its_places its_numbers) found
-          → result ≡ earlier_of one moved → IsAnswerIf Told rings result
-      both_answer Told one found moved result own is moved_is result_is =
-          let shared = shared_answer Told rings polygons marks able listed apart found (subst (λ (rings_of_it : List (List Position)). IsAnswerIf Told rings_of_it found) gathered is) in
+      pub both_answer : (one found moved result : Option FeatureFault) → IsAloneAnswer rings polygons marks one → IsFeatureAnswer all found → moved ≡ option_map (fault_moved polygons its_places its_numbers) found
+          → result ≡ earlier_of one moved → IsFeatureAnswer rings result
+      both_answer one found moved result own is moved_is result_is =
+          let shared = shared_answer rings polygons marks able listed apart found (subst (λ (rings_of_it : List (List Position)). IsFeatureAnswer rings_of_it found) gathered is) in
           let same : moved ≡ option_map (fault_moved polygons (gathered_places polygons marks (length polygons)) (gathered_numbers marks (length polygons))) found =
           moved_is ∙ ap (λ (places : List ℕ). option_map (fault_moved polygons places its_numbers) found) places_are
           ∙ ap (λ (numbers : List ℕ). option_map (fault_moved polygons (gathered_places polygons marks (length polygons)) numbers) found) numbers_are in
-          subst (IsAnswerIf Told rings) (sym result_is)
-          (answer_of_both Told rings polygons marks able listed apart one moved own (subst (IsSharedAnswer Told rings polygons marks able listed apart) (sym same) shared))
+          subst (IsFeatureAnswer rings) (sym result_is)
+          (answer_of_both rings polygons marks able listed apart one moved own (subst (IsSharedAnswer rings polygons marks able listed apart) (sym same) shared))
 
 -- One polygon
 
@@ -168,9 +178,9 @@ earlier_or_none (Some fault) = refl
 earlier_or_none None = refl
 
 -- its answer is the feature's
-pub one_answer : (Told : Type 0) (rings : List (List Position)) (polygons : List (ℕ × ℕ)) (found : Option FeatureFault) → ArePolygonRings rings → ArePolygons rings polygons → length polygons ≡ 1 → IsAloneAnswer rings polygons (false ∷ []) found → IsAnswerIf Told rings found
-one_answer Told rings polygons found able listed one own =
-    subst (IsAnswerIf Told rings) (earlier_or_none found) (answer_of_both Told rings polygons not_marked able listed (one_marked rings polygons one) found None own
+pub one_answer : (rings : List (List Position)) (polygons : List (ℕ × ℕ)) (found : Option FeatureFault) → ArePolygonRings rings → ArePolygons rings polygons → length polygons ≡ 1 → IsAloneAnswer rings polygons (false ∷ []) found → IsFeatureAnswer rings found
+one_answer rings polygons found able listed one own =
+    subst (IsFeatureAnswer rings) (earlier_or_none found) (answer_of_both rings polygons not_marked able listed (one_marked rings polygons one) found None own
     (λ polygon within marked.
     let first : polygon ≡ 0 = omega arith in
     let both : false ≡ true = subst (IsMarked not_marked) first marked in

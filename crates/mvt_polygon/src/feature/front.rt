@@ -117,7 +117,7 @@ fn front_before(
 }
 
 /// The polygon that a ring belongs to.
-fn polygon_of(polygons: &[(usize, usize)], ring: usize) -> usize
+pub(super) fn polygon_of(polygons: &[(usize, usize)], ring: usize) -> usize
     requires { (polygon : ℕ) × (polygon < length polygons.now)
         × IsRingOf (listed_at polygons.now polygon) ring }
     ensures within { result < length polygons.now }

@@ -1,8 +1,6 @@
 //! The first fault of a feature whose polygons may all meet or lie in each other.
-ghost use Rattle.std.specs.Prelude.{◌≡◌, ℕ, ◌+◌, ◌<◌, ◌≤◌, ◌⊎◌, false, true, is_some, IsTrue, None, IfNone, IfOk, IfSome, length, option_map};
+ghost use Rattle.std.specs.Prelude.{◌≡◌, ℕ, ◌+◌, ◌<◌, ◌≤◌, IfNone, IfOk, IfSome, length, option_map};
 ghost use Rattle.mvt_plane.specs.Geometry.Ring.{ArePolygonRings};
-ghost use Rattle.mvt_plane.specs.Geometry.Polygon.{PolygonRings, IsPolygon};
-ghost use Rattle.mvt_polygon.specs.Calls.QuickParts.{IsAnswerIf, IsFirstWithHole, IsNested};
 ghost use Rattle.mvt_polygon.specs.Work.{vertex_count};
 ghost use Rattle.mvt_polygon.specs.Feature.{AddsSweeps, AreAtMost, IsCountedFault, IsFeatureAnswer};
 ghost use Rattle.mvt_polygon.specs.Calls.FeatureParts.{fault_after, until_of};
@@ -11,7 +9,7 @@ ghost use Rattle.mvt_polygon.specs.Polygons.{ArePolygons};
 ghost use Rattle.mvt_polygon.specs.Rings.{rings_of, AreProperRings};
 ghost use Rattle.mvt_status.specs.Counts.{bits, raised};
 
-use super::{FeatureCause, FeatureFault, fault_alone};
+use super::{FeatureCause, FeatureFault};
 use crate::feature::front::{Front, clear_front};
 use crate::feature::later::first_inside_later;
 use crate::feature::placed::first_misplaced;
@@ -48,71 +46,6 @@ pub(super) fn check_together(
     let until = placed_up_to(&misplaced, front.polygons);
     let inside = first_inside_later(alloc, rings, &polygons, front.polygons, until)?;
     Ok(inside.or(misplaced).or(fault_of_meeting(&polygons, &front)))
-}
-
-/// What `check_feature_quickly` answers, by sweeps over all rings together. Polygons in others are
-/// passed over where edges of these rings meet, or others of the feature do.
-pub(super) fn check_together_quickly(
-    alloc: Global,
-    rings: &[Vec<Point>],
-    meets: bool,
-    count: &mut Count,
-) -> Result<Option<FeatureFault>, AllocError>
-    requires sound { ArePolygonRings (rings_of rings.now) }
-    requires drawn { AreProperRings (rings_of rings.now) }
-    ensures answer { IfOk result (IsAnswerIf (NoMeeting (rings_of rings.now) × (meets ≡ false))
-        (rings_of rings.now)) }
-    ensures clear { IfOk result (λ found. IfNone found (NoMeeting (rings_of rings.now))) }
-    ensures counted { (polygons : ℕ) → AreAtMost (rings_of rings.now) polygons
-        → AddsSweeps (bits polygons + 2) (vertex_count (rings_of rings.now)) count.old count.new }
-    ensures apart { NoMeeting (rings_of rings.now)
-        → AddsSweeps 2 (vertex_count (rings_of rings.now)) count.old count.new }
-    ensures valid { IfOk result (λ found. IfNone found (meets ≡ false
-        → AddsSweeps 1 (vertex_count (rings_of rings.now)) count.old count.new)) }
-    ensures least { IfOk result (λ found.
-        IfNone found (raised (vertex_count (rings_of rings.now)) count.old.probes
-        ≤ count.new.probes)) }
-    ensures found { IfOk result (λ found.
-        IfSome found (IsCountedFault (rings_of rings.now) count.old count.new)) }
-{
-    let polygons = groups(alloc, rings)?;
-    let front = clear_front(alloc, rings, &polygons, count)?;
-    let front_rings = &rings[..front.rings];
-    let front_polygons = &polygons[..front.polygons];
-    if edges_meet(meets, &front) {
-        let nesting = first_with_hole(alloc, front_rings, front_polygons, count)?;
-        return Ok(nesting.or(fault_of_meeting(&polygons, &front)));
-    }
-    first_misplaced(alloc, front_rings, front_polygons, &front.notes, count)
-}
-
-/// Whether edges of the feature meet: of the polygon after the front, or elsewhere.
-fn edges_meet(elsewhere: bool, front: &Front) -> bool
-    ensures met { IsTrue result → (elsewhere ≡ true) ⊎ (is_some front.now.meeting ≡ true) }
-    ensures clear { result ≡ false → (elsewhere ≡ false) × (front.now.meeting ≡ None) }
-{
-    elsewhere || front.meeting.is_some()
-}
-
-/// The first of these polygons with a hole that isn't where it should be. No edges of their rings
-/// meet.
-fn first_with_hole(
-    alloc: Global,
-    rings: &[Vec<Point>],
-    polygons: &[(usize, usize)],
-    count: &mut Count,
-) -> Result<Option<FeatureFault>, AllocError>
-    requires sound { ArePolygonRings (rings_of rings.now) }
-    requires drawn { AreProperRings (rings_of rings.now) }
-    requires listed { ArePolygons (rings_of rings.now) polygons.now }
-    requires clear { NoMeeting (rings_of rings.now) }
-    ensures none { IfOk result (λ found. IfNone found ((polygon : ℕ) (it : PolygonRings)
-        → IsPolygon (rings_of rings.now) polygon it → IsNested (rings_of rings.now) it)) }
-    ensures first { IfOk result (λ found. IfSome found (IsFirstWithHole (rings_of rings.now))) }
-    ensures counted { AddsSweeps 1 (vertex_count (rings_of rings.now)) count.old count.new }
-{
-    let marks = vec![in alloc; false; polygons.len()]?;
-    fault_alone(alloc, rings, polygons, &marks, count)
 }
 
 /// Up to which polygon none is misplaced, of so many.

@@ -1,7 +1,8 @@
 -- Which fault of the features of a tile comes first: it is one of the first feature that has a fault, and there the tags
 -- come before the further rule.
-use Rattle.std.proofs.Common.{◌≡◌, ℕ, ◌<◌, ◌≤◌, inl, inr, List, ◌∷◌, length, Option, Some, None, Result, Ok, Err, IfOk, IfNone, IfSome, slice_get, refl, sym, ◌∙◌, ap, subst, arith}
+use Rattle.std.proofs.Common.{◌≡◌, ℕ, ◌<◌, ◌≤◌, ◌⊎◌, inl, inr, List, ◌∷◌, length, Option, Some, None, Result, Ok, Err, IfOk, IfNone, IfSome, slice_get, refl, sym, ◌∙◌, ap, subst, arith}
 use Rattle.std.proofs.lemmas.Bool.{cases_lt}
+use Rattle.std.proofs.lemmas.Option.{same_Some}
 use Rattle.mvt_wire.specs.Scope.{Span, spans_of}
 use Rattle.mvt_wire.specs.Tile.{FeatureRecord, IsFeature, LayerRecord, IsLayer, TileRecord, IsTile}
 use Rattle.mvt_fault.specs.Place.{ComesFirst, IsLeast, place_of}
@@ -11,13 +12,15 @@ use Rattle.mvt_fault.specs.declared.fault.Fault.TheVariants.{Tag}
 use Rattle.mvt_fault.specs.declared.tag.TagCode.{TagCode}
 use Rattle.mvt_fault.specs.declared.tag.TagCode.TheVariants.{OddLength, NoKey, NoValue, Repeated}
 use Rattle.mvt_wire.proofs.Parts.PairedLists.{each_here, each_there}
-use Rattle.mvt_tile.specs.RuleFaults.{Breaks, Keeps, IsAfterTags, IsFaultOfFeature, IsSound}
+use Rattle.mvt_tile.specs.FreeFaults.{IsLeastOr}
+use Rattle.mvt_tile.specs.RuleFaults.{Breaks, Frees, Keeps, IsAfterTags, IsFaultOfFeature, IsSound}
 use Rattle.mvt_tile.specs.Calls.FeatureRules.{IsFaultInLayer, AllSoundInLayer, AllSound, FindsInFeature}
 use Rattle.mvt_wire.specs.Embedded.{AreClean}
 use Rattle.mvt_tile.specs.Calls.RuleFaults.{AreAfterTags, IsFirstTagFault, IsLike}
 use Rattle.mvt_tile.specs.Calls.PassedTags.{AreMetBy}
 use Rattle.mvt_tile.specs.declared.rules.tags.TagNeeds.{TagNeeds}
 use Rattle.mvt_tile.proofs.WireFaults.CleanWalk.{IsNext}
+use Rattle.mvt_tile.proofs.RuleFaults.FreeFaults.{least_or_holds, lifted}
 use Rattle.mvt_tile.proofs.RuleFaults.TagFaults.{IsLeast-first, no_tag_broken}
 
 -- the feature in a span is sound, in each layer of which so much is known
@@ -25,18 +28,18 @@ abbrev pub IsGoodFeature : Breaks → Keeps → List ℕ → (LayerRecord → Ty
 IsGoodFeature IsBroken IsKept bytes IsKnown layer ordinal span =
     (it : FeatureRecord) → IsFeature bytes span it → (layer_record : LayerRecord) → IsKnown layer_record → IsSound IsBroken IsKept layer_record it layer ordinal
 
--- it has this one as its first fault
-abbrev pub IsFirstOfFeature : Breaks → List ℕ → (LayerRecord → Type 0) → ℕ → Fault → ℕ → Span → Type 0
-IsFirstOfFeature IsBroken bytes IsKnown layer fault ordinal span =
-    (it : FeatureRecord) → IsFeature bytes span it → (layer_record : LayerRecord) → IsKnown layer_record → IsLeast (IsFaultOfFeature IsBroken layer_record it layer ordinal) fault
+-- it has this one as its first fault, or a free one
+abbrev pub IsFirstOfFeature : Frees → Breaks → List ℕ → (LayerRecord → Type 0) → ℕ → Fault → ℕ → Span → Type 0
+IsFirstOfFeature IsFree IsBroken bytes IsKnown layer fault ordinal span =
+    (it : FeatureRecord) → IsFeature bytes span it → (layer_record : LayerRecord) → IsKnown layer_record → IsLeastOr IsFree (IsFaultOfFeature IsBroken layer_record it layer ordinal) fault
 
 -- all features of the layer in a span are sound
 abbrev pub IsGoodLayer : Breaks → Keeps → List ℕ → ℕ → Span → Type 0
 IsGoodLayer IsBroken IsKept bytes ordinal span = (layer_record : LayerRecord) → IsLayer bytes span layer_record → AllSoundInLayer IsBroken IsKept layer_record ordinal
 
--- this is the first of the faults that they have
-abbrev pub IsFirstInLayer : Breaks → List ℕ → Fault → ℕ → Span → Type 0
-IsFirstInLayer IsBroken bytes fault ordinal span = (layer_record : LayerRecord) → IsLayer bytes span layer_record → IsLeast (IsFaultInLayer IsBroken layer_record ordinal) fault
+-- this is the first of the faults that they have, or a free one
+abbrev pub IsFirstInLayer : Frees → Breaks → List ℕ → Fault → ℕ → Span → Type 0
+IsFirstInLayer IsFree IsBroken bytes fault ordinal span = (layer_record : LayerRecord) → IsLayer bytes span layer_record → IsLeastOr IsFree (IsFaultInLayer IsBroken layer_record ordinal) fault
 
 -- the fault's place is one of this feature's
 abbrev IsPlaceAt : ℕ → ℕ → Fault → Type 0
@@ -106,27 +109,26 @@ module _ (IsBroken : Breaks) where
             subst (ComesFirst (place_of (Tag code layer feature index))) (sym place.3) ordered
 
   -- with no fault of the tags, the further rule decides
-  pub rule_decides : (IsKept : Keeps) (Reads : FeatureRecord → Type 0) (Has : LayerRecord → Type 0) (layer feature : ℕ) {R E : Type 0} (r : Result R E) (found : Option Fault)
+  pub rule_decides : (IsFree : Frees) (IsKept : Keeps) (Reads : FeatureRecord → Type 0) (Has : LayerRecord → Type 0) (layer feature : ℕ) {R E : Type 0} (r : Result R E) (found : Option Fault)
       → IfOk r (λ _. IfNone found ((it : FeatureRecord) → Reads it → (fault : Fault) → ¬ IsBroken it layer feature fault))
       → IfOk r (λ _. IfNone found ((it : FeatureRecord) → Reads it → IsKept it))
-      → IfOk r (λ _. IfSome found (λ fault. (it : FeatureRecord) → Reads it → IsLeast (IsBroken it layer feature) fault))
+      → IfOk r (λ _. IfSome found (λ fault. (it : FeatureRecord) → Reads it → IsLeastOr IsFree (IsBroken it layer feature) fault))
       → ((layer_record : LayerRecord) (it : FeatureRecord) → Reads it → Has layer_record → (code : TagCode) (place : ℕ) → ¬ TagsBreak code (length layer_record.keys) (length layer_record.values) it.tags place)
-      → IfOk r (λ _. (layer_record : LayerRecord) (it : FeatureRecord) → Reads it → Has layer_record → FindsInFeature IsBroken IsKept layer_record it layer feature found)
-  rule_decides IsKept Reads Has layer feature (Err e) found none kept least whole = tt
-  rule_decides IsKept Reads Has layer feature (Ok r) None none kept least whole = λ layer_record it reads has. record {
+      → IfOk r (λ _. (layer_record : LayerRecord) (it : FeatureRecord) → Reads it → Has layer_record → FindsInFeature IsFree IsBroken IsKept layer_record it layer feature found)
+  rule_decides IsFree IsKept Reads Has layer feature (Err e) found none kept first whole = tt
+  rule_decides IsFree IsKept Reads Has layer feature (Ok r) None none kept first whole = λ layer_record it reads has. record {
     faultless = λ fault broken. elim broken [
       | inl of_tags ↦ no_tag_broken layer_record it layer feature (whole layer_record it reads has) fault of_tags
       | inr of_rule ↦ none it reads fault of_rule
     ];
     kept = kept it reads;
   }
-  rule_decides IsKept Reads Has layer feature (Ok r) (Some first) none kept least whole = λ layer_record it reads has. record {
-    holds = inr (least it reads).holds;
-    least = λ fault broken. elim broken [
-      | inl of_tags ↦ absurd (no_tag_broken layer_record it layer feature (whole layer_record it reads has) fault of_tags)
-      | inr of_rule ↦ (least it reads).least fault of_rule
-    ];
-  }
+  rule_decides IsFree IsKept Reads Has layer feature (Ok r) (Some fault) none kept first whole = λ layer_record it reads has.
+      lifted IsFree (IsBroken it layer feature) fault (IsFaultOfFeature IsBroken layer_record it layer feature) (λ holds. inr holds)
+      (λ other broken. elim broken [
+        | inl of_tags ↦ absurd (no_tag_broken layer_record it layer feature (whole layer_record it reads has) other of_tags)
+        | inr of_rule ↦ inl of_rule
+      ]) (first it reads)
 
   module _ (after_tags : AreAfterTags IsBroken) where
     -- each fault of a feature is at one of its places
@@ -150,34 +152,35 @@ module _ (IsBroken : Breaks) where
             let member = each_here (IsFeature bytes) (spans_of 2 is.entries) layer_record.features feature it is.features there in
             clean feature member.0 member.1 it member.2 layer_record known
 
-        -- the first fault of the first feature that has one comes before all others of the layer
-        pub first_in_layer : (feature : ℕ) (inner : Span) (fault : Fault) → IsNext (IsGoodFeature IsBroken IsKept bytes IsKnown layer) (spans_of 2 is.entries) feature inner
-            → IsFirstOfFeature IsBroken bytes IsKnown layer fault feature inner → IsLeast (IsFaultInLayer IsBroken layer_record layer) fault
-        first_in_layer feature inner fault next found = record { holds = here; least = following }
+        -- what is found of the first feature that has a fault comes before those of all later ones of the layer
+        pub first_in_layer : (IsFree : Frees) (feature : ℕ) (inner : Span) (fault : Fault) → IsNext (IsGoodFeature IsBroken IsKept bytes IsKnown layer) (spans_of 2 is.entries) feature inner
+            → IsFirstOfFeature IsFree IsBroken bytes IsKnown layer fault feature inner → IsLeastOr IsFree (IsFaultInLayer IsBroken layer_record layer) fault
+        first_in_layer IsFree feature inner fault next found =
+            lifted IsFree Own fault (IsFaultInLayer IsBroken layer_record layer) (λ broken. record { feature = feature; feature_record = at.0; there = at.1; broken = broken }) following first
           where
             at : (it : FeatureRecord) × (slice_get layer_record.features feature ≡ Some it) × IsFeature bytes inner it
             at = each_there (IsFeature bytes) (spans_of 2 is.entries) layer_record.features feature inner is.features next.here
 
-            first : IsLeast (IsFaultOfFeature IsBroken layer_record at.0 layer feature) fault
+            Own : Fault → Type 0
+            Own = IsFaultOfFeature IsBroken layer_record at.0 layer feature
+
+            first : IsLeastOr IsFree Own fault
             first = found at.0 at.2 layer_record known
 
-            here : IsFaultInLayer IsBroken layer_record layer fault
-            here = record { feature = feature; feature_record = at.0; there = at.1; broken = first.holds }
-
-            following : (other : Fault) → IsFaultInLayer IsBroken layer_record layer other → ComesFirst (place_of fault) (place_of other)
+            following : (other : Fault) → IsFaultInLayer IsBroken layer_record layer other → Own other ⊎ ComesFirst (place_of fault) (place_of other)
             following other holds =
                 let member = each_here (IsFeature bytes) (spans_of 2 is.entries) layer_record.features holds.feature holds.feature_record is.features holds.there in
                 elim (cases_lt feature holds.feature) [
                   | inl later ↦
-                      by_feature fault other layer feature holds.feature (place_at layer_record at.0 layer feature fault first.holds) (place_at layer_record holds.feature_record layer holds.feature other holds.broken) later
+                      inr (by_feature fault other layer feature holds.feature (place_at layer_record at.0 layer feature fault (least_or_holds IsFree Own fault first))
+                      (place_at layer_record holds.feature_record layer holds.feature other holds.broken) later)
                   | inr not_later ↦ elim (cases_lt holds.feature feature) [
                     | inl earlier ↦ absurd ((next.before holds.feature member.0 earlier member.1 holds.feature_record member.2 layer_record known).faultless other holds.broken)
                     | inr not_earlier ↦
                         let same : holds.feature ≡ feature = omega arith in
-                        let both : Some member.0 ≡ Some inner = sym member.1 ∙ ap (slice_get (spans_of 2 is.entries)) same ∙ next.here in
-                        let spans : member.0 ≡ inner = cc in
-                        (found holds.feature_record (subst (λ (s : Span). IsFeature bytes s holds.feature_record) spans member.2) layer_record known).least other
-                        (subst (λ (ordinal : ℕ). IsFaultOfFeature IsBroken layer_record holds.feature_record layer ordinal other) same holds.broken)
+                        let one : holds.feature_record ≡ at.0 = same_Some _ _ (sym holds.there ∙ ap (slice_get layer_record.features) same ∙ at.1) in
+                        inl (subst (λ (it : FeatureRecord). IsFaultOfFeature IsBroken layer_record it layer feature other) one
+                        (subst (λ (ordinal : ℕ). IsFaultOfFeature IsBroken layer_record holds.feature_record layer ordinal other) same holds.broken))
                   ]
                 ]
 
@@ -188,35 +191,39 @@ module _ (IsBroken : Breaks) where
             let member = each_here (IsLayer bytes) (spans_of 3 is.entries) tile.layers layer layer_record is.layers there.in_tile in
             clean layer member.0 member.1 layer_record member.2 feature it there.in_layer
 
-        -- the first fault of the first layer that has one comes before all others
-        pub first_in_tile : (layer : ℕ) (inner : Span) (fault : Fault) → IsNext (IsGoodLayer IsBroken IsKept bytes) (spans_of 3 is.entries) layer inner
-            → IsFirstInLayer IsBroken bytes fault layer inner → IsLeast (OneFeatureHas (IsFaultOfFeature IsBroken) tile) fault
-        first_in_tile layer inner fault next found = record { holds = here; least = following }
+        -- what is found in the first layer that has a fault comes before those of all later ones
+        pub first_in_tile : (IsFree : Frees) (layer : ℕ) (inner : Span) (fault : Fault) → IsNext (IsGoodLayer IsBroken IsKept bytes) (spans_of 3 is.entries) layer inner
+            → IsFirstInLayer IsFree IsBroken bytes fault layer inner → IsLeastOr IsFree (OneFeatureHas (IsFaultOfFeature IsBroken) tile) fault
+        first_in_tile IsFree layer inner fault next found =
+            lifted IsFree Own fault (OneFeatureHas (IsFaultOfFeature IsBroken) tile)
+            (λ held. record { layer = layer; feature = held.feature; layer_record = at.0; feature_record = held.feature_record; there = record { in_tile = at.1; in_layer = held.there }; broken = held.broken })
+            following first
           where
             at : (layer_record : LayerRecord) × (slice_get tile.layers layer ≡ Some layer_record) × IsLayer bytes inner layer_record
             at = each_there (IsLayer bytes) (spans_of 3 is.entries) tile.layers layer inner is.layers next.here
 
+            Own : Fault → Type 0
+            Own = IsFaultInLayer IsBroken at.0 layer
+
+            first : IsLeastOr IsFree Own fault
+            first = found at.0 at.2
+
             held : IsFaultInLayer IsBroken at.0 layer fault
-            held = (found at.0 at.2).holds
+            held = least_or_holds IsFree Own fault first
 
-            here : OneFeatureHas (IsFaultOfFeature IsBroken) tile fault
-            here = record { layer = layer; feature = held.feature; layer_record = at.0; feature_record = held.feature_record; there = record { in_tile = at.1; in_layer = held.there }; broken = held.broken }
-
-            following : (other : Fault) → OneFeatureHas (IsFaultOfFeature IsBroken) tile other → ComesFirst (place_of fault) (place_of other)
+            following : (other : Fault) → OneFeatureHas (IsFaultOfFeature IsBroken) tile other → Own other ⊎ ComesFirst (place_of fault) (place_of other)
             following other holds =
                 let member = each_here (IsLayer bytes) (spans_of 3 is.entries) tile.layers holds.layer holds.layer_record is.layers holds.there.in_tile in
                 elim (cases_lt layer holds.layer) [
                   | inl later ↦
-                      by_layer fault other layer held.feature holds.layer holds.feature (place_at at.0 held.feature_record layer held.feature fault held.broken)
-                      (place_at holds.layer_record holds.feature_record holds.layer holds.feature other holds.broken) later
+                      inr (by_layer fault other layer held.feature holds.layer holds.feature (place_at at.0 held.feature_record layer held.feature fault held.broken)
+                      (place_at holds.layer_record holds.feature_record holds.layer holds.feature other holds.broken) later)
                   | inr not_later ↦ elim (cases_lt holds.layer layer) [
                     | inl earlier ↦
                         absurd ((next.before holds.layer member.0 earlier member.1 holds.layer_record member.2 holds.feature holds.feature_record holds.there.in_layer).faultless other holds.broken)
                     | inr not_earlier ↦
                         let same : holds.layer ≡ layer = omega arith in
-                        let both : Some member.0 ≡ Some inner = sym member.1 ∙ ap (slice_get (spans_of 3 is.entries)) same ∙ next.here in
-                        let spans : member.0 ≡ inner = cc in
-                        (found holds.layer_record (subst (λ (s : Span). IsLayer bytes s holds.layer_record) spans member.2)).least other
-                        (subst (λ (l : ℕ). IsFaultInLayer IsBroken holds.layer_record l other) same (in_its_layer tile other holds))
+                        let one : holds.layer_record ≡ at.0 = same_Some _ _ (sym holds.there.in_tile ∙ ap (slice_get tile.layers) same ∙ at.1) in
+                        inl (subst (λ (its : LayerRecord). IsFaultInLayer IsBroken its layer other) one (subst (λ (l : ℕ). IsFaultInLayer IsBroken holds.layer_record l other) same (in_its_layer tile other holds)))
                   ]
                 ]

@@ -5,9 +5,9 @@ use Rattle.mvt_wire.specs.Scope.{Span, span_of}
 use Rattle.mvt_wire.specs.Tile.{FeatureRecord, IsFeature, LayerRecord, IsLayer}
 use Rattle.mvt_wire.specs.Walk.{Walk, IsOver, GivesField}
 use Rattle.mvt_wire.proofs.Walking.{IsWalking}
-use Rattle.mvt_fault.specs.Place.{IsLeast}
 use Rattle.mvt_fault.specs.declared.fault.Fault.{Fault}
-use Rattle.mvt_tile.specs.RuleFaults.{Breaks, Keeps}
+use Rattle.mvt_tile.specs.FreeFaults.{IsLeastOr}
+use Rattle.mvt_tile.specs.RuleFaults.{Breaks, Frees, Keeps}
 use Rattle.mvt_tile.specs.Calls.FeatureRules.{IsFaultInLayer, FindsInFeature, FindsInLayer}
 use Rattle.mvt_tile.specs.Calls.Reading.{GivesSummary}
 use Rattle.mvt_tile.specs.Calls.RuleFaults.{AreAfterTags, IsLike, IsSummary}
@@ -21,10 +21,10 @@ use Rattle.mvt_tile.proofs.RuleFaults.SummaryReading.{few_parts}
 abbrev Good : Breaks → Keeps → List ℕ → ℕ → ℕ → ℕ → TagNeeds → ℕ → Span → Type 0
 Good IsBroken IsKept bytes layer keys values needs = IsGoodFeature IsBroken IsKept bytes (IsLike keys values needs) layer
 
--- what is known after the fields so far: the features have no fault, or this is the first that they have
-pub record IsScanned (IsBroken : Breaks) (IsKept : Keeps) (bytes : List ℕ) (span : Span) (layer keys values : ℕ) (needs : TagNeeds) (found : Option Fault) (walk : Walk) (count : ℕ) : Type 0 where
+-- what is known after the fields so far: the features have no fault, or this is the first that they have or a free one
+pub record IsScanned (IsFree : Frees) (IsBroken : Breaks) (IsKept : Keeps) (bytes : List ℕ) (span : Span) (layer keys values : ℕ) (needs : TagNeeds) (found : Option Fault) (walk : Walk) (count : ℕ) : Type 0 where
   pub first : MatchOption found (CleanWalk (Good IsBroken IsKept bytes layer keys values needs) 2 (take span.to bytes) span.from walk count)
-      (λ fault. (layer_record : LayerRecord) → IsLayer bytes span layer_record → IsLike keys values needs layer_record → IsLeast (IsFaultInLayer IsBroken layer_record layer) fault)
+      (λ fault. (layer_record : LayerRecord) → IsLayer bytes span layer_record → IsLike keys values needs layer_record → IsLeastOr IsFree (IsFaultInLayer IsBroken layer_record layer) fault)
 
 -- a layer is like those that are like it by more needs
 pub fewer : {keys values : ℕ} (before needs : TagNeeds) → before.keys ≤ needs.keys → before.values ≤ needs.values → (layer_record : LayerRecord) → IsLike keys values needs layer_record → IsLike keys values before layer_record
@@ -38,10 +38,10 @@ grown : {IsBroken : Breaks} {IsKept : Keeps} {bytes : List ℕ} {layer keys valu
 grown {IsBroken} {IsKept} {bytes} {layer} {keys} {values} before needs more_keys more_values = CleanWalk-weaker (Good IsBroken IsKept bytes layer keys values needs) (λ ordinal other good it stands layer_record like.
     good it stands layer_record (fewer before needs more_keys more_values layer_record like))
 
-module _ {IsBroken : Breaks} {IsKept : Keeps} {bytes : List ℕ} {outer : Span} {layer keys values : ℕ} where
+module _ {IsFree : Frees} {IsBroken : Breaks} {IsKept : Keeps} {bytes : List ℕ} {outer : Span} {layer keys values : ℕ} where
   -- a field that holds no feature
-  pub IsScanned-other : (found : Option Fault) {needs : TagNeeds} {old new : Walk} {count : ℕ} → IsScanned IsBroken IsKept bytes outer layer keys values needs found old count
-      → {entry : Entry} → GivesField old new entry → entry.number ≢ 2 → IsScanned IsBroken IsKept bytes outer layer keys values needs found new count
+  pub IsScanned-other : (found : Option Fault) {needs : TagNeeds} {old new : Walk} {count : ℕ} → IsScanned IsFree IsBroken IsKept bytes outer layer keys values needs found old count
+      → {entry : Entry} → GivesField old new entry → entry.number ≢ 2 → IsScanned IsFree IsBroken IsKept bytes outer layer keys values needs found new count
   IsScanned-other None so_far given other = record { first = CleanWalk-other so_far.first given other }
   IsScanned-other (Some fault) so_far given other = record { first = so_far.first }
 
@@ -49,29 +49,29 @@ module _ {IsBroken : Breaks} {IsKept : Keeps} {bytes : List ℕ} {outer : Span} 
   module _ {old new : Walk} {count : ℕ} {before : TagNeeds} (so_far : CleanWalk (Good IsBroken IsKept bytes layer keys values before) 2 (take outer.to bytes) outer.from old count) {entry : Entry} (given : GivesField old new entry)
       (own : entry.number ≡ 2) (span : Span) (there : span_of entry.content ≡ Some span) (needs : TagNeeds) (more_keys : before.keys ≤ needs.keys) (more_values : before.values ≤ needs.values) where
     pub IsScanned-more : AreAfterTags IsBroken → (Reads : FeatureRecord → Type 0) → ((it : FeatureRecord) → IsFeature bytes span it → Reads it)
-        → (found : Option Fault) → ((layer_record : LayerRecord) (it : FeatureRecord) → Reads it → IsLike keys values needs layer_record → FindsInFeature IsBroken IsKept layer_record it layer count found)
-        → IsScanned IsBroken IsKept bytes outer layer keys values needs found new (count + 1)
+        → (found : Option Fault) → ((layer_record : LayerRecord) (it : FeatureRecord) → Reads it → IsLike keys values needs layer_record → FindsInFeature IsFree IsBroken IsKept layer_record it layer count found)
+        → IsScanned IsFree IsBroken IsKept bytes outer layer keys values needs found new (count + 1)
     IsScanned-more after_tags Reads reads None finds = record { first = CleanWalk-more (grown before needs more_keys more_values so_far) given own span there (λ it is layer_record like. finds layer_record it (reads it is) like) }
     IsScanned-more after_tags Reads reads (Some fault) finds = record {
       first = λ layer_record is like.
-          first_in_layer IsBroken after_tags IsKept bytes outer layer_record is layer (IsLike keys values needs) like count span fault
+          first_in_layer IsBroken after_tags IsKept bytes outer layer_record is layer (IsLike keys values needs) like IsFree count span fault
           (CleanWalk-next (grown before needs more_keys more_values so_far) given own span there is.entries is.whole) (λ it stands other known. finds other it (reads it stands) known);
     }
 
   -- after the last field
-  pub IsScanned-finds : AreAfterTags IsBroken → (found : Option Fault) {needs : TagNeeds} {old new : Walk} {count : ℕ} → IsOver old new → IsScanned IsBroken IsKept bytes outer layer keys values needs found old count
-      → (layer_record : LayerRecord) → IsLayer bytes outer layer_record → IsLike keys values needs layer_record → FindsInLayer IsBroken IsKept layer_record layer found
+  pub IsScanned-finds : AreAfterTags IsBroken → (found : Option Fault) {needs : TagNeeds} {old new : Walk} {count : ℕ} → IsOver old new → IsScanned IsFree IsBroken IsKept bytes outer layer keys values needs found old count
+      → (layer_record : LayerRecord) → IsLayer bytes outer layer_record → IsLike keys values needs layer_record → FindsInLayer IsFree IsBroken IsKept layer_record layer found
   IsScanned-finds after_tags None {needs} over so_far layer_record is like =
       good_layer IsBroken after_tags IsKept bytes outer layer_record is layer (IsLike keys values needs) like (CleanWalk-over so_far.first over is.entries is.whole)
   IsScanned-finds after_tags (Some fault) over so_far layer_record is like = so_far.first layer_record is like
 
 -- the fields that were passed, their content, and what was found of the features, unless a fault was found before
-pub record IsLayerScan (IsBroken : Breaks) (IsKept : Keeps) (bytes : List ℕ) (span : Span) (layer keys values : ℕ) (before : Option Fault) (summary : LayerSummary) (needs : TagNeeds) (found : Option Fault) (walk : Walk) (count : ℕ) : Type 0 where
+pub record IsLayerScan (IsFree : Frees) (IsBroken : Breaks) (IsKept : Keeps) (bytes : List ℕ) (span : Span) (layer keys values : ℕ) (before : Option Fault) (summary : LayerSummary) (needs : TagNeeds) (found : Option Fault) (walk : Walk) (count : ℕ) : Type 0 where
   pub entries : List Entry
   pub walking : IsWalking (take span.to bytes) span.from walk entries
   pub gives : GivesSummary entries summary
   pub kept : is_some before ≡ true → found ≡ before
-  pub features : is_some before ≡ false → IsScanned IsBroken IsKept bytes span layer keys values needs found walk count
+  pub features : is_some before ≡ false → IsScanned IsFree IsBroken IsKept bytes span layer keys values needs found walk count
   pub few : count ≤ walk.at
 
 -- a layer that was counted, and has what the tags need, is like one with as many keys and values as it has bytes

@@ -6,29 +6,31 @@ use Rattle.mvt_wire.specs.Rules.{IsFeatureOf}
 use Rattle.mvt_wire.specs.Tile.{FeatureRecord, LayerRecord, TileRecord}
 use Rattle.mvt_wire.proofs.Encoding.Payloads.{slice_get-last}
 use Rattle.mvt_wire.proofs.Parts.EmbeddedSpans.{slice_get-some, slice_get-push}
-use Rattle.mvt_fault.specs.Place.{IsLeast, place_of}
+use Rattle.mvt_fault.specs.Place.{place_of}
 use Rattle.mvt_fault.specs.declared.fault.Fault.{Fault}
 use Rattle.mvt_tile.specs.FirstFaults.{ComesBefore, OneOf}
-use Rattle.mvt_tile.specs.RuleFaults.{Breaks, Keeps, IsFaultOfFeature, IsSound}
+use Rattle.mvt_tile.specs.FreeFaults.{IsLeastOr}
+use Rattle.mvt_tile.specs.RuleFaults.{Breaks, Frees, Keeps, IsFaultOfFeature, IsSound}
 use Rattle.mvt_tile.specs.Calls.Gathered.{AreGathered, TileFeature, IsInFront, AreGatheredTo}
 use Rattle.mvt_tile.specs.Calls.RuleFaults.{AreAfterTags}
 use Rattle.mvt_tile.proofs.RuleFaults.FeatureFaults.{place_at}
+use Rattle.mvt_tile.proofs.RuleFaults.FreeFaults.{least_or_holds}
 
 -- one of the faults is one of a longer list
 pub OneOf-some : {Holds : Fault → Type 0} (faults more : List Fault) → OneOf faults Holds → OneOf (faults ++ more) Holds
 OneOf-some faults more known = (known.0, known.1, slice_get-some faults more known.0 known.1 known.2, known.3)
 
 -- no part was passed
-pub AreGathered-none : {Part : Type 0} (HasFault : Part → Fault → Type 0) (IsFree IsPassed : Part → Type 0) → ((part : Part) → ¬ IsPassed part) → AreGathered HasFault IsFree IsPassed []
-AreGathered-none HasFault IsFree IsPassed none = record {
+pub AreGathered-none : {Part : Type 0} (IsOf : Part → Fault → Type 0) (IsFree IsPassed : Part → Type 0) → ((part : Part) → ¬ IsPassed part) → AreGathered IsOf IsFree IsPassed []
+AreGathered-none IsOf IsFree IsPassed none = record {
   each = λ at fault there. absurd (cc);
   in_order = λ at later fault other before there. absurd (cc);
   all = λ part passed. absurd (none part passed);
 }
 
-module _ {Part : Type 0} (HasFault : Part → Fault → Type 0) (IsFree IsPassed IsNext : Part → Type 0) (more : (part : Part) → IsPassed part → IsNext part) (faults : List Fault) (so_far : AreGathered HasFault IsFree IsPassed faults) where
+module _ {Part : Type 0} (IsOf : Part → Fault → Type 0) (IsFree IsPassed IsNext : Part → Type 0) (more : (part : Part) → IsPassed part → IsNext part) (faults : List Fault) (so_far : AreGathered IsOf IsFree IsPassed faults) where
   -- parts that are free of faults were passed
-  pub AreGathered-kept : ((part : Part) → IsNext part → IsPassed part ⊎ IsFree part) → AreGathered HasFault IsFree IsNext faults
+  pub AreGathered-kept : ((part : Part) → IsNext part → IsPassed part ⊎ IsFree part) → AreGathered IsOf IsFree IsNext faults
   AreGathered-kept parted = record {
     each = λ at fault there. let known = so_far.each at fault there in (known.0, more known.0 known.1, known.2);
     in_order = so_far.in_order;
@@ -39,13 +41,13 @@ module _ {Part : Type 0} (HasFault : Part → Fault → Type 0) (IsFree IsPassed
   }
 
   -- or one that has a fault, after those of the parts in front of it
-  module _ (part : Part) (next : IsNext part) (fault : Fault) (first : IsLeast (HasFault part) fault) where
-    pub AreGathered-pushed : ((it : Part) → IsNext it → IsPassed it ⊎ IsLeast (HasFault it) fault) → ((it : Part) (other : Fault) → IsPassed it → HasFault it other → ComesBefore (place_of other) (place_of fault))
-        → AreGathered HasFault IsFree IsNext (faults ++ fault ∷ [])
+  module _ (part : Part) (next : IsNext part) (fault : Fault) (first : IsOf part fault) where
+    pub AreGathered-pushed : ((it : Part) → IsNext it → IsPassed it ⊎ IsOf it fault) → ((it : Part) (other : Fault) → IsPassed it → IsOf it other → ComesBefore (place_of other) (place_of fault))
+        → AreGathered IsOf IsFree IsNext (faults ++ fault ∷ [])
     AreGathered-pushed parted ahead = record {
       each = λ at other there. elim (slice_get-push faults fault at other there) [
         | inl here ↦ let known = so_far.each at other here in (known.0, more known.0 known.1, known.2)
-        | inr last ↦ (part, next, subst (IsLeast (HasFault part)) (sym last.1) first)
+        | inr last ↦ (part, next, subst (IsOf part) (sym last.1) first)
       ];
       in_order = λ at later one other before there further. elim (slice_get-push faults fault later other further) [
         | inl following ↦
@@ -57,7 +59,7 @@ module _ {Part : Type 0} (HasFault : Part → Fault → Type 0) (IsFree IsPassed
         | inr last ↦ elim (slice_get-push faults fault at one there) [
           | inl here ↦
               let known = so_far.each at one here in
-              subst (λ (it : Fault). ComesBefore (place_of one) (place_of it)) (sym last.1) (ahead known.0 one known.1 known.2.holds)
+              subst (λ (it : Fault). ComesBefore (place_of one) (place_of it)) (sym last.1) (ahead known.0 one known.1 known.2)
           | inr also ↦ let at_is = also.0 in let later_is = last.0 in absurd (omega (arith, at_is, later_is, before))
         ]
       ];
@@ -87,9 +89,9 @@ in_front layer feature later_layer later xs ys (inr level) =
       differ = λ same. let heads : feature ≡ later = cc same in absurd (omega (arith, heads, less));
     }
 
-module _ (IsBroken : Breaks) (IsKept : Keeps) (tile : TileRecord) where
+module _ (IsFree : Frees) (IsBroken : Breaks) (IsKept : Keeps) (tile : TileRecord) where
   -- no feature is in front of the first layer
-  pub gathered_none : AreGatheredTo IsBroken IsKept tile 0 0 []
+  pub gathered_none : AreGatheredTo IsFree IsBroken IsKept tile 0 0 []
   gathered_none = AreGathered-none {Part = TileFeature tile} _ _ (IsInFront 0 0) (λ it front. elim front [
     | inl before ↦ absurd (omega (arith, before))
     | inr level ↦ let before = level.1 in absurd (omega (arith, before))
@@ -124,22 +126,22 @@ module _ (IsBroken : Breaks) (IsKept : Keeps) (tile : TileRecord) where
       | inr level ↦ let before = level.1 in inr (level.0, omega (arith, before))
     ]
 
-    module _ (faults : List Fault) (so_far : AreGatheredTo IsBroken IsKept tile layer feature faults) where
+    module _ (faults : List Fault) (so_far : AreGatheredTo IsFree IsBroken IsKept tile layer feature faults) where
       -- a sound feature was passed
-      pub gathered_kept : IsSound IsBroken IsKept layer_record feature_record layer feature → AreGatheredTo IsBroken IsKept tile layer (feature + 1) faults
+      pub gathered_kept : IsSound IsBroken IsKept layer_record feature_record layer feature → AreGatheredTo IsFree IsBroken IsKept tile layer (feature + 1) faults
       gathered_kept sound =
           AreGathered-kept {Part = TileFeature tile} _ _ (IsInFront layer feature) (IsInFront layer (feature + 1)) further faults so_far
           (parted (λ l f list record_of. IsSound IsBroken IsKept list record_of l f) sound)
 
       -- or one with a fault
-      pub gathered_pushed : AreAfterTags IsBroken → (fault : Fault) → IsLeast (IsFaultOfFeature IsBroken layer_record feature_record layer feature) fault → AreGatheredTo IsBroken IsKept tile layer (feature + 1) (faults ++ fault ∷ [])
+      pub gathered_pushed : AreAfterTags IsBroken → (fault : Fault) → IsLeastOr IsFree (IsFaultOfFeature IsBroken layer_record feature_record layer feature) fault → AreGatheredTo IsFree IsBroken IsKept tile layer (feature + 1) (faults ++ fault ∷ [])
       gathered_pushed after_tags fault first =
           AreGathered-pushed {Part = TileFeature tile} _ _ (IsInFront layer feature) (IsInFront layer (feature + 1)) further faults so_far
           (record { layer = layer; feature = feature; layer_record = layer_record; feature_record = feature_record; there = there }) (inr (refl, omega arith)) fault first
-          (parted (λ l f list record_of. IsLeast (IsFaultOfFeature IsBroken list record_of l f) fault) first)
+          (parted (λ l f list record_of. IsLeastOr IsFree (IsFaultOfFeature IsBroken list record_of l f) fault) first)
           (λ it other front broken.
-          let one = place_at IsBroken after_tags it.layer_record it.feature_record it.layer it.feature other broken in
-          let here = place_at IsBroken after_tags layer_record feature_record layer feature fault first.holds in
+          let one = place_at IsBroken after_tags it.layer_record it.feature_record it.layer it.feature other (least_or_holds IsFree (IsFaultOfFeature IsBroken it.layer_record it.feature_record it.layer it.feature) other broken) in
+          let here = place_at IsBroken after_tags layer_record feature_record layer feature fault (least_or_holds IsFree (IsFaultOfFeature IsBroken layer_record feature_record layer feature) fault first) in
           ComesBefore-same _ _ _ _ one.1 here.1 (in_front it.layer it.feature layer feature one.0 here.0 front))
 
   -- all features of a layer were passed
@@ -149,7 +151,7 @@ module _ (IsBroken : Breaks) (IsKept : Keeps) (tile : TileRecord) where
         let one : it.layer_record ≡ layer_record = same_Some _ _ (sym it.there.in_tile ∙ ap (slice_get tile.layers) same ∙ there) in
         slice_get_within layer_record.features it.feature it.feature_record (ap (λ (list : LayerRecord). slice_get list.features it.feature) (sym one) ∙ it.there.in_layer)
 
-    pub gathered_layer : (faults : List Fault) → AreGatheredTo IsBroken IsKept tile layer (length layer_record.features) faults → AreGatheredTo IsBroken IsKept tile (layer + 1) 0 faults
+    pub gathered_layer : (faults : List Fault) → AreGatheredTo IsFree IsBroken IsKept tile layer (length layer_record.features) faults → AreGatheredTo IsFree IsBroken IsKept tile (layer + 1) 0 faults
     gathered_layer faults so_far =
         AreGathered-kept {Part = TileFeature tile} _ _ (IsInFront layer (length layer_record.features)) (IsInFront (layer + 1) 0)
         (λ it front. elim front [

@@ -9,7 +9,7 @@ use Rattle.mvt_wire.proofs.Parts.EmbeddedSpans.{slice_get-push}
 use Rattle.mvt_wire.proofs.Parts.PairedLists.{each_there, same_length}
 use Rattle.mvt_wire.proofs.Walking.{IsWalking, IsWalking-over}
 use Rattle.mvt_fault.specs.declared.fault.Fault.{Fault}
-use Rattle.mvt_tile.specs.RuleFaults.{Breaks, Keeps}
+use Rattle.mvt_tile.specs.RuleFaults.{Breaks, Frees, Keeps}
 use Rattle.mvt_tile.specs.Calls.FeatureRules.{FindsInFeature}
 use Rattle.mvt_tile.specs.Calls.Gathered.{AreGatheredTo}
 use Rattle.mvt_tile.specs.Calls.Reading.{GivesSummary}
@@ -36,63 +36,63 @@ with_found-more faults None = ([], sym (append-nil faults))
 with_found-more faults (Some fault) = (fault ∷ [], refl)
 
 -- the faults are gathered of the features in front of this one, in each layer of which so much is known, where they are of the layers in front of it
-abbrev pub Gathers : Breaks → Keeps → List ℕ → Span → ℕ → ℕ → ℕ → List Fault → TagNeeds → List Fault → ℕ → Type 0
-Gathers IsBroken IsKept bytes span layer keys values before needs faults count =
+abbrev pub Gathers : Frees → Breaks → Keeps → List ℕ → Span → ℕ → ℕ → ℕ → List Fault → TagNeeds → List Fault → ℕ → Type 0
+Gathers IsFree IsBroken IsKept bytes span layer keys values before needs faults count =
     (tile : TileRecord) (layer_record : LayerRecord) → slice_get tile.layers layer ≡ Some layer_record → IsLayer bytes span layer_record → IsLike keys values needs layer_record
-    → AreGatheredTo IsBroken IsKept tile layer 0 before → AreGatheredTo IsBroken IsKept tile layer count faults
+    → AreGatheredTo IsFree IsBroken IsKept tile layer 0 before → AreGatheredTo IsFree IsBroken IsKept tile layer count faults
 
 -- the fields that were passed, their content, and what was added
-pub record IsGatherScan (IsBroken : Breaks) (IsKept : Keeps) (bytes : List ℕ) (span : Span) (layer keys values : ℕ) (before : List Fault) (summary : LayerSummary) (needs : TagNeeds) (faults : List Fault) (walk : Walk) (count : ℕ) : Type 0 where
+pub record IsGatherScan (IsFree : Frees) (IsBroken : Breaks) (IsKept : Keeps) (bytes : List ℕ) (span : Span) (layer keys values : ℕ) (before : List Fault) (summary : LayerSummary) (needs : TagNeeds) (faults : List Fault) (walk : Walk) (count : ℕ) : Type 0 where
   pub entries : List Entry
   pub walking : IsWalking (take span.to bytes) span.from walk entries
   pub gives : GivesSummary entries summary
   pub features : PassedFeatures bytes span walk count
   pub own : List Fault
   pub added : faults ≡ before ++ own
-  pub gathers : Gathers IsBroken IsKept bytes span layer keys values before needs faults count
+  pub gathers : Gathers IsFree IsBroken IsKept bytes span layer keys values before needs faults count
   pub few : count ≤ walk.at
 
-module _ (IsBroken : Breaks) (IsKept : Keeps) (after_tags : AreAfterTags IsBroken) (bytes : List ℕ) (outer : Span) (layer keys values : ℕ) (before : List Fault) {old new : Walk} {count : ℕ} (so_far : PassedFeatures bytes outer old count) where
+module _ (IsFree : Frees) (IsBroken : Breaks) (IsKept : Keeps) (after_tags : AreAfterTags IsBroken) (bytes : List ℕ) (outer : Span) (layer keys values : ℕ) (before : List Fault) {old new : Walk} {count : ℕ} (so_far : PassedFeatures bytes outer old count) where
   -- one more feature was checked
   module _ {entry : Entry} (given : GivesField old new entry) (own : entry.number ≡ 2) (span : Span) (there : span_of entry.content ≡ Some span)
       (fewest needs : TagNeeds) (more_keys : fewest.keys ≤ needs.keys) (more_values : fewest.values ≤ needs.values) (Reads : FeatureRecord → Type 0) (reads : (it : FeatureRecord) → IsFeature bytes span it → Reads it)
-      (faults : List Fault) (gathers : Gathers IsBroken IsKept bytes outer layer keys values before fewest faults count) where
+      (faults : List Fault) (gathers : Gathers IsFree IsBroken IsKept bytes outer layer keys values before fewest faults count) where
     its : (layer_record : LayerRecord) → IsLayer bytes outer layer_record → (it : FeatureRecord) × (slice_get layer_record.features count ≡ Some it) × IsFeature bytes span it
     its layer_record is =
         let next = CleanWalk-next so_far given own span there is.entries is.whole in
         each_there (IsFeature bytes) (spans_of 2 is.entries) layer_record.features count span is.features next.here
 
-    pub Gathers-more : (found : Option Fault) → ((layer_record : LayerRecord) (it : FeatureRecord) → Reads it → IsLike keys values needs layer_record → FindsInFeature IsBroken IsKept layer_record it layer count found)
-        → (longer : List Fault) → longer ≡ with_found faults found → Gathers IsBroken IsKept bytes outer layer keys values before needs longer (count + 1)
+    pub Gathers-more : (found : Option Fault) → ((layer_record : LayerRecord) (it : FeatureRecord) → Reads it → IsLike keys values needs layer_record → FindsInFeature IsFree IsBroken IsKept layer_record it layer count found)
+        → (longer : List Fault) → longer ≡ with_found faults found → Gathers IsFree IsBroken IsKept bytes outer layer keys values before needs longer (count + 1)
     Gathers-more None finds longer same = λ tile layer_record in_tile is like in_front.
         let it = its layer_record is in
         let old_faults = gathers tile layer_record in_tile is (fewer fewest needs more_keys more_values layer_record like) in_front in
-        subst (AreGatheredTo IsBroken IsKept tile layer (count + 1)) (sym same)
-        (gathered_kept IsBroken IsKept tile layer count layer_record it.0 (record { in_tile = in_tile; in_layer = it.1 }) faults old_faults (finds layer_record it.0 (reads it.0 it.2) like))
+        subst (AreGatheredTo IsFree IsBroken IsKept tile layer (count + 1)) (sym same)
+        (gathered_kept IsFree IsBroken IsKept tile layer count layer_record it.0 (record { in_tile = in_tile; in_layer = it.1 }) faults old_faults (finds layer_record it.0 (reads it.0 it.2) like))
     Gathers-more (Some fault) finds longer same = λ tile layer_record in_tile is like in_front.
         let it = its layer_record is in
         let old_faults = gathers tile layer_record in_tile is (fewer fewest needs more_keys more_values layer_record like) in_front in
-        subst (AreGatheredTo IsBroken IsKept tile layer (count + 1)) (sym same)
-        (gathered_pushed IsBroken IsKept tile layer count layer_record it.0 (record { in_tile = in_tile; in_layer = it.1 }) faults old_faults after_tags fault (finds layer_record it.0 (reads it.0 it.2) like))
+        subst (AreGatheredTo IsFree IsBroken IsKept tile layer (count + 1)) (sym same)
+        (gathered_pushed IsFree IsBroken IsKept tile layer count layer_record it.0 (record { in_tile = in_tile; in_layer = it.1 }) faults old_faults after_tags fault (finds layer_record it.0 (reads it.0 it.2) like))
 
   -- all were
-  pub Gathers-all : IsOver old new → (needs : TagNeeds) (faults : List Fault) → Gathers IsBroken IsKept bytes outer layer keys values before needs faults count
+  pub Gathers-all : IsOver old new → (needs : TagNeeds) (faults : List Fault) → Gathers IsFree IsBroken IsKept bytes outer layer keys values before needs faults count
       → (tile : TileRecord) (layer_record : LayerRecord) → slice_get tile.layers layer ≡ Some layer_record → IsLayer bytes outer layer_record → IsLike keys values needs layer_record
-      → AreGatheredTo IsBroken IsKept tile layer 0 before → AreGatheredTo IsBroken IsKept tile (layer + 1) 0 faults
+      → AreGatheredTo IsFree IsBroken IsKept tile layer 0 before → AreGatheredTo IsFree IsBroken IsKept tile (layer + 1) 0 faults
   Gathers-all over needs faults gathers tile layer_record in_tile is like in_front =
       let all = IsWalking-over is.entries so_far.walking is.whole over in
       let size = same_length (IsFeature bytes) (spans_of 2 is.entries) layer_record.features is.features in
       let count_is : count ≡ length layer_record.features = so_far.counted ∙ ap (λ (entries : List Entry). length (spans_of 2 entries)) all ∙ size in
-      gathered_layer IsBroken IsKept tile layer layer_record in_tile faults
-      (subst (λ (n : ℕ). AreGatheredTo IsBroken IsKept tile layer n faults) count_is (gathers tile layer_record in_tile is like in_front))
+      gathered_layer IsFree IsBroken IsKept tile layer layer_record in_tile faults
+      (subst (λ (n : ℕ). AreGatheredTo IsFree IsBroken IsKept tile layer n faults) count_is (gathers tile layer_record in_tile is like in_front))
 
 -- the layers that were passed, their summaries, and the faults of their features
-pub record IsTileGather (IsBroken : Breaks) (IsKept : Keeps) (bytes : List ℕ) (layers : List LayerSummary) (faults : List Fault) (walk : Walk) (count : ℕ) : Type 0 where
+pub record IsTileGather (IsFree : Frees) (IsBroken : Breaks) (IsKept : Keeps) (bytes : List ℕ) (layers : List LayerSummary) (faults : List Fault) (walk : Walk) (count : ℕ) : Type 0 where
   pub passed : PassedLayers bytes walk count
   pub size : length layers ≡ count
   pub each : (tile : TileRecord) → IsTile bytes tile → (layer : ℕ) (summary : LayerSummary) → slice_get layers layer ≡ Some summary
       → (layer_record : LayerRecord) × (slice_get tile.layers layer ≡ Some layer_record) × IsSummary summary layer_record
-  pub gathered : (tile : TileRecord) → IsTile bytes tile → AreGatheredTo IsBroken IsKept tile count 0 faults
+  pub gathered : (tile : TileRecord) → IsTile bytes tile → AreGatheredTo IsFree IsBroken IsKept tile count 0 faults
 
 module _ {bytes : List ℕ} {old new : Walk} {count : ℕ} (so_far : PassedLayers bytes old count) where
   module _ {entry : Entry} (given : GivesField old new entry) (own : entry.number ≡ 3) (span : Span) (there : span_of entry.content ≡ Some span) where

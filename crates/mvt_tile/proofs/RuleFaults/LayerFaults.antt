@@ -191,7 +191,7 @@ module _ (tile : TileRecord) (layers : List LayerSummary) (are : AreSummaries la
 module _ (tile : TileRecord) where
   -- in front of the first layer there are no faults
   pub layers_none : AreGatheredLayers tile 0 []
-  layers_none = AreGathered-none (IsFaultOfLayer tile) _ (λ layer. layer < 0) (λ layer before. absurd (omega (arith, before)))
+  layers_none = AreGathered-none (λ layer. IsLeast (IsFaultOfLayer tile layer)) _ (λ layer. layer < 0) (λ layer before. absurd (omega (arith, before)))
 
   module _ (layer : ℕ) (faults : List Fault) (so_far : AreGatheredLayers tile layer faults) where
     parted : (P : ℕ → Type 0) → P layer → (it : ℕ) → it < layer + 1 → (it < layer) ⊎ P it
@@ -203,15 +203,15 @@ module _ (tile : TileRecord) where
     -- one more layer was passed, with no fault
     pub layers_kept : ((fault : Fault) → ¬ IsFaultOfLayer tile layer fault) → AreGatheredLayers tile (layer + 1) faults
     layers_kept free =
-        AreGathered-kept (IsFaultOfLayer tile) _ (λ it. it < layer) (λ it. it < layer + 1) (λ it before. omega (arith, before)) faults so_far
+        AreGathered-kept (λ it. IsLeast (IsFaultOfLayer tile it)) _ (λ it. it < layer) (λ it. it < layer + 1) (λ it before. omega (arith, before)) faults so_far
         (parted (λ it. (fault : Fault) → ¬ IsFaultOfLayer tile it fault) free)
 
     -- or with a fault
     pub layers_pushed : (fault : Fault) → IsLeast (IsFaultOfLayer tile layer) fault → AreGatheredLayers tile (layer + 1) (faults ++ fault ∷ [])
     layers_pushed fault first =
-        AreGathered-pushed (IsFaultOfLayer tile) _ (λ it. it < layer) (λ it. it < layer + 1) (λ it before. omega (arith, before)) faults so_far
+        AreGathered-pushed (λ it. IsLeast (IsFaultOfLayer tile it)) _ (λ it. it < layer) (λ it. it < layer + 1) (λ it before. omega (arith, before)) faults so_far
         layer (omega arith) fault first (parted (λ it. IsLeast (IsFaultOfLayer tile it) fault) first)
-        (λ it other before broken. ComesBefore-same _ _ _ _ broken.of_layer.1 first.holds.of_layer.1 (earlier it broken.of_layer.0 first.holds.of_layer.0 before))
+        (λ it other before broken. ComesBefore-same _ _ _ _ broken.holds.of_layer.1 first.holds.of_layer.1 (earlier it broken.holds.of_layer.0 first.holds.of_layer.0 before))
       where
         earlier : (it : ℕ) (xs ys : List ℕ) → it < layer → ComesBefore (1 ∷ it ∷ xs) (1 ∷ layer ∷ ys)
         earlier it xs ys before = record {

@@ -4,13 +4,15 @@ use Rattle.mvt_wire.specs.Tile.{TileRecord, IsTile}
 use Rattle.mvt_fault.specs.Place.{ComesFirst, IsLeast, place_of}
 use Rattle.mvt_fault.specs.TrueFaults.{BreaksRule, IsFaultOfLayers, OneFeatureHas, version, name}
 use Rattle.mvt_fault.specs.declared.fault.Fault.{Fault}
-use Rattle.mvt_tile.specs.RuleFaults.{Breaks, Keeps, BreaksAnyRule, KeepsRules, IsFaultOfFeature}
+use Rattle.mvt_tile.specs.FreeFaults.{IsLeastOr}
+use Rattle.mvt_tile.specs.RuleFaults.{Breaks, Frees, Keeps, BreaksAnyRule, KeepsRules, IsFaultOfFeature}
 use Rattle.mvt_tile.specs.Calls.FeatureRules.{AllSound, FindsInTile}
 use Rattle.mvt_tile.specs.Calls.PassedLayers.{passed, EndsLayers}
 use Rattle.mvt_tile.specs.Calls.RuleFaults.{AreAfterTags}
 use Rattle.mvt_tile.specs.declared.rules.layer_rules.LayerRules.{LayerRules}
 use Rattle.mvt_fault.specs.declared.fault.Fault.TheVariants.{Version}
 use Rattle.mvt_tile.proofs.RuleFaults.FeatureFaults.{features_begin}
+use Rattle.mvt_tile.proofs.RuleFaults.FreeFaults.{least_unless_free, lifted}
 
 -- the place of a fault of layers begins as those of all layers do
 layers_begin : (tile : TileRecord) (fault : Fault) → IsFaultOfLayers tile fault → (rest : List ℕ) × (place_of fault ≡ 1 ∷ rest)
@@ -27,7 +29,7 @@ module _ (IsBroken : Breaks) (after_tags : AreAfterTags IsBroken) where
       subst (λ (place : List ℕ). ComesFirst place (place_of other)) (sym first.1) (subst (ComesFirst (1 ∷ first.0)) (sym second.1) ordered)
 
   -- each fault of a tile is one of its layers or one of its features
-  by_part : (tile : TileRecord) (fault : Fault) → BreaksAnyRule IsBroken tile fault → IsFaultOfLayers tile fault ⊎ OneFeatureHas (IsFaultOfFeature IsBroken) tile fault
+  pub by_part : (tile : TileRecord) (fault : Fault) → BreaksAnyRule IsBroken tile fault → IsFaultOfLayers tile fault ⊎ OneFeatureHas (IsFaultOfFeature IsBroken) tile fault
   by_part tile fault (inl (inl of_layers)) = inl of_layers
   by_part tile fault (inl (inr of_tags)) =
       inr (record { layer = of_tags.layer; feature = of_tags.feature; layer_record = of_tags.layer_record; feature_record = of_tags.feature_record; there = of_tags.there; broken = inl of_tags.broken })
@@ -35,7 +37,7 @@ module _ (IsBroken : Breaks) (after_tags : AreAfterTags IsBroken) where
       inr (record { layer = of_rule.layer; feature = of_rule.feature; layer_record = of_rule.layer_record; feature_record = of_rule.feature_record; there = of_rule.there; broken = inr of_rule.broken })
 
   -- and the other way round
-  of_feature : (tile : TileRecord) (fault : Fault) (holds : OneFeatureHas (IsFaultOfFeature IsBroken) tile fault) → BreaksAnyRule IsBroken tile fault
+  pub of_feature : (tile : TileRecord) (fault : Fault) (holds : OneFeatureHas (IsFaultOfFeature IsBroken) tile fault) → BreaksAnyRule IsBroken tile fault
   of_feature tile fault holds = elim holds.broken [
     | inl of_tags ↦ inl (inr (record { layer = holds.layer; feature = holds.feature; layer_record = holds.layer_record; feature_record = holds.feature_record; there = holds.there; broken = of_tags }))
     | inr of_rule ↦ inr (record { layer = holds.layer; feature = holds.feature; layer_record = holds.layer_record; feature_record = holds.feature_record; there = holds.there; broken = of_rule })
@@ -51,14 +53,13 @@ module _ (IsBroken : Breaks) (after_tags : AreAfterTags IsBroken) where
       ];
     }
 
-    least_of_features : ((fault : Fault) → ¬ IsFaultOfLayers tile fault) → (fault : Fault) → IsLeast (OneFeatureHas (IsFaultOfFeature IsBroken) tile) fault → IsLeast (BreaksAnyRule IsBroken tile) fault
-    least_of_features none fault first = record {
-      holds = of_feature tile fault first.holds;
-      least = λ other holds. elim (by_part tile other holds) [
-        | inl in_layers ↦ absurd (none other in_layers)
-        | inr in_features ↦ first.least other in_features
-      ];
-    }
+    first_of_features : (IsFree : Frees) → ((fault : Fault) → ¬ IsFaultOfLayers tile fault) → (fault : Fault) → IsLeastOr IsFree (OneFeatureHas (IsFaultOfFeature IsBroken) tile) fault → IsLeastOr IsFree (BreaksAnyRule IsBroken tile) fault
+    first_of_features IsFree none fault first =
+        lifted IsFree (OneFeatureHas (IsFaultOfFeature IsBroken) tile) fault (BreaksAnyRule IsBroken tile) (λ holds. of_feature tile fault holds)
+        (λ other holds. elim (by_part tile other holds) [
+          | inl in_layers ↦ absurd (none other in_layers)
+          | inr in_features ↦ inl in_features
+        ]) first
 
     -- where the layers have no fault and the features are sound, the tile keeps the rules
     all_kept : (IsKept : Keeps) → ((fault : Fault) → ¬ IsFaultOfLayers tile fault) → AllSound IsBroken IsKept tile → KeepsRules IsKept tile
@@ -77,13 +78,19 @@ module _ (IsBroken : Breaks) (after_tags : AreAfterTags IsBroken) where
       | inr last ↦ sym last.1
     ]
 
-    module _ (IsKept : Keeps) where
-      pub no_rule_broken : (found : Option Fault) → ((tile : TileRecord) → IsTile bytes tile → passed rules ≡ length tile.layers → FindsInTile IsBroken IsKept tile found)
+    module _ (IsFree : Frees) (IsKept : Keeps) where
+      pub no_rule_broken : (found : Option Fault) → ((tile : TileRecord) → IsTile bytes tile → passed rules ≡ length tile.layers → FindsInTile IsFree IsBroken IsKept tile found)
           → IfNone found ((tile : TileRecord) → IsTile bytes tile → KeepsRules IsKept tile)
       no_rule_broken (Some fault) finds = tt
       no_rule_broken None finds = λ tile is. all_kept tile IsKept (none tile (ends tile is)) (finds tile is (all_passed tile is))
 
-      pub features_fault : (found : Option Fault) → ((tile : TileRecord) → IsTile bytes tile → passed rules ≡ length tile.layers → FindsInTile IsBroken IsKept tile found)
-          → IfSome found (λ (first : Fault). (tile : TileRecord) → IsTile bytes tile → IsLeast (BreaksAnyRule IsBroken tile) first)
+      pub features_fault : (found : Option Fault) → ((tile : TileRecord) → IsTile bytes tile → passed rules ≡ length tile.layers → FindsInTile IsFree IsBroken IsKept tile found)
+          → IfSome found (λ (first : Fault). (tile : TileRecord) → IsTile bytes tile → IsLeastOr IsFree (BreaksAnyRule IsBroken tile) first)
       features_fault None finds = tt
-      features_fault (Some fault) finds = λ tile is. least_of_features tile (none tile (ends tile is)) fault (finds tile is (all_passed tile is))
+      features_fault (Some fault) finds = λ tile is. first_of_features tile IsFree (none tile (ends tile is)) fault (finds tile is (all_passed tile is))
+
+      -- where none is free
+      pub least_fault : (found : Option Fault) → ((fault : Fault) → ¬ IsFree fault) → ((tile : TileRecord) → IsTile bytes tile → passed rules ≡ length tile.layers → FindsInTile IsFree IsBroken IsKept tile found)
+          → IfSome found (λ (first : Fault). (tile : TileRecord) → IsTile bytes tile → IsLeast (BreaksAnyRule IsBroken tile) first)
+      least_fault None never finds = tt
+      least_fault (Some fault) never finds = λ tile is. least_unless_free IsFree (BreaksAnyRule IsBroken tile) fault never (features_fault (Some fault) finds tile is)

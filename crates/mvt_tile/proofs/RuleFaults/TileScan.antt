@@ -6,10 +6,10 @@ use Rattle.mvt_wire.specs.Scope.{Span, span_of, spans_of}
 use Rattle.mvt_wire.specs.Tile.{LayerRecord, IsLayer, TileRecord, IsTile}
 use Rattle.mvt_wire.specs.Walk.{Walk, IsOver, GivesField}
 use Rattle.mvt_wire.proofs.Parts.PairedLists.{each_there, same_length}
-use Rattle.mvt_fault.specs.Place.{IsLeast}
 use Rattle.mvt_fault.specs.TrueFaults.{OneFeatureHas}
 use Rattle.mvt_fault.specs.declared.fault.Fault.{Fault}
-use Rattle.mvt_tile.specs.RuleFaults.{Breaks, Keeps, IsFaultOfFeature}
+use Rattle.mvt_tile.specs.FreeFaults.{IsLeastOr}
+use Rattle.mvt_tile.specs.RuleFaults.{Breaks, Frees, Keeps, IsFaultOfFeature}
 use Rattle.mvt_tile.specs.Calls.FeatureRules.{FindsInLayer, FindsInTile}
 use Rattle.mvt_tile.specs.Calls.PassedLayers.{passed, EndsLayers, IsNextLayer, PassesLayers}
 use Rattle.mvt_tile.specs.declared.rules.layer_rules.LayerRules.{LayerRules}
@@ -23,35 +23,35 @@ use Rattle.mvt_wire.proofs.Walking.{IsWalking-over}
 abbrev pub PassedLayers : List ℕ → Walk → ℕ → Type 0
 PassedLayers bytes walk count = CleanWalk (λ ordinal span. Unit {0}) 3 (take (length bytes) bytes) 0 walk count
 
--- no layer that was passed has a fault of features, or this is the first that they have
-pub record AreScanned (IsBroken : Breaks) (IsKept : Keeps) (bytes : List ℕ) (found : Option Fault) (walk : Walk) (count : ℕ) : Type 0 where
-  pub first : MatchOption found (CleanWalk (IsGoodLayer IsBroken IsKept bytes) 3 (take (length bytes) bytes) 0 walk count) (λ fault. (tile : TileRecord) → IsTile bytes tile → IsLeast (OneFeatureHas (IsFaultOfFeature IsBroken) tile) fault)
+-- no layer that was passed has a fault of features, or this is the first that they have or a free one
+pub record AreScanned (IsFree : Frees) (IsBroken : Breaks) (IsKept : Keeps) (bytes : List ℕ) (found : Option Fault) (walk : Walk) (count : ℕ) : Type 0 where
+  pub first : MatchOption found (CleanWalk (IsGoodLayer IsBroken IsKept bytes) 3 (take (length bytes) bytes) 0 walk count) (λ fault. (tile : TileRecord) → IsTile bytes tile → IsLeastOr IsFree (OneFeatureHas (IsFaultOfFeature IsBroken) tile) fault)
 
 -- and the names of the layers are kept
-pub record IsTileScan (IsBroken : Breaks) (IsKept : Keeps) (bytes : List ℕ) (found : Option Fault) (rules : LayerRules) (walk : Walk) (count : ℕ) : Type 0 where
+pub record IsTileScan (IsFree : Frees) (IsBroken : Breaks) (IsKept : Keeps) (bytes : List ℕ) (found : Option Fault) (rules : LayerRules) (walk : Walk) (count : ℕ) : Type 0 where
   pub layers : PassedLayers bytes walk count
   pub named : passed rules ≡ count
   pub passes : (tile : TileRecord) → IsTile bytes tile → PassesLayers rules tile
-  pub features : AreScanned IsBroken IsKept bytes found walk count
+  pub features : AreScanned IsFree IsBroken IsKept bytes found walk count
 
-module _ {IsBroken : Breaks} {IsKept : Keeps} {bytes : List ℕ} {old new : Walk} {count : ℕ} where
+module _ {IsFree : Frees} {IsBroken : Breaks} {IsKept : Keeps} {bytes : List ℕ} {old new : Walk} {count : ℕ} where
   -- a field that holds no layer
-  pub AreScanned-other : (found : Option Fault) → AreScanned IsBroken IsKept bytes found old count → {entry : Entry} → GivesField old new entry → entry.number ≢ 3 → AreScanned IsBroken IsKept bytes found new count
+  pub AreScanned-other : (found : Option Fault) → AreScanned IsFree IsBroken IsKept bytes found old count → {entry : Entry} → GivesField old new entry → entry.number ≢ 3 → AreScanned IsFree IsBroken IsKept bytes found new count
   AreScanned-other None so_far given other = record { first = CleanWalk-other so_far.first given other }
   AreScanned-other (Some fault) so_far given other = record { first = so_far.first }
 
   -- a layer that was checked, unless a fault was found in front of it
-  pub AreScanned-next : (before after : Option Fault) → AreScanned IsBroken IsKept bytes before old count → {entry : Entry} → GivesField old new entry → entry.number ≡ 3
+  pub AreScanned-next : (before after : Option Fault) → AreScanned IsFree IsBroken IsKept bytes before old count → {entry : Entry} → GivesField old new entry → entry.number ≡ 3
       → (span : Span) → span_of entry.content ≡ Some span → AreAfterTags IsBroken → (is_some before ≡ true → after ≡ before)
-      → (is_some before ≡ false → (layer_record : LayerRecord) → IsLayer bytes span layer_record → FindsInLayer IsBroken IsKept layer_record count after) → AreScanned IsBroken IsKept bytes after new (count + 1)
+      → (is_some before ≡ false → (layer_record : LayerRecord) → IsLayer bytes span layer_record → FindsInLayer IsFree IsBroken IsKept layer_record count after) → AreScanned IsFree IsBroken IsKept bytes after new (count + 1)
   AreScanned-next None None so_far given own span there after_tags kept finds = record { first = CleanWalk-more so_far.first given own span there (finds refl) }
   AreScanned-next None (Some fault) so_far given own span there after_tags kept finds = record {
-    first = λ tile is. first_in_tile IsBroken after_tags IsKept bytes tile is count span fault (CleanWalk-next so_far.first given own span there is.entries is.whole) (finds refl);
+    first = λ tile is. first_in_tile IsBroken after_tags IsKept bytes tile is IsFree count span fault (CleanWalk-next so_far.first given own span there is.entries is.whole) (finds refl);
   }
   AreScanned-next (Some fault) after so_far given own span there after_tags kept finds = rw (kept refl) (record { first = so_far.first })
 
   -- after the last
-  pub AreScanned-finds : AreAfterTags IsBroken → (found : Option Fault) → IsOver old new → AreScanned IsBroken IsKept bytes found old count → (tile : TileRecord) → IsTile bytes tile → FindsInTile IsBroken IsKept tile found
+  pub AreScanned-finds : AreAfterTags IsBroken → (found : Option Fault) → IsOver old new → AreScanned IsFree IsBroken IsKept bytes found old count → (tile : TileRecord) → IsTile bytes tile → FindsInTile IsFree IsBroken IsKept tile found
   AreScanned-finds after_tags None over so_far tile is = good_tile IsBroken after_tags IsKept bytes tile is (CleanWalk-over so_far.first over is.entries is.whole)
   AreScanned-finds after_tags (Some fault) over so_far tile is = so_far.first tile is
 

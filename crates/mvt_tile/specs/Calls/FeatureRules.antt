@@ -1,11 +1,11 @@
 -- What a walk over features finds by a further rule.
 use Rattle.std.specs.Prelude.{◌≡◌, ℕ, Option, Some, MatchOption, slice_get}
-use Rattle.mvt_fault.specs.Place.{IsLeast}
 use Rattle.mvt_fault.specs.TrueFaults.{OneFeatureHas}
 use Rattle.mvt_fault.specs.declared.fault.Fault.{Fault}
 use Rattle.mvt_wire.specs.Rules.{IsFeatureOf}
 use Rattle.mvt_wire.specs.Tile.{FeatureRecord, LayerRecord, TileRecord}
-use Rattle.mvt_tile.specs.RuleFaults.{Breaks, Keeps, IsFaultOfFeature, IsSound}
+use Rattle.mvt_tile.specs.FreeFaults.{IsLeastOr}
+use Rattle.mvt_tile.specs.RuleFaults.{Breaks, Frees, Keeps, IsFaultOfFeature, IsSound}
 
 -- one of the features of the layer with an ordinal has this fault
 pub record IsFaultInLayer (IsBroken : Breaks) (layer_record : LayerRecord) (layer : ℕ) (fault : Fault) : Type 0 where
@@ -23,14 +23,14 @@ abbrev pub AllSound : Breaks → Keeps → TileRecord → Type 0
 AllSound IsBroken IsKept tile =
     (layer feature : ℕ) (layer_record : LayerRecord) (feature_record : FeatureRecord) → IsFeatureOf tile layer feature layer_record feature_record → IsSound IsBroken IsKept layer_record feature_record layer feature
 
--- the first fault of a feature is found, or none where it is sound
-abbrev pub FindsInFeature : Breaks → Keeps → LayerRecord → FeatureRecord → ℕ → ℕ → Option Fault → Type 0
-FindsInFeature IsBroken IsKept layer_record feature_record layer feature found =
-    MatchOption found (IsSound IsBroken IsKept layer_record feature_record layer feature) (IsLeast (IsFaultOfFeature IsBroken layer_record feature_record layer feature))
+-- the first fault of a feature is found, or a free one, or none where it is sound
+abbrev pub FindsInFeature : Frees → Breaks → Keeps → LayerRecord → FeatureRecord → ℕ → ℕ → Option Fault → Type 0
+FindsInFeature IsFree IsBroken IsKept layer_record feature_record layer feature found =
+    MatchOption found (IsSound IsBroken IsKept layer_record feature_record layer feature) (IsLeastOr IsFree (IsFaultOfFeature IsBroken layer_record feature_record layer feature))
 
 -- so it is of the features of a layer, and of those of a tile
-abbrev pub FindsInLayer : Breaks → Keeps → LayerRecord → ℕ → Option Fault → Type 0
-FindsInLayer IsBroken IsKept layer_record layer found = MatchOption found (AllSoundInLayer IsBroken IsKept layer_record layer) (IsLeast (IsFaultInLayer IsBroken layer_record layer))
+abbrev pub FindsInLayer : Frees → Breaks → Keeps → LayerRecord → ℕ → Option Fault → Type 0
+FindsInLayer IsFree IsBroken IsKept layer_record layer found = MatchOption found (AllSoundInLayer IsBroken IsKept layer_record layer) (IsLeastOr IsFree (IsFaultInLayer IsBroken layer_record layer))
 
-abbrev pub FindsInTile : Breaks → Keeps → TileRecord → Option Fault → Type 0
-FindsInTile IsBroken IsKept tile found = MatchOption found (AllSound IsBroken IsKept tile) (IsLeast (OneFeatureHas (IsFaultOfFeature IsBroken) tile))
+abbrev pub FindsInTile : Frees → Breaks → Keeps → TileRecord → Option Fault → Type 0
+FindsInTile IsFree IsBroken IsKept tile found = MatchOption found (AllSound IsBroken IsKept tile) (IsLeastOr IsFree (OneFeatureHas (IsFaultOfFeature IsBroken) tile))

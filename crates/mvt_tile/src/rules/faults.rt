@@ -20,7 +20,8 @@ use std::alloc::{AllocError, Global};
 
 /// The faults of a tile by its rules, which are those of `rule_fault`: the first of each layer that
 /// has another version, or the name of an earlier layer; then the first of each feature that has a
-/// fault of its tags or by the further rule, whatever its layer's version and name are. They stand
+/// fault of its tags or by the further rule, or a free one of the rule, whatever its layer's version
+/// and name are. They stand
 /// in their order, so the first of them is that of `rule_fault`, and the list is empty where the
 /// tile keeps the rules. The bytes are read again: each layer once, or twice where a tag names a
 /// key or a value that the layer doesn't have. Its memory is for the faults, for what is kept of
@@ -37,7 +38,7 @@ pub fn rule_faults<R: FeatureRule>(
         → R.IsBroken feature_record layer_index feature_index fault
         → IsAfterTags layer_index feature_index (place_of fault) }
     ensures { IfOk result (λ faults. (tile : TileRecord) → IsTile bytes.now tile
-        → AreFirstFaults R.IsBroken R.IsKept tile faults.items) }
+        → AreFirstFaults R.IsFree R.IsBroken R.IsKept tile faults.items) }
 {
     let mut layers = Vec::new(alloc);
     let mut faults = Vec::new(alloc);
@@ -66,7 +67,7 @@ fn walk_all_layers<'a, R: FeatureRule>(
     ensures summaries { OnOk result ((tile : TileRecord) → IsTile bytes.now tile
         → AreSummaries layers.new.items tile) }
     ensures gathers { OnOk result ((tile : TileRecord) → IsTile bytes.now tile
-        → AreGatheredTo R.IsBroken R.IsKept tile (length tile.layers) 0 faults.new.items) }
+        → AreGatheredTo R.IsFree R.IsBroken R.IsKept tile (length tile.layers) 0 faults.new.items) }
 {
     let mut room = FeatureRoom::new(alloc);
     let mut layer_index = 0;

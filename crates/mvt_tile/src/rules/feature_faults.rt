@@ -37,8 +37,8 @@ pub(crate) fn add_faults_in_layer<'a, R: FeatureRule>(
     ensures gathers { OnOk result ((tile : TileRecord) (layer_record : LayerRecord)
         → slice_get tile.layers layer_index ≡ Some layer_record
         → Holds IsLayer part.entry layer_record
-        → AreGatheredTo R.IsBroken R.IsKept tile layer_index 0 faults.old.items
-        → AreGatheredTo R.IsBroken R.IsKept tile (layer_index + 1) 0 faults.new.items) }
+        → AreGatheredTo R.IsFree R.IsBroken R.IsKept tile layer_index 0 faults.old.items
+        → AreGatheredTo R.IsFree R.IsBroken R.IsKept tile (layer_index + 1) 0 faults.new.items) }
 {
     let before = faults.len();
     let most = part.to - part.from;
@@ -71,8 +71,8 @@ fn add_faults<'a, R: FeatureRule>(
     ensures gathers { IfOk result (λ scan. (tile : TileRecord) (layer_record : LayerRecord)
         → slice_get tile.layers layer_index ≡ Some layer_record
         → Holds IsLayer part.entry layer_record → IsLike keys values scan.needs layer_record
-        → AreGatheredTo R.IsBroken R.IsKept tile layer_index 0 faults.old.items
-        → AreGatheredTo R.IsBroken R.IsKept tile (layer_index + 1) 0 faults.new.items) }
+        → AreGatheredTo R.IsFree R.IsBroken R.IsKept tile layer_index 0 faults.old.items
+        → AreGatheredTo R.IsFree R.IsBroken R.IsKept tile (layer_index + 1) 0 faults.new.items) }
 {
     let mut summary = empty_summary();
     let mut needs = TagNeeds::none();

@@ -1,10 +1,10 @@
 //! The rules on a feature of a tile, which is read from its bytes.
 ghost use Rattle.std.specs.Prelude.{◌≡◌, ◌≤◌, ℕ, None, IfOk, IfNone, IfSome};
-ghost use Rattle.mvt_fault.specs.Place.{IsLeast};
 ghost use Rattle.mvt_fault.specs.declared.fault.Fault.{Fault};
 ghost use Rattle.mvt_wire.specs.Tile.{FeatureRecord, LayerRecord};
 ghost use Rattle.mvt_tile.specs.Calls.FeatureRules.{FindsInFeature};
 ghost use Rattle.mvt_tile.specs.FeatureBytes.{Shows};
+ghost use Rattle.mvt_tile.specs.FreeFaults.{IsLeastOr};
 ghost use Rattle.mvt_tile.specs.Calls.RuleFaults.{AreAfterTags, IsLike};
 
 use super::key_marks::KeyMarks;
@@ -19,11 +19,13 @@ use std::alloc::{AllocError, Global};
 pub trait FeatureRule {
     // the feature has this fault; the ordinals are those of its layer, and of the feature in it
     ghost IsBroken: { FeatureRecord → ℕ → ℕ → Fault → Type 0 };
+    // which faults may be found in place of a feature's first one
+    ghost IsFree: { Fault → Type 0 };
     // the feature keeps the rule
     ghost IsKept: { FeatureRecord → Type 0 };
 
-    /// Stores the first fault of a feature in `found`, which is None before. It stays None where
-    /// the feature has none, and then the feature keeps the rule. `layer_index` is the ordinal of
+    /// Stores the first fault of a feature in `found`, which is None before, or a free one. It stays
+    /// None where the feature has none, and then the feature keeps the rule. `layer_index` is the ordinal of
     /// its layer in the tile, and `feature_index` its own in the layer, both counted from 0, for
     /// the fault to name. The only error is that memory was refused.
     fn find_fault(
@@ -40,10 +42,10 @@ pub trait FeatureRule {
             → ¬ IsBroken feature_record layer_index feature_index fault)) }
         ensures kept { IfOk result (λ _. IfNone found.new ((feature_record : FeatureRecord)
             → Shows feature.now feature_record → IsKept feature_record)) }
-        ensures least { IfOk result (λ _.
+        ensures found { IfOk result (λ _.
             IfSome found.new (λ fault. (feature_record : FeatureRecord)
             → Shows feature.now feature_record
-            → IsLeast (IsBroken feature_record layer_index feature_index) fault)) };
+            → IsLeastOr IsFree (IsBroken feature_record layer_index feature_index) fault)) };
 }
 
 /// What serves one feature after another: memory, and marks of the keys of its tags.
@@ -64,8 +66,8 @@ impl FeatureRoom {
     }
 }
 
-/// Stores the first fault of a feature in `found`, which is None before and stays so where the
-/// feature has none: that of its tags, in a layer of so many keys and values, comes before the
+/// Stores the first fault of a feature in `found`, or a free one. It is None before and stays so where
+/// the feature has none: that of its tags, in a layer of so many keys and values, comes before the
 /// further rule. Adds what the tags need. The only error is that memory was refused.
 pub(crate) fn find_in_feature<R: FeatureRule>(
     rule: &mut R,
@@ -84,7 +86,7 @@ pub(crate) fn find_in_feature<R: FeatureRule>(
     ensures no_fewer_values { needs.old.values ≤ needs.new.values }
     ensures finds { IfOk result (λ _. (layer_record : LayerRecord) (feature_record : FeatureRecord)
         → Shows feature.now feature_record → IsLike keys values needs.new layer_record
-        → FindsInFeature R.IsBroken R.IsKept layer_record feature_record layer_index feature_index
+        → FindsInFeature R.IsFree R.IsBroken R.IsKept layer_record feature_record layer_index feature_index
         found.new) }
 {
     if feature.has_no_tag() {

@@ -47,7 +47,7 @@ pub(crate) fn check_layer<'a, R: FeatureRule>(
     ensures kept { IfOk result (λ _. is_some found.old ≡ true → found.new ≡ found.old) }
     ensures finds { IfOk result (λ _. is_some found.old ≡ false → (layer_record : LayerRecord)
         → Holds IsLayer part.entry layer_record
-        → FindsInLayer R.IsBroken R.IsKept layer_record layer_index found.new) }
+        → FindsInLayer R.IsFree R.IsBroken R.IsKept layer_record layer_index found.new) }
 {
     let before = found.is_some();
     let most = part.to - part.from;
@@ -81,7 +81,7 @@ fn scan_layer<'a, R: FeatureRule>(
     ensures kept { IfOk result (λ _. is_some found.old ≡ true → found.new ≡ found.old) }
     ensures finds { IfOk result (λ scan. is_some found.old ≡ false → (layer_record : LayerRecord)
         → Holds IsLayer part.entry layer_record → IsLike keys values scan.needs layer_record
-        → FindsInLayer R.IsBroken R.IsKept layer_record layer_index found.new) }
+        → FindsInLayer R.IsFree R.IsBroken R.IsKept layer_record layer_index found.new) }
 {
     let mut summary = empty_summary();
     let mut needs = TagNeeds::none();

@@ -20,6 +20,8 @@ impl FeatureRule for TypesAreKnown {
     ghost IsBroken = { λ it layer feature fault. (it.kind ≡ 0)
         × (fault ≡ Fault.Command CommandCode.OtherCommand layer feature 0) };
 
+    ghost IsFree = { λ fault. ⊥ };
+
     ghost IsKept = { λ it. it.kind ≢ 0 };
 
     fn find_fault(

@@ -10,8 +10,8 @@ pub returns-clause-each_is_true : goal.returns-clause-each_is_true
 returns-clause-each_is_true c =
     IfOk-weaker c.list_faults.result _ _ (λ faults list. each_is_true c.args.search c.args.profile c.args.bytes.now faults.items list) c.list_faults.ensures
 
-pub returns-clause-first_is_least : goal.returns-clause-first_is_least
-returns-clause-first_is_least c =
+pub returns-clause-first_is_verdict : goal.returns-clause-first_is_verdict
+returns-clause-first_is_verdict c =
     IfOk-weaker c.list_faults.result _ _ (λ faults list. first_of_list c.args.search c.args.profile c.args.bytes.now faults.items list) c.list_faults.ensures
 
 pub returns-clause-wire_fault_alone : goal.returns-clause-wire_fault_alone

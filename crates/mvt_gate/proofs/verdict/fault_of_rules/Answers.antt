@@ -9,7 +9,7 @@ pub rule_fault-requires-in-Feature-clause-after_tags : goal.rule_fault-requires-
 rule_fault-requires-in-Feature-clause-after_tags c = after_tags Feature
 
 pub returns-in-Polygon-clause-least : goal.returns-in-Polygon-clause-least
-returns-in-Polygon-clause-least c = rw c.in-Polygon.is c.rule_fault.ensures.least
+returns-in-Polygon-clause-least c = rw c.in-Polygon.is (c.rule_fault.ensures.least (λ fault free. free))
 
 pub returns-in-Feature-clause-least : goal.returns-in-Feature-clause-least
-returns-in-Feature-clause-least c = rw c.in-Feature.is c.rule_fault-in-Feature.ensures.least
+returns-in-Feature-clause-least c = rw c.in-Feature.is (c.rule_fault-in-Feature.ensures.least (λ fault free. free))

@@ -6,7 +6,6 @@ use Rattle.mvt_polygon.specs.Polygons.{ArePolygons}
 use Rattle.mvt_polygon.specs.Rings.{rings_of}
 use Rattle.mvt_polygon.specs.declared.feature.FeatureFault.{FeatureFault}
 use Rattle.mvt_status.specs.Counts.{bits, raised}
-use Rattle.mvt_polygon.proofs.Features.FaultsIf.{answer_of}
 use Rattle.mvt_polygon.proofs.Features.PartedAnswers.{alone_sweeps, one_answer, one_vertices, if_ok, if_ok_none}
 use Rattle.mvt_polygon.proofs.feature.check_feature.Goals as goal
 
@@ -16,7 +15,7 @@ returns-then-len-eq1-clause-answer c =
     let polygons = c.deref.result.now in
     let listed : ArePolygons rings polygons = subst (ArePolygons rings) (sym c.deref.ensures.value) c.in_ok-polygons.ensures in
     let one : length polygons ≡ 1 = omega (arith, c.deref.ensures.len, c.len.ensures, c.if-len-eq1.true) in
-    if_ok c.fault_alone.result (IsAloneAnswer rings polygons (false ∷ [])) (IsFeatureAnswer rings) (λ found own. answer_of (Unit {0}) rings found tt (one_answer (Unit {0}) rings polygons found c.requires.sound listed one own)) c.fault_alone.ensures.answer
+    if_ok c.fault_alone.result (IsAloneAnswer rings polygons (false ∷ [])) (IsFeatureAnswer rings) (λ found own. one_answer rings polygons found c.requires.sound listed one own) c.fault_alone.ensures.answer
 
 pub returns-then-len-eq1-clause-counted : goal.returns-then-len-eq1-clause-counted
 returns-then-len-eq1-clause-counted c =

@@ -5,8 +5,8 @@ use Rattle.mvt_polygon.specs.Feature.{AddsSweeps}
 use Rattle.mvt_polygon.specs.Calls.Gathered.{gathered_rings, fault_moved}
 use Rattle.mvt_polygon.specs.Rings.{rings_of}
 use Rattle.mvt_status.specs.Counts.{bits, raised}
-use Rattle.mvt_polygon.proofs.Features.FaultsIf.{answer_if, answer_of}
-use Rattle.mvt_polygon.proofs.Features.PartedAnswers.{both_none, if_none, alone_sweeps, all_able, all_drawn, both_sweeps, both_counted, both_apart, both_found, both_least, all_within, both_answer}
+use Rattle.mvt_polygon.proofs.Features.PartedAnswers.{both_none, if_none, alone_sweeps, all_able, all_drawn, both_sweeps, both_counted, both_apart, both_found, both_least, all_within, both_answer, some_sweeps}
+use Rattle.mvt_polygon.proofs.Features.QuickAnswers.{quick_of_exact}
 use Rattle.mvt_polygon.proofs.feature.check_parted.Goals as goal
 
 pub returns-in_err-alone-clause-counted : goal.returns-in_err-alone-clause-counted
@@ -99,7 +99,7 @@ in_feature-requires c =
     let all = rings_of c.deref.result.now in
     let gathered : all ≡ gathered_rings rings polygons marks (length polygons) = ap rings_of c.deref.ensures.value ∙ c.in_ok-gathered.ensures.rings in
     all_within rings polygons marks c.requires.sound c.requires.listed all gathered c.requires.marked c.in_ok-gathered.gathered.ring_of.items c.in_ok-gathered.gathered.polygon_of.items c.in_ok-gathered.ensures.places c.in_ok-gathered.ensures.numbers
-    (Unit {0}) c.in_ok-found.found (answer_if (Unit {0}) all c.in_ok-found.found tt c.in_ok-found.ensures.answer)
+    c.in_ok-found.found (quick_of_exact all c.in_ok-found.found c.in_ok-found.ensures.answer)
 
 pub returns-clause-answer : goal.returns-clause-answer
 returns-clause-answer c =
@@ -108,9 +108,8 @@ returns-clause-answer c =
     let marks = c.args.crowded.now in
     let all = rings_of c.deref.result.now in
     let gathered : all ≡ gathered_rings rings polygons marks (length polygons) = ap rings_of c.deref.ensures.value ∙ c.in_ok-gathered.ensures.rings in
-    answer_of (Unit {0}) rings c.first_of.result tt
-    (both_answer rings polygons marks c.requires.sound c.requires.listed all gathered c.requires.marked c.in_ok-gathered.gathered.ring_of.items c.in_ok-gathered.gathered.polygon_of.items c.in_ok-gathered.ensures.places c.in_ok-gathered.ensures.numbers
-    (Unit {0}) c.in_ok-alone.alone c.in_ok-found.found c.in_feature.result c.first_of.result c.in_ok-alone.ensures.answer (answer_if (Unit {0}) all c.in_ok-found.found tt c.in_ok-found.ensures.answer) c.in_feature.ensures c.first_of.ensures)
+    both_answer rings polygons marks c.requires.sound c.requires.listed all gathered c.requires.marked c.in_ok-gathered.gathered.ring_of.items c.in_ok-gathered.gathered.polygon_of.items c.in_ok-gathered.ensures.places c.in_ok-gathered.ensures.numbers
+    c.in_ok-alone.alone c.in_ok-found.found c.in_feature.result c.first_of.result c.in_ok-alone.ensures.answer c.in_ok-found.ensures.answer c.in_feature.ensures c.first_of.ensures
 
 pub returns-clause-valid : goal.returns-clause-valid
 returns-clause-valid c =
@@ -153,5 +152,5 @@ returns-clause-found c =
     let all = rings_of c.deref.result.now in
     let gathered : all ≡ gathered_rings rings polygons marks (length polygons) = ap rings_of c.deref.ensures.value ∙ c.in_ok-gathered.ensures.rings in
     both_found rings polygons marks c.requires.sound c.requires.listed all gathered c.requires.marked c.in_ok-gathered.gathered.ring_of.items c.in_ok-gathered.gathered.polygon_of.items c.in_ok-gathered.ensures.places c.in_ok-gathered.ensures.numbers
-    (Unit {0}) c.in_ok-alone.alone c.in_ok-found.found c.in_feature.result c.first_of.result c.args.count.now c.fault_alone.new.count c.check_together.new.count (answer_if (Unit {0}) all c.in_ok-found.found tt c.in_ok-found.ensures.answer) c.in_feature.ensures c.first_of.ensures
-    c.fault_alone.ensures.counted c.check_together.ensures.counted c.in_ok-alone.ensures.found c.in_ok-found.ensures.found
+    (bits (length polygons) + 2) c.in_ok-alone.alone c.in_ok-found.found c.in_feature.result c.first_of.result c.args.count.now c.fault_alone.new.count c.check_together.new.count (quick_of_exact all c.in_ok-found.found c.in_ok-found.ensures.answer) c.in_feature.ensures c.first_of.ensures
+    c.fault_alone.ensures.counted (some_sweeps rings polygons marks c.requires.sound c.requires.listed all gathered c.fault_alone.new.count c.check_together.new.count c.check_together.ensures.counted) c.in_ok-alone.ensures.found c.in_ok-found.ensures.found

@@ -12,18 +12,18 @@ rings_fault-requires c =
     let it = c.geometry.ensures.shows.0 in
     (it.geometry, subst (λ (rings : List (List Position)). HasRings (type_number polygon) it.geometry rings) (sym c.rings.ensures) (c.in-Ok.ensures.rings it.geometry (c.geometry.ensures.all it c.geometry.ensures.shows.1)))
 
-pub returns-in-Ok-clause-least : goal.returns-in-Ok-clause-least
-returns-in-Ok-clause-least c =
+pub returns-in-Ok-clause-found : goal.returns-in-Ok-clause-found
+returns-in-Ok-clause-found c =
     least_by_rings c.args.search c.args.profile c.rings_fault.result (Shows c.args.feature.now) (rings_of c.rings.result.now) c.draw.new.self c.args.layer c.args.ordinal c.rings.ensures c.requires
-    (λ it shows. c.in-Ok.ensures.rings it.geometry (c.geometry.ensures.all it shows)) c.rings_fault.ensures.least
+    (λ it shows. c.in-Ok.ensures.rings it.geometry (c.geometry.ensures.all it shows)) c.rings_fault.ensures.found
 
 pub returns-in-Ok-clause-kept : goal.returns-in-Ok-clause-kept
 returns-in-Ok-clause-kept c =
     valid_by_rings c.args.search c.args.profile c.rings_fault.result (Shows c.args.feature.now) (rings_of c.rings.result.now) c.draw.new.self c.rings.ensures c.requires
     (λ it shows. c.in-Ok.ensures.rings it.geometry (c.geometry.ensures.all it shows)) c.rings_fault.ensures.valid
 
-pub returns-in-Err-Command-clause-least : goal.returns-in-Err-Command-clause-least
-returns-in-Err-Command-clause-least c =
+pub returns-in-Err-Command-clause-found : goal.returns-in-Err-Command-clause-found
+returns-in-Err-Command-clause-found c =
     rw (c.in-Err-Command.code-is, c.in-Err-Command.index-is)
     (λ it shows.
     least_by_commands c.args.search c.args.profile it (type_number polygon) c.in-Err-Command.code c.in-Err-Command.index c.args.layer c.args.ordinal (c.requires it shows)

@@ -1,23 +1,24 @@
 use Rattle.std.proofs.Common.{ℕ, sym, subst}
+use Rattle.mvt_confirm.proofs.Validity.ValidParts.{geometry_kept}
 use Rattle.mvt_confirm.specs.Valid.{IsValidGeometryBy}
 use Rattle.mvt_plane.specs.FeatureGeometry.{HasFigure}
 use Rattle.mvt_tile.specs.FeatureBytes.{Shows}
 use Rattle.mvt_tile.specs.View.{kind_number}
 use Rattle.mvt_wire.proofs.NothingFound.{IfNone-any}
 use Rattle.mvt_wire.specs.Tile.{FeatureRecord}
-use Rattle.mvt_gate.proofs.FeatureGeometries.{kept_for, least_by_commands, other_kind, valid_by_figure}
+use Rattle.mvt_gate.proofs.FeatureGeometries.{least_by_commands, other_kind, valid_by_figure}
 use Rattle.mvt_gate.proofs.geometry.GeometryRule.find_fault_by.Goals as goal
 
 pub returns-in_default-2-clause-none : goal.returns-in_default-2-clause-none
 returns-in_default-2-clause-none c =
     let kept = rw c.in_default-2.is at c.in_ok-fault-in-Polygon.ensures.kept in
-    IfNone-any c.args.found.now (λ it shows fault. kept_for c.args.search c.args.profile it c.args.layer c.args.ordinal fault (kept it shows))
+    IfNone-any c.args.found.now (λ it shows fault. geometry_kept c.args.profile it c.args.layer c.args.ordinal fault (kept it shows))
 
 pub returns-in-Some-command_fault : goal.returns-in-Some-command_fault
 returns-in-Some-command_fault c = record {
   none = tt;
   kept = tt;
-  least = λ it shows.
+  found = λ it shows.
       least_by_commands c.args.search c.args.profile it (kind_number c.kind.result) c.in-Some-command_fault.code c.in-Some-command_fault.index c.args.layer c.args.ordinal (sym (c.kind.ensures it shows))
       (c.in-Some-command_fault.ensures.fault it.geometry (c.geometry.ensures.all it shows));
 }
@@ -28,7 +29,7 @@ returns-in_default-command_fault c =
     valid_by_figure c.args.profile it (other_kind c.kind.result it c.in_default.not-Polygon (c.kind.ensures it shows))
     (subst (λ (n : ℕ). HasFigure n it.geometry) (c.kind.ensures it shows) (c.in_default-command_fault.ensures.figure it.geometry (c.geometry.ensures.all it shows))) in
     record {
-      none = IfNone-any c.args.found.now (λ it shows fault. kept_for c.args.search c.args.profile it c.args.layer c.args.ordinal fault (valid it shows));
+      none = IfNone-any c.args.found.now (λ it shows fault. geometry_kept c.args.profile it c.args.layer c.args.ordinal fault (valid it shows));
       kept = IfNone-any c.args.found.now valid;
-      least = rw c.requires tt;
+      found = rw c.requires tt;
     }

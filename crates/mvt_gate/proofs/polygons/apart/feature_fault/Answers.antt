@@ -1,8 +1,7 @@
 use Rattle.std.proofs.Common.{sym, subst}
 use Rattle.mvt_fault.specs.declared.profile.Profile.TheVariants.{Feature}
 use Rattle.mvt_polygon.specs.Rings.{rings_of}
-use Rattle.mvt_gate.proofs.FeatureFaults.{reportable_of_found}
-use Rattle.mvt_gate.proofs.FeatureSearches.{CountFor, first_for, least_for, valid_for}
+use Rattle.mvt_gate.proofs.FeatureSearches.{least_for, reportable_for, valid_for}
 use Rattle.mvt_gate.specs.Calls.Polygons.{IsFeatureAnswerFor, IsFirstOfRingsFor}
 use Rattle.mvt_gate.proofs.polygons.apart.feature_fault.Goals as goal
 
@@ -14,11 +13,10 @@ returns-in_default-clause-valid c =
 pub cause_fault-requires : goal.cause_fault-requires
 cause_fault-requires c =
     let answer = subst (IsFeatureAnswerFor c.args.search (rings_of c.args.rings.now)) c.in-Some.is c.in_ok-found.ensures in
-    reportable_of_found (CountFor c.args.search (rings_of c.args.rings.now)) (rings_of c.args.rings.now) c.args.layer c.args.feature c.in-Some.found
-    (first_for c.args.search (rings_of c.args.rings.now) c.in-Some.found answer)
+    reportable_for c.args.search (rings_of c.args.rings.now) c.args.layer c.args.feature c.in-Some.found answer
 
-pub returns-clause-least : goal.returns-clause-least
-returns-clause-least c =
+pub returns-clause-found : goal.returns-clause-found
+returns-clause-found c =
     let answer = subst (IsFeatureAnswerFor c.args.search (rings_of c.args.rings.now)) c.in-Some.is c.in_ok-found.ensures in
     subst (IsFirstOfRingsFor c.args.search Feature (rings_of c.args.rings.now) c.args.layer c.args.feature) (sym c.cause_fault.ensures)
     (least_for c.args.search (rings_of c.args.rings.now) c.args.layer c.args.feature c.in-Some.found c.requires.sound answer)

@@ -1,4 +1,4 @@
-use Rattle.std.proofs.Common.{◌≡◌, ℕ, ◌+◌, ◌≤◌, false, [], ◌∷◌, length, Option, IfNone, IfOk, sym, subst, arith}
+use Rattle.std.proofs.Common.{◌≡◌, ℕ, ◌≤◌, false, [], ◌∷◌, length, Option, IfNone, IfOk, sym, subst, arith}
 use Rattle.mvt_polygon.specs.Calls.Alone.{IsAloneAnswer}
 use Rattle.mvt_polygon.specs.Work.{vertex_count}
 use Rattle.mvt_polygon.specs.Feature.{AddsSweeps}
@@ -6,9 +6,9 @@ use Rattle.mvt_polygon.specs.Polygons.{ArePolygons}
 use Rattle.mvt_polygon.specs.QuickFeature.{IsQuickAnswer}
 use Rattle.mvt_polygon.specs.Rings.{rings_of}
 use Rattle.mvt_polygon.specs.declared.feature.FeatureFault.{FeatureFault}
-use Rattle.mvt_status.specs.Counts.{bits, raised}
+use Rattle.mvt_status.specs.Counts.{raised}
 use Rattle.mvt_polygon.proofs.Features.PartedAnswers.{alone_sweeps, one_vertices, if_ok, if_ok_none}
-use Rattle.mvt_polygon.proofs.Features.QuickAnswers.{quick_alone, quick_result, with_no_others}
+use Rattle.mvt_polygon.proofs.Features.QuickAnswers.{quick_alone, together_result}
 use Rattle.mvt_polygon.proofs.feature.quickly.check_feature_quickly.Goals as goal
 
 pub returns-then-len-eq1-clause-answer : goal.returns-then-len-eq1-clause-answer
@@ -24,14 +24,7 @@ returns-then-len-eq1-clause-counted c =
     let rings = rings_of c.args.rings.now in
     let polygons = c.deref.result.now in
     let listed : ArePolygons rings polygons = subst (ArePolygons rings) (sym c.deref.ensures.value) c.in_ok-polygons.ensures in
-    λ many few. alone_sweeps rings polygons (false ∷ []) c.requires.sound listed (bits many + 2) c.args.count.now c.fault_alone.new.count (omega arith) c.fault_alone.ensures.counted
-
-pub returns-then-len-eq1-clause-apart : goal.returns-then-len-eq1-clause-apart
-returns-then-len-eq1-clause-apart c =
-    let rings = rings_of c.args.rings.now in
-    let polygons = c.deref.result.now in
-    let listed : ArePolygons rings polygons = subst (ArePolygons rings) (sym c.deref.ensures.value) c.in_ok-polygons.ensures in
-    λ none. alone_sweeps rings polygons (false ∷ []) c.requires.sound listed 2 c.args.count.now c.fault_alone.new.count (omega arith) c.fault_alone.ensures.counted
+    alone_sweeps rings polygons (false ∷ []) c.requires.sound listed 2 c.args.count.now c.fault_alone.new.count (omega arith) c.fault_alone.ensures.counted
 
 pub returns-then-len-eq1-clause-valid : goal.returns-then-len-eq1-clause-valid
 returns-then-len-eq1-clause-valid c =
@@ -51,8 +44,4 @@ returns-then-len-eq1-clause-least c =
     (one_vertices rings polygons c.requires.sound listed one) c.fault_alone.ensures.least
 
 pub returns-then-are_all-clause-answer : goal.returns-then-are_all-clause-answer
-returns-then-are_all-clause-answer c = quick_result (rings_of c.args.rings.now) c.check_together_quickly.result c.check_together_quickly.ensures.clear c.check_together_quickly.ensures.answer
-
-pub returns-then-are_all-clause-valid : goal.returns-then-are_all-clause-valid
-returns-then-are_all-clause-valid c =
-    with_no_others (AddsSweeps 1 (vertex_count (rings_of c.args.rings.now)) c.args.count.now c.check_together_quickly.new.count) c.check_together_quickly.result c.check_together_quickly.ensures.valid
+returns-then-are_all-clause-answer c = together_result (rings_of c.args.rings.now) c.check_together_quickly.result c.check_together_quickly.ensures.answer

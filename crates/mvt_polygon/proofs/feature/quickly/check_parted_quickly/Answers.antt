@@ -1,41 +1,27 @@
-use Rattle.std.proofs.Common.{◌≡◌, ◌+◌, ◌≤◌, false, length, ◌∙◌, ap, arith}
+use Rattle.std.proofs.Common.{◌≡◌, ◌≤◌, length, ◌∙◌, ap, arith}
 use Rattle.mvt_polygon.specs.Calls.Alone.{earlier_of, vertices_alone}
 use Rattle.mvt_polygon.specs.Work.{vertex_count}
 use Rattle.mvt_polygon.specs.Feature.{AddsSweeps}
 use Rattle.mvt_polygon.specs.Calls.Gathered.{gathered_rings, fault_moved}
 use Rattle.mvt_polygon.specs.Rings.{rings_of}
-use Rattle.mvt_status.specs.Counts.{bits, raised}
-use Rattle.mvt_polygon.proofs.Features.PartedAnswers.{both_none, alone_sweeps, all_able, all_drawn, both_sweeps, both_counted, both_apart, both_found, both_least, all_within}
-use Rattle.mvt_polygon.proofs.Features.QuickAnswers.{NoneMeets, quick_of_both}
+use Rattle.mvt_status.specs.Counts.{raised}
+use Rattle.mvt_polygon.proofs.Features.PartedAnswers.{both_none, if_none, alone_sweeps, all_able, all_drawn, both_sweeps, both_found, both_least, all_within, moved_found}
+use Rattle.mvt_polygon.proofs.Features.QuickAnswers.{not_none, quick_of_both, quick_of_meeting, quick_of_together}
 use Rattle.mvt_polygon.proofs.feature.quickly.check_parted_quickly.Goals as goal
 
-pub returns-in_err-own-clause-counted : goal.returns-in_err-own-clause-counted
-returns-in_err-own-clause-counted c =
+pub returns-in_err-alone-clause-counted : goal.returns-in_err-alone-clause-counted
+returns-in_err-alone-clause-counted c =
     let rings = rings_of c.args.rings.now in
     let polygons = c.args.polygons.now in
     let marks = c.args.crowded.now in
-    λ many few. alone_sweeps rings polygons marks c.requires.sound c.requires.listed (bits many + 2) c.args.count.now c.own_faults.new.count (omega arith) c.own_faults.ensures.counted
-
-pub returns-in_err-own-clause-apart : goal.returns-in_err-own-clause-apart
-returns-in_err-own-clause-apart c =
-    let rings = rings_of c.args.rings.now in
-    let polygons = c.args.polygons.now in
-    let marks = c.args.crowded.now in
-    λ none. alone_sweeps rings polygons marks c.requires.sound c.requires.listed 2 c.args.count.now c.own_faults.new.count (omega arith) c.own_faults.ensures.counted
+    alone_sweeps rings polygons marks c.requires.sound c.requires.listed 2 c.args.count.now c.fault_alone.new.count (omega arith) c.fault_alone.ensures.counted
 
 pub returns-in_err-gathered-clause-counted : goal.returns-in_err-gathered-clause-counted
 returns-in_err-gathered-clause-counted c =
     let rings = rings_of c.args.rings.now in
     let polygons = c.args.polygons.now in
     let marks = c.args.crowded.now in
-    λ many few. alone_sweeps rings polygons marks c.requires.sound c.requires.listed (bits many + 2) c.args.count.now c.own_faults.new.count (omega arith) c.own_faults.ensures.counted
-
-pub returns-in_err-gathered-clause-apart : goal.returns-in_err-gathered-clause-apart
-returns-in_err-gathered-clause-apart c =
-    let rings = rings_of c.args.rings.now in
-    let polygons = c.args.polygons.now in
-    let marks = c.args.crowded.now in
-    λ none. alone_sweeps rings polygons marks c.requires.sound c.requires.listed 2 c.args.count.now c.own_faults.new.count (omega arith) c.own_faults.ensures.counted
+    alone_sweeps rings polygons marks c.requires.sound c.requires.listed 2 c.args.count.now c.fault_alone.new.count (omega arith) c.fault_alone.ensures.counted
 
 pub check_together_quickly-requires-clause-sound : goal.check_together_quickly-requires-clause-sound
 check_together_quickly-requires-clause-sound c =
@@ -62,44 +48,60 @@ returns-in_err-found-clause-counted c =
     let marks = c.args.crowded.now in
     let all = rings_of c.deref.result.now in
     let gathered : all ≡ gathered_rings rings polygons marks (length polygons) = ap rings_of c.deref.ensures.value ∙ c.in_ok-gathered.ensures.rings in
-    both_counted rings polygons marks c.requires.sound c.requires.listed all gathered c.args.count.now c.own_faults.new.count c.check_together_quickly.new.count c.own_faults.ensures.counted c.check_together_quickly.ensures.counted
+    both_sweeps rings polygons marks c.requires.sound c.requires.listed all gathered 2 c.args.count.now c.fault_alone.new.count c.check_together_quickly.new.count (omega arith) c.fault_alone.ensures.counted c.check_together_quickly.ensures.counted
 
-pub returns-in_err-found-clause-apart : goal.returns-in_err-found-clause-apart
-returns-in_err-found-clause-apart c =
-    let rings = rings_of c.args.rings.now in
-    let polygons = c.args.polygons.now in
-    let marks = c.args.crowded.now in
-    let all = rings_of c.deref.result.now in
-    let gathered : all ≡ gathered_rings rings polygons marks (length polygons) = ap rings_of c.deref.ensures.value ∙ c.in_ok-gathered.ensures.rings in
-    both_apart rings polygons marks c.requires.sound c.requires.listed all gathered c.args.count.now c.own_faults.new.count c.check_together_quickly.new.count c.own_faults.ensures.counted c.check_together_quickly.ensures.apart
-
-pub returns-clause-counted : goal.returns-clause-counted
-returns-clause-counted c =
-    let rings = rings_of c.args.rings.now in
-    let polygons = c.args.polygons.now in
-    let marks = c.args.crowded.now in
-    let all = rings_of c.deref.result.now in
-    let gathered : all ≡ gathered_rings rings polygons marks (length polygons) = ap rings_of c.deref.ensures.value ∙ c.in_ok-gathered.ensures.rings in
-    both_counted rings polygons marks c.requires.sound c.requires.listed all gathered c.args.count.now c.own_faults.new.count c.check_together_quickly.new.count c.own_faults.ensures.counted c.check_together_quickly.ensures.counted
-
-pub returns-clause-apart : goal.returns-clause-apart
-returns-clause-apart c =
-    let rings = rings_of c.args.rings.now in
-    let polygons = c.args.polygons.now in
-    let marks = c.args.crowded.now in
-    let all = rings_of c.deref.result.now in
-    let gathered : all ≡ gathered_rings rings polygons marks (length polygons) = ap rings_of c.deref.ensures.value ∙ c.in_ok-gathered.ensures.rings in
-    both_apart rings polygons marks c.requires.sound c.requires.listed all gathered c.args.count.now c.own_faults.new.count c.check_together_quickly.new.count c.own_faults.ensures.counted c.check_together_quickly.ensures.apart
-
-pub in_feature-requires : goal.in_feature-requires
-in_feature-requires c =
+pub in_feature-other-requires : goal.in_feature-other-requires
+in_feature-other-requires c =
     let rings = rings_of c.args.rings.now in
     let polygons = c.args.polygons.now in
     let marks = c.args.crowded.now in
     let all = rings_of c.deref.result.now in
     let gathered : all ≡ gathered_rings rings polygons marks (length polygons) = ap rings_of c.deref.ensures.value ∙ c.in_ok-gathered.ensures.rings in
     all_within rings polygons marks c.requires.sound c.requires.listed all gathered c.requires.marked c.in_ok-gathered.gathered.ring_of.items c.in_ok-gathered.gathered.polygon_of.items c.in_ok-gathered.ensures.places c.in_ok-gathered.ensures.numbers
-    (NoneMeets all c.in_ok-own.own.meets) c.in_ok-found.found c.in_ok-found.ensures.answer
+    c.in_ok-found.found (quick_of_together all c.in_ok-found.found c.in_ok-found.ensures.answer)
+
+pub returns-then-is_meeting-clause-answer : goal.returns-then-is_meeting-clause-answer
+returns-then-is_meeting-clause-answer c =
+    let rings = rings_of c.args.rings.now in
+    let polygons = c.args.polygons.now in
+    let marks = c.args.crowded.now in
+    let all = rings_of c.deref.result.now in
+    let gathered : all ≡ gathered_rings rings polygons marks (length polygons) = ap rings_of c.deref.ensures.value ∙ c.in_ok-gathered.ensures.rings in
+    quick_of_meeting rings polygons marks c.requires.sound c.requires.listed c.requires.marked all gathered c.in_ok-gathered.gathered.ring_of.items c.in_ok-gathered.gathered.polygon_of.items c.in_ok-gathered.ensures.places c.in_ok-gathered.ensures.numbers
+    c.in_ok-found.found c.in_feature-other.result c.in_ok-found.ensures.answer c.in_feature-other.ensures (c.is_meeting.ensures.0 c.if-is_meeting.true)
+
+pub returns-then-is_meeting-clause-counted : goal.returns-then-is_meeting-clause-counted
+returns-then-is_meeting-clause-counted c =
+    let rings = rings_of c.args.rings.now in
+    let polygons = c.args.polygons.now in
+    let marks = c.args.crowded.now in
+    let all = rings_of c.deref.result.now in
+    let gathered : all ≡ gathered_rings rings polygons marks (length polygons) = ap rings_of c.deref.ensures.value ∙ c.in_ok-gathered.ensures.rings in
+    both_sweeps rings polygons marks c.requires.sound c.requires.listed all gathered 2 c.args.count.now c.fault_alone.new.count c.check_together_quickly.new.count (omega arith) c.fault_alone.ensures.counted c.check_together_quickly.ensures.counted
+
+pub returns-then-is_meeting-clause-valid : goal.returns-then-is_meeting-clause-valid
+returns-then-is_meeting-clause-valid c =
+    let rings = rings_of c.args.rings.now in
+    let polygons = c.args.polygons.now in
+    let marks = c.args.crowded.now in
+    not_none c.in_feature-other.result (AddsSweeps 1 (vertex_count rings) c.args.count.now c.check_together_quickly.new.count) (c.is_meeting.ensures.0 c.if-is_meeting.true)
+
+pub returns-then-is_meeting-clause-least : goal.returns-then-is_meeting-clause-least
+returns-then-is_meeting-clause-least c =
+    let rings = rings_of c.args.rings.now in
+    let polygons = c.args.polygons.now in
+    let marks = c.args.crowded.now in
+    not_none c.in_feature-other.result (raised (vertex_count rings) c.args.count.now.probes ≤ c.check_together_quickly.new.count.probes) (c.is_meeting.ensures.0 c.if-is_meeting.true)
+
+pub returns-then-is_meeting-clause-found : goal.returns-then-is_meeting-clause-found
+returns-then-is_meeting-clause-found c =
+    let rings = rings_of c.args.rings.now in
+    let polygons = c.args.polygons.now in
+    let marks = c.args.crowded.now in
+    let all = rings_of c.deref.result.now in
+    let gathered : all ≡ gathered_rings rings polygons marks (length polygons) = ap rings_of c.deref.ensures.value ∙ c.in_ok-gathered.ensures.rings in
+    moved_found rings polygons marks c.requires.sound c.requires.listed all gathered c.requires.marked c.in_ok-gathered.gathered.ring_of.items c.in_ok-gathered.gathered.polygon_of.items c.in_ok-gathered.ensures.places c.in_ok-gathered.ensures.numbers
+    c.in_ok-found.found c.in_feature-other.result c.args.count.now c.fault_alone.new.count c.check_together_quickly.new.count (quick_of_together all c.in_ok-found.found c.in_ok-found.ensures.answer) c.in_feature-other.ensures c.fault_alone.ensures.counted c.in_ok-found.ensures.found
 
 pub returns-clause-answer : goal.returns-clause-answer
 returns-clause-answer c =
@@ -109,8 +111,16 @@ returns-clause-answer c =
     let all = rings_of c.deref.result.now in
     let gathered : all ≡ gathered_rings rings polygons marks (length polygons) = ap rings_of c.deref.ensures.value ∙ c.in_ok-gathered.ensures.rings in
     quick_of_both rings polygons marks c.requires.sound c.requires.listed c.requires.marked all gathered c.in_ok-gathered.gathered.ring_of.items c.in_ok-gathered.gathered.polygon_of.items c.in_ok-gathered.ensures.places c.in_ok-gathered.ensures.numbers
-    c.in_ok-own.own.meets c.in_ok-own.own.first c.in_ok-found.found c.in_feature.result c.first_of.result c.in_ok-own.ensures.clear c.in_ok-own.ensures.meets c.in_ok-own.ensures.none c.in_ok-found.ensures.clear
-    c.in_ok-own.ensures.first c.in_ok-found.ensures.answer c.in_feature.ensures c.first_of.ensures
+    c.in_ok-alone.alone c.in_ok-found.found c.in_feature-other.result c.first_of.result c.in_ok-alone.ensures.answer c.in_ok-found.ensures.answer c.in_feature-other.ensures (λ of. let is = c.is_meeting.ensures.1 of in let not = c.if-is_meeting.false in absurd (cc)) c.first_of.ensures
+
+pub returns-clause-counted : goal.returns-clause-counted
+returns-clause-counted c =
+    let rings = rings_of c.args.rings.now in
+    let polygons = c.args.polygons.now in
+    let marks = c.args.crowded.now in
+    let all = rings_of c.deref.result.now in
+    let gathered : all ≡ gathered_rings rings polygons marks (length polygons) = ap rings_of c.deref.ensures.value ∙ c.in_ok-gathered.ensures.rings in
+    both_sweeps rings polygons marks c.requires.sound c.requires.listed all gathered 2 c.args.count.now c.fault_alone.new.count c.check_together_quickly.new.count (omega arith) c.fault_alone.ensures.counted c.check_together_quickly.ensures.counted
 
 pub returns-clause-valid : goal.returns-clause-valid
 returns-clause-valid c =
@@ -121,14 +131,13 @@ returns-clause-valid c =
     let gathered : all ≡ gathered_rings rings polygons marks (length polygons) = ap rings_of c.deref.ensures.value ∙ c.in_ok-gathered.ensures.rings in
     let moved = fault_moved polygons c.in_ok-gathered.gathered.ring_of.items c.in_ok-gathered.gathered.polygon_of.items in
     let start = c.args.count.now in
-    let between = c.own_faults.new.count in
+    let between = c.fault_alone.new.count in
     let after = c.check_together_quickly.new.count in
     let own = vertices_alone rings polygons marks (length polygons) in
-    let clear = c.in_ok-own.own.meets ≡ false in
-    both_none clear (clear → AddsSweeps 1 (vertex_count all) between after) (AddsSweeps 1 (vertex_count rings) start after) c.in_ok-own.own.first c.in_ok-found.found moved c.first_of.result
-    (c.first_of.ensures ∙ ap (earlier_of c.in_ok-own.own.first) c.in_feature.ensures)
-    c.in_ok-own.ensures.none c.in_ok-found.ensures.valid
-    (λ no work. both_sweeps rings polygons marks c.requires.sound c.requires.listed all gathered 1 start between after (omega arith) c.own_faults.ensures.counted (work no))
+    both_none (AddsSweeps 1 own start between) (AddsSweeps 1 (vertex_count all) between after) (AddsSweeps 1 (vertex_count rings) start after) c.in_ok-alone.alone c.in_ok-found.found moved c.first_of.result
+    (c.first_of.ensures ∙ ap (earlier_of c.in_ok-alone.alone) c.in_feature-other.ensures)
+    (if_none (AddsSweeps 1 own start between) c.in_ok-alone.alone c.fault_alone.ensures.counted) c.in_ok-found.ensures.valid
+    (both_sweeps rings polygons marks c.requires.sound c.requires.listed all gathered 1 start between after (omega arith))
 
 pub returns-clause-least : goal.returns-clause-least
 returns-clause-least c =
@@ -139,11 +148,11 @@ returns-clause-least c =
     let gathered : all ≡ gathered_rings rings polygons marks (length polygons) = ap rings_of c.deref.ensures.value ∙ c.in_ok-gathered.ensures.rings in
     let moved = fault_moved polygons c.in_ok-gathered.gathered.ring_of.items c.in_ok-gathered.gathered.polygon_of.items in
     let start = c.args.count.now in
-    let between = c.own_faults.new.count in
+    let between = c.fault_alone.new.count in
     let after = c.check_together_quickly.new.count in
     let own = vertices_alone rings polygons marks (length polygons) in
-    both_none (raised own start.probes ≤ between.probes) (raised (vertex_count all) between.probes ≤ after.probes) (raised (vertex_count rings) start.probes ≤ after.probes) c.in_ok-own.own.first c.in_ok-found.found moved c.first_of.result
-    (c.first_of.ensures ∙ ap (earlier_of c.in_ok-own.own.first) c.in_feature.ensures) c.in_ok-own.ensures.least c.in_ok-found.ensures.least
+    both_none (raised own start.probes ≤ between.probes) (raised (vertex_count all) between.probes ≤ after.probes) (raised (vertex_count rings) start.probes ≤ after.probes) c.in_ok-alone.alone c.in_ok-found.found moved c.first_of.result
+    (c.first_of.ensures ∙ ap (earlier_of c.in_ok-alone.alone) c.in_feature-other.ensures) c.in_ok-alone.ensures.least c.in_ok-found.ensures.least
     (both_least rings polygons marks c.requires.sound c.requires.listed all gathered start between after)
 
 pub returns-clause-found : goal.returns-clause-found
@@ -154,5 +163,5 @@ returns-clause-found c =
     let all = rings_of c.deref.result.now in
     let gathered : all ≡ gathered_rings rings polygons marks (length polygons) = ap rings_of c.deref.ensures.value ∙ c.in_ok-gathered.ensures.rings in
     both_found rings polygons marks c.requires.sound c.requires.listed all gathered c.requires.marked c.in_ok-gathered.gathered.ring_of.items c.in_ok-gathered.gathered.polygon_of.items c.in_ok-gathered.ensures.places c.in_ok-gathered.ensures.numbers
-    (NoneMeets all c.in_ok-own.own.meets) c.in_ok-own.own.first c.in_ok-found.found c.in_feature.result c.first_of.result c.args.count.now c.own_faults.new.count c.check_together_quickly.new.count c.in_ok-found.ensures.answer c.in_feature.ensures c.first_of.ensures
-    c.own_faults.ensures.counted c.check_together_quickly.ensures.counted c.in_ok-own.ensures.found c.in_ok-found.ensures.found
+    2 c.in_ok-alone.alone c.in_ok-found.found c.in_feature-other.result c.first_of.result c.args.count.now c.fault_alone.new.count c.check_together_quickly.new.count (quick_of_together all c.in_ok-found.found c.in_ok-found.ensures.answer) c.in_feature-other.ensures c.first_of.ensures
+    c.fault_alone.ensures.counted c.check_together_quickly.ensures.counted c.in_ok-alone.ensures.found c.in_ok-found.ensures.found

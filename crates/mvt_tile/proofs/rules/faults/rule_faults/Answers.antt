@@ -24,6 +24,6 @@ returns over c = λ tile is.
     let all = c.append.new.self.items in
     let count : c.len-count.result ≡ length layers = omega (arith, c.len-count.ensures, c.in_ok-of_layers.of_layers.ok.0) in
     let list : c.rotate_right.new.self.items ≡ layers ++ features = c.rotate_right.ensures.items ∙ turned features layers all _ c.len-count.result c.in_ok-append.ensures.items c.append.new.self.ok.0 count in
-    subst (AreFirstFaults over.R.FeatureRule.IsBroken over.R.FeatureRule.IsKept tile) (sym list)
-    (first_faults_joined over.R.FeatureRule.IsBroken over.R.FeatureRule.IsKept tile c.requires.after_tags layers features
+    subst (AreFirstFaults over.R.FeatureRule.IsFree over.R.FeatureRule.IsBroken over.R.FeatureRule.IsKept tile) (sym list)
+    (first_faults_joined over.R.FeatureRule.IsFree over.R.FeatureRule.IsBroken over.R.FeatureRule.IsKept tile c.requires.after_tags layers features
     (c.in_ok-of_layers.ensures tile summaries) (c.in_ok-walk_all_layers.ensures.gathers tile is))

@@ -17,7 +17,7 @@ walk-init over c = record {
   passed = CleanWalk-nothing c.new-fields.ensures;
   size = ap length c.requires.no_layer;
   each = λ tile is layer summary there. absurd (let none = ap (λ (list : List LayerSummary). slice_get list layer) (sym c.requires.no_layer) ∙ there in cc);
-  gathered = λ tile is. subst (AreGatheredTo over.R.FeatureRule.IsBroken over.R.FeatureRule.IsKept tile 0 0) (sym c.requires.no_fault) (gathered_none over.R.FeatureRule.IsBroken over.R.FeatureRule.IsKept tile);
+  gathered = λ tile is. subst (AreGatheredTo over.R.FeatureRule.IsFree over.R.FeatureRule.IsBroken over.R.FeatureRule.IsKept tile 0 0) (sym c.requires.no_fault) (gathered_none over.R.FeatureRule.IsFree over.R.FeatureRule.IsBroken over.R.FeatureRule.IsKept tile);
 }
 
 pub next_whole-requires : goal.next_whole-requires
@@ -80,4 +80,4 @@ returns-clause-summaries over c = λ tile is. record {
 
 pub returns-clause-gathers : goal.returns-clause-gathers
 returns-clause-gathers over c = λ tile is.
-    subst (λ (n : ℕ). AreGatheredTo over.R.FeatureRule.IsBroken over.R.FeatureRule.IsKept tile n 0 c.walk.faults.items) (all_layers c.walk.invariant.passed c.in_default.ensures.over tile is) (c.walk.invariant.gathered tile is)
+    subst (λ (n : ℕ). AreGatheredTo over.R.FeatureRule.IsFree over.R.FeatureRule.IsBroken over.R.FeatureRule.IsKept tile n 0 c.walk.faults.items) (all_layers c.walk.invariant.passed c.in_default.ensures.over tile is) (c.walk.invariant.gathered tile is)

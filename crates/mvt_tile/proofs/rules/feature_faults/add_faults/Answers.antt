@@ -89,7 +89,7 @@ walk-preserved-then-field-eq-FEATURES over c =
       features = CleanWalk-more so_far.features given c.if-field-eq-FEATURES.true _ c.payload_span-from.ensures tt;
       own = so_far.own ++ more.0;
       added = longer ∙ more.1 ∙ ap (λ (list : List Fault). list ++ more.0) so_far.added ∙ append_assoc c.args.faults.now.items so_far.own more.0;
-      gathers = Gathers-more over.R.FeatureRule.IsBroken over.R.FeatureRule.IsKept c.requires.after_tags c.args.part.bytes.now (record { from = c.args.part.from; to = c.args.part.to })
+      gathers = Gathers-more over.R.FeatureRule.IsFree over.R.FeatureRule.IsBroken over.R.FeatureRule.IsKept c.requires.after_tags c.args.part.bytes.now (record { from = c.args.part.from; to = c.args.part.to })
           c.args.layer_index c.args.keys c.args.values c.args.faults.now.items so_far.features given c.if-field-eq-FEATURES.true _ c.payload_span-from.ensures
           c.walk.needs c.find_in_feature.new.needs c.find_in_feature.ensures.no_fewer_keys c.find_in_feature.ensures.no_fewer_values
           (Shows c.new-feature.result) c.new-feature.ensures faults so_far.gathers c.find_in_feature.new.found
@@ -123,5 +123,5 @@ returns-clause-added over c = (c.walk.invariant.own, c.walk.invariant.added)
 
 pub returns-clause-gathers : goal.returns-clause-gathers
 returns-clause-gathers over c =
-    Gathers-all over.R.FeatureRule.IsBroken over.R.FeatureRule.IsKept c.requires.after_tags c.args.part.bytes.now (record { from = c.args.part.from; to = c.args.part.to }) c.args.layer_index c.args.keys c.args.values c.args.faults.now.items
+    Gathers-all over.R.FeatureRule.IsFree over.R.FeatureRule.IsBroken over.R.FeatureRule.IsKept c.requires.after_tags c.args.part.bytes.now (record { from = c.args.part.from; to = c.args.part.to }) c.args.layer_index c.args.keys c.args.values c.args.faults.now.items
     c.walk.invariant.features c.in_default.ensures.over c.walk.needs c.walk.faults.items c.walk.invariant.gathers

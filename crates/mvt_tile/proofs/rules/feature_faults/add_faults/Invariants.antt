@@ -5,7 +5,7 @@ use Rattle.mvt_tile.proofs.rules.feature_faults.add_faults.Given as goal
 -- the content of the fields that were passed, and the first faults of their features
 abbrev pub invariant-walk : goal.invariant-walk
 invariant-walk over l =
-    IsGatherScan over.R.FeatureRule.IsBroken over.R.FeatureRule.IsKept l.part.bytes.now (record { from = l.part.from; to = l.part.to }) l.layer_index l.keys l.values l.fn.faults.items l.summary l.needs l.faults.items l.fields l.feature_index
+    IsGatherScan over.R.FeatureRule.IsFree over.R.FeatureRule.IsBroken over.R.FeatureRule.IsKept l.part.bytes.now (record { from = l.part.from; to = l.part.to }) l.layer_index l.keys l.values l.fn.faults.items l.summary l.needs l.faults.items l.fields l.feature_index
 
 abbrev pub decreases-walk : goal.decreases-walk
 decreases-walk over l = length l.fields.bytes - l.fields.at

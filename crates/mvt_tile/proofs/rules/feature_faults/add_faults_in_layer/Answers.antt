@@ -21,4 +21,4 @@ returns-clause-gathers over c = λ tile layer_record in_tile is in_front.
     ∙ ap (λ (n : ℕ). take n (old ++ own)) size ∙ take-append_seam old own in
     let sum = c.in_ok-scan.ensures.summary layer_record is in
     c.in_ok-add_faults.ensures.gathers tile layer_record in_tile is (inl (sum.keys, sum.values))
-    (subst (AreGatheredTo over.R.FeatureRule.IsBroken over.R.FeatureRule.IsKept tile c.args.layer_index 0) (sym back) in_front)
+    (subst (AreGatheredTo over.R.FeatureRule.IsFree over.R.FeatureRule.IsBroken over.R.FeatureRule.IsKept tile c.args.layer_index 0) (sym back) in_front)

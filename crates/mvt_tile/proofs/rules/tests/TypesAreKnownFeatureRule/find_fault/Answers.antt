@@ -4,6 +4,7 @@ use Rattle.mvt_fault.specs.Place.{place_of}
 use Rattle.mvt_fault.specs.declared.command.CommandCode.TheVariants.{OtherCommand}
 use Rattle.mvt_fault.specs.declared.fault.Fault.TheVariants.{Command}
 use Rattle.mvt_fault.proofs.Places.{ComesFirst-reflexive}
+use Rattle.mvt_tile.specs.FreeFaults.{of_least}
 use Rattle.mvt_tile.specs.View.{kind_number}
 use Rattle.mvt_tile.specs.declared.record.Kind.{Kind}
 use Rattle.mvt_tile.specs.declared.record.Kind.TheVariants.{Unknown, Point, LineString, Polygon}
@@ -16,13 +17,13 @@ known_number Point known = λ same. absurd (omega arith)
 known_number LineString known = λ same. absurd (omega arith)
 known_number Polygon known = λ same. absurd (omega arith)
 
-pub returns-in-Unknown-clause-least : goal.returns-in-Unknown-clause-least
-returns-in-Unknown-clause-least c =
-    rw c.command.ensures (λ it shows. record { holds = (sym (c.kind.ensures it shows) ∙ ap kind_number c.in-Unknown.is, refl); least = λ other broken. rw broken.1 (ComesFirst-reflexive (place_of (Command OtherCommand c.args.layer_index c.args.feature_index 0))) })
+pub returns-in-Unknown-clause-found : goal.returns-in-Unknown-clause-found
+returns-in-Unknown-clause-found c =
+    rw c.command.ensures (λ it shows. of_least (record { holds = (sym (c.kind.ensures it shows) ∙ ap kind_number c.in-Unknown.is, refl); least = λ other broken. rw broken.1 (ComesFirst-reflexive (place_of (Command OtherCommand c.args.layer_index c.args.feature_index 0))) }))
 
 pub returns-in_default : goal.returns-in_default
 returns-in_default c = record {
   none = IfNone-any c.args.found.now (λ it shows fault broken. known_number c.kind.result c.in_default.not-Unknown (c.kind.ensures it shows ∙ broken.0));
   kept = IfNone-any c.args.found.now (λ it shows unknown. known_number c.kind.result c.in_default.not-Unknown (c.kind.ensures it shows ∙ unknown));
-  least = rw c.requires tt;
+  found = rw c.requires tt;
 }
