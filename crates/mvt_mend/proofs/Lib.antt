@@ -1,0 +1,5 @@
+pub mod DrawnSteps
+pub mod KeptPolygons
+pub mod NearRings
+pub mod PolygonLists
+pub mod RightPolygons

@@ -1,0 +1,4 @@
+-- Definitions that only state contracts of private functions. No public contract rests on them.
+pub mod Close
+pub mod Judged
+pub mod Pen

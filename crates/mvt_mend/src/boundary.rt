@@ -1,0 +1,46 @@
+//! The boundary of what is filled: edges with what is filled on their left, and the rings along
+//! them.
+
+mod exteriors;
+mod links;
+mod merging;
+mod rings;
+
+use crate::segment::HalfEdge;
+pub(crate) use links::{Links, Spoke, Touch, links_of};
+pub(crate) use merging::merged;
+use mvt_plane::{Point, sweep_key};
+pub(crate) use rings::{BoundaryRing, Traced, polygons_of, trace};
+
+/// The number of no edge, and of no ring.
+pub(crate) const NO_NUMBER: u32 = u32::MAX;
+
+/// The order of edges: by the keys of their ends, first the one where they begin.
+pub(crate) fn order_of(edge: &HalfEdge) -> (i64, i64) {
+    (sweep_key(edge.from), sweep_key(edge.to))
+}
+
+/// The number of the first of these edges, which are in their order, that begins at no lesser key.
+pub(crate) fn first_from(edges: &[HalfEdge], key: i64) -> usize {
+    edges.partition_point(|edge| sweep_key(edge.from) < key)
+}
+
+/// Whether one of these edges, which are in their order, begins at a position.
+pub(crate) fn is_vertex(edges: &[HalfEdge], position: Point) -> bool {
+    match edges.get(first_from(edges, sweep_key(position))) {
+        Some(edge) => edge.from == position,
+        None => false,
+    }
+}
+
+/// The number of the edge from one position to another among these edges, which are in their order.
+pub(crate) fn number_of(edges: &[HalfEdge], from: Point, to: Point) -> Option<usize> {
+    let wanted = (sweep_key(from), sweep_key(to));
+    let at = edges.partition_point(|edge| order_of(edge) < wanted);
+    let edge = edges.get(at)?;
+    if edge.from == from && edge.to == to {
+        Some(at)
+    } else {
+        None
+    }
+}

@@ -1,0 +1,110 @@
+//! Which polygons keep all rules by themselves.
+ghost use Rattle.std.specs.Prelude.{◌<◌, ◌≤◌, ◌↔◌, IfOk, IsTrue, length, slice_range};
+ghost use Rattle.mvt_mend.specs.Calls.Judged.{AreJudged, IsProperRing, IsRightMark};
+ghost use Rattle.mvt_polygon.specs.Polygons.{ArePolygons};
+ghost use Rattle.mvt_polygon.specs.Rings.{rings_of, AreProperRings};
+
+use crate::kept::is_same_position;
+use crate::near::edge_at;
+use mvt_plane::{Count, Point};
+use mvt_polygon::{FeatureCause, check_feature, check_polygon, check_rings};
+use std::alloc::{AllocError, Global};
+
+/// Of each polygon whether it keeps all rules by itself.
+pub(super) fn marks_of(
+    alloc: Global,
+    rings: &[Vec<Point>],
+    polygons: &[(usize, usize)],
+) -> Result<Vec<bool>, AllocError>
+    requires { ArePolygons (rings_of rings.now) polygons.now }
+    ensures { IfOk result (λ right. AreJudged (rings_of rings.now) polygons.now right.items) }
+{
+    let mut right = Vec::with_capacity(alloc, polygons.len())?;
+    for polygon in 0..polygons.len() {
+        let (exterior, after) = polygons[polygon];
+        right.push(is_right(alloc, rings, exterior, after)?)?;
+    }
+    Ok(right)
+}
+
+/// Whether the polygon of these rings keeps all rules by itself.
+fn is_right(
+    alloc: Global,
+    rings: &[Vec<Point>],
+    exterior: usize,
+    after: usize,
+) -> Result<bool, AllocError>
+    requires in_order { exterior < after }
+    requires within { after ≤ length rings.now }
+    ensures { IfOk result (IsRightMark (slice_range rings.now exterior after)) }
+{
+    are_right(alloc, &rings[exterior..after])
+}
+
+/// Whether the rings are those of one polygon that keeps all rules: three vertices or more each,
+/// none at the position of the next one, and no fault of rings or of the polygon. The only error is
+/// that memory was refused.
+pub(crate) fn are_right(alloc: Global, rings: &[Vec<Point>]) -> Result<bool, AllocError>
+    ensures { IfOk result (IsRightMark rings.now) }
+{
+    if !are_proper(rings) {
+        return Ok(false);
+    }
+    if let Some(_fault) = check_rings(rings) {
+        return Ok(false);
+    }
+    match check_polygon(alloc, rings, &mut Count::new())? {
+        Some(_fault) => Ok(false),
+        None => Ok(true),
+    }
+}
+
+/// Whether the rings are those of polygons of which none crosses, touches or lies in another. The
+/// only error is that memory was refused.
+pub(crate) fn are_feature_right(alloc: Global, rings: &[Vec<Point>]) -> Result<bool, AllocError> {
+    if !are_proper(rings) {
+        return Ok(false);
+    }
+    if let Some(_fault) = check_rings(rings) {
+        return Ok(false);
+    }
+    match check_feature(alloc, rings, &mut Count::new())? {
+        Some(fault) => Ok(!is_cause(fault.cause)),
+        None => Ok(true),
+    }
+}
+
+/// Whether it is the cause of a fault of a feature, as each is.
+fn is_cause(cause: FeatureCause) -> bool {
+    match cause {
+        FeatureCause::Meeting(_) | FeatureCause::Nesting(_) | FeatureCause::Apart(_) => true,
+    }
+}
+
+/// Whether each ring has three vertices or more, and none is at the position of the next one.
+fn are_proper(rings: &[Vec<Point>]) -> bool
+    ensures { IsTrue result ↔ AreProperRings (rings_of rings.now) }
+{
+    for ring in 0..rings.len() {
+        if !is_proper(&rings[ring]) {
+            return false;
+        }
+    }
+    true
+}
+
+/// The same of one ring.
+fn is_proper(ring: &[Point]) -> bool
+    ensures { IsTrue result ↔ IsProperRing ring.now }
+{
+    if ring.len() < 3 {
+        return false;
+    }
+    for vertex in 0..ring.len() {
+        let edge = edge_at(ring, vertex);
+        if is_same_position(edge.a, edge.b) {
+            return false;
+        }
+    }
+    true
+}

@@ -1,0 +1,117 @@
+//! From the rings of a feature to rings that keep a profile.
+ghost use Rattle.std.specs.Prelude.{◌≡◌, ◌≤◌, IfOk, IfSome, IsTrue};
+ghost use Rattle.mvt_fault.specs.declared.profile.Profile.TheVariants.{Polygon};
+ghost use Rattle.mvt_mend.specs.Calls.Judged.{AreJudged};
+ghost use Rattle.mvt_mend.specs.Kept.{AreKept, BeginWithExterior};
+ghost use Rattle.mvt_mend.specs.Near.{AreNear};
+ghost use Rattle.mvt_polygon.specs.Rings.{rings_of};
+
+mod arranged;
+mod drafts;
+mod filled;
+mod old;
+mod proposal;
+mod segments;
+mod starts;
+#[cfg(test)]
+mod tests;
+
+use crate::kept::{Judged, are_kept, begin_with_hole, judge};
+use crate::near::are_near;
+use crate::near::edges::OldEdges;
+use crate::work::Work;
+use mvt_fault::Profile;
+use mvt_plane::Point;
+use old::Old;
+use proposal::{Proposal, propose};
+use std::alloc::{AllocError, Global};
+
+/// Rings in place of those of a feature, and what was done.
+#[derive(Drop)]
+pub struct MendedRings {
+    /// The rings, of each polygon the exterior first.
+    pub rings: Vec<Vec<Point>>,
+    /// How many crossings of edges were rounded to a position.
+    pub crossings: u64,
+    /// How many corners were cut.
+    pub cuts: u64,
+}
+
+/// Rings in place of these, which are meant to keep the profile, or None where none were found
+/// within the work, or where nothing has an area. Each of their vertices is within two units of an edge of the rings that were
+/// given. By the profile `polygon` the polygons that keep all rules are still there, in their
+/// order, unless the first ring that has an area is a hole. The only error is that memory was
+/// refused.
+pub fn mend_rings(
+    alloc: Global,
+    profile: Profile,
+    rings: &[Vec<Point>],
+    work: &mut Work,
+) -> Result<Option<MendedRings>, AllocError>
+    ensures near { IfOk result (λ found. IfSome found (λ mended.
+        AreNear (rings_of rings.now) (rings_of mended.rings.items))) }
+    ensures kept { IfOk result (λ found. IfSome found (λ mended.
+        profile ≡ Polygon → BeginWithExterior (rings_of rings.now)
+        → AreKept (rings_of rings.now) (rings_of mended.rings.items))) }
+    ensures no_more { work.new ≤ work.old }
+{
+    // (where many features follow one that took all, each would cost a sort)
+    if work.left() == 0 {
+        return Ok(None);
+    }
+    let judged = judge(alloc, rings)?;
+    let edges = OldEdges::of(alloc, rings)?;
+    let old = Old {
+        rings,
+        edges: &edges,
+    };
+    let Some(proposal) = propose_within(alloc, profile, old, &judged, work)? else {
+        return Ok(None);
+    };
+    if proposal.rings.is_empty() {
+        return Ok(None);
+    }
+    let hints = proposal.hints(alloc)?;
+    if !are_near(rings, &edges, &hints, &proposal.rings, work) {
+        return Ok(None);
+    }
+    if !keeps_right(alloc, profile, rings, &judged, &proposal.rings)? {
+        return Ok(None);
+    }
+    Ok(Some(proposal.mended()))
+}
+
+/// What `propose` answers. There is no more work left afterwards than before.
+fn propose_within(
+    alloc: Global,
+    profile: Profile,
+    old: Old,
+    judged: &Judged,
+    work: &mut Work,
+) -> Result<Option<Proposal>, AllocError>
+    ensures { work.new ≤ work.old }
+{
+    let mut own = Work::new(work.left());
+    let found = propose(alloc, profile, old, judged, &mut own);
+    work.lower(own.left());
+    found
+}
+
+/// Whether the polygons that are right are still there, where the profile asks for that and areas
+/// tell which rings are exteriors.
+fn keeps_right(
+    alloc: Global,
+    profile: Profile,
+    old: &[Vec<Point>],
+    judged: &Judged,
+    new: &[Vec<Point>],
+) -> Result<bool, AllocError>
+    requires { AreJudged (rings_of old.now) judged.now.polygons.items judged.now.right.items }
+    ensures { IfOk result (λ keeps. IsTrue keeps → profile ≡ Polygon
+        → BeginWithExterior (rings_of old.now) → AreKept (rings_of old.now) (rings_of new.now)) }
+{
+    if profile == Profile::Feature || begin_with_hole(old) {
+        return Ok(true);
+    }
+    are_kept(alloc, old, judged, new)
+}

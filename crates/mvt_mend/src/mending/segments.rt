@@ -1,0 +1,162 @@
+//! The edges of polygons as segments.
+
+use crate::mending::drafts::Drafts;
+use crate::mending::old::Old;
+use crate::near::edges::{NO_EDGE, short};
+use crate::segment::{HalfEdge, Segment, Winding};
+use mvt_plane::{Point, sweep_key, twice_area};
+use std::alloc::{AllocError, Global};
+
+/// What the winding gains from the right to the left of an edge with something filled on its left.
+const FILLED_ON_THE_LEFT: Winding = Winding {
+    exterior: 1,
+    holes: 0,
+};
+
+/// The segments of one polygon: its exterior's edges, and those of its holes, each of which is
+/// counted as if it went round the other way where its area is negative. The `source` of each is
+/// the number of its ring.
+pub(super) fn segments_of_polygon(
+    alloc: Global,
+    polygon: &[Vec<Point>],
+    old: Old,
+) -> Result<Vec<Segment>, AllocError> {
+    let mut segments = Vec::new(alloc);
+    for (number, ring) in polygon.iter().enumerate() {
+        let gain = gain_of_ring(number == 0, ring);
+        add_ring(&mut segments, ring, gain, short(number), old)?;
+    }
+    Ok(segments)
+}
+
+/// What the winding gains across an edge of a ring, from its right to its left.
+fn gain_of_ring(is_exterior: bool, ring: &[Point]) -> Winding {
+    if is_exterior {
+        FILLED_ON_THE_LEFT
+    } else if twice_area(ring) < 0 {
+        Winding {
+            exterior: 0,
+            holes: -1,
+        }
+    } else {
+        Winding {
+            exterior: 0,
+            holes: 1,
+        }
+    }
+}
+
+/// The segments of polygons that keep all rules by themselves, whose rings follow one another. The
+/// `source` of each is the number of its polygon.
+pub(super) fn segments_of_right(
+    alloc: Global,
+    rings: &[Vec<Point>],
+    old: Old,
+) -> Result<Vec<Segment>, AllocError> {
+    let mut segments = Vec::new(alloc);
+    let mut exteriors = 0u32;
+    for ring in rings {
+        if twice_area(ring) > 0 {
+            exteriors = exteriors.saturating_add(1);
+        }
+        add_ring(&mut segments, ring, FILLED_ON_THE_LEFT, exteriors, old)?;
+    }
+    Ok(segments)
+}
+
+/// The segments around what drafts fill: the edges of those that are right, and of each other one
+/// those that were found. The `source` of each is the number of its draft.
+pub(super) fn segments_of_drafts(
+    alloc: Global,
+    drafts: &Drafts,
+    filled: &[Vec<HalfEdge>],
+    old: Old,
+) -> Result<Vec<Segment>, AllocError> {
+    let mut segments = Vec::new(alloc);
+    for (number, polygon) in drafts.polygons.iter().enumerate() {
+        if drafts.is_right(number) {
+            add_rings(&mut segments, polygon, short(number), old)?;
+        } else if let Some(edges) = filled.get(number) {
+            add_edges(&mut segments, edges)?;
+        }
+    }
+    Ok(segments)
+}
+
+/// Adds the edges of the rings of a polygon that keeps all rules.
+fn add_rings(
+    segments: &mut Vec<Segment>,
+    rings: &[Vec<Point>],
+    source: u32,
+    old: Old,
+) -> Result<(), AllocError> {
+    for ring in rings {
+        add_ring(segments, ring, FILLED_ON_THE_LEFT, source, old)?;
+    }
+    Ok(())
+}
+
+/// Adds edges whose left side is filled.
+fn add_edges(segments: &mut Vec<Segment>, edges: &[HalfEdge]) -> Result<(), AllocError> {
+    for edge in edges {
+        let HalfEdge {
+            from,
+            to,
+            source,
+            witness,
+        } = *edge;
+        if let Some(segment) = segment_along(from, to, FILLED_ON_THE_LEFT, source, witness) {
+            segments.push(segment)?;
+        }
+    }
+    Ok(())
+}
+
+/// Adds the edges of a ring, with the old edges that they are.
+fn add_ring(
+    segments: &mut Vec<Segment>,
+    ring: &[Point],
+    gain: Winding,
+    source: u32,
+    old: Old,
+) -> Result<(), AllocError> {
+    let Some(last) = ring.last() else {
+        return Ok(());
+    };
+    let mut from = *last;
+    let mut witness = NO_EDGE;
+    for to in ring {
+        witness = old.edges.number_of(old.rings, from, *to, witness);
+        if let Some(segment) = segment_along(from, *to, gain, source, witness) {
+            segments.push(segment)?;
+        }
+        from = *to;
+    }
+    Ok(())
+}
+
+/// The segment of an edge that goes from one position to another, across which the winding gains so
+/// much from its right to its left. None where it has no length.
+fn segment_along(
+    from: Point,
+    to: Point,
+    gain: Winding,
+    source: u32,
+    witness: u32,
+) -> Option<Segment> {
+    if from == to {
+        return None;
+    }
+    let (a, b, gain) = if sweep_key(from) < sweep_key(to) {
+        (from, to, gain)
+    } else {
+        (to, from, gain.negated())
+    };
+    Some(Segment {
+        a,
+        b,
+        gain,
+        source,
+        witness,
+    })
+}

@@ -1,0 +1,182 @@
+//! The segments while they are split.
+ghost use Rattle.std.specs.Prelude.{◌<ℤ◌, All, IfOk, IsTrue};
+ghost use Rattle.mvt_plane.specs.Geometry.Measure.{key_of};
+
+use crate::noding::stop::Stop;
+use crate::segment::{Segment, Winding};
+use mvt_plane::{Point, sweep_key};
+use std::alloc::{AllocError, Global};
+use std::mem;
+
+/// The segments while they are split. Both lists are sorted by ends, and no two members of one have
+/// the same ends.
+#[derive(Drop)]
+pub(super) struct Pieces {
+    /// Those whose meetings are still to be found.
+    fresh: Vec<Segment>,
+    /// The others, no two of which meet but in an end of both.
+    settled: Vec<Segment>,
+}
+
+impl Pieces {
+    /// All of these, and all of them are fresh.
+    pub(super) fn of(alloc: Global, segments: Vec<Segment>) -> Pieces {
+        let mut fresh = segments;
+        for segment in fresh.iter_mut() {
+            *segment = between(segment, segment.a, segment.b);
+        }
+        merge(&mut fresh);
+        Pieces {
+            fresh,
+            settled: Vec::new(alloc),
+        }
+    }
+
+    /// Those whose meetings are still to be found. They are numbered from 0 on.
+    pub(super) fn fresh(&self) -> &[Segment] {
+        &self.fresh
+    }
+
+    /// The others. Their numbers follow.
+    pub(super) fn settled(&self) -> &[Segment] {
+        &self.settled
+    }
+
+    /// The one of this number.
+    #[inline]
+    pub(super) fn get(&self, number: u32) -> Option<&Segment> {
+        let number = number as usize;
+        match number.checked_sub(self.fresh.len()) {
+            None => self.fresh.get(number),
+            Some(number) => self.settled.get(number),
+        }
+    }
+
+    /// Takes the gain of the one of this number, and returns it as it was.
+    pub(super) fn take_gain(&mut self, number: u32) -> Option<Segment> {
+        let number = number as usize;
+        match number.checked_sub(self.fresh.len()) {
+            None => take_gain(&mut self.fresh, number),
+            Some(number) => take_gain(&mut self.settled, number),
+        }
+    }
+
+    /// Settles all that have a gain left, and adds these parts, which are fresh but where they are
+    /// equal to another.
+    pub(super) fn go_on_with(&mut self, parts: Vec<Segment>) -> Result<(), AllocError> {
+        let mut parts = parts;
+        merge(&mut parts);
+        self.settle()?;
+        parts.retain(|part| !absorbs(&mut self.settled, part));
+        self.settled.retain(has_gain);
+        self.fresh = parts;
+        Ok(())
+    }
+
+    /// Settles all that have a gain left.
+    fn settle(&mut self) -> Result<(), AllocError> {
+        self.fresh.retain(has_gain);
+        self.settled.retain(has_gain);
+        if self.settled.is_empty() {
+            mem::swap(&mut self.settled, &mut self.fresh);
+        }
+        self.settled.append(&mut self.fresh)?;
+        // (two sorted runs take the time of a merge)
+        self.settled.sort_by_key(keys)
+    }
+
+    /// All of them, sorted.
+    pub(super) fn into_segments(self) -> Result<Vec<Segment>, AllocError> {
+        let mut pieces = self;
+        pieces.settle()?;
+        Ok(pieces.settled)
+    }
+}
+
+/// The part of a segment from one position to another, which begins at the one of lesser key.
+#[inline]
+pub(super) fn between(segment: &Segment, from: Point, to: Point) -> Segment {
+    let (a, b, gain) = if sweep_key(from) <= sweep_key(to) {
+        (from, to, segment.gain)
+    } else {
+        (to, from, segment.gain.negated())
+    };
+    Segment {
+        a,
+        b,
+        gain,
+        source: segment.source,
+        witness: segment.witness,
+    }
+}
+
+/// Takes the gain of the segment at this place, and returns it as it was.
+fn take_gain(segments: &mut [Segment], place: usize) -> Option<Segment> {
+    let segment = segments.get_mut(place)?;
+    let was = *segment;
+    segment.gain = Winding::none();
+    Some(was)
+}
+
+/// By which segments are sorted.
+#[inline]
+fn keys(segment: &Segment) -> (i64, i64) {
+    (sweep_key(segment.a), sweep_key(segment.b))
+}
+
+/// Whether a segment isn't without effect.
+#[inline]
+fn has_gain(segment: &Segment) -> bool {
+    !segment.gain.is_none()
+}
+
+/// Sorts segments by their ends, adds up the gains of those that are equal, and leaves out those of
+/// no gain, or of no length.
+fn merge(segments: &mut Vec<Segment>) {
+    segments.sort_unstable_by_key(keys);
+    segments.dedup_by(|segment, before| absorb(before, segment));
+    segments.retain(|segment| has_gain(segment) && segment.a != segment.b);
+}
+
+/// Adds the gain of another segment to one if they have the same ends, and returns whether they do.
+fn absorb(segment: &mut Segment, other: &Segment) -> bool {
+    let is_same = segment.a == other.a && segment.b == other.b;
+    if is_same {
+        segment.gain = segment.gain.plus(other.gain);
+    }
+    is_same
+}
+
+/// Adds the gain of a segment to the one of the same ends, if there is one, and returns whether
+/// there is. They are sorted by ends.
+fn absorbs(segments: &mut Vec<Segment>, part: &Segment) -> bool {
+    let Ok(place) = segments.binary_search_by_key(&keys(part), keys) else {
+        return false;
+    };
+    match segments.get_mut(place) {
+        Some(segment) => absorb(segment, part),
+        None => false,
+    }
+}
+
+/// Segments that go from the end of lesser key to the other. (Those of pieces do.)
+pub(super) fn directed(segments: Vec<Segment>) -> Result<Vec<Segment>, Stop>
+    ensures { IfOk result (λ segments.
+        All (λ segment. key_of segment.a <ℤ key_of segment.b) segments.items) }
+{
+    if are_directed(&segments) {
+        Ok(segments)
+    } else {
+        Err(Stop::Work)
+    }
+}
+
+/// Whether each segment goes from the end of lesser key to the other.
+fn are_directed(segments: &[Segment]) -> bool
+    ensures { IsTrue result
+        → All (λ segment. key_of segment.a <ℤ key_of segment.b) segments.now }
+{
+    segments
+        .iter()
+        .all(|segment| sweep_key(segment.a) < sweep_key(segment.b))
+}

@@ -1,0 +1,117 @@
+//! Which ring is around another one, by tests of some of its positions.
+
+use crate::faces::stop::{Stop, spend};
+use crate::roles::nesting::NO_RING;
+use crate::work::Work;
+use mvt_plane::{Point, inside};
+use std::alloc::Global;
+
+/// So many positions of a ring are tested at most.
+const SAMPLES: usize = 8;
+
+/// The least and the greatest coordinates of a ring.
+#[derive(Clone, Copy)]
+struct Bounds {
+    left: i32,
+    low: i32,
+    right: i32,
+    high: i32,
+}
+
+impl Bounds {
+    /// Those of a ring.
+    fn of(ring: &[Point]) -> Bounds {
+        let mut bounds = Bounds {
+            left: i32::MAX,
+            low: i32::MAX,
+            right: i32::MIN,
+            high: i32::MIN,
+        };
+        for position in ring {
+            bounds.left = bounds.left.min(position.x());
+            bounds.low = bounds.low.min(position.y());
+            bounds.right = bounds.right.max(position.x());
+            bounds.high = bounds.high.max(position.y());
+        }
+        bounds
+    }
+
+    /// Whether the middle of others is within them.
+    fn contain_middle(&self, other: &Bounds) -> bool {
+        let x = (other.left / 2).wrapping_add(other.right / 2);
+        let y = (other.low / 2).wrapping_add(other.high / 2);
+        self.left <= x && x <= self.right && self.low <= y && y <= self.high
+    }
+}
+
+/// By the number of each ring, that of the first one after it in this order around it, or `NO_RING`.
+/// All tests are counted as work.
+pub(super) fn parents_by_tests(
+    alloc: Global,
+    rings: &[&[Point]],
+    order: &[u32],
+    work: &mut Work,
+) -> Result<Vec<u32>, Stop> {
+    let mut parents = vec![in alloc; NO_RING; rings.len()]?;
+    let mut bounds = Vec::with_capacity(alloc, rings.len())?;
+    for ring in rings {
+        bounds.push(Bounds::of(ring))?;
+    }
+    for at in 0..order.len() {
+        let found = parent_by_tests(rings, &bounds, &order[at..], work)?;
+        let parent = parents.get_mut(order[at] as usize);
+        *parent.ok_or(Stop::GaveUp)? = found;
+    }
+    Ok(parents)
+}
+
+/// The first ring around the first one of these.
+fn parent_by_tests(
+    rings: &[&[Point]],
+    bounds: &[Bounds],
+    order: &[u32],
+    work: &mut Work,
+) -> Result<u32, Stop> {
+    let Some((inner, others)) = order.split_first() else {
+        return Ok(NO_RING);
+    };
+    let inner = *inner as usize;
+    for outer in others {
+        spend(work, 1)?;
+        if may_be_around(bounds, inner, *outer as usize)
+            && is_around(rings, inner, *outer as usize, work)?
+        {
+            return Ok(*outer);
+        }
+    }
+    Ok(NO_RING)
+}
+
+/// Whether the middle of a ring is within the bounds of another one.
+fn may_be_around(bounds: &[Bounds], inner: usize, outer: usize) -> bool {
+    match (bounds.get(inner), bounds.get(outer)) {
+        (Some(inner), Some(outer)) => outer.contain_middle(inner),
+        _ => false,
+    }
+}
+
+/// Whether more than half of the tested positions of a ring are inside another one.
+fn is_around(
+    rings: &[&[Point]],
+    inner: usize,
+    outer: usize,
+    work: &mut Work,
+) -> Result<bool, Stop> {
+    let inner = rings.get(inner).ok_or(Stop::GaveUp)?;
+    let outer = rings.get(outer).ok_or(Stop::GaveUp)?;
+    spend(work, (outer.len() as u64).saturating_mul(SAMPLES as u64))?;
+    let mut inside_less_outside = 0_i32;
+    for sample in 0..SAMPLES {
+        let place = inner.len().saturating_mul(sample) / SAMPLES;
+        if let Some(position) = inner.get(place) {
+            let step = if inside(*position, outer) { 1 } else { -1 };
+            inside_less_outside = inside_less_outside.wrapping_add(step);
+        }
+    }
+    Ok(inside_less_outside > 0)
+}

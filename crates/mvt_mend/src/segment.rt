@@ -1,0 +1,79 @@
+//! Parts of the edges that mending works with.
+
+use mvt_plane::Point;
+
+/// How often the edges of a polygon go round a place, counterclockwise counted as positive in the
+/// orientation of `orient`: those of its exterior, and those of its holes, each hole turned so that
+/// its own area counts as positive. Where edges are those of several polygons together, all of them
+/// count as edges of an exterior.
+#[derive(Clone, Copy, Debug, PartialEq, Eq)]
+pub(crate) struct Winding {
+    pub(crate) exterior: i32,
+    pub(crate) holes: i32,
+}
+
+impl Winding {
+    /// Nothing goes round.
+    pub(crate) fn none() -> Winding {
+        Winding {
+            exterior: 0,
+            holes: 0,
+        }
+    }
+
+    /// Both together.
+    pub(crate) fn plus(self, other: Winding) -> Winding {
+        Winding {
+            exterior: self.exterior.wrapping_add(other.exterior),
+            holes: self.holes.wrapping_add(other.holes),
+        }
+    }
+
+    /// The same the other way round.
+    pub(crate) fn negated(self) -> Winding {
+        Winding {
+            exterior: self.exterior.wrapping_neg(),
+            holes: self.holes.wrapping_neg(),
+        }
+    }
+
+    /// Whether it is nothing.
+    pub(crate) fn is_none(self) -> bool {
+        self.exterior == 0 && self.holes == 0
+    }
+}
+
+/// A part of an edge, or several on one line, from the end of lesser key (`sweep_key`) to the other.
+#[derive(Clone, Copy, Debug, PartialEq, Eq)]
+pub(crate) struct Segment {
+    /// The end of lesser key.
+    pub(crate) a: Point,
+    /// The end of greater key.
+    pub(crate) b: Point,
+    /// What the winding gains from just below the segment to just above it.
+    pub(crate) gain: Winding,
+    /// The number of the ring, or of the polygon, that it comes of.
+    pub(crate) source: u32,
+    /// The number of the old edge that it comes of.
+    pub(crate) witness: u32,
+}
+
+/// An edge with what is filled on its left.
+#[derive(Clone, Copy, Debug, PartialEq, Eq)]
+pub(crate) struct HalfEdge {
+    pub(crate) from: Point,
+    pub(crate) to: Point,
+    /// As a segment's.
+    pub(crate) source: u32,
+    /// As a segment's.
+    pub(crate) witness: u32,
+}
+
+/// What mending did to a feature.
+#[derive(Clone, Copy, Debug, PartialEq, Eq)]
+pub(crate) struct Tally {
+    /// How many crossings of edges were rounded to a position.
+    pub(crate) crossings: u64,
+    /// How many corners were cut.
+    pub(crate) cuts: u64,
+}
