@@ -1,0 +1,3 @@
+pub mod Splicing
+pub mod SplicedExamples
+pub mod SplicedTiles

@@ -1,0 +1,5 @@
+pub mod Calls
+pub mod Examples
+pub mod FeatureFaults
+pub mod Splice
+pub mod SplicedTile

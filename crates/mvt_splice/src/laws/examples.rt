@@ -1,0 +1,31 @@
+//! What the definitions say of a known tile: each statement is one that a slip in a definition would
+//! make false.
+
+ghost use Rattle.std.specs.Prelude.{◌≡◌, ◌≢◌, ℕ, [], ◌∷◌, Vec};
+ghost use Rattle.std.specs.declared.alloc.Global.{Global};
+ghost use Rattle.mvt_confirm.specs.Valid.{ValidBy};
+ghost use Rattle.mvt_fault.specs.declared.profile.Profile.TheVariants.{Polygon};
+ghost use Rattle.mvt_splice.specs.Examples.{right_way, wrong_way, bytes_before, bytes_after, changes_to, feature_of, tile_of};
+ghost use Rattle.mvt_splice.specs.Splice.{fate_in, IsSpliced};
+ghost use Rattle.mvt_splice.specs.SplicedTile.{spliced_tile, IsValidOnceSpliced};
+ghost use Rattle.mvt_wire.specs.Tile.{IsTile};
+
+/// Of three features of a layer the first stays, the second is redrawn and the third is left out;
+/// the tile is valid afterwards.
+pub fn one_of_each_fate()
+    ensures before { IsTile bytes_before
+        (tile_of (feature_of right_way ∷ feature_of wrong_way ∷ feature_of wrong_way ∷ [])) }
+    ensures spliced { (numbers : Vec ℕ Global) → numbers.items ≡ right_way
+        → IsSpliced (changes_to numbers) bytes_before bytes_after }
+    ensures unspliced { (numbers : Vec ℕ Global) → numbers.items ≡ right_way
+        → ¬ IsSpliced (changes_to numbers) bytes_before bytes_before }
+    ensures left { (numbers : Vec ℕ Global) → numbers.items ≡ right_way →
+        spliced_tile (fate_in (changes_to numbers))
+        (tile_of (feature_of right_way ∷ feature_of wrong_way ∷ feature_of wrong_way ∷ []))
+        ≡ tile_of (feature_of right_way ∷ feature_of right_way ∷ []) }
+    ensures once { (numbers : Vec ℕ Global) → numbers.items ≡ right_way →
+        IsValidOnceSpliced Polygon (fate_in (changes_to numbers))
+        (tile_of (feature_of right_way ∷ feature_of wrong_way ∷ feature_of wrong_way ∷ [])) }
+    ensures valid { (numbers : Vec ℕ Global) → numbers.items ≡ right_way
+        → ValidBy Polygon bytes_after }
+{}
