@@ -1,0 +1,17 @@
+pub mod Fates
+pub mod FaultPlaces
+pub mod FeatureWalks
+pub mod FoundFeatures
+pub mod FoundWalks
+pub mod Lists
+pub mod MadeChanges
+pub mod MendableFaults
+pub mod MendedTiles
+pub mod MendingLaws
+pub mod NewGeometries
+pub mod OtherKinds
+pub mod PlacesFound
+pub mod Refusals
+pub mod ReportTexts
+pub mod Sums
+pub mod ValidFates

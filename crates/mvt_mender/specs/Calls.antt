@@ -1,0 +1,3 @@
+-- Definitions that only state contracts of private functions. No public contract rests on them.
+pub mod Features
+pub mod Steps

@@ -1,0 +1,11 @@
+pub use Rattle.mvt_mend.specs.Kept
+pub use Rattle.mvt_mend.specs.Loose
+pub use Rattle.mvt_mend.specs.Near
+pub use Rattle.mvt_splice.specs.Splice
+pub mod Calls
+pub mod Changed
+pub mod Measures
+pub mod Mendable
+pub mod Mending
+pub mod Report
+pub mod Stream
