@@ -8,8 +8,8 @@ const VERSION: &str = "0.1.0";
 /// What the help says of exit statuses.
 const STATUSES: &str = "\
 Exit status:
-  0  check: the tile is valid; confirm: the fault is confirmed; dump, fields: the tile is listed
-  1  check, dump, fields: the line is a fault; confirm: the fault is not confirmed
+  0  check: the tile is valid; confirm: the fault is confirmed; dump, fields: the tile is listed; mend: a valid tile is written
+  1  check, dump, fields: the line is a fault; confirm: the fault is not confirmed; mend: the line is the fault that stays, and no tile is written
   2  the words of the command line are no call of the program
   3  a file did not open, an input was not read, has more than 64 MiB or (with --not-empty) no byte, or the output failed
   4  out of memory
@@ -40,11 +40,19 @@ const ADVICE: &str =
 const NOT_EMPTY: &str =
     "Refuses an input of no bytes, which is a valid tile, and what a broken pipe may leave";
 
+/// What the help says of the flag that leaves features out.
+const DROP: &str = "Leaves out the features that cannot be mended";
+
+/// What the help says of the option that names a file for the line of `mend`.
+const REPORT: &str =
+    "The file for the line that tells what was changed; without it that goes to standard error";
+
 /// The program with its commands.
 pub fn command_line<'a>(alloc: Global) -> Result<Command<'a>, AllocError> {
     let command = program(alloc).subcommand(fields_command(alloc)?)?;
     let command = command.subcommand(check_command(alloc)?)?;
     let command = command.subcommand(dump_command(alloc)?)?;
+    let command = command.subcommand(mend_command(alloc)?)?;
     command.subcommand(confirm_command(alloc)?)
 }
 
@@ -74,6 +82,19 @@ fn check_command<'a>(alloc: Global) -> Result<Command<'a>, AllocError> {
 
 fn dump_command<'a>(alloc: Global) -> Result<Command<'a>, AllocError> {
     tile_command(alloc, "dump", "Lists what a tile holds")
+}
+
+/// The command that writes a tile.
+fn mend_command<'a>(alloc: Global) -> Result<Command<'a>, AllocError> {
+    let about =
+        "Writes a valid tile in place of one with wrong polygons, and tells what was changed";
+    let command = with_profile(alloc, tile_command(alloc, "mend", about)?)?;
+    let command = with_flag(alloc, command, "drop", DROP)?;
+    let report = Arg::new(alloc, "report")
+        .long("report")
+        .value_name("REPORT")
+        .help(REPORT);
+    command.arg(report)
 }
 
 /// The command that reads a tile and a fault.

@@ -4,6 +4,7 @@
 mod command_line;
 mod not_empty;
 mod run;
+mod standard_error;
 
 use std::process::ExitCode;
 

@@ -6,6 +6,7 @@ ghost use Rattle.mvtgate.specs.Status.{status_of};
 
 use crate::command_line::command_line;
 use crate::not_empty::NotEmpty;
+use crate::standard_error::StandardError;
 use clap::ArgMatches;
 use clap::error::ErrorKind;
 use mvt_fault::Profile;
@@ -13,6 +14,7 @@ use mvt_gate::{
     CheckOptions, EngineFault, Outcome, Search, Tally, check_stream_by, confirm_streams_with,
     dump_stream, fields_stream,
 };
+use mvt_mender::mend_stream;
 use std::alloc::Global;
 use std::io::{Read, Write};
 use std::rt::{Env, Files};
@@ -47,12 +49,28 @@ enum Call<'a> {
         file: Option<&'a str>,
         may_be_empty: bool,
     },
+    /// A valid tile in place of one, of a file or of standard input, and where the line goes that
+    /// tells what was changed: to a file or to standard error.
+    Mend {
+        options: MendOptions,
+        file: Option<&'a str>,
+        report: Option<&'a str>,
+    },
     /// Whether a fault is true of a tile, each of a file.
     Confirm {
         profile: Profile,
         tile: &'a str,
         fault: &'a str,
     },
+}
+
+/// What `mend` is asked for.
+#[derive(Clone, Copy)]
+struct MendOptions {
+    /// The rules.
+    profile: Profile,
+    /// Whether features that can't be mended are left out.
+    drop_unmended: bool,
 }
 
 impl Engine {
@@ -93,6 +111,13 @@ pub fn run<R: Files + Input + Print + Eprint + AllocGlobal>(rt: &R, words: &[Str
                     may_be_empty,
                 },
             ) => run_engine(rt, engine, file, may_be_empty),
+            Some(
+                Call::Mend {
+                    options,
+                    file,
+                    report,
+                },
+            ) => run_mend(rt, options, file, report),
             Some(
                 Call::Confirm {
                     profile,
@@ -144,6 +169,11 @@ fn call_of<'a>(matches: &ArgMatches<'a>) -> Option<Call<'a>> {
             may_be_empty: may_be_empty(found),
         },
         "dump" => on_any_input(Engine::Dump, file),
+        "mend" => Call::Mend {
+            options: mend_options_of(found),
+            file,
+            report: found.get_str("report"),
+        },
         "confirm" => Call::Confirm {
             profile: profile_of(found),
             tile: file?,
@@ -199,6 +229,23 @@ fn options_of(found: &ArgMatches<'_>) -> CheckOptions
         search: search_of(found),
         all: found.get_flag("all"),
         advice: found.get_flag("advice"),
+    }
+}
+
+/// What the words ask `mend` for.
+fn mend_options_of(found: &ArgMatches<'_>) -> MendOptions
+    ensures feature { first_value (found_of found.now) (codes "profile") ≡ Some (codes "feature")
+        → result.profile ≡ Profile.Feature }
+    ensures polygon { first_value (found_of found.now) (codes "profile") ≢ Some (codes "feature")
+        → result.profile ≡ Profile.Polygon }
+    ensures dropped { one_text (found_of found.now) (codes "drop") ≡ Some (codes "true")
+        → IsTrue result.drop_unmended }
+    ensures kept { one_text (found_of found.now) (codes "drop") ≡ Some (codes "false")
+        → IsFalse result.drop_unmended }
+{
+    MendOptions {
+        profile: profile_of(found),
+        drop_unmended: found.get_flag("drop"),
     }
 }
 
@@ -286,6 +333,70 @@ fn run_on<R: Print + Eprint + AllocGlobal, I: Read + Drop>(
         let _ = eprintln!(rt; "mvtgate: the input is empty");
         return BAD_DEVICE;
     }
+    end(rt, answer)
+}
+
+/// Runs `mend`. The tile's file is opened before that of the line is made.
+fn run_mend<R: Files + Input + Print + Eprint + AllocGlobal>(
+    rt: &R,
+    options: MendOptions,
+    file: Option<&str>,
+    report: Option<&str>,
+) -> u8
+    ensures { result ≤ 5 }
+{
+    let Some(path) = file else {
+        return mend_from(rt, options, rt.reader(), report);
+    };
+    let Ok(opened) = fs::open(rt, path) else {
+        let _ = eprintln!(rt; "mvtgate: cannot open the tile file");
+        return BAD_DEVICE;
+    };
+    mend_from(rt, options, opened, report)
+}
+
+/// Runs `mend` on an input.
+fn mend_from<R: Files + Print + Eprint + AllocGlobal, I: Read + Drop>(
+    rt: &R,
+    options: MendOptions,
+    input: I,
+    report: Option<&str>,
+) -> u8
+    ensures { result ≤ 5 }
+{
+    let Some(path) = report else {
+        return mend_to(rt, options, input, StandardError::new(rt));
+    };
+    let Ok(created) = fs::create(rt, path) else {
+        let _ = eprintln!(rt; "mvtgate: cannot open the report file");
+        return BAD_DEVICE;
+    };
+    mend_to(rt, options, input, created)
+}
+
+/// Runs `mend` on an input, with a device for the line that tells what was changed. The line of a
+/// fault goes to standard error.
+fn mend_to<R: Print + Eprint + AllocGlobal, I: Read + Drop, V: Write + Drop>(
+    rt: &R,
+    options: MendOptions,
+    input: I,
+    report: V,
+) -> u8
+    ensures { result ≤ 5 }
+{
+    let mut reader = Tally::new(input);
+    let mut writer = Tally::new(io::writer(rt));
+    let mut report = Tally::new(report);
+    let mut errors = Tally::new(StandardError::new(rt));
+    let answer = mend_stream(
+        rt.alloc(),
+        options.profile,
+        options.drop_unmended,
+        &mut reader,
+        &mut writer,
+        &mut report,
+        &mut errors,
+    );
     end(rt, answer)
 }
 
