@@ -6,9 +6,9 @@
  *
  *  - No pointer is null, also where its length is 0: give the address of any byte.
  *  - Each pointer to bytes has as many as its length says, and each length is below 2^63.
- *  - `text` and `text_length`, which are written, overlap neither each other nor what is read. During the call no other
- *    thread uses them, and none changes what is read.
- *  - `text_length` is aligned as a size_t is.
+ *  - The parts that are written, such as `text` and `text_length`, overlap neither each other nor what is read. During the
+ *    call no other thread uses them, and none changes what is read.
+ *  - Each pointer to a length, such as `text_length`, is aligned as a size_t is.
  *  - The processor is an x86-64 of level v2 or above (with SSE4.2; any since about 2010).
  *
  * The functions keep nothing from one call to the next, so threads may call them at the same time. They take memory by the
@@ -37,17 +37,18 @@ extern "C" {
 
 /* What the functions return: one set of numbers for all. From 2 on they aren't the program's exit statuses. */
 enum {
-    MVTGATE_VALID = 0,         /* check, faults: the tile is valid */
+    MVTGATE_VALID = 0,         /* check, faults, mend: the tile is valid */
     MVTGATE_CONFIRMED = 0,     /* confirm: the fault is true of the tile */
     MVTGATE_TEXT = 0,          /* dump, advise: the text is written */
-    MVTGATE_FAULT = 1,         /* check, dump, advise: the text of a fault is written; faults: the lines of all faults */
+    MVTGATE_FAULT = 1,         /* check, dump, advise, mend: the text of a fault is written; faults: the lines of all faults */
     MVTGATE_NOT_CONFIRMED = 1, /* confirm: the fault is not true of the tile */
     MVTGATE_NO_MEMORY = 2,     /* memory was refused */
-    MVTGATE_NO_ROOM = 3,       /* check, faults, dump, advise: the text is longer than text_room */
-    MVTGATE_NO_PROFILE = 4,    /* check, faults, confirm: no profile has this number */
+    MVTGATE_NO_ROOM = 3,       /* all but confirm: what is to be written is longer than its room */
+    MVTGATE_NO_PROFILE = 4,    /* check, faults, confirm, mend: no profile has this number */
     MVTGATE_NOT_JSON = 5,      /* confirm: the text is no JSON */
     MVTGATE_NOT_A_FAULT = 6,   /* confirm: the text is JSON, and no fault */
-    MVTGATE_FAULT_RANGE = 7    /* confirm: the text is a fault with a number out of range */
+    MVTGATE_FAULT_RANGE = 7,   /* confirm: the text is a fault with a number out of range */
+    MVTGATE_MENDED = 8         /* mend: a valid tile and the report are written */
 };
 
 /* Judges a tile by a profile.
@@ -63,11 +64,10 @@ enum {
 int mvtgate_check(uint32_t profile, const uint8_t *tile, size_t tile_length, uint8_t *text, size_t text_room,
                   size_t *text_length);
 
-/* The same in bounded time by both profiles, for whoever judges tiles of others: n log n, and in a feature of whose polygons
- * edges meet as many times that as their number has binary digits, and twice more. By FEATURE mvtgate_check can take the
- * vertices of such a feature squared. This one passes over polygons in others in it, and so may name a later fault of that
- * feature. It finds the same tiles valid, its fault is true, and no true fault is of an earlier layer or feature. By POLYGON
- * its answer is that of mvtgate_check. */
+/* The same in n log n by both profiles, whatever the tile, for whoever judges tiles of others. By FEATURE mvtgate_check can
+ * take the vertices squared of a feature of whose polygons edges meet. This one may name any meeting in it, in place of its
+ * first fault. It finds the same tiles valid, its fault is true, and no true fault is of an earlier layer or feature. By
+ * POLYGON its answer is that of mvtgate_check. */
 int mvtgate_check_quickly(uint32_t profile, const uint8_t *tile, size_t tile_length, uint8_t *text, size_t text_room,
                           size_t *text_length);
 
@@ -88,6 +88,26 @@ int mvtgate_faults(uint32_t profile, const uint8_t *tile, size_t tile_length, ui
 /* The same list with the fault of mvtgate_check_quickly for each feature, in the time of that call. */
 int mvtgate_faults_quickly(uint32_t profile, const uint8_t *tile, size_t tile_length, uint8_t *text, size_t text_room,
                            size_t *text_length);
+
+/* Mends a tile by a profile: where only polygons break the rules (501 to 507, and 402 or 406 of a feature of polygons), it writes
+ * a valid tile in which all else is byte for byte as it was. Each vertex of a mended feature is within 2 units of one of its old
+ * edges, along both axes. Where `drop` isn't 0, features that can't be mended are left out; so a tile with no other faults is
+ * never refused.
+ *
+ * MVTGATE_VALID       the tile is valid, and the caller has its bytes: nothing is written. Both lengths are 0.
+ * MVTGATE_MENDED      it is not. A valid tile is at the front of `out`, and *out_length is its length. The report, JSON as the
+ *                     program's `mend` writes it but without the line's end, is at the front of `report`, and *report_length
+ *                     is its length. It says what became of each feature that had a fault.
+ * MVTGATE_FAULT       it is not, and is refused. The text of the fault for which it is refused, as by mvtgate_check, is at the
+ *                     front of `report`, and *report_length is its length. *out_length is 0.
+ * MVTGATE_NO_ROOM     it is not, and what is to be written into one of the rooms is longer than that. *out_length and
+ *                     *report_length are the lengths that are wanted; call again with as much. Where the tile is refused
+ *                     *out_length is 0; with MVTGATE_TEXT_ROOM for the report that doesn't come.
+ * MVTGATE_NO_MEMORY, MVTGATE_NO_PROFILE   both lengths are 0.
+ *
+ * Nothing else is written, as by mvtgate_check: with any other status but MVTGATE_MENDED nothing at all in `out`. */
+int mvtgate_mend(uint32_t profile, uint32_t drop, const uint8_t *tile, size_t tile_length, uint8_t *out, size_t out_room,
+                 size_t *out_length, uint8_t *report, size_t report_room, size_t *report_length);
 
 /* Whether the fault of a text is true of a tile by a profile. The text is JSON of UTF-8, with its members in any order and
  * with any space. This is a separate checker, which goes over the tile by itself. It writes nothing.

@@ -33,7 +33,7 @@ static Answer answer(int number, Tile tile, int at_end)
     return given;
 }
 
-static int are_same(Answer one, Answer other)
+static int are_same_answers(Answer one, Answer other)
 {
     return one.status == other.status && one.confirmed == other.confirmed && one.length == other.length &&
            memcmp(one.text, other.text, one.length) == 0;
@@ -45,7 +45,7 @@ int main(int words, char **word)
         Tile tile = read_tile(word[at]);
         for (int number = 0; number < CALLS; ++number) {
             Answer given = answer(number, tile, 1), other = answer(number, tile, 0);
-            if (!are_same(given, other))
+            if (!are_same_answers(given, other))
                 puts("in other memory the answer is another:");
             for (size_t place = 0; place < given.length; ++place)
                 if (given.text[place] == '\n')

@@ -73,6 +73,34 @@ static void try_call(const char *path, int number, Tile tile)
     expect(!wrong, wrong, path);
 }
 
+/* The same of a mending. */
+static void try_mend(const char *path, int number, Tile tile)
+{
+    uint8_t *out = right, *report = text;
+    Tile bytes = {out, sizeof right}, its_report = {report, sizeof text};
+    requests = blocks = 0;
+    int status = call_mend(number, tile, &bytes, &its_report), is_right = status != MVTGATE_NO_ROOM && blocks == 0;
+    long count = requests;
+    size_t length = bytes.length, report_length = its_report.length;
+    for (long before = 0; before < count && is_right; ++before) {
+        bytes.length = sizeof right;
+        its_report.length = sizeof text;
+        memset(out, UNWRITTEN, length + 64);
+        memset(report, UNWRITTEN, report_length + 64);
+        granted = before;
+        int given = call_mend(number, tile, &bytes, &its_report);
+        granted = -1;
+        is_right = given == MVTGATE_NO_MEMORY && bytes.length == 0 && its_report.length == 0 && blocks == 0 &&
+                   is_unwritten(out, length + 64) && is_unwritten(report, report_length + 64);
+    }
+    refused += count;
+    expect(is_right, mending_names[number], path);
+    bytes.length = sizeof right;
+    its_report.length = sizeof text;
+    int again = call_mend(number, tile, &bytes, &its_report);
+    expect(again == status && bytes.length == length && its_report.length == report_length, "the next answer is another", path);
+}
+
 /* The same of the fault that check reports. */
 static void try_confirm(const char *path, uint32_t profile, Tile tile)
 {
@@ -99,6 +127,8 @@ int main(int words, char **word)
         Tile tile = read_tile(word[at]);
         for (int number = 0; number < CALLS; ++number)
             try_call(word[at], number, tile);
+        for (int number = 0; number < MENDINGS; ++number)
+            try_mend(word[at], number, tile);
         try_confirm(word[at], MVTGATE_POLYGON, tile);
         try_confirm(word[at], MVTGATE_FEATURE, tile);
         free(tile.bytes);

@@ -109,6 +109,97 @@ static inline void unmap(Fenced memory)
     munmap(memory.begin - page, (size_t)(memory.end - memory.begin) + 2 * page);
 }
 
+static inline Tile block_of(size_t length)
+{
+    Tile block = {(uint8_t *)checked(malloc(length ? length : 1), "malloc"), length};
+    return block;
+}
+
+/* What mending answers, by a number: odd ones are by FEATURE, and from 2 on what can't be mended is left out. */
+enum { MENDINGS = 4 };
+static const char *const mending_names[MENDINGS] = {"mend polygon", "mend feature", "drop polygon", "drop feature"};
+
+typedef struct {
+    int status;
+    Tile out, report;
+} Mending;
+
+static inline int call_mend(int number, Tile tile, Tile *out, Tile *report)
+{
+    return mvtgate_mend(profile_of(number), (uint32_t)(number / 2), tile.bytes, tile.length, out->bytes, out->length,
+                        &out->length, report->bytes, report->length, &report->length);
+}
+
+/* It asks without room, and then with just what is wanted. */
+static inline Mending mend(int number, Tile tile)
+{
+    uint8_t none;
+    Mending it = {0, {&none, 0}, {&none, 0}};
+    call_mend(number, tile, &it.out, &it.report);
+    it.out = block_of(it.out.length);
+    it.report = block_of(it.report.length);
+    it.status = call_mend(number, tile, &it.out, &it.report);
+    return it;
+}
+
+static inline void free_mending(Mending it)
+{
+    free(it.out.bytes);
+    free(it.report.bytes);
+}
+
+static inline int are_same(Tile one, Tile other)
+{
+    return one.length == other.length && memcmp(one.bytes, other.bytes, one.length) == 0;
+}
+
+static inline int are_same_mendings(Mending one, Mending other)
+{
+    return one.status == other.status && are_same(one.out, other.out) && are_same(one.report, other.report);
+}
+
+static inline int is_valid(int number, Tile tile)
+{
+    uint8_t text[MVTGATE_TEXT_ROOM];
+    size_t told;
+    return mvtgate_check_quickly(profile_of(number), tile.bytes, tile.length, text, sizeof text, &told) == MVTGATE_VALID;
+}
+
+/* Whether some bytes have others in them. */
+static inline int has(Tile bytes, const char *part)
+{
+    size_t length = strlen(part);
+    for (size_t at = 0; at + length <= bytes.length; ++at)
+        if (memcmp(bytes.bytes + at, part, length) == 0)
+            return 1;
+    return 0;
+}
+
+/* What is wrong with an answer, or NULL. */
+static inline const char *wrong_mending(int number, Tile tile, Mending it)
+{
+    if ((it.status == MVTGATE_VALID) != is_valid(number, tile))
+        return "the judge says another thing";
+    switch (it.status) {
+    case MVTGATE_VALID:
+        return it.out.length || it.report.length ? "a length of a valid tile" : NULL;
+    case MVTGATE_FAULT:
+        if (it.out.length)
+            return "bytes of a tile that is refused";
+        return mvtgate_confirm(profile_of(number), tile.bytes, tile.length, it.report.bytes, it.report.length) == MVTGATE_CONFIRMED
+                   ? NULL
+                   : "the fault isn't confirmed";
+    case MVTGATE_MENDED:
+        if (!is_valid(number, it.out))
+            return "what is mended isn't valid";
+        if (number < 2 && has(it.report, "\"dropped\""))
+            return "a feature is left out";
+        return has(it.report, "{\"changed\":[{") && has(it.report, "}],\"ok\":true}") ? NULL : "the report is another text";
+    default:
+        return "another status";
+    }
+}
+
 /* What a text's room is filled with, to see what is written. */
 enum { UNWRITTEN = 0xA5 };
 

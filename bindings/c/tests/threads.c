@@ -1,17 +1,21 @@
 /* threads COPIES FILE..: four threads give the files to every function, each thread in another order and on a stack of 128 KB,
- * and compare with the answers of one thread. Of each file there are so many cut and changed copies too. Each tile and
- * each text is in a block of just its size, so that valgrind sees what is read or written beyond. */
+ * and compare with the answers of one thread. Smaller files are mended, too. Of each file there are so many cut and changed
+ * copies too. Each tile and each text is in a block of just its size, so that valgrind sees what is read or written beyond. */
 #include "test.h"
 
 #include <pthread.h>
 
 enum { THREADS = 4, STACK = 128 << 10 };
 
+/* Only tiles of so many bytes at most are mended: larger ones that cost most take all the work that mending may take. */
+enum { MENDED_MOST = 20000 };
+
 typedef struct {
     const char *path;
     Tile tile;
     int status[CALLS];
     Tile text[CALLS];
+    Mending mending[MENDINGS];
 } Case;
 
 static Case *cases;
@@ -40,6 +44,8 @@ static void add(const char *path, Tile tile)
     it->tile = tile;
     for (int number = 0; number < CALLS; ++number)
         it->status[number] = give(number, tile, &it->text[number]);
+    for (int number = 0; number < MENDINGS && tile.length <= MENDED_MOST; ++number)
+        it->mending[number] = mend(number, tile);
 }
 
 /* Even copies are cut, and odd ones have one bit changed. */
@@ -74,6 +80,17 @@ static unsigned wrong_answers(const Case *it)
     return wrong;
 }
 
+static unsigned wrong_mendings(const Case *it)
+{
+    unsigned wrong = 0;
+    for (int number = 0; number < MENDINGS && it->tile.length <= MENDED_MOST; ++number) {
+        Mending given = mend(number, it->tile);
+        wrong += !are_same_mendings(given, it->mending[number]) || wrong_mending(number, it->tile, given);
+        free_mending(given);
+    }
+    return wrong;
+}
+
 typedef struct {
     pthread_t thread;
     size_t first;
@@ -83,8 +100,10 @@ typedef struct {
 static void *work(void *its)
 {
     Worker *worker = (Worker *)its;
-    for (size_t at = 0; at < count; ++at)
-        worker->wrong += wrong_answers(&cases[(at + worker->first) % count]);
+    for (size_t at = 0; at < count; ++at) {
+        const Case *it = &cases[(at + worker->first) % count];
+        worker->wrong += wrong_answers(it) + wrong_mendings(it);
+    }
     return NULL;
 }
 
@@ -113,6 +132,8 @@ int main(int words, char **word)
     for (size_t at = 0; at < count; ++at) {
         for (int number = 0; number < CALLS; ++number)
             free(cases[at].text[number].bytes);
+        for (int number = 0; number < MENDINGS; ++number)
+            free_mending(cases[at].mending[number]);
         free(cases[at].tile.bytes);
     }
     free(cases);

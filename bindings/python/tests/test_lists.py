@@ -172,7 +172,7 @@ def test_tile_made_by_hand(quick: bool) -> None:
 
 
 def test_tile_made_by_hand_by_feature() -> None:
-    """Two squares overlap: a vertex in the other one comes first, and where edges meet it is passed over by a quick search."""
+    """Two squares overlap: a vertex in the other one comes first, and where edges meet a quick search names a meeting."""
     listed = [it.text for it in mvtgate.faults(BY_HAND, Profile.FEATURE)]
     assert listed == [*BY_POLYGON[:5], SQUARE_IN_SQUARE, *BY_POLYGON[5:]]
     quick = mvtgate.faults(BY_HAND, Profile.FEATURE, quick=True)

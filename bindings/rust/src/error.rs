@@ -99,3 +99,30 @@ impl From<OutOfMemory> for DumpError {
         DumpError::OutOfMemory
     }
 }
+
+/// Why a tile was not mended.
+#[derive(Clone, Copy, Debug, PartialEq, Eq)]
+pub enum MendError {
+    /// It is refused for this fault, which is true of it: one that isn't of polygons, or that of a feature that couldn't be
+    /// mended.
+    Refused(Fault),
+    /// Memory was refused.
+    OutOfMemory,
+}
+
+impl fmt::Display for MendError {
+    fn fmt(&self, out: &mut fmt::Formatter<'_>) -> fmt::Result {
+        match self {
+            MendError::Refused(fault) => fault.fmt(out),
+            MendError::OutOfMemory => OutOfMemory.fmt(out),
+        }
+    }
+}
+
+impl Error for MendError {}
+
+impl From<OutOfMemory> for MendError {
+    fn from(_: OutOfMemory) -> Self {
+        MendError::OutOfMemory
+    }
+}

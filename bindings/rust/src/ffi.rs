@@ -12,6 +12,7 @@ pub(crate) const TEXT_ROOM: usize = 384;
 /// What a function returns for every tile.
 pub(crate) const OUT_OF_MEMORY: c_int = 2;
 pub(crate) const ROOM_TOO_SMALL: c_int = 3;
+pub(crate) const MENDED: c_int = 8;
 
 mod c {
     use std::os::raw::c_int;
@@ -48,6 +49,18 @@ mod c {
             text: *mut u8,
             text_room: usize,
             text_length: *mut usize,
+        ) -> c_int;
+        pub fn mvtgate_mend(
+            profile: u32,
+            drop: u32,
+            tile: *const u8,
+            tile_length: usize,
+            out: *mut u8,
+            out_room: usize,
+            out_length: *mut usize,
+            report: *mut u8,
+            report_room: usize,
+            report_length: *mut usize,
         ) -> c_int;
         pub fn mvtgate_confirm(
             profile: u32,
@@ -115,6 +128,34 @@ pub(crate) fn faults_quickly(profile: Profile, tile: &[u8], room: &mut [u8]) -> 
         c::mvtgate_faults_quickly(profile as u32, tile.as_ptr(), tile.len(), room.as_mut_ptr(), room.len(), &mut length)
     };
     (status, length)
+}
+
+/// The status of mending, and how many bytes the tile and the report have. Where the status is that a room is too small, one
+/// of them has more than its room.
+pub(crate) fn mend(
+    profile: Profile,
+    is_dropping: bool,
+    tile: &[u8],
+    out: &mut [u8],
+    report: &mut [u8],
+) -> (c_int, usize, usize) {
+    let (mut length, mut report_length) = (0, 0);
+    // SAFETY: see the top of this module.
+    let status = unsafe {
+        c::mvtgate_mend(
+            profile as u32,
+            is_dropping.into(),
+            tile.as_ptr(),
+            tile.len(),
+            out.as_mut_ptr(),
+            out.len(),
+            &mut length,
+            report.as_mut_ptr(),
+            report.len(),
+            &mut report_length,
+        )
+    };
+    (status, length, report_length)
 }
 
 pub(crate) fn confirm(profile: Profile, tile: &[u8], text: &[u8]) -> c_int {

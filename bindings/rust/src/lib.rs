@@ -26,6 +26,7 @@ mod error;
 mod fault;
 mod ffi;
 mod format;
+mod mended;
 mod profile;
 mod reader;
 mod sentence;
@@ -35,16 +36,22 @@ mod words;
 
 pub use advice::Advice;
 pub use code::{CommandCode, RingCode, TagCode, WireCode};
-pub use error::{CheckError, ConfirmError, DumpError, OutOfMemory};
+pub use error::{CheckError, ConfirmError, DumpError, MendError, OutOfMemory};
 pub use fault::{Fault, RingEdge, Scope};
 pub use format::Format;
+pub use mended::{Change, Measures, Mended, MendedFeature, WhatChanged};
 pub use profile::Profile;
 pub use text::NotAFaultText;
 
+use std::borrow::Cow;
 use std::fmt;
 
 /// In bytes: room for the lines of some hundred faults. A longer list has one of its own length.
 const LIST_ROOM: usize = 65_536;
+
+/// In bytes: room for what a mended tile may have beyond the bytes of the one that was refused, and for the report on it.
+/// Where they are longer, there is one of their own length.
+const MORE_ROOM: usize = 4_096;
 
 /// None where the bytes are a valid tile by the profile, else the first fault. Where several pairs of edges of one
 /// polygon meet, any one of these is reported.
@@ -66,8 +73,8 @@ pub fn check(tile: &[u8], profile: Profile) -> Result<Option<Fault>, OutOfMemory
 
 /// The same in bounded time by both profiles, for whoever judges tiles of others.
 ///
-/// By [`Profile::Feature`] the fault may be a later one of the same feature: polygons in others are passed over where edges
-/// of the feature's polygons meet. It is true all the same, the same tiles are valid, and no true fault is of an earlier
+/// By [`Profile::Feature`] the fault may be another one of the same feature, where edges of the feature's polygons meet: any
+/// meeting. It is true all the same, the same tiles are valid, and no true fault is of an earlier
 /// layer or feature. By [`Profile::Polygon`] the answer is that of [`check`].
 ///
 /// ```
@@ -130,6 +137,53 @@ pub fn check_not_empty(tile: &[u8], profile: Profile) -> Result<Option<Fault>, C
         return Err(CheckError::Empty);
     }
     Ok(check(tile, profile)?)
+}
+
+/// A valid tile in place of one whose polygons break the rules, with all else byte for byte as it was, and what was changed.
+/// A valid tile is borrowed as it is.
+///
+/// What is mended are features of polygons with a fault of 501 to 507, or 402 or 406. Each vertex of a mended feature is
+/// within 2 units of one of its old edges, along both axes. Where the tile has another fault, or a feature can't be mended, it
+/// is refused.
+///
+/// ```
+/// # use mvtgate::{check, mend, MendError, Mended, Profile};
+/// // a layer with one feature, a square that is wound as a hole is
+/// let tile = b"\x1a\x16\x78\x02\x0a\x01a\x12\x0f\x18\x03\x22\x0b\x09\0\0\x1a\0\x14\x14\0\0\x13\x0f";
+/// assert_eq!(check(tile, Profile::Polygon)?.map(|it| it.code()), Some(503));
+/// let Mended { tile, changes } = mend(tile, Profile::Polygon)?;
+/// assert_eq!(check(&tile, Profile::Polygon)?, None);
+/// assert_eq!((changes[0].layer, changes[0].feature), (0, 0));
+///
+/// match mend(b"\x1a\x05", Profile::Polygon) {
+///     Err(MendError::Refused(fault)) => assert_eq!(fault.code(), 105),
+///     other => panic!("{:?}", other),
+/// }
+/// # Ok::<(), MendError>(())
+/// ```
+///
+/// # Panics
+///
+/// As [`check`] does.
+pub fn mend(tile: &[u8], profile: Profile) -> Result<Mended<'_>, MendError> {
+    mend_with(tile, profile, false)
+}
+
+/// The same, but features that can't be mended are left out, and named among the changes. So a tile with no other faults
+/// than those of polygons always comes out valid.
+///
+/// ```
+/// # use mvtgate::{mend_or_drop, Profile};
+/// let mended = mend_or_drop(b"", Profile::Polygon)?;
+/// assert!(mended.tile.is_empty() && mended.changes.is_empty());
+/// # Ok::<(), mvtgate::MendError>(())
+/// ```
+///
+/// # Panics
+///
+/// As [`check`] does.
+pub fn mend_or_drop(tile: &[u8], profile: Profile) -> Result<Mended<'_>, MendError> {
+    mend_with(tile, profile, true)
 }
 
 /// Whether the fault is true of the tile by the profile, by a checker that shares no search with [`check`]. It takes no
@@ -244,6 +298,29 @@ fn list(tile: &[u8], profile: Profile, name: &str, call: ffi::Judge) -> Result<V
     }
 }
 
+fn mend_with(tile: &[u8], profile: Profile, is_dropping: bool) -> Result<Mended<'_>, MendError> {
+    let (mut wanted, mut report_wanted) = (tile.len().saturating_add(MORE_ROOM), MORE_ROOM);
+    loop {
+        let (mut out, mut report) = (room_of(wanted)?, room_of(report_wanted)?);
+        let (status, length, report_length) = ffi::mend(profile, is_dropping, tile, &mut out, &mut report);
+        match status {
+            0 => return Ok(Mended { tile: Cow::Borrowed(tile), changes: Vec::new() }),
+            1 => return Err(MendError::Refused(read_fault(&report[..report_length]))),
+            ffi::MENDED => {
+                out.truncate(length);
+                let changes = read_changes(&report[..report_length])?;
+                return Ok(Mended { tile: Cow::Owned(out), changes });
+            }
+            ffi::OUT_OF_MEMORY => return Err(MendError::OutOfMemory),
+            ffi::ROOM_TOO_SMALL if length > wanted || report_length > report_wanted => {
+                wanted = length;
+                report_wanted = report_length;
+            }
+            _ => other_version("mvtgate_mend", status),
+        }
+    }
+}
+
 /// The text of a tile that is no fault of it.
 fn describe(tile: &[u8], guess: usize, name: &str, call: ffi::Writer) -> Result<String, DumpError> {
     match write(guess, name, |room| call(tile, room))? {
@@ -292,6 +369,11 @@ fn read_lines(text: &[u8]) -> Result<Vec<Fault>, OutOfMemory> {
     faults.try_reserve_exact(lines().count()).map_err(|_| OutOfMemory)?;
     faults.extend(lines().map(|line| read_fault(&line[..line.len() - 1])));
     Ok(faults)
+}
+
+fn read_changes(report: &[u8]) -> Result<Vec<Change>, OutOfMemory> {
+    let text = std::str::from_utf8(report).expect("a report is ASCII");
+    Ok(mended::read(text)?.unwrap_or_else(|| unknown_text(text)))
 }
 
 fn read_fault(text: &[u8]) -> Fault {

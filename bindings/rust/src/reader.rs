@@ -36,6 +36,33 @@ impl<'a> Reader<'a> {
     /// A member that is the text of a number which a reader of JSON might round, as `,"key":"-7"`.
     pub(crate) fn wide_number(&mut self, key: &str) -> Option<i128> {
         self.key(",", key)?;
+        self.wide()
+    }
+
+    /// A member that is two numbers, as `,"key":[7,8]`.
+    pub(crate) fn numbers(&mut self, key: &str) -> Option<(u64, u64)> {
+        self.key(",", key)?;
+        self.take("[")?;
+        let first = self.digits()?.parse().ok()?;
+        self.take(",")?;
+        let second = self.digits()?.parse().ok()?;
+        self.take("]")?;
+        Some((first, second))
+    }
+
+    /// The first member of an object, where it is the texts of two numbers, as `{"key":["-7","8"]`.
+    pub(crate) fn first_wide_numbers(&mut self, key: &str) -> Option<(i128, i128)> {
+        self.key("{", key)?;
+        self.take("[")?;
+        let first = self.wide()?;
+        self.take(",")?;
+        let second = self.wide()?;
+        self.take("]")?;
+        Some((first, second))
+    }
+
+    /// The text of a number with a sign, as `"-7"`.
+    fn wide(&mut self) -> Option<i128> {
         self.take("\"")?;
         let is_negative = self.takes("-");
         let digits = self.digits()?;
@@ -95,6 +122,18 @@ mod tests {
         assert_eq!(number("{\"a\":18446744073709551615}"), Some(u64::MAX));
         for text in ["{\"a\":}", "{\"a\":00}", "{\"a\":18446744073709551616}", "{\"b\":0}", "{ \"a\":0}", ""] {
             assert_eq!(number(text), None, "{}", text);
+        }
+    }
+
+    #[test]
+    fn reads_pairs_of_numbers() {
+        assert_eq!(Reader::new(r#","a":[0,7]"#).numbers("a"), Some((0, 7)));
+        assert_eq!(Reader::new(r#"{"a":["-9","0"]"#).first_wide_numbers("a"), Some((-9, 0)));
+        for text in [r#","a":[0]"#, r#","a":[0,7,8]"#, r#","a":[00,7]"#, r#","a":["0","7"]"#, r#","b":[0,7]"#] {
+            assert_eq!(Reader::new(text).numbers("a"), None, "{}", text);
+        }
+        for text in [r#"{"a":["9"]"#, r#"{"a":[9,0]"#, r#"{"a":["-0","0"]"#, r#","a":["9","0"]"#] {
+            assert_eq!(Reader::new(text).first_wide_numbers("a"), None, "{}", text);
         }
     }
 

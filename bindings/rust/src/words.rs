@@ -179,7 +179,7 @@ pub(crate) fn of_code(code: u16) -> &'static Words {
             place: "layer {layer}, feature {feature}, number {index} of its geometry",
             meaning: "A command's count isn't allowed. A ring needs three vertices and a line two; MoveTo has count 1 in lines and rings, and at least 1 in points; ClosePath has count 1.",
             cause: "a line or ring that shrank when it was rounded to the grid.",
-            remedy: "leave out figures that have become too small.",
+            remedy: "of polygons, mend the tile with `mvtgate mend`; at the source, leave out figures that have become too small.",
         },
         403 => &Words {
             title: "Geometry ends too early",
@@ -211,7 +211,7 @@ pub(crate) fn of_code(code: u16) -> &'static Words {
             place: "layer {layer}, feature {feature}, number {index} of its geometry",
             meaning: "A LineTo step of a line or ring is (0, 0).",
             cause: "neighbouring vertices that became one when they were rounded to the grid.",
-            remedy: "leave out a vertex that has the position of the one before it.",
+            remedy: "of polygons, mend the tile with `mvtgate mend`; at the source, leave out a vertex that has the position of the one before it.",
         },
         501 => &Words {
             title: "Ring that ends where it began",
@@ -219,7 +219,7 @@ pub(crate) fn of_code(code: u16) -> &'static Words {
             place: "layer {layer}, feature {feature}, ring {ring}",
             meaning: "A ring's last position is its first one, to which ClosePath leads anyway.",
             cause: "rings of sources that repeat the first vertex, such as GeoJSON, copied as they are.",
-            remedy: "leave out the last vertex.",
+            remedy: "mend the tile with `mvtgate mend`; at the source, leave out the last vertex.",
         },
         502 => &Words {
             title: "Ring without area",
@@ -227,7 +227,7 @@ pub(crate) fn of_code(code: u16) -> &'static Words {
             place: "layer {layer}, feature {feature}, ring {ring}",
             meaning: "A ring has no area.",
             cause: "rings that collapsed on the grid to a line or a spike.",
-            remedy: "leave out rings without area.",
+            remedy: "mend the tile with `mvtgate mend`; at the source, leave out rings without area.",
         },
         503 => &Words {
             title: "Feature that begins with a hole",
@@ -235,7 +235,7 @@ pub(crate) fn of_code(code: u16) -> &'static Words {
             place: "layer {layer}, feature {feature}, ring {ring}",
             meaning: "The first ring of a feature is a hole, by its winding.",
             cause: "an exterior wound backwards. GDAL 3.6 does so where a spike collapsed on the grid: 22 of 100 of its tiles in a sample.",
-            remedy: "orient rings after rounding, by the area on the grid.",
+            remedy: "mend the tile with `mvtgate mend`; at the source, orient rings after rounding, by the area on the grid.",
         },
         504 => &Words {
             title: "Edges that meet",
@@ -243,7 +243,7 @@ pub(crate) fn of_code(code: u16) -> &'static Words {
             place: "layer {layer}, feature {feature}, polygon {polygon}, at ({x/w}, {y/w})",
             meaning: "Two edges of a polygon have a point in common other than the vertex that neighbours share: rings cross or touch, each other or themselves. By the profile `feature` the two may also be of different polygons of a feature; the fault is then told for the later one, of which the second edge is.",
             cause: "rings that touch in a vertex, as PostGIS makes them (30 of 100 of its tiles in a sample). The Open Geospatial Consortium's rules allow them, and this gate refuses them on purpose. Also rings that really cross after rounding to the grid (2 of 100 of tilemaker's).",
-            remedy: "make polygons valid after rounding; where rings touch, split them into polygons (by the profile `feature`, into features), or move a vertex by one unit.",
+            remedy: "mend the tile with `mvtgate mend`; at the source, make polygons valid after rounding; where rings touch, split them into polygons (by the profile `feature`, into features), or move a vertex by one unit.",
         },
         505 => &Words {
             title: "Hole outside its exterior",
@@ -251,7 +251,7 @@ pub(crate) fn of_code(code: u16) -> &'static Words {
             place: "layer {layer}, feature {feature}, polygon {polygon}, ring {ring}, vertex {vertex}",
             meaning: "A vertex of a hole isn't inside its exterior.",
             cause: "holes written after another polygon's exterior; an exterior that is wound like a hole.",
-            remedy: "write each exterior with its own holes after it; orient rings.",
+            remedy: "mend the tile with `mvtgate mend`; at the source, write each exterior with its own holes after it; orient rings.",
         },
         506 => &Words {
             title: "Hole in another hole",
@@ -259,7 +259,7 @@ pub(crate) fn of_code(code: u16) -> &'static Words {
             place: "layer {layer}, feature {feature}, polygon {polygon}, ring {ring}, vertex {vertex}",
             meaning: "A vertex of a hole is inside another hole.",
             cause: "an island in a lake written as a hole; holes that overlap after rounding.",
-            remedy: "write an island as a polygon of its own; merge holes that overlap.",
+            remedy: "mend the tile with `mvtgate mend`; at the source, write an island as a polygon of its own; merge holes that overlap.",
         },
         507 => &Words {
             title: "Polygon in another polygon",
@@ -267,7 +267,7 @@ pub(crate) fn of_code(code: u16) -> &'static Words {
             place: "layer {layer}, feature {feature}, polygon {polygon}, vertex {vertex} of its exterior",
             meaning: "By the profile `feature` alone: a vertex of a polygon's exterior is inside another polygon of the same feature, so inside its exterior and inside none of its holes. Some vertices that lie on the other's ring count as inside, and so the code may also be of polygons that only touch.",
             cause: "polygons that overlap, equal ones, one on another; and islands that touch in a point.",
-            remedy: "unite the polygons of a feature after rounding, or write those that touch as features of their own; cut a hole where an island lies in a polygon.",
+            remedy: "mend the tile with `mvtgate mend`; at the source, unite the polygons of a feature after rounding, or write those that touch as features of their own; cut a hole where an island lies in a polygon.",
         },
         _ => unreachable!("no fault has the code {}", code),
     }

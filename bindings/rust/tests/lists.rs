@@ -151,7 +151,7 @@ fn a_tile_that_is_made_by_hand_has_these_faults() {
 }
 
 #[test]
-fn a_quick_search_passes_over_polygons_in_others_where_edges_meet() {
+fn a_quick_search_names_a_meeting_where_edges_meet() {
     let listed = faults_quickly(&by_hand(), Profile::Feature).unwrap();
     assert_eq!(listed.len(), 5);
     // (the edges meet at two points, and either may be named)

@@ -5,6 +5,7 @@ use mvt_gate::{
     advice_text, dump_text, fault_lines, faults_quickly, faults_with, judge, judge_quickly,
     judge_with,
 };
+use mvt_mender::{Mending, mend_with, report_text};
 use mvt_tile::{Advice, ReadFault, Tile, advise, check_layers, check_tags, read_tile, wire_fault};
 use std::alloc::Global;
 
@@ -24,6 +25,12 @@ pub(crate) enum TileCall {
     FaultsQuickly,
     /// `fault_lines` of the faults of `faults_with` in that profile.
     FaultLines,
+    /// `mend_with` in the profile that checks each polygon by itself, with no leave to drop.
+    Mend,
+    /// `mend_with` in the other one, with leave.
+    MendOrDrop,
+    /// `report_text` of the changes that mending made, as for `MendOrDrop`.
+    ReportText,
     ReadTile,
     CheckLayers,
     /// `check_tags` of the first layer's first feature.
@@ -48,6 +55,9 @@ impl TileCall {
             "faults_with" => TileCall::Faults,
             "faults_quickly" => TileCall::FaultsQuickly,
             "fault_lines" => TileCall::FaultLines,
+            "mend_with" => TileCall::Mend,
+            "mend_with_drop" => TileCall::MendOrDrop,
+            "report_text" => TileCall::ReportText,
             "read_tile" => TileCall::ReadTile,
             "check_layers" => TileCall::CheckLayers,
             "check_tags" => TileCall::CheckTags,
@@ -89,6 +99,15 @@ impl TileCall {
                 println!(rt; "{faults:?}")?;
             }
             TileCall::FaultLines => report_lines(rt, bytes)?,
+            TileCall::Mend => {
+                let mending = mend_with(rt.alloc(), Profile::Polygon, false, bytes)?;
+                println!(rt; "{mending:?}")?;
+            }
+            TileCall::MendOrDrop => {
+                let mending = mend_with(rt.alloc(), Profile::Feature, true, bytes)?;
+                println!(rt; "{mending:?}")?;
+            }
+            TileCall::ReportText => report_changes(rt, bytes)?,
             TileCall::ReadTile => report_tile(rt, bytes)?,
             TileCall::CheckLayers => {
                 let fault = check_layers(rt.alloc(), &tile_of(rt.alloc(), bytes)?)?;
@@ -154,6 +173,18 @@ fn report_lines<R: Print + AllocGlobal>(rt: &R, bytes: &[u8]) -> Result<(), Stop
         print!(rt; "{line}")?;
     }
     println!(rt)?;
+    Ok(())
+}
+
+/// Prints the report on what mending changes in the tile.
+fn report_changes<R: Print + AllocGlobal>(rt: &R, bytes: &[u8]) -> Result<(), Stop> {
+    let mended = match mend_with(rt.alloc(), Profile::Feature, true, bytes) {
+        Ok(Mending::Mended(mended)) => mended,
+        Ok(_) => return Err(Stop::NoCall),
+        Err(_) => return Err(Stop::NoInput),
+    };
+    let text = report_text(rt.alloc(), &mended.changes)?;
+    println!(rt; "{text}")?;
     Ok(())
 }
 

@@ -1,2 +1,3 @@
+pub mod MendedRooms
 pub mod Profiles
 pub mod TextRoom

@@ -1,4 +1,5 @@
 pub mod Calls
+pub mod Mended
 pub mod ProfileNumber
 pub mod TextRoom
 pub mod Texts

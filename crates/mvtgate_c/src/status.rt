@@ -21,3 +21,5 @@ pub(crate) const NOT_JSON: i32 = 5;
 pub(crate) const NOT_A_FAULT: i32 = 6;
 
 pub(crate) const FAULT_RANGE: i32 = 7;
+
+pub(crate) const MENDED: i32 = 8;

@@ -28,6 +28,7 @@ from ._explain import explain
 from ._faults import EmptyTile, Fault, NotAFault, NotATile, RingEdge, fault_of_library
 from ._formats import Format, format_of
 from ._library import LibraryNotFound
+from ._mended import Change, Mended, Refused, changes_of_library
 from ._version import __version__
 
 if TYPE_CHECKING:
@@ -35,13 +36,16 @@ if TYPE_CHECKING:
 
 __all__ = [
     "Advice",
+    "Change",
     "EmptyTile",
     "Fault",
     "Format",
     "LibraryNotFound",
+    "Mended",
     "NotAFault",
     "NotATile",
     "Profile",
+    "Refused",
     "RingEdge",
     "Tile",
     "__version__",
@@ -52,6 +56,7 @@ __all__ = [
     "explain",
     "faults",
     "format_of",
+    "mend",
     "version",
 ]
 
@@ -82,7 +87,7 @@ def check(tile: ReadableBuffer, profile: Profile = Profile.POLYGON, *, not_empty
     No bytes are a valid tile, and also what a failed read leaves: with `not_empty` they raise EmptyTile.
 
     With `quick` the time has a bound by both profiles, which is for whoever judges tiles of others. By
-    Profile.FEATURE the fault may then be a later one of the same feature, where edges of that feature meet. It is true all the
+    Profile.FEATURE the fault may then be any meeting of the same feature, where edges of that feature meet. It is true all the
     same, and the same tiles are valid.
     """
     number = _number_of(profile)
@@ -100,6 +105,23 @@ def faults(tile: ReadableBuffer, profile: Profile = Profile.POLYGON, *, quick: b
     """
     text = _library.faults(_number_of(profile), tile, quick)
     return [fault_of_library(it) for it in _library.lines_of(text)]
+
+
+def mend(tile: ReadableBuffer, profile: Profile = Profile.POLYGON, *, drop: bool = False) -> Mended:
+    """A valid tile in place of one whose polygons break the rules, with all else byte for byte as it was, and what was changed.
+
+    Each vertex of a mended feature is within 2 units of one of its old edges, along both axes. A valid tile comes back as it is:
+    the very object where it is bytes, else a copy; then nothing is changed.
+
+    Refused, with its fault, where the tile has another fault than those of polygons (501 to 507, and 402 or 406 of a feature of
+    polygons), or a feature can't be mended. With `drop` such features are left out instead, and are named among the changes.
+    """
+    status, mended, text = _library.mend(_number_of(profile), tile, drop)
+    if status == _library.NO:
+        raise Refused(fault_of_library(text))
+    if status == _library.OK:
+        return Mended(tile if isinstance(tile, bytes) else bytes(tile))
+    return Mended(mended, changes_of_library(text))
 
 
 def confirm(tile: ReadableBuffer, fault: Union[Fault, str], profile: Profile = Profile.POLYGON) -> bool:

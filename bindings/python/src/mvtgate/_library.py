@@ -20,11 +20,14 @@ NO_PROFILE = 4
 NOT_JSON = 5
 NOT_A_FAULT = 6
 OUT_OF_RANGE = 7
+MENDED = 8
 
 # MVTGATE_TEXT_ROOM of mvtgate.h: no fault's text has more bytes
 TEXT_ROOM = 384
 # for the lines of some hundred faults; a longer list has a room of its own
 _LIST_ROOM = 65_536
+# what a mended tile may have beyond the bytes of the one that was refused; a longer one has a room of its own
+_MORE_BYTES = 4_096
 
 _FOLDER = pathlib.Path(__file__).resolve().parent
 # (in a checkout, where ./library puts it)
@@ -62,6 +65,7 @@ def _load() -> ctypes.CDLL:
         "mvtgate_check_quickly": judging,
         "mvtgate_faults": judging,
         "mvtgate_faults_quickly": judging,
+        "mvtgate_mend": [ctypes.c_uint32, ctypes.c_uint32, address, size, address, size, address, address, size, address],
         "mvtgate_confirm": [ctypes.c_uint32, address, size, address, size],
         "mvtgate_dump": [address, size, address, size, address],
         "mvtgate_advise": [address, size, address, size, address],
@@ -151,7 +155,7 @@ class Borrowed:
 
 
 class _Room:
-    """What a call writes to: a text and its length."""
+    """What a call writes to: bytes, mostly those of a text, and their length."""
 
     __slots__ = ("_text", "_length", "size", "words")
 
@@ -167,6 +171,9 @@ class _Room:
 
     def text(self) -> str:
         return str(memoryview(self._text)[: self.length], "utf-8")
+
+    def bytes(self) -> bytes:
+        return bytes(memoryview(self._text)[: self.length])
 
 
 class _Rooms:
@@ -254,6 +261,22 @@ def advise(tile: ReadableBuffer) -> Tuple[bool, str]:
     """Whether the bytes are a tile, and the advice, or the text of the first wire fault. MemoryError where memory was refused."""
     status, text = _text_of_call(_rooms, tile, calls.mvtgate_advise)
     return status == OK, text
+
+
+def mend(profile: int, tile: ReadableBuffer, is_dropping: bool) -> Tuple[int, bytes, str]:
+    """OK for a valid tile, MENDED with the bytes of the mended one and the report, or NO with the text of the fault for which it is
+    refused. The bytes and the text are empty without one. MemoryError where memory was refused."""
+    with Borrowed(tile) as (address, length):
+        out, report = _Room(length + _MORE_BYTES), _rooms_for_lists.take()
+        status = calls.mvtgate_mend(profile, is_dropping, address, length, *out.words, *report.words)
+        while status == NO_ROOM and (out.length > out.size or report.length > report.size):
+            out, report = _Room(out.length), _Room(report.length)
+            status = calls.mvtgate_mend(profile, is_dropping, address, length, *out.words, *report.words)
+    mended = out.bytes() if status == MENDED else b""
+    text = report.text() if status in (NO, MENDED) else ""
+    _rooms_for_lists.put_back(report)
+    _expect(status, OK, NO, MENDED)
+    return status, mended, text
 
 
 def confirm(profile: int, tile: ReadableBuffer, text: bytes) -> int:

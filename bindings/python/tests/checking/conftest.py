@@ -23,6 +23,7 @@ int mvtgate_check(uint32_t profile, const uint8_t *tile, size_t length, char *te
 int mvtgate_check_quickly(void) { return 0; }
 int mvtgate_faults(void) { return 0; }
 int mvtgate_faults_quickly(void) { return 0; }
+int mvtgate_mend(void) { return 0; }
 int mvtgate_confirm(void) { return 0; }
 int mvtgate_dump(void) { return 0; }
 int mvtgate_advise(void) { return 0; }

@@ -83,7 +83,7 @@ def test_folder_of_samples(profile: Profile, options: List[str]) -> None:
 
 
 def test_quick_by_feature(made: pathlib.Path) -> None:
-    """Where edges meet a quick search passes over polygons in others. The same tiles are valid."""
+    """Where edges meet a quick search names any meeting. The same tiles are valid."""
     codes = {(): ["507"], ("--quick",): ["504"], ("--all",): ["507"], ("--all", "--quick"): ["504"]}
     for options, wanted in codes.items():
         said = run("--profile", "feature", "--confirm", *options, OVERLAP, POINT)

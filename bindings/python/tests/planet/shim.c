@@ -16,6 +16,7 @@ enum { MARK = 8, NOT_CONFIRMED = 1, NO_MEMORY = 2 };
 typedef int Judge(uint32_t, const uint8_t *, size_t, uint8_t *, size_t, size_t *);
 
 static Judge *real_check, *real_check_quickly, *real_faults, *real_faults_quickly;
+static int (*real_mend)(uint32_t, uint32_t, const uint8_t *, size_t, uint8_t *, size_t, size_t *, uint8_t *, size_t, size_t *);
 static int (*real_confirm)(uint32_t, const uint8_t *, size_t, const uint8_t *, size_t);
 static int (*real_dump)(const uint8_t *, size_t, uint8_t *, size_t, size_t *);
 static int (*real_advise)(const uint8_t *, size_t, uint8_t *, size_t, size_t *);
@@ -42,6 +43,7 @@ __attribute__((constructor)) static void load(void)
     *(void **)&real_check_quickly = found(library, "mvtgate_check_quickly");
     *(void **)&real_faults = found(library, "mvtgate_faults");
     *(void **)&real_faults_quickly = found(library, "mvtgate_faults_quickly");
+    *(void **)&real_mend = found(library, "mvtgate_mend");
     *(void **)&real_confirm = found(library, "mvtgate_confirm");
     *(void **)&real_dump = found(library, "mvtgate_dump");
     *(void **)&real_advise = found(library, "mvtgate_advise");
@@ -106,6 +108,12 @@ int mvtgate_faults_quickly(uint32_t profile, const uint8_t *tile, size_t length,
                            size_t *text_length)
 {
     return judge(real_faults_quickly, profile, tile, length, text, room, text_length);
+}
+
+int mvtgate_mend(uint32_t profile, uint32_t drop, const uint8_t *tile, size_t length, uint8_t *out, size_t out_room,
+                 size_t *out_length, uint8_t *report, size_t report_room, size_t *report_length)
+{
+    return real_mend(profile, drop, tile, unmarked(tile, length), out, out_room, out_length, report, report_room, report_length);
 }
 
 int mvtgate_confirm(uint32_t profile, const uint8_t *tile, size_t length, const uint8_t *text, size_t text_length)
