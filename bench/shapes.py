@@ -237,9 +237,9 @@ def nested_triangles(size):
 
 
 def nested(size, is_turned):
-    """Triangles, each inside all before it, as many as fit: exteriors or, where they are turned, an exterior and a hole in turn.
-    Triangle i, counted from the innermost, has the vertices A, B, C at (-i, -i), (2i, -i), (-i, 2i); it begins at the vertex near
-    which the one around it ends."""
+    """The numbers of triangles, ring by ring, each inside all before it, as many as fit: exteriors or, where they are turned, an
+    exterior and a hole in turn. Triangle i, counted from the innermost, has the vertices A, B, C at (-i, -i), (2i, -i), (-i, 2i);
+    it begins at the vertex near which the one around it ends."""
     line = [command(MOVE_TO, 1), *parameters([(1, 1)]), command(LINE_TO, 2)]
     begin_a, begin_b, begin_c = (packed([*line[:1], *parameters([it]), line[3]]) for it in ((1, 1), (-2, 1), (1, -2)))
     close = packed([command(CLOSE_PATH, 1)])
@@ -262,17 +262,17 @@ def nested(size, is_turned):
         rings.pop()
     i = len(rings)
     rings[-1] = packed(drawn([[(-i, -i), (2 * i, -i), (-i, 2 * i)]]))
-    return filled(b"".join(reversed(rings)))
+    return rings[::-1]
 
 
 def nested_polygons(size):
     """Polygons, each inside all before it."""
-    return nested(size, False)
+    return filled(b"".join(nested(size, False)))
 
 
 def nested_islands(size):
     """Polygons with a hole, each in the hole of the one before it."""
-    return nested(size, True)
+    return filled(b"".join(nested(size, True)))
 
 
 def triangles_in_hole(size):
