@@ -62,7 +62,7 @@ offered() { offered_by mvtgate "$@"; }
 offered_by_check() { offered_by mvtgate-check "$@"; }
 
 # Lines 'WORDS|OFFERS': what is offered after these words; the last one is at the cursor, and is empty after a space.
-offers='|check confirm dump fields help --help --version
+offers='|check confirm mend dump fields help --help --version
 c|check confirm
 --|--help --version
 x|
@@ -88,11 +88,23 @@ confirm a |FILE
 confirm a b |
 confirm --profile p|polygon
 confirm --profile feature a |FILE
+m|mend
+mend |FILE
+mend -|--profile --drop --report --help
+mend --drop --r|--report
+mend --profile |polygon feature
+mend --profile = p|polygon
+mend --report |FILE
+mend --report a -|--profile --drop --help
+mend --report = |FILE
+mend --report a |FILE
+mend --report = a |FILE
+mend --report a b |
 dump |FILE
 dump -|--help
 fields |FILE
 fields -|--help
-help |check confirm dump fields
+help |check confirm mend dump fields
 help d|dump
 help dump |'
 
@@ -143,7 +155,7 @@ test_documents() {
     test_offers mvtgate "$offers"
     test_offers mvtgate-check "$offers_of_check"
     expect "the options of mvtgate-check" offers_all_of_check
-    for it in "" check confirm dump fields; do
+    for it in "" check confirm mend dump fields; do
         expect "the options of 'mvtgate $it'" offers_all "$it"
     done
     expect "typing at bash" "$python" packaging/tests/typed.py packaging/mvtgate.bash-completion

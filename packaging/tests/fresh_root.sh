@@ -226,13 +226,14 @@ test_checkout() {
 test_fresh_root() {
     local is_debian='' tar_name expected
     if [ "$(id -u)" != 0 ]; then
-        echo "left out: the fresh root (this isn't root)"
+        tests/left_out package:fresh_root "the fresh root (this isn't root)" || failed=$((failed + 1))
         return
     fi
     if has_debian; then
         is_debian=yes
     else
-        echo "left out: Debian's minimal system, and Python in it; the packages are tried in a folder with the C library alone"
+        [ -n "$is_clean_folder" ] || tests/left_out package:debian "Debian's minimal system, and Python in it" || failed=$((failed + 1))
+        echo "the packages are tried in a folder with the C library alone"
         make_clean_folder
     fi
     mkdir "$root/tmp/tiles"

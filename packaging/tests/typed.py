@@ -26,6 +26,7 @@ TYPED: List[Tuple[str, List[str]]] = [
     ("mvtgate dump 'a t\t", ["dump", "a tile.mvt"]),
     ("mvtgate con\tpoi\tfa\t", ["confirm", "point.mvt", "fault.json"]),
     ("mvtgate fie\tfol\tdee\t", ["fields", "folder/deep.mvt"]),
+    ("mvtgate me\t--dr\tpoi\t", ["mend", "--drop", "point.mvt"]),
     ("mvtgate help du\t", ["help", "dump"]),
 ]
 PROMPT = b"ready> "
