@@ -1,9 +1,10 @@
 // The page: what comes in is checked, listed and shown.
 
 import { embeddedModule } from '../gate/embedded.js';
-import { RemoteGate } from '../gate/remote.js';
-import { explainFormat } from '../words/explain.js';
-import { isolated } from '../words/isolated.js';
+import { workersOfPage } from '../gate/workers.js';
+import { RemoteGate } from '../../../bindings/js/src/gate/remote.js';
+import { explainFormat } from '../../../bindings/js/src/words/explain.js';
+import { isolated } from '../../../bindings/js/src/words/isolated.js';
 import { Answer } from './answer/answer.js';
 import { Checks, newEntry, reasonOf } from './files/checks.js';
 import { FileList } from './files/list.js';
@@ -169,5 +170,5 @@ function chosenProfile() {
   return byId('feature', HTMLInputElement).checked ? 'feature' : 'polygon';
 }
 
-const module = embeddedModule(document);
-new Page(new RemoteGate(module), new RemoteGate(module)).start();
+const module = embeddedModule(document), newWorker = workersOfPage();
+new Page(new RemoteGate(module, newWorker), new RemoteGate(module, newWorker)).start();

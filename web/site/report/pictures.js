@@ -7,11 +7,11 @@ import { bytesOfBase64, linkOf } from '../app/files/link.js';
 import { PicturePanel } from '../app/pictures/panel.js';
 import { element } from '../app/tools/dom.js';
 import { saveFile } from '../app/tools/hand_over.js';
-import { pictureOfFault } from '../picture/index.js';
+import { pictureOfFault } from '../../../bindings/js/src/picture/index.js';
 
 /** @typedef {import('../app/files/link.js').Profile} Profile */
 /** @typedef {{page: string|null, profile: Profile}} PageData the address of the page that opens tiles, and the run's profile */
-/** @typedef {{fault: import('../picture/index.js').Fault, tile: string, record: import('../picture/index.js').TileRecord|null}} Found */
+/** @typedef {{fault: import('../../../bindings/js/src/picture/index.js').Fault, tile: string, record: import('../../../bindings/js/src/picture/index.js').TileRecord|null}} Found */
 
 const MARGIN = '200px'; // around the window: what comes near is drawn
 

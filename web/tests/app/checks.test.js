@@ -4,7 +4,7 @@ import { mock, test } from 'node:test';
 import { setImmediate } from 'node:timers/promises';
 import { deflateSync, gzipSync } from 'node:zlib';
 import { Checks, newEntry } from '../../site/app/files/checks.js';
-import { OutOfMemory, Stopped } from '../../site/gate/errors.js';
+import { OutOfMemory, Stopped } from '../../../bindings/js/src/gate/errors.js';
 
 const FAULT = '{"code":201,"layer":0}';
 const QUICK_FAULT = '{"code":201,"layer":1}';

@@ -1,7 +1,7 @@
 /** What the module answers, for compare_native, in Node or in a browser. */
-import { Gate } from '../../site/gate/gate.js';
+import { Gate } from '../../../bindings/js/src/gate/gate.js';
 
-/** @type {import('../../site/gate/gate.js').Profile[]} */
+/** @type {import('../../../bindings/js/src/gate/gate.js').Profile[]} */
 const PROFILES = ['polygon', 'feature'];
 
 /**

@@ -5,7 +5,7 @@ import { mkdtempSync, rmSync, writeFileSync } from 'node:fs';
 import { tmpdir } from 'node:os';
 import { test } from 'node:test';
 import { embeddedModule } from '../../site/gate/embedded.js';
-import { TOP } from '../samples.js';
+import { TOP } from '../../../bindings/js/tests/samples.js';
 
 /**
  * @param {string} script

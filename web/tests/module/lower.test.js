@@ -3,7 +3,7 @@ import { execFileSync, spawnSync } from 'node:child_process';
 import { mkdtempSync, readFileSync, rmSync, writeFileSync } from 'node:fs';
 import { tmpdir } from 'node:os';
 import { test } from 'node:test';
-import { TOP } from '../samples.js';
+import { TOP } from '../../../bindings/js/tests/samples.js';
 
 // What the linker makes, but for the table, with functions that do little: `malloc` asks for a page, or answers the size of the
 // memory, and `check` reads the byte at an address.

@@ -16,7 +16,7 @@ import { FaultList } from './faults.js';
 
 /** @typedef {import('../files/checks.js').Entry} Entry */
 /** @typedef {import('../files/checks.js').Checks} Checks */
-/** @typedef {import('../../gate/remote.js').RemoteGate} RemoteGate */
+/** @typedef {import('../../../../bindings/js/src/gate/remote.js').RemoteGate} RemoteGate */
 /** @typedef {import('../contents/record.js').TileRecord} TileRecord */
 /** @typedef {import('../files/checks.js').Fault} Fault */
 

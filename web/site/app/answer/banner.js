@@ -1,6 +1,6 @@
 // The verdict on a file, first of all that is said of it.
 
-import { explainFault } from '../../words/explain.js';
+import { explainFault } from '../../../../bindings/js/src/words/explain.js';
 import { byId, element, prose } from '../tools/dom.js';
 
 /** @typedef {import('../files/checks.js').Entry} Entry */

@@ -1,6 +1,6 @@
 // The words for a fault and for advice, and what a check took.
 
-import { explainAdvice, explainFault } from '../../words/explain.js';
+import { explainAdvice, explainFault } from '../../../../bindings/js/src/words/explain.js';
 import { byId, element, fillTerms, prose } from '../tools/dom.js';
 import { counted, digits, shortSize, sizeText, timeText } from '../tools/text.js';
 

@@ -1,12 +1,12 @@
 // One fault of a tile: what it means, its picture, and what the separate checker says of it.
 
-import { pictureOfFault } from '../../picture/index.js';
+import { pictureOfFault } from '../../../../bindings/js/src/picture/index.js';
 import { PicturePanel } from '../pictures/panel.js';
 import { byId } from '../tools/dom.js';
 import { showFacts } from './facts.js';
 
 /** @typedef {import('../contents/record.js').TileRecord} TileRecord */
-/** @typedef {import('../../picture/types.js').Fault} Fault */
+/** @typedef {import('../../../../bindings/js/src/picture/types.js').Fault} Fault */
 
 export class FaultPanel {
   /** The text of the fault that is shown; empty where none is. */

@@ -1,11 +1,11 @@
 // The faults of a tile that has several, of which one is shown: a list, and buttons for the next and the previous one.
 
-import { explainFault } from '../../words/explain.js';
+import { explainFault } from '../../../../bindings/js/src/words/explain.js';
 import { byId, element, prose } from '../tools/dom.js';
 import { Listbox } from '../tools/listbox.js';
 import { counted, digits } from '../tools/text.js';
 
-/** @typedef {import('../../gate/gate.js').Faults} Faults */
+/** @typedef {import('../../../../bindings/js/src/gate/gate.js').Faults} Faults */
 
 /** How many faults are listed. */
 const LISTED = 1000;

@@ -1,6 +1,6 @@
 // What a tile holds: its layers, its features found by words, a map of them, and the record of the one that is chosen.
 
-import { mapOfTile, pictureOfFeature } from '../../picture/index.js';
+import { mapOfTile, pictureOfFeature } from '../../../../bindings/js/src/picture/index.js';
 import { PicturePanel } from '../pictures/panel.js';
 import { byId } from '../tools/dom.js';
 import { Listbox } from '../tools/listbox.js';

@@ -1,7 +1,7 @@
 // One feature of a large tile: a small tile with its layer, in which all other features are left out.
 
-import { Cursor } from '../../tile/cursor.js';
-import { messageOfFault } from '../../tile/fields.js';
+import { Cursor } from '../../../../bindings/js/src/tile/cursor.js';
+import { messageOfFault } from '../../../../bindings/js/src/tile/fields.js';
 
 /** @typedef {import('./record.js').TileRecord} TileRecord */
 /** @typedef {import('./search.js').FeaturePlace} FeaturePlace */

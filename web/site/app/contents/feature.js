@@ -1,7 +1,7 @@
 // A feature and its record: id, type, tags and the numbers of its geometry.
 
-import { typeName, valueText } from '../../tile/layers.js';
-import { isolated } from '../../words/isolated.js';
+import { typeName, valueText } from '../../../../bindings/js/src/tile/layers.js';
+import { isolated } from '../../../../bindings/js/src/words/isolated.js';
 import { element, fillTerms } from '../tools/dom.js';
 import { counted, digits } from '../tools/text.js';
 import { tagsOf } from './record.js';

@@ -1,7 +1,7 @@
 // The list of layers: which are chosen, and the keys and values of each.
 
-import { featureCounts, valueText } from '../../tile/layers.js';
-import { isolated } from '../../words/isolated.js';
+import { featureCounts, valueText } from '../../../../bindings/js/src/tile/layers.js';
+import { isolated } from '../../../../bindings/js/src/words/isolated.js';
 import { element } from '../tools/dom.js';
 import { counted, digits } from '../tools/text.js';
 

@@ -1,8 +1,8 @@
 // The record of a tile, as `dump` writes it.
 
-/** @typedef {import('../../tile/layers.js').TileRecord} TileRecord */
-/** @typedef {import('../../tile/layers.js').Layer} Layer */
-/** @typedef {import('../../tile/layers.js').Feature} Feature */
+/** @typedef {import('../../../../bindings/js/src/tile/layers.js').TileRecord} TileRecord */
+/** @typedef {import('../../../../bindings/js/src/tile/layers.js').Layer} Layer */
+/** @typedef {import('../../../../bindings/js/src/tile/layers.js').Feature} Feature */
 
 /**
  * Reads a record. Numbers of 16 digits and more, such as ids and values of 64 bits, become texts, since a double may not hold them.

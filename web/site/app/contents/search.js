@@ -1,6 +1,6 @@
 // Features found by words: in the name of their layer, their keys, their values or their id.
 
-import { valueText } from '../../tile/layers.js';
+import { valueText } from '../../../../bindings/js/src/tile/layers.js';
 
 /** @typedef {import('./record.js').TileRecord} TileRecord */
 /** @typedef {import('./record.js').Layer} Layer */

@@ -1,15 +1,15 @@
 // The files, and the check of one after another.
 
-import { OutOfMemory, Stopped } from '../../gate/errors.js';
+import { OutOfMemory, Stopped } from '../../../../bindings/js/src/gate/errors.js';
 import { packingOf, unpack } from './packing.js';
 import { readFile, Unreadable } from './read.js';
 
 /** @typedef {import('./link.js').Profile} Profile */
-/** @typedef {Pick<import('../../gate/remote.js').RemoteGate, 'check'|'checkQuickly'|'confirm'|'stop'>} Gate */
-/** @typedef {import('../../gate/remote.js').Judged} Judged */
+/** @typedef {Pick<import('../../../../bindings/js/src/gate/remote.js').RemoteGate, 'check'|'checkQuickly'|'confirm'|'stop'>} Gate */
+/** @typedef {import('../../../../bindings/js/src/gate/remote.js').Judged} Judged */
 /** @typedef {'waiting'|'checking'|'valid'|'fault'|'unreadable'|'stopped'} State */
-/** @typedef {import('../../picture/types.js').Fault} Fault the members of a fault's text */
-/** @typedef {import('../../words/formats.js').Format} Format */
+/** @typedef {import('../../../../bindings/js/src/picture/types.js').Fault} Fault the members of a fault's text */
+/** @typedef {import('../../../../bindings/js/src/words/formats.js').Format} Format */
 
 /**
  * What is known of a file. `said` is the text of the fault; `reason` says why there is no verdict.

@@ -1,6 +1,6 @@
 // What is said of a file, and of all of them.
 
-import { explainFault } from '../../words/explain.js';
+import { explainFault } from '../../../../bindings/js/src/words/explain.js';
 import { counted, digits, listed } from '../tools/text.js';
 
 /** @typedef {import('./checks.js').Entry} Entry */

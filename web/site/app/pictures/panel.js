@@ -1,11 +1,11 @@
 // A place of the page for a picture.
 
-import { toText } from '../../picture/index.js';
-import { Viewer } from '../../picture/viewer.js';
+import { toText } from '../../../../bindings/js/src/picture/index.js';
+import { Viewer } from '../../../../bindings/js/src/picture/viewer.js';
 import { element } from '../tools/dom.js';
 import { saveFile } from '../tools/hand_over.js';
 
-/** @typedef {import('../../picture/index.js').Picture} Picture */
+/** @typedef {import('../../../../bindings/js/src/picture/index.js').Picture} Picture */
 /** @typedef {import('../contents/search.js').FeaturePlace} FeaturePlace */
 
 export class PicturePanel {

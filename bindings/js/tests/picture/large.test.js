@@ -1,6 +1,6 @@
 import assert from 'node:assert/strict';
 import { test } from 'node:test';
-import { mapOfTile, pictureOfFault, pictureOfFeature, toText } from '../../site/picture/index.js';
+import { mapOfTile, pictureOfFault, pictureOfFeature, toText } from '../../src/picture/index.js';
 import { elementsOf } from './tools.js';
 
 const VERTICES = 300000;

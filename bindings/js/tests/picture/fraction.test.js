@@ -1,6 +1,6 @@
 import assert from 'node:assert/strict';
 import { test } from 'node:test';
-import { decimalText, doubleOf, exactText, fraction, fractionText } from '../../site/picture/fraction.js';
+import { decimalText, doubleOf, exactText, fraction, fractionText } from '../../src/picture/fraction.js';
 
 test('fractions are in lowest terms', () => {
   assert.equal(fractionText(fraction(800n, 180n)), '40/9');

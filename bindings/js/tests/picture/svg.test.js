@@ -1,7 +1,7 @@
 import assert from 'node:assert/strict';
 import { execFileSync } from 'node:child_process';
 import { test } from 'node:test';
-import { mapOfTile, pictureOfFault, toText } from '../../site/picture/index.js';
+import { mapOfTile, pictureOfFault, toText } from '../../src/picture/index.js';
 import { recordOf } from './tools.js';
 import { SAMPLES, YES } from '../samples.js';
 

@@ -1,6 +1,6 @@
 import assert from 'node:assert/strict';
 import { test } from 'node:test';
-import { listen } from '../../site/picture/view/gestures.js';
+import { listen } from '../../src/picture/view/gestures.js';
 
 /** An element at (100, 50) of the window, as far as the listeners use one, and the calls that they make. */
 class Surface extends EventTarget {

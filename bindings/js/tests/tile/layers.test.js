@@ -1,6 +1,6 @@
 import assert from 'node:assert/strict';
 import { test } from 'node:test';
-import { featureCounts, typeName, valueText } from '../../site/tile/layers.js';
+import { featureCounts, typeName, valueText } from '../../src/tile/layers.js';
 
 test('values have their kind and what they say', () => {
   assert.equal(valueText({ string: 'a "b"\n' }), '"a \\"b\\"\\n"');

@@ -2,10 +2,10 @@ import assert from 'node:assert/strict';
 import { execFileSync } from 'node:child_process';
 import { readFileSync } from 'node:fs';
 import { test } from 'node:test';
-import { adviceInWords, faultInWords, fractionText } from '../site/words/fill.js';
+import { adviceInWords, faultInWords, fractionText } from '../src/words/fill.js';
 import { SAMPLES, TOP, YES } from './samples.js';
 
-/** @type {import('../site/words/fill.js').Words} */
+/** @type {import('../src/words/fill.js').Words} */
 const words = JSON.parse(readFileSync(`${TOP}bindings/faults.json`, 'utf8'));
 
 /** Faults of the sample tiles, and wire faults of each code and scope by fields with and without a name. */
@@ -39,6 +39,10 @@ function wordsOfPython(texts) {
   const said = execFileSync('python3', ['-c', PYTHON], { env, input: texts.join('\n'), encoding: 'utf8', maxBuffer: 1 << 28 });
   return said.trimEnd().split('\n').map((line) => JSON.parse(line));
 }
+
+test('the words are those of all packages', () => {
+  execFileSync(`${TOP}bindings/js/make_words`, ['--check']);
+});
 
 test('each fault has the words of the Python package', () => {
   const texts = faultTexts();

@@ -1,15 +1,15 @@
 import assert from 'node:assert/strict';
 import { existsSync, readFileSync } from 'node:fs';
 import { test } from 'node:test';
-import { fieldsBefore, messageOfFault, packedNumbersBefore, readVarint } from '../../site/tile/fields.js';
+import { fieldsBefore, messageOfFault, packedNumbersBefore, readVarint } from '../../src/tile/fields.js';
 import { fieldsOf } from '../picture/tools.js';
 import { SAMPLES, TOP, sample } from '../samples.js';
 
-/** @typedef {import('../../site/tile/fields.js').WireFault} WireFault */
+/** @typedef {import('../../src/tile/fields.js').WireFault} WireFault */
 
 /**
  * @param {Uint8Array} tile
- * @returns {import('../../site/tile/fields.js').Message}
+ * @returns {import('../../src/tile/fields.js').Message}
  */
 function whole(tile) {
   return { kind: 'tile', name: 'the tile', at: 0, begin: 0, end: tile.length, outer: null };

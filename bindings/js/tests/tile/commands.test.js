@@ -1,9 +1,9 @@
 import assert from 'node:assert/strict';
 import { test } from 'node:test';
-import { LINESTRING, POINT, POLYGON, commandOf, decodeNumbers, followCommands, parameterOf } from '../../site/tile/commands.js';
-import { allowedCount, commandAround, dueAt } from '../../site/tile/due.js';
+import { LINESTRING, POINT, POLYGON, commandOf, decodeNumbers, followCommands, parameterOf } from '../../src/tile/commands.js';
+import { allowedCount, commandAround, dueAt } from '../../src/tile/due.js';
 
-/** @param {import('../../site/tile/commands.js').Figure} figure */
+/** @param {import('../../src/tile/commands.js').Figure} figure */
 function positions(figure) {
   return Array.from({ length: figure.count }, (_, k) => [figure.xs[k], figure.ys[k]]);
 }

@@ -2,7 +2,7 @@
 import { existsSync, readFileSync, readdirSync } from 'node:fs';
 import { fileURLToPath } from 'node:url';
 
-export const TOP = fileURLToPath(new URL('../../', import.meta.url));
+export const TOP = fileURLToPath(new URL('../../../', import.meta.url));
 
 /** The line that `mvtgate check` writes for a valid tile. */
 export const YES = '{"ok":true}';

@@ -1,12 +1,12 @@
 import assert from 'node:assert/strict';
 import { test } from 'node:test';
-import { OutOfMemory } from '../../site/gate/errors.js';
-import { Gate } from '../../site/gate/gate.js';
+import { OutOfMemory } from '../../src/gate/errors.js';
+import { Gate } from '../../src/gate/gate.js';
 import { SAMPLES, YES, faultyLayers, moduleBytes, sample } from '../samples.js';
 import { withGreatestMemory } from './small_memory.js';
 import { feature, tileOf } from '../wire.js';
 
-/** @typedef {import('../../site/gate/gate.js').Profile} Profile */
+/** @typedef {import('../../src/gate/gate.js').Profile} Profile */
 
 const gate = new Gate(new WebAssembly.Module(moduleBytes()));
 /** @type {Profile[]} */

@@ -1,12 +1,12 @@
 import assert from 'node:assert/strict';
 import { test } from 'node:test';
-import { pictureOfFault } from '../../site/picture/index.js';
-import { clip, clipSegment } from '../../site/picture/plane/clip.js';
-import { frameOf } from '../../site/picture/plane/frame.js';
-import { gridOf, labelStep, rulersOf } from '../../site/picture/plane/grid.js';
-import { near } from '../../site/picture/plane/near.js';
-import { pathData } from '../../site/picture/plane/paths.js';
-import { line, shape } from '../../site/picture/plane/scene.js';
+import { pictureOfFault } from '../../src/picture/index.js';
+import { clip, clipSegment } from '../../src/picture/plane/clip.js';
+import { frameOf } from '../../src/picture/plane/frame.js';
+import { gridOf, labelStep, rulersOf } from '../../src/picture/plane/grid.js';
+import { near } from '../../src/picture/plane/near.js';
+import { pathData } from '../../src/picture/plane/paths.js';
+import { line, shape } from '../../src/picture/plane/scene.js';
 import { elementsOf, positionsOf, recordOf } from './tools.js';
 import { sample } from '../samples.js';
 

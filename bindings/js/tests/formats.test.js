@@ -3,10 +3,10 @@ import assert from 'node:assert/strict';
 import { readFileSync } from 'node:fs';
 import { test } from 'node:test';
 import { deflateSync, gzipSync } from 'node:zlib';
-import { formatInWords } from '../site/words/formats.js';
+import { formatInWords } from '../src/words/formats.js';
 import { TOP } from './samples.js';
 
-/** @type {{formats: import('../site/words/formats.js').Formats}} */
+/** @type {{formats: import('../src/words/formats.js').Formats}} */
 const { formats } = JSON.parse(readFileSync(`${TOP}bindings/faults.json`, 'utf8'));
 const WIRE_FAULT = { code: 104, at: 0, field: 3, scope: 'tile' };
 

@@ -1,7 +1,7 @@
 import assert from 'node:assert/strict';
 import { test } from 'node:test';
-import { POLYGON, followCommands } from '../../site/tile/commands.js';
-import { doubledArea, edgeOf, groupRings, vertexOf } from '../../site/tile/rings.js';
+import { POLYGON, followCommands } from '../../src/tile/commands.js';
+import { doubledArea, edgeOf, groupRings, vertexOf } from '../../src/tile/rings.js';
 import { recordOf } from '../picture/tools.js';
 import { sample } from '../samples.js';
 

@@ -1,12 +1,12 @@
 /** What the tests of pictures need: records of sample tiles, and the elements of a drawing. */
-import { readField, readVarint } from '../../site/tile/fields.js';
-import { toTree } from '../../site/picture/index.js';
+import { readField, readVarint } from '../../src/tile/fields.js';
+import { toTree } from '../../src/picture/index.js';
 
-/** @typedef {import('../../site/tile/fields.js').Field} Field */
-/** @typedef {import('../../site/tile/fields.js').Message} Message */
-/** @typedef {import('../../site/tile/schema.js').MessageKind} MessageKind */
-/** @typedef {import('../../site/picture/types.js').Picture} Picture */
-/** @typedef {import('../../site/picture/tree.js').Tree} Tree */
+/** @typedef {import('../../src/tile/fields.js').Field} Field */
+/** @typedef {import('../../src/tile/fields.js').Message} Message */
+/** @typedef {import('../../src/tile/schema.js').MessageKind} MessageKind */
+/** @typedef {import('../../src/picture/types.js').Picture} Picture */
+/** @typedef {import('../../src/picture/tree.js').Tree} Tree */
 
 /**
  * The fields of a message one after another, until one can't be read or the message ends.
@@ -25,7 +25,7 @@ export function* fieldsOf(bytes, message) {
 /**
  * The record of a tile that has no wire fault, with what pictures use of it.
  * @param {Uint8Array} tile
- * @returns {import('../../site/tile/layers.js').TileRecord}
+ * @returns {import('../../src/tile/layers.js').TileRecord}
  */
 export function recordOf(tile) {
   const layers = [...fieldsOf(tile, { kind: 'tile', name: '', at: 0, begin: 0, end: tile.length, outer: null })].filter((it) => it.number === 3);
@@ -44,7 +44,7 @@ function inner(kind, field) {
 /**
  * @param {Uint8Array} tile
  * @param {Message} message
- * @returns {import('../../site/tile/layers.js').Layer}
+ * @returns {import('../../src/tile/layers.js').Layer}
  */
 function layerOf(tile, message) {
   const fields = [...fieldsOf(tile, message)];
@@ -71,7 +71,7 @@ function valueOf(tile, message) {
 /**
  * @param {Uint8Array} tile
  * @param {Message} message
- * @returns {import('../../site/tile/layers.js').Feature}
+ * @returns {import('../../src/tile/layers.js').Feature}
  */
 function featureOf(tile, message) {
   const fields = [...fieldsOf(tile, message)];
@@ -96,7 +96,7 @@ function numbersOf(tile, field) {
 /**
  * The elements of a picture that have a role, by it: their attributes.
  * @param {Picture} picture
- * @param {import('../../site/picture/plane/box.js').Box|null} [box]
+ * @param {import('../../src/picture/plane/box.js').Box|null} [box]
  * @returns {Record<string, Record<string, string|number>[]>}
  */
 export function elementsOf(picture, box = picture.box) {

@@ -1,10 +1,10 @@
 import assert from 'node:assert/strict';
 import { test } from 'node:test';
-import { Gate } from '../../site/gate/gate.js';
-import { mapOfTile, pictureOfFault, toText } from '../../site/picture/index.js';
+import { Gate } from '../../src/gate/gate.js';
+import { mapOfTile, pictureOfFault, toText } from '../../src/picture/index.js';
 import { SAMPLES, moduleBytes } from '../samples.js';
 
-/** @typedef {import('../../site/picture/types.js').Picture} Picture */
+/** @typedef {import('../../src/picture/types.js').Picture} Picture */
 
 const TILES = 1500;
 const gate = new Gate(new WebAssembly.Module(moduleBytes()));

@@ -1,6 +1,6 @@
 import assert from 'node:assert/strict';
 import { test } from 'node:test';
-import { pictureOfFault } from '../../site/picture/index.js';
+import { pictureOfFault } from '../../src/picture/index.js';
 import { elementsOf, recordOf } from './tools.js';
 import { SAMPLES, YES, sample } from '../samples.js';
 

@@ -1,7 +1,7 @@
 import assert from 'node:assert/strict';
 import { test } from 'node:test';
-import { OutOfMemory, RemoteGate, Stopped } from '../../site/gate/remote.js';
-import { server } from '../../site/gate/serve.js';
+import { OutOfMemory, RemoteGate, Stopped } from '../../src/gate/remote.js';
+import { server } from '../../src/gate/serve.js';
 import { moduleBytes, sample } from '../samples.js';
 import { withGreatestMemory } from './small_memory.js';
 

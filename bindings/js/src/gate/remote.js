@@ -18,14 +18,6 @@ export { OutOfMemory, Stopped };
 /** In bytes: a worker that had as much is replaced, since a browser may be long in taking such memory back from one that goes on. */
 const MUCH_MEMORY = 128 * 1024 * 1024;
 
-/**
- * @returns {() => Worker} makes workers from a text, since a page that was opened as a file may load no script of a worker
- */
-function workersOfPage() {
-  const script = URL.createObjectURL(new Blob([WORKER_SCRIPT], { type: 'text/javascript' }));
-  return () => new Worker(script);
-}
-
 export class RemoteGate {
   #moduleBytes;
   #newWorker;
@@ -46,7 +38,7 @@ export class RemoteGate {
    * @param {Uint8Array} moduleBytes
    * @param {() => Worker} newWorker
    */
-  constructor(moduleBytes, newWorker = workersOfPage()) {
+  constructor(moduleBytes, newWorker) {
     this.#moduleBytes = moduleBytes;
     this.#newWorker = newWorker;
     this.#worker = newWorker();

@@ -1,8 +1,5 @@
-/**
- * Faults, advice and other formats in plain words, those of bindings/faults.json. Node can't import it as it stands; fill.js and formats.js
- * do the work.
- */
-import words from '../../../bindings/faults.json';
+/** Faults, advice and other formats in plain words. */
+import words from './faults.js';
 import { adviceInWords, faultInWords } from './fill.js';
 import { formatInWords } from './formats.js';
 

@@ -1,8 +1,8 @@
 import assert from 'node:assert/strict';
 import { test } from 'node:test';
-import { mapOfTile } from '../../site/picture/index.js';
-import { boxBetween } from '../../site/picture/view/glide.js';
-import { featureOfShape, placeAmong, selectableShapes } from '../../site/picture/view/selection.js';
+import { mapOfTile } from '../../src/picture/index.js';
+import { boxBetween } from '../../src/picture/view/glide.js';
+import { featureOfShape, placeAmong, selectableShapes } from '../../src/picture/view/selection.js';
 
 const LARGE = { left: 0, top: 0, right: 100, bottom: 100 };
 const SMALL = { left: 0, top: 50, right: 1, bottom: 51 };

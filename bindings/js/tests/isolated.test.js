@@ -1,7 +1,7 @@
 // Names among other words. (The characters are those of Unicode Standard Annex 9.)
 import assert from 'node:assert/strict';
 import { test } from 'node:test';
-import { isolated } from '../site/words/isolated.js';
+import { isolated } from '../src/words/isolated.js';
 
 const FSI = '\u2068', PDI = '\u2069', LRI = '\u2066', OVERRIDE = '\u202e', ARABIC = 'شارع', HEBREW = 'רחוב';
 

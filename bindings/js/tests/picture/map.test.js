@@ -1,10 +1,10 @@
 import assert from 'node:assert/strict';
 import { test } from 'node:test';
-import { mapOfTile, pictureOfFeature } from '../../site/picture/index.js';
+import { mapOfTile, pictureOfFeature } from '../../src/picture/index.js';
 import { elementsOf, positionsOf } from './tools.js';
 
-/** @typedef {import('../../site/tile/layers.js').Feature} Feature */
-/** @typedef {import('../../site/tile/layers.js').Layer} Layer */
+/** @typedef {import('../../src/tile/layers.js').Feature} Feature */
+/** @typedef {import('../../src/tile/layers.js').Layer} Layer */
 
 const POINTS = { id: null, tags: [], type: 1, geometry: [17, 10, 14, 3, 9] }; // (5,7), (3,2)
 const LINE = { id: null, tags: [], type: 2, geometry: [9, 4, 4, 18, 0, 16, 16, 0] }; // (2,2), (2,10), (10,10)

@@ -1,6 +1,6 @@
 import assert from 'node:assert/strict';
 import { test } from 'node:test';
-import { firstLines } from '../../site/gate/lines.js';
+import { firstLines } from '../../src/gate/lines.js';
 
 /** @param {string} text @param {number} limit */
 const first = (text, limit) => firstLines(new TextEncoder().encode(text), limit);
