@@ -1,7 +1,7 @@
 """Puts libmvtgate.so, faults.json and the page into the wheel, and names the wheel for the systems that the library runs on.
 
-The library is the one that MVTGATE_LIBRARY names, or the one that ./library of the repository made. The page, and the script and
-style of reports, are in the folder that MVTGATE_WEB names, or where ./page of the repository made them. There is no compiled module
+The library is the one that MVTGATE_LIBRARY names, or the one that tools/library of the repository made. The page, and the script and
+style of reports, are in the folder that MVTGATE_WEB names, or where tools/page of the repository made them. There is no compiled module
 of Python's in the wheel, so any Python 3 will do (py3-none), and what ties it to a system is the library: code for x86-64 that
 needs nothing but the C library. The tag manylinux_2_34_x86_64 says so: glibc 2.34 or later. The library itself needs an older
 one, 2.14, but also a processor of level x86-64-v2; distributions of that glibc are the first to be built for it (RHEL 9), and
@@ -28,7 +28,7 @@ HERE = pathlib.Path(__file__).resolve().parent
 def library():
     path = pathlib.Path(os.environ.get("MVTGATE_LIBRARY") or HERE.parent.parent / "bindings/c/out/libmvtgate.so")
     if not path.exists():
-        raise SystemExit(f"setup.py: there is no {path}: run ./library")
+        raise SystemExit(f"setup.py: there is no {path}: run tools/library")
     code = path.read_bytes()
     if code[:5] != b"\x7fELF\x02" or int.from_bytes(code[18:20], "little") != 62:
         raise SystemExit(f"setup.py: {path} is no library for x86-64")
@@ -42,7 +42,7 @@ def library():
 def web(name):
     path = pathlib.Path(os.environ.get("MVTGATE_WEB") or HERE.parent.parent / "web/out", name)
     if not path.exists():
-        raise SystemExit(f"setup.py: there is no {path}: run ./page")
+        raise SystemExit(f"setup.py: there is no {path}: run tools/page")
     return path
 
 

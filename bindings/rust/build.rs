@@ -28,7 +28,7 @@ fn main() {
     let built = crate_folder.join("../c/out");
     assert!(
         link_from(&built) || link_by_pkg_config(),
-        "there is no libmvtgate: build it with ./library of the repository, or set MVTGATE_LIB_DIR to its folder"
+        "there is no libmvtgate: build it with tools/library of the repository, or set MVTGATE_LIB_DIR to its folder"
     );
 }
 

@@ -208,18 +208,18 @@ END
     chmod 755 "$root/tmp/large/ldconfig"
 }
 
-# ./install of a checkout in which all is built, where there is no toolchain.
+# tools/install of a checkout in which all is built, where there is no toolchain.
 test_checkout() {
     local before
     copy_checkout "$root/tmp/a checkout"
     put_large_ldconfig
     before=$(listed)
-    expect "./install in the fresh root" inside env PATH=/tmp/large:/usr/sbin:/usr/bin:/sbin:/bin "/tmp/a checkout/install" /usr/local
+    expect "tools/install in the fresh root" inside env PATH=/tmp/large:/usr/sbin:/usr/bin:/sbin:/bin "/tmp/a checkout/tools/install" /usr/local
     expect "the samples by the installed program there" are_samples_right by_package
     expect "building for the installed library" build_for /usr/local /usr/local/lib
     expect "the samples by the installed library" are_samples_right by_program
     rm -f "$root/opt/judge"
-    expect "./install --uninstall in the fresh root" inside "/tmp/a checkout/install" --uninstall /usr/local
+    expect "tools/install --uninstall in the fresh root" inside "/tmp/a checkout/tools/install" --uninstall /usr/local
     expect "nothing is left of the installation" are_lines "$before" listed
 }
 

@@ -1,4 +1,4 @@
-# For tests/package: ./install and --uninstall.
+# For tests/package: tools/install and --uninstall.
 # (the names that aren't set here are those of tests/package)
 # shellcheck shell=bash disable=SC2154
 
@@ -67,7 +67,7 @@ test_place() {
     local prefix="$room/a prefix" before after
     put_others "$prefix"
     before=$(listing "$prefix")
-    expect "./install" ./install "$prefix"
+    expect "tools/install" tools/install "$prefix"
     after=$(listing "$prefix")
     expect "the samples by the installed program" are_samples_right by_installed
     test_consumers
@@ -77,26 +77,26 @@ test_place() {
         unset XDG_DATA_DIRS
     fi
     ! has /usr/bin/man "man's search" || expect "man 3 mvtgate" are_lines "$prefix/share/man/man3/mvtgate.3" man -M "$prefix/share/man" -w 3 mvtgate
-    expect "./install again" ./install "$prefix"
+    expect "tools/install again" tools/install "$prefix"
     expect "the same files after that" are_lines "$after" listing "$prefix"
     rm -r "$prefix/lib/other" "$prefix/share/man/man1/other.1"
     expect "the files and modes" has_all "$prefix" "$prefix/lib"
     put_others "$prefix"
-    expect "./install --uninstall" ./install --uninstall "$prefix"
+    expect "tools/install --uninstall" tools/install --uninstall "$prefix"
     expect "the folder as it was" are_lines "$before" listing "$prefix"
-    expect "./install --uninstall again" ./install --uninstall "$prefix"
+    expect "tools/install --uninstall again" tools/install --uninstall "$prefix"
     expect "the folder still as it was" are_lines "$before" listing "$prefix"
 }
 
 # An earlier version's files go when this one comes.
 test_upgrade() {
     local prefix=$room/upgraded
-    ./install "$prefix" >/dev/null
+    tools/install "$prefix" >/dev/null
     touch "$prefix/lib/libmvtgate.so.0.0.1"
     echo "$prefix/lib/libmvtgate.so.0.0.1" >>"$prefix/share/mvtgate/installed"
-    expect "./install over an earlier version" ./install "$prefix"
+    expect "tools/install over an earlier version" tools/install "$prefix"
     expect "the files of this version alone" has_all "$prefix" "$prefix/lib"
-    expect "--uninstall of both" ./install --uninstall "$prefix"
+    expect "--uninstall of both" tools/install --uninstall "$prefix"
     expect "no folder is left" [ ! -e "$prefix" ]
 }
 
@@ -104,11 +104,11 @@ test_destdir() {
     local root=$room/staged usr=$room/staged/usr
     mkdir "$root"
     export DESTDIR=$root
-    expect "./install with DESTDIR" ./install --libdir /usr/lib/x86_64-linux-gnu /usr
+    expect "tools/install with DESTDIR" tools/install --libdir /usr/lib/x86_64-linux-gnu /usr
     expect "the files and modes in DESTDIR" has_all "$usr" "$usr/lib/x86_64-linux-gnu"
     expect "the paths of the pkg-config file have no DESTDIR" are_lines /usr/lib/x86_64-linux-gnu \
         env PKG_CONFIG_PATH="$usr/lib/x86_64-linux-gnu/pkgconfig" pkg-config --variable=libdir mvtgate
-    expect "--uninstall with DESTDIR" ./install --uninstall /usr
+    expect "--uninstall with DESTDIR" tools/install --uninstall /usr
     expect "DESTDIR is empty" are_lines "" ls -A "$root"
     unset DESTDIR
 }
@@ -121,7 +121,7 @@ test_installed() {
     test_destdir
     for words in "" relative "/a /b" "--libdir" "--libdir relative /a" "--nothing /a" "--uninstall --libdir /a /b" "--uninstall"; do
         # shellcheck disable=SC2086
-        expect "the words '$words'" ends_with 2 ./install $words
+        expect "the words '$words'" ends_with 2 tools/install $words
     done
     expect "nothing is made by wrong words" [ ! -e /a ]
 }

@@ -1,4 +1,4 @@
-# For tests/package: what ./package makes.
+# For tests/package: what tools/package makes.
 # (the names that aren't set here are those of tests/package)
 # shellcheck shell=bash disable=SC2154
 
@@ -13,10 +13,10 @@ are_same() {
     done
 }
 
-# copy_checkout FOLDER: what ./install and ./package read, all of it built.
+# copy_checkout FOLDER: what tools/install and tools/package read, all of it built.
 copy_checkout() {
     mkdir "$1"
-    cp -a --parents VERSION install package packaging mvtgate prove library crates.txt crates/*/src crates/*/specs bindings/c \
+    cp -a --parents VERSION tools packaging mvtgate crates.txt crates/*/src crates/*/specs bindings/c \
         bindings/faults.json bindings/python/pyproject.toml crates/mvtgate/out/mvtgate crates/mvtgate/out/sources "$1"
 }
 
@@ -24,10 +24,10 @@ copy_checkout() {
 has_two_versions() {
     copy_checkout "$room/copy"
     echo 9.9.9 >"$room/copy/VERSION"
-    ends_with 1 env SOURCE_DATE_EPOCH=1 "$room/copy/package" "$room/none" 2>"$room/error"
+    ends_with 1 env SOURCE_DATE_EPOCH=1 "$room/copy/tools/package" "$room/none" 2>"$room/error"
     grep -F "version.rt has $version:" "$room/error"
     sed -i 's/^\(const [A-Z]*: u32 =\) [0-9]*;/\1 9;/' "$room/copy/crates/mvtgate_c/src/version.rt"
-    ends_with 1 env SOURCE_DATE_EPOCH=1 "$room/copy/package" "$room/none" 2>"$room/error"
+    ends_with 1 env SOURCE_DATE_EPOCH=1 "$room/copy/tools/package" "$room/none" 2>"$room/error"
     grep -F "the program says 'mvtgate $version':" "$room/error"
     [ ! -e "$room/none" ]
 }
@@ -58,16 +58,16 @@ has_sums() {
 test_made() {
     local names package bare=/usr/sbin:/usr/bin:/sbin:/bin
     version=$(<VERSION)
-    expect "./package" ./package "$made"
+    expect "tools/package" tools/package "$made"
     # (no toolchain is needed where all is built)
-    expect "./package again, with the system's programs alone" env PATH=$bare ./package "$room/again"
+    expect "tools/package again, with the system's programs alone" env PATH=$bare tools/package "$room/again"
     names=("libmvtgate-dev_${version}_amd64.deb" "mvtgate-$version-linux-x86_64.tar.gz" "mvtgate_${version}_amd64.deb"
         "python3-mvtgate_${version}_all.deb")
     ! has /usr/lib/python3/dist-packages/build "the wheel" || ! has /usr/lib/python3/dist-packages/wheel "the wheel" ||
         names+=("mvtgate-$version-py3-none-manylinux_2_34_x86_64.whl")
-    expect "the files of ./package" are_lines "$(printf '%s\n' "${names[@]}" | LC_ALL=C sort)" env LC_ALL=C ls "$made"
+    expect "the files of tools/package" are_lines "$(printf '%s\n' "${names[@]}" | LC_ALL=C sort)" env LC_ALL=C ls "$made"
     expect "the same bytes twice" are_same "$made" "$room/again"
-    expect "wrong words of ./package" ends_with 2 ./package a b
+    expect "wrong words of tools/package" ends_with 2 tools/package a b
     expect "two versions" has_two_versions
     expect "the C library that is named" needs_named_libc
     for package in mvtgate libmvtgate-dev python3-mvtgate; do

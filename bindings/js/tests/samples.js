@@ -7,7 +7,7 @@ export const TOP = fileURLToPath(new URL('../../../', import.meta.url));
 /** The line that `mvtgate check` writes for a valid tile. */
 export const YES = '{"ok":true}';
 
-/** @returns {Uint8Array} the module that ./page built */
+/** @returns {Uint8Array} the module that tools/page built */
 export function moduleBytes() {
   return new Uint8Array(readFileSync(`${TOP}web/module/out/mvtgate.wasm`));
 }

@@ -1,6 +1,6 @@
 /**
  * @param {Document} page
- * @returns {Uint8Array} the module that ./page wrote into the page, in the element with the id module
+ * @returns {Uint8Array} the module that tools/page wrote into the page, in the element with the id module
  */
 export function embeddedModule(page) {
   const text = page.getElementById('module')?.textContent ?? '';

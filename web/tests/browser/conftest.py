@@ -1,4 +1,4 @@
-"""The browsers, and where the page is: in the folder that MVTGATE_PAGE names, or where ./page builds it."""
+"""The browsers, and where the page is: in the folder that MVTGATE_PAGE names, or where tools/page builds it."""
 from __future__ import annotations
 
 import functools

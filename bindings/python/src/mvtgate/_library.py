@@ -30,7 +30,7 @@ _LIST_ROOM = 65_536
 _MORE_BYTES = 4_096
 
 _FOLDER = pathlib.Path(__file__).resolve().parent
-# (in a checkout, where ./library puts it)
+# (in a checkout, where tools/library puts it)
 _CHECKOUT = _FOLDER.parents[3]
 
 

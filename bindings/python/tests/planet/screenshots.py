@@ -1,7 +1,7 @@
 #!/usr/bin/env python3
 """Makes the pictures of the report in docs/, in Debian's Chromium, of a planet that is made up: screenshots.py [FOLDER].
 
-It needs what ./library and ./page make.
+It needs what tools/library and tools/page make.
 """
 from __future__ import annotations
 

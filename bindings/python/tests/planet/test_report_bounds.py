@@ -91,7 +91,7 @@ def report_parts(tmp_path: pathlib.Path, monkeypatch: pytest.MonkeyPatch) -> Non
 
 def test_parts_missing(tmp_path: pathlib.Path, monkeypatch: pytest.MonkeyPatch) -> None:
     monkeypatch.setattr(parts, "_PLACES", (tmp_path,))
-    with pytest.raises(ReportPartsMissing, match=r"run \./page"):
+    with pytest.raises(ReportPartsMissing, match=r"run tools/page"):
         Report(run_of(), []).write(tmp_path / "report.html", 1.0, 1)
     assert list(tmp_path.iterdir()) == []
 

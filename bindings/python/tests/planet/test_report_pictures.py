@@ -57,7 +57,7 @@ def test_facts_of_a_tile(report: Page) -> None:
     assert terms["Feature id"] == str(sample.feature_id)
 
 
-@pytest.mark.skipif(not BUILT_PAGE.exists(), reason="./page hasn't built the page")
+@pytest.mark.skipif(not BUILT_PAGE.exists(), reason="tools/page hasn't built the page")
 @pytest.mark.parametrize("code", [101, 202, 304, 406, 504])
 def test_link_opens_the_tile(report: Page, code: int) -> None:
     """The page that is beside the report shows the same fault, or another one that is accepted for this tile."""

@@ -5,7 +5,7 @@ import pathlib
 from typing import Optional
 
 _FOLDER = pathlib.Path(__file__).resolve().parent
-# (a package has it beside this module, a checkout where ./page puts it)
+# (a package has it beside this module, a checkout where tools/page puts it)
 _PAGES = (_FOLDER / "page.html", _FOLDER.parents[4] / "web/out/index.html")
 
 

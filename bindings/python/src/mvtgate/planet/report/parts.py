@@ -12,7 +12,7 @@ from markupsafe import Markup
 from ..endings import Refused
 
 _FOLDER = pathlib.Path(__file__).resolve().parent
-# (a wheel has them beside this module; a checkout where ./page puts them)
+# (a wheel has them beside this module; a checkout where tools/page puts them)
 _PLACES = (_FOLDER, _FOLDER.parents[5] / "web/out")
 _ENDS = ("</script", "<!--", "</style")
 
@@ -26,7 +26,7 @@ def part(name: str) -> str:
     path = next((it / name for it in _PLACES if (it / name).exists()), None)
     if path is None:
         places = " nor in ".join(map(str, _PLACES))
-        raise ReportPartsMissing(f"{name} of the report is neither in {places}: run ./page in the checkout")
+        raise ReportPartsMissing(f"{name} of the report is neither in {places}: run tools/page in the checkout")
     text = path.read_text("utf-8")
     if any(it in text.lower() for it in _ENDS):
         raise ValueError(f"{path} has one of {', '.join(_ENDS)} in it, which would end its element in the report")
