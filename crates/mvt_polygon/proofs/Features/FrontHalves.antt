@@ -136,13 +136,11 @@ nearer_within rings polygons ring_count fewer middle nearer found notes listed w
 -- it is nearer than the one before
 pub nearer_less : (rings : List (List Position)) (polygons : List (ℕ × ℕ)) (front : Front) (meets middle nearer : ℕ) (found : Meeting) (before now : Counted) → ArePolygons rings polygons
     → IsHalved rings polygons front meets before now → front.polygons < meets → middle ≡ front.polygons + (meets - front.polygons) / 2 → IsMeetingOf (take (listed_at polygons middle).after rings) found
-    → found.second_ring < (listed_at polygons nearer).after → ((polygon : ℕ) → polygon < nearer → (listed_at polygons polygon).after ≤ found.second_ring) → (front.polygons ≤ nearer) × (nearer < meets)
+    → found.second_ring < (listed_at polygons nearer).after → ((polygon : ℕ) → polygon < nearer → (listed_at polygons polygon).after ≤ found.second_ring) → (front.polygons ≤ nearer) × (nearer ≤ middle)
 nearer_less rings polygons front meets middle nearer found before now listed halved less is meeting of_it first =
     let within = halved.within in
     let range = nearer_within rings polygons front.rings front.polygons middle nearer found front.notes listed (omega arith) halved.ring_count (omega arith) halved.noted meeting of_it first in
-    let from : front.polygons ≤ nearer = range.0 in
-    let to : nearer ≤ middle = range.1 in
-    (from, omega arith)
+    (range.0, range.1)
 
 -- edges meet up to the end of the polygon in the middle
 pub meeting_half : (rings : List (List Position)) (polygons : List (ℕ × ℕ)) (front : Front) (meets middle nearer : ℕ) (found : Meeting) (before now after : Counted) → ArePolygons rings polygons

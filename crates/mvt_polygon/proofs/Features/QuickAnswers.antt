@@ -1,9 +1,9 @@
 -- The quick fault of a feature, of that of its polygons one by one and that of those that are gathered.
-use Rattle.std.proofs.Common.{◌≡◌, ◌↔◌, ℕ, ◌<◌, ◌≤◌, inl, inr, Bool, false, List, [], ◌∷◌, length, take, Option, Some, None, option_map, IfNone, IfOk, IfSome, Result, Ok, Err, sym, ap, subst, arith}
+use Rattle.std.proofs.Common.{◌≡◌, ◌↔◌, ℕ, ◌<◌, ◌≤◌, inl, inr, Bool, false, List, [], ◌∷◌, length, take, Option, Some, None, option_map, IfNone, IfOk, IfSome, Result, Ok, Err, sym, subst, arith}
 use Rattle.std.proofs.lemmas.Bool.{cases_order}
 use Rattle.std.proofs.lemmas.List.{take_all}
 use Rattle.mvt_plane.specs.Geometry.Part.{part_of}
-use Rattle.mvt_plane.specs.Geometry.Polygon.{PolygonRings, IsPolygon, IsRingOf}
+use Rattle.mvt_plane.specs.Geometry.Polygon.{PolygonRings, IsRingOf}
 use Rattle.mvt_plane.specs.Position.{Position}
 use Rattle.mvt_plane.specs.Geometry.Ring.{ArePolygonRings}
 use Rattle.mvt_polygon.specs.Calls.Alone.{IsAloneAnswer, earlier_of}

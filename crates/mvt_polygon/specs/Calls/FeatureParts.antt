@@ -1,5 +1,6 @@
 -- What the steps of searching for a feature's first fault answer.
-use Rattle.std.specs.Prelude.{◌≡◌, ◌⊎◌, ℕ, ◌<◌, ◌≤◌, List, length, take, slice_index_or, Option, Some, None}
+use Rattle.std.specs.Prelude.{◌≡◌, ◌⊎◌, ℕ, ◌+◌, ◌-◌, ◌/◌, ◌<◌, ◌≤◌, List, length, take, slice_index_or, Option, Some, None}
+use Rattle.mvt_plane.specs.Counted.{Counted, ticked}
 use Rattle.mvt_plane.specs.Geometry.Part.{part_of}
 use Rattle.mvt_plane.specs.Geometry.Polygon.{PolygonRings, IsPolygon}
 use Rattle.mvt_plane.specs.Position.{Position}
@@ -7,6 +8,7 @@ use Rattle.mvt_polygon.specs.Apart.{IsApartFault, IsFirstApartFault}
 use Rattle.mvt_polygon.specs.Feature.{IsPlaced, front_of, rings_in}
 use Rattle.mvt_polygon.specs.Meeting.{IsMeetingOf}
 use Rattle.mvt_polygon.specs.Nesting.{IsFirstNestFault, IsNestFault}
+use Rattle.mvt_polygon.specs.Work.{vertex_count}
 use Rattle.mvt_polygon.specs.Calls.Swept.{IsNotedClear}
 use Rattle.mvt_polygon.specs.declared.feature.FeatureCause.{FeatureCause}
 use Rattle.mvt_polygon.specs.declared.feature.FeatureCause.TheVariants.{Meeting, Nesting, Apart}
@@ -14,6 +16,7 @@ use Rattle.mvt_polygon.specs.declared.feature.FeatureFault.{FeatureFault}
 use Rattle.mvt_polygon.specs.declared.feature.front.Front.{Front}
 use Rattle.mvt_polygon.specs.declared.meeting.Meeting.{Meeting as MeetingOf}
 use Rattle.mvt_polygon.specs.declared.nesting.NestFault.{NestFault}
+use Rattle.mvt_status.specs.Counts.{raised}
 
 -- The front
 
@@ -33,6 +36,30 @@ pub record IsFront (rings : List (List Position)) (polygons : List (ℕ × ℕ))
   pub rings_within : front.rings ≤ length rings
   pub noted : IsNotedClear (take front.rings rings) front.notes
   pub following : IsAfterFront rings polygons front.polygons front.rings front.meeting
+
+-- The halves by which the front is found
+
+-- the polygon in the middle of those that are left
+abbrev pub middle_of : ℕ → ℕ → ℕ
+middle_of front meets = front + (meets - front) / 2
+
+-- What is counted at least, half by half: of a sweep that finds no meeting, over the rings up to the end of the polygon in the
+-- middle, a comparison for each vertex; of one that finds a meeting, of that polygon or of one before it, a test.
+pub data AreHalves (rings : List (List Position)) (polygons : List (ℕ × ℕ)) (last : ℕ) (before : Counted) : ℕ → ℕ → Counted → Type 0 where
+  begun : AreHalves rings polygons last before 0 last before
+  clear : (front meets : ℕ) (now next : Counted) → AreHalves rings polygons last before front meets now → front < meets
+      → raised (vertex_count (take (listed_at polygons (middle_of front meets)).after rings)) now.probes ≤ next.probes → now.tests ≤ next.tests
+      → AreHalves rings polygons last before (middle_of front meets + 1) meets next
+  met : (front meets nearer : ℕ) (now next : Counted) → AreHalves rings polygons last before front meets now → front < meets → nearer ≤ middle_of front meets
+      → ticked now.tests ≤ next.tests → now.probes ≤ next.probes → AreHalves rings polygons last before front nearer next
+
+-- so it is for all halves, from the polygon of a ring, or a later one, until none is left
+pub record AreAllHalves (rings : List (List Position)) (polygons : List (ℕ × ℕ)) (ring : ℕ) (before now : Counted) (front : Front) : Type 0 where
+  pub last : ℕ
+  pub meets : ℕ
+  pub up_to : ring < (listed_at polygons last).after
+  pub none_left : meets ≤ front.polygons
+  pub halves : AreHalves rings polygons last before front.polygons meets now
 
 -- Polygons that are misplaced
 

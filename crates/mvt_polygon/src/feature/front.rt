@@ -6,7 +6,7 @@ ghost use Rattle.mvt_plane.specs.Geometry.Polygon.{IsRingOf};
 ghost use Rattle.mvt_plane.specs.Geometry.Ring.{ArePolygonRings};
 ghost use Rattle.mvt_polygon.specs.Work.{vertex_count};
 ghost use Rattle.mvt_polygon.specs.Feature.{AddsSweeps};
-ghost use Rattle.mvt_polygon.specs.Calls.FeatureParts.{IsFront, listed_at};
+ghost use Rattle.mvt_polygon.specs.Calls.FeatureParts.{AreAllHalves, IsFront, listed_at};
 ghost use Rattle.mvt_polygon.specs.Meeting.{IsMeetingOf, NoMeeting};
 ghost use Rattle.mvt_polygon.specs.Polygons.{ArePolygons};
 ghost use Rattle.mvt_polygon.specs.Rings.{rings_of, AreProperRings};
@@ -69,8 +69,8 @@ pub(super) fn clear_front(
 }
 
 /// Finds these polygons where edges meet, by halves: each sweep goes over the rings up to the end
-/// of the polygon in the middle of those that are left. It counts the comparisons of a sweep over
-/// the front at least, and a test where it finds another meeting.
+/// of the polygon in the middle of those that are left. For each of these sweeps it counts a
+/// comparison for each vertex at least where no edges meet, and else a test.
 fn front_before(
     alloc: Global,
     rings: &[Vec<Point>],
@@ -90,6 +90,8 @@ fn front_before(
         rings.now))) count.old.probes ≤ count.new.probes) }
     ensures tested { IfOk result (λ front. (front.meeting ≡ Some meeting)
         ⊎ (ticked count.old.tests ≤ count.new.tests)) }
+    ensures halves { IfOk result (AreAllHalves (rings_of rings.now) polygons.now
+        meeting.second_ring count.old count.new) }
 {
     let mut front = Front {
         polygons: 0,

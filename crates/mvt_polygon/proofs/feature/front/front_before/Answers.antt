@@ -3,6 +3,7 @@ use Rattle.std.proofs.lemmas.List.{length-take-le}
 use Rattle.mvt_plane.specs.Position.{Position}
 use Rattle.mvt_plane.specs.Counted.{ticked}
 use Rattle.mvt_polygon.specs.Calls.FeatureParts.{listed_at}
+use Rattle.mvt_polygon.specs.Calls.FeatureParts.AreHalves.{begun, clear, met}
 use Rattle.mvt_polygon.specs.Meeting.{IsMeetingOf}
 use Rattle.mvt_polygon.specs.Rings.{rings_of, AreProperRings}
 use Rattle.mvt_polygon.specs.Calls.Swept.{IsNotedClear, IsSweptAnswer, met_in}
@@ -33,6 +34,9 @@ halves-init c = record {
       c.polygon_of-meets.ensures.within c.polygon_of-meets.ensures.of (none_clear c.in_ok-new.field-0 c.in_ok-new.ensures);
   probed = omega arith;
   tested = inl refl;
+  last = c.polygon_of-meets.result;
+  up_to = c.polygon_of-meets.ensures.of;
+  halves = begun;
 }
 
 pub slice_bounds-sweep_rings-end : goal.slice_bounds-sweep_rings-end
@@ -77,6 +81,10 @@ halves-preserved-in-Clear c =
           (first_sweep (rings_of rings) after (rings_of (take after rings)) c.halves.count c.sweep_rings.new.count (first_slice rings after) c.sweep_rings.ensures.counted);
       probed = omega (arith, least, same, work.no_fewer_probes);
       tested = tested_still c.halves.front.meeting c.args.meeting c.args.count.now c.halves.count c.sweep_rings.new.count c.halves.invariant.tested sweep.no_fewer_tests;
+      last = c.halves.invariant.last;
+      up_to = c.halves.invariant.up_to;
+      halves = clear c.halves.front.polygons c.halves.meets c.halves.count c.sweep_rings.new.count c.halves.invariant.halves c.halves-test.true
+          (omega (arith, least, same)) sweep.no_fewer_tests;
     }
 
 pub polygon_of-meets-requires-in-Meets : goal.polygon_of-meets-requires-in-Meets
@@ -118,6 +126,9 @@ halves-preserved c =
     let work = c.halves.invariant.halved.work in
     let test : ticked c.halves.count.tests ≤ c.sweep_rings.new.count.tests =
     subst (λ (swept : Swept RingNotes). IsCounted (vertex_count (rings_of (take after rings))) c.halves.count c.sweep_rings.new.count (met_in swept)) c.in-Meets.is c.in_ok-notes.ensures.least in
+    let range = nearer_less (rings_of rings) polygons c.halves.front c.halves.meets middle c.polygon_of-meets-in-Meets.result found c.args.count.now c.halves.count c.requires.listed
+    c.halves.invariant.halved c.halves-test.true refl (subst (λ (its : List (List Position)). IsMeetingOf its found) (first_slice rings after) answer)
+    c.polygon_of-meets-in-Meets.ensures.of c.polygon_of-meets-in-Meets.ensures.first in
     record {
       halved = meeting_half (rings_of rings) polygons c.halves.front c.halves.meets middle c.polygon_of-meets-in-Meets.result found c.args.count.now c.halves.count c.sweep_rings.new.count c.requires.listed
           c.halves.invariant.halved c.halves-test.true refl (subst (λ (its : List (List Position)). IsMeetingOf its found) (first_slice rings after) answer)
@@ -125,6 +136,10 @@ halves-preserved c =
           (first_sweep (rings_of rings) after (rings_of (take after rings)) c.halves.count c.sweep_rings.new.count (first_slice rings after) c.sweep_rings.ensures.counted);
       probed = omega (arith, c.halves.invariant.probed, sweep.no_fewer_probes);
       tested = inr (omega (arith, test, work.no_fewer_tests));
+      last = c.halves.invariant.last;
+      up_to = c.halves.invariant.up_to;
+      halves = met c.halves.front.polygons c.halves.meets c.polygon_of-meets-in-Meets.result c.halves.count c.sweep_rings.new.count c.halves.invariant.halves c.halves-test.true
+          (range.1) test sweep.no_fewer_probes;
     }
 
 pub returns-clause-front : goal.returns-clause-front
@@ -134,3 +149,12 @@ returns-clause-front c =
 pub returns-clause-counted : goal.returns-clause-counted
 returns-clause-counted c =
     work_of_halves (rings_of c.args.rings.now) c.args.polygons.now c.halves.front c.halves.meets c.args.count.now c.halves.count c.halves.invariant.halved
+
+pub returns-clause-halves : goal.returns-clause-halves
+returns-clause-halves c = record {
+  last = c.halves.invariant.last;
+  meets = c.halves.meets;
+  up_to = c.halves.invariant.up_to;
+  none_left = omega (arith, c.halves-test.false);
+  halves = c.halves.invariant.halves;
+}

@@ -1,10 +1,8 @@
-use Rattle.std.proofs.Common.{◌≡◌, ℕ, ◌<◌, ◌≤◌, length, List, Option, Some, IfSome, sym, subst, arith}
-use Rattle.mvt_plane.specs.Counted.{ticked}
-use Rattle.mvt_plane.specs.Position.{Position}
-use Rattle.mvt_polygon.specs.Calls.FeatureParts.{AreAllPlaced, IsFirstMisplaced, listed_at}
+use Rattle.std.proofs.Common.{◌≤◌, Some, IfSome, sym, subst, arith}
+use Rattle.mvt_polygon.specs.Calls.FeatureParts.{IsFirstMisplaced}
 use Rattle.mvt_polygon.specs.Calls.QuickParts.{IsTogetherAnswer}
 use Rattle.mvt_polygon.specs.Calls.Swept.{IsNotedClear, IsSweptAnswer, met_in}
-use Rattle.mvt_polygon.specs.Feature.{AddsSweeps, IsCountedFault}
+use Rattle.mvt_polygon.specs.Feature.{IsCountedFault}
 use Rattle.mvt_polygon.specs.Meeting.{IsMeetingOf}
 use Rattle.mvt_polygon.specs.Polygons.{ArePolygons}
 use Rattle.mvt_polygon.specs.Rings.{rings_of}
@@ -12,13 +10,11 @@ use Rattle.mvt_polygon.specs.Work.{IsCounted, vertex_count}
 use Rattle.mvt_polygon.specs.declared.feature.FeatureFault.{FeatureFault}
 use Rattle.mvt_polygon.specs.declared.sweep.notes.RingNotes.{RingNotes}
 use Rattle.mvt_polygon.specs.declared.sweep.swept.Swept.{Swept}
-use Rattle.mvt_polygon.specs.declared.sweep.swept.Swept.TheVariants.{Meets, Clear}
 use Rattle.mvt_polygon.proofs.Features.CountedFaults.{counted_in_all}
 use Rattle.mvt_polygon.proofs.Features.FirstPolygons.{of_listed}
 use Rattle.mvt_polygon.proofs.Features.FirstMeetings.{second_within}
 use Rattle.mvt_polygon.proofs.Features.PartedAnswers.{if_ok}
 use Rattle.mvt_polygon.proofs.Features.QuickAnswers.{meeting_of_polygon, placed_result}
-use Rattle.mvt_polygon.proofs.Sweeps.SweepsAdded.{one_sweep, sweeps_then, sweeps_within}
 use Rattle.mvt_status.specs.Counts.{raised}
 use Rattle.mvt_polygon.proofs.feature.quickly.check_together_quickly.Goals as goal
 
