@@ -12,7 +12,6 @@ import glob
 import os
 import shlex
 import statistics
-import subprocess
 import sys
 import tempfile
 import time

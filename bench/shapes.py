@@ -18,12 +18,12 @@ SMALL = 10
 def drawn(rings):
     """The numbers of rings."""
     numbers, x, y = [], 0, 0
-    for ring in rings:
+    for corners in rings:
         moves = []
-        for to_x, to_y in ring:
+        for to_x, to_y in corners:
             moves.append((to_x - x, to_y - y))
             x, y = to_x, to_y
-        numbers += [command(MOVE_TO, 1), *parameters(moves[:1]), command(LINE_TO, len(ring) - 1), *parameters(moves[1:]), command(CLOSE_PATH, 1)]
+        numbers += [command(MOVE_TO, 1), *parameters(moves[:1]), command(LINE_TO, len(corners) - 1), *parameters(moves[1:]), command(CLOSE_PATH, 1)]
     return numbers
 
 

@@ -27,7 +27,6 @@ import pathlib
 import random
 import subprocess
 import sys
-import tempfile
 from typing import Any, Dict, Iterator, List, Tuple
 
 import plane

@@ -5,9 +5,7 @@
 extern char __heap_base;
 char *heap_start(void) { return &__heap_base; }
 size memory_pages(void) { return __builtin_wasm_memory_size(0); }
-int grow_memory(size pages) {
-    return pages <= 0xffff && (unsigned)__builtin_wasm_memory_grow(0, pages) != 0xffffffff;
-}
+int grow_memory(size pages) { return pages <= 0xffff && (unsigned)__builtin_wasm_memory_grow(0, pages) != 0xffffffff; }
 
 /* The toolchain's three functions of memory. A block of no bytes has an address too, and so has a refusal, though nothing is
  * there. The compiled library takes the pair as C returns it for this target. */

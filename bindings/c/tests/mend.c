@@ -9,8 +9,9 @@
  * position. */
 static const uint8_t backwards[] = {LAYER(0x16, 0x0f, 0x0b), 9, 0, 0, 26, 0, 20, 20, 0, 0, 19, 15};
 static const uint8_t turned[] = {LAYER(0x16, 0x0f, 0x0b), 9, 0, 0, 26, 20, 0, 0, 20, 19, 0, 15};
-static const char its_report[] = "{\"changed\":[{\"area\":[\"-200\",\"200\"],\"crossings\":0,\"cuts\":0,\"feature\":0,\"layer\":0,"
-                                 "\"polygons\":[0,1],\"vertices\":[4,4],\"what\":\"mended\"}],\"ok\":true}";
+static const char its_report[] =
+    "{\"changed\":[{\"area\":[\"-200\",\"200\"],\"crossings\":0,\"cuts\":0,\"feature\":0,\"layer\":0,"
+    "\"polygons\":[0,1],\"vertices\":[4,4],\"what\":\"mended\"}],\"ok\":true}";
 
 /* MoveTo with a count of 0 draws no ring, so it can only be left out. */
 static const uint8_t no_ring[] = {LAYER(0x0e, 0x07, 0x03), 1, 50, 34};
@@ -46,7 +47,8 @@ static void try_all_by_hand(int number)
     try_by_hand(number, none, MVTGATE_VALID, none, "", "no bytes");
     try_by_hand(number, right, MVTGATE_VALID, none, "", "a square");
     try_by_hand(number, wrong, MVTGATE_MENDED, right, its_report, "a square that is wound backwards");
-    try_by_hand(number, unmended, drops ? MVTGATE_MENDED : MVTGATE_FAULT, drops ? left : none, drops ? its_drop : its_fault, "no ring");
+    try_by_hand(number, unmended, drops ? MVTGATE_MENDED : MVTGATE_FAULT, drops ? left : none, drops ? its_drop : its_fault,
+                "no ring");
     try_by_hand(number, no_tile, MVTGATE_FAULT, none, cut_fault, "a cut layer");
     Tile *const all[] = {&none, &wrong, &right, &unmended, &left, &no_tile};
     for (size_t at = 0; at < sizeof all / sizeof *all; ++at)
@@ -62,7 +64,8 @@ static void try_drops(void)
         size_t length, report_length;
         int status = mvtgate_mend(MVTGATE_POLYGON, numbers[at], no_ring, sizeof no_ring, out, sizeof out, &length, report,
                                   sizeof report, &report_length);
-        expect(status == MVTGATE_MENDED && length == sizeof no_feature && report_length == strlen(its_drop), "drop", "its number");
+        expect(status == MVTGATE_MENDED && length == sizeof no_feature && report_length == strlen(its_drop), "drop",
+               "its number");
     }
 }
 
@@ -83,7 +86,8 @@ static void try_profiles(void)
 }
 
 /* What is wrong with a call that has rooms of these sizes at the ends of their memories, or NULL. */
-static const char *wrong_with_rooms(int number, Tile tile, Mending right, Fenced memory, size_t room, Fenced other, size_t report_room)
+static const char *wrong_with_rooms(int number, Tile tile, Mending right, Fenced memory, size_t room, Fenced other,
+                                    size_t report_room)
 {
     Tile out = {memory.end - room, room}, report = {other.end - report_room, report_room};
     memset(memory.begin, UNWRITTEN, (size_t)(memory.end - memory.begin));
@@ -96,9 +100,11 @@ static const char *wrong_with_rooms(int number, Tile tile, Mending right, Fenced
         return "another length";
     if (memcmp(out.bytes, right.out.bytes, written) != 0 || memcmp(report.bytes, right.report.bytes, report_written) != 0)
         return "other bytes, or another report";
-    if (!is_unwritten(out.bytes + written, room - written) || !is_unwritten(report.bytes + report_written, report_room - report_written))
+    if (!is_unwritten(out.bytes + written, room - written) ||
+        !is_unwritten(report.bytes + report_written, report_room - report_written))
         return "bytes behind are written";
-    if (!is_unwritten(memory.begin, (size_t)(out.bytes - memory.begin)) || !is_unwritten(other.begin, (size_t)(report.bytes - other.begin)))
+    if (!is_unwritten(memory.begin, (size_t)(out.bytes - memory.begin)) ||
+        !is_unwritten(other.begin, (size_t)(report.bytes - other.begin)))
         return "bytes before a room are written";
     return NULL;
 }

@@ -47,8 +47,8 @@ static int confirm(uint32_t profile, const char *text)
 
 static void try_profile(uint32_t profile)
 {
-    int (*const calls[])(uint32_t, const uint8_t *, size_t, uint8_t *, size_t, size_t *) = {
-        mvtgate_check, mvtgate_check_quickly, mvtgate_faults, mvtgate_faults_quickly};
+    int (*const calls[])(uint32_t, const uint8_t *, size_t, uint8_t *, size_t,
+                         size_t *) = {mvtgate_check, mvtgate_check_quickly, mvtgate_faults, mvtgate_faults_quickly};
     for (size_t at = 0; at < sizeof calls / sizeof *calls; ++at) {
         uint8_t text[MVTGATE_TEXT_ROOM];
         memset(text, UNWRITTEN, sizeof text);

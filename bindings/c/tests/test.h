@@ -13,8 +13,8 @@
 /* The functions that write a text, so that a test may go through them by number. */
 enum { CALLS = 10 };
 static const char *const call_names[CALLS] = {
-    "check polygon",         "check feature",         "dump",           "advise",
-    "check_quickly polygon", "check_quickly feature", "faults polygon", "faults feature",
+    "check polygon",          "check feature",          "dump",           "advise",
+    "check_quickly polygon",  "check_quickly feature",  "faults polygon", "faults feature",
     "faults_quickly polygon", "faults_quickly feature",
 };
 
@@ -186,7 +186,8 @@ static inline const char *wrong_mending(int number, Tile tile, Mending it)
     case MVTGATE_FAULT:
         if (it.out.length)
             return "bytes of a tile that is refused";
-        return mvtgate_confirm(profile_of(number), tile.bytes, tile.length, it.report.bytes, it.report.length) == MVTGATE_CONFIRMED
+        return mvtgate_confirm(profile_of(number), tile.bytes, tile.length, it.report.bytes, it.report.length) ==
+                       MVTGATE_CONFIRMED
                    ? NULL
                    : "the fault isn't confirmed";
     case MVTGATE_MENDED:

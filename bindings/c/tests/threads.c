@@ -71,8 +71,8 @@ static unsigned wrong_answers(const Case *it)
         Tile text;
         int status = give(number, it->tile, &text);
         const Tile *right = &it->text[number];
-        wrong += status != it->status[number] || text.length != right->length ||
-                 memcmp(text.bytes, right->bytes, text.length) != 0;
+        wrong +=
+            status != it->status[number] || text.length != right->length || memcmp(text.bytes, right->bytes, text.length) != 0;
         if (status == MVTGATE_FAULT)
             wrong += !are_confirmed(number, it->tile.bytes, it->tile.length, text.bytes, text.length);
         free(text.bytes);

@@ -5,7 +5,6 @@ import contextlib
 import html
 import http.server
 import json
-import pathlib
 import re
 import shutil
 import subprocess

@@ -11,7 +11,7 @@ from typing import Iterator, List
 import pytest
 
 from browsers import Chromium
-from conftest import FILE_ADDRESS, opened
+from conftest import opened
 from page import Page
 from pictures import named_by
 from samples import WORDS, YES, accepted, faults_of_layers, faulty_layers, link_of, path_of

@@ -6,7 +6,7 @@ from typing import List
 
 import pytest
 
-from browsers import Browser, Chromium
+from browsers import Chromium
 from page import Page
 from samples import path_of
 

@@ -23,8 +23,10 @@ int grow_memory(size more) {
 }
 
 static void expect(int holds, const char *what) {
-    if (holds) passed++;
-    else if (failed++ < 10) printf("not so: %s\n", what);
+    if (holds)
+        passed++;
+    else if (failed++ < 10)
+        printf("not so: %s\n", what);
 }
 
 /* SplitMix64. */
@@ -94,9 +96,12 @@ static void give(int it) {
 static void steps(int count) {
     for (; count > 0; count--) {
         int it = (int)(next_number() % BLOCKS);
-        if (!blocks[it].bytes) take(it);
-        else if (next_number() % 2) resize(it);
-        else give(it);
+        if (!blocks[it].bytes)
+            take(it);
+        else if (next_number() % 2)
+            resize(it);
+        else
+            give(it);
     }
 }
 static void give_all(void) {

@@ -5,12 +5,11 @@ import os
 import pathlib
 import signal
 import subprocess
-import sys
 from typing import Iterator, List
 
 import pytest
 
-from checking.runs import CROSSING, POINT, Run, children, command, environment, last_line, mbtiles, peak, run, wait_for
+from checking.runs import CROSSING, POINT, Run, children, command, environment, mbtiles, peak, run, wait_for
 from conftest import TOP
 
 FAULT, VALID = CROSSING.read_bytes(), POINT.read_bytes()

@@ -93,8 +93,7 @@ int mvtgate_check(uint32_t profile, const uint8_t *tile, size_t length, uint8_t 
     return judge(real_check, profile, tile, length, text, room, text_length);
 }
 
-int mvtgate_check_quickly(uint32_t profile, const uint8_t *tile, size_t length, uint8_t *text, size_t room,
-                          size_t *text_length)
+int mvtgate_check_quickly(uint32_t profile, const uint8_t *tile, size_t length, uint8_t *text, size_t room, size_t *text_length)
 {
     return judge(real_check_quickly, profile, tile, length, text, room, text_length);
 }
@@ -104,8 +103,7 @@ int mvtgate_faults(uint32_t profile, const uint8_t *tile, size_t length, uint8_t
     return judge(real_faults, profile, tile, length, text, room, text_length);
 }
 
-int mvtgate_faults_quickly(uint32_t profile, const uint8_t *tile, size_t length, uint8_t *text, size_t room,
-                           size_t *text_length)
+int mvtgate_faults_quickly(uint32_t profile, const uint8_t *tile, size_t length, uint8_t *text, size_t room, size_t *text_length)
 {
     return judge(real_faults_quickly, profile, tile, length, text, room, text_length);
 }

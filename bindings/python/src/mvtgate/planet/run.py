@@ -22,7 +22,7 @@ from .records import Extent, Partition
 from .report import Report, require_parts
 from .schedule import Schedule
 from .settings import Settings
-from .sources import NotASource, Source, open_source
+from .sources import NotASource, open_source
 from .whole_file import WholeFile
 from .work import Task
 
