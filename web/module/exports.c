@@ -31,6 +31,8 @@ int mvtgate_check(unsigned profile, const unsigned char *tile, size tile_length,
 int mvtgate_check_quickly(unsigned profile, const unsigned char *tile, size tile_length, unsigned char *text, size room, size *length);
 int mvtgate_faults(unsigned profile, const unsigned char *tile, size tile_length, unsigned char *text, size room, size *length);
 int mvtgate_faults_quickly(unsigned profile, const unsigned char *tile, size tile_length, unsigned char *text, size room, size *length);
+int mvtgate_mend(unsigned profile, unsigned drop, const unsigned char *tile, size tile_length, unsigned char *out, size out_room,
+                 size *out_length, unsigned char *report, size report_room, size *report_length);
 int mvtgate_confirm(unsigned profile, const unsigned char *tile, size tile_length, const unsigned char *text, size text_length);
 int mvtgate_dump(const unsigned char *tile, size tile_length, unsigned char *text, size room, size *length);
 int mvtgate_advise(const unsigned char *tile, size tile_length, unsigned char *text, size room, size *length);
@@ -56,6 +58,11 @@ int export_faults(unsigned profile, const unsigned char *tile, size tile_length,
 EXPORT("faults_quickly")
 int export_faults_quickly(unsigned profile, const unsigned char *tile, size tile_length, unsigned char *text, size room, size *length) {
     return mvtgate_faults_quickly(profile, tile, tile_length, text, room, length);
+}
+EXPORT("mend")
+int export_mend(unsigned profile, unsigned drop, const unsigned char *tile, size tile_length, unsigned char *out, size out_room,
+                size *out_length, unsigned char *report, size report_room, size *report_length) {
+    return mvtgate_mend(profile, drop, tile, tile_length, out, out_room, out_length, report, report_room, report_length);
 }
 EXPORT("confirm")
 int export_confirm(unsigned profile, const unsigned char *tile, size tile_length, const unsigned char *text, size text_length) {

@@ -17,6 +17,7 @@ const PARTS = {
   checkQuickly: '(func (export "check_quickly"))',
   faults: '(func (export "faults"))',
   faultsQuickly: '(func (export "faults_quickly"))',
+  mend: '(func (export "mend"))',
   confirm: '(func (export "confirm") (param i64 i32) (i32.store8 (local.get 0) (local.get 1)))',
   dump: '(func (export "dump") (result i64) (memory.size))',
   advise: '(func (export "advise"))',
