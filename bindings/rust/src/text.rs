@@ -190,3 +190,51 @@ fn read_nesting(code: u64, layer: u64, feature: u64, text: &mut Reader) -> Optio
         _ => None,
     }
 }
+
+#[cfg(test)]
+mod tests {
+    use crate::words::{KEYS, SCOPES};
+    use crate::Fault;
+
+    /// The text of a code with these keys, each with the kind of what it has. No two numbers in it are the same.
+    fn text_with(code: u16, keys: &[(&str, &str)], scope: &str) -> String {
+        let mut keys: Vec<_> = keys.iter().chain(&[("code", "code")]).collect();
+        keys.sort();
+        let members = keys.iter().enumerate().map(|(at, &&(key, kind))| match kind {
+            "code" => format!(r#""code":{}"#, code),
+            "scope" => format!(r#""scope":"{}""#, scope),
+            "edge" => format!(r#""{}":{{"edge":{},"ring":{}}}"#, key, at, 100 + at),
+            "digits" => format!(r#""{}":"-{}""#, key, at + 1),
+            _ => format!(r#""{}":{}"#, key, at),
+        });
+        format!("{{{}}}", members.collect::<Vec<_>>().join(","))
+    }
+
+    /// The texts of a code by the words: of a wire fault one for each scope.
+    fn texts_of(code: u16, keys: &[(&str, &str)]) -> Vec<String> {
+        if !keys.contains(&("scope", "scope")) {
+            return vec![text_with(code, keys, "")];
+        }
+        let more = |of: &[&'static str]| of.iter().map(|&it| (it, "number")).collect::<Vec<_>>();
+        SCOPES.iter().map(|&(scope, of)| text_with(code, &[keys, &more(of)].concat(), scope)).collect()
+    }
+
+    #[test]
+    fn each_code_has_the_keys_of_its_words() {
+        for &(code, keys) in KEYS {
+            for text in texts_of(code, keys) {
+                let fault: Fault = text.parse().unwrap_or_else(|_| panic!("{} isn't read", text));
+                assert_eq!((fault.code(), fault.text()), (code, text));
+            }
+        }
+    }
+
+    #[test]
+    fn no_other_code_is_read() {
+        for code in (0..1000).filter(|it| KEYS.iter().all(|&(code, _)| code != *it)) {
+            for text in KEYS.iter().flat_map(|&(_, keys)| texts_of(code, keys)) {
+                assert!(text.parse::<Fault>().is_err(), "{} is read", text);
+            }
+        }
+    }
+}

@@ -410,3 +410,49 @@ pub(crate) static FORMATS: &[Rule] = &[
         after: &[b"\xef\xbb\xbf", b"\x09", b"\x0a", b"\x0d", b"\x20"],
     },
 ];
+
+/// The keys of each code's text beside `code`, with what each has.
+#[cfg(test)]
+#[rustfmt::skip]
+pub(crate) static KEYS: &[(u16, &[(&str, &str)])] = &[
+    (101, &[("at", "number"), ("field", "field"), ("scope", "scope")]),
+    (102, &[("at", "number"), ("field", "field"), ("scope", "scope")]),
+    (103, &[("at", "number"), ("field", "field"), ("scope", "scope")]),
+    (104, &[("at", "number"), ("field", "field"), ("scope", "scope")]),
+    (105, &[("at", "number"), ("field", "field"), ("scope", "scope")]),
+    (106, &[("at", "number"), ("field", "field"), ("scope", "scope")]),
+    (107, &[("at", "number"), ("field", "field"), ("scope", "scope")]),
+    (108, &[("at", "number"), ("field", "field"), ("scope", "scope")]),
+    (109, &[("at", "number"), ("field", "field"), ("scope", "scope")]),
+    (110, &[("at", "number"), ("field", "field"), ("scope", "scope")]),
+    (111, &[("at", "number"), ("field", "field"), ("scope", "scope")]),
+    (201, &[("layer", "number")]),
+    (202, &[("first", "number"), ("second", "number")]),
+    (301, &[("feature", "number"), ("index", "number"), ("layer", "number")]),
+    (302, &[("feature", "number"), ("index", "number"), ("layer", "number")]),
+    (303, &[("feature", "number"), ("index", "number"), ("layer", "number")]),
+    (304, &[("feature", "number"), ("index", "number"), ("layer", "number")]),
+    (401, &[("feature", "number"), ("index", "number"), ("layer", "number")]),
+    (402, &[("feature", "number"), ("index", "number"), ("layer", "number")]),
+    (403, &[("feature", "number"), ("index", "number"), ("layer", "number")]),
+    (404, &[("feature", "number"), ("index", "number"), ("layer", "number")]),
+    (405, &[("feature", "number"), ("index", "number"), ("layer", "number")]),
+    (406, &[("feature", "number"), ("index", "number"), ("layer", "number")]),
+    (501, &[("feature", "number"), ("layer", "number"), ("ring", "number")]),
+    (502, &[("feature", "number"), ("layer", "number"), ("ring", "number")]),
+    (503, &[("feature", "number"), ("layer", "number"), ("ring", "number")]),
+    (504, &[("feature", "number"), ("first", "edge"), ("layer", "number"), ("polygon", "number"), ("second", "edge"), ("w", "digits"), ("x", "digits"), ("y", "digits")]),
+    (505, &[("feature", "number"), ("layer", "number"), ("polygon", "number"), ("ring", "number"), ("vertex", "number")]),
+    (506, &[("feature", "number"), ("layer", "number"), ("other", "number"), ("polygon", "number"), ("ring", "number"), ("vertex", "number")]),
+    (507, &[("feature", "number"), ("layer", "number"), ("other", "number"), ("polygon", "number"), ("vertex", "number")]),
+];
+
+/// The scopes of wire faults, with the keys that name the message.
+#[cfg(test)]
+#[rustfmt::skip]
+pub(crate) static SCOPES: &[(&str, &[&str])] = &[
+    ("tile", &[]),
+    ("layer", &["layer"]),
+    ("value", &["value", "layer"]),
+    ("feature", &["feature", "layer"]),
+];

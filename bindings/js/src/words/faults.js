@@ -4,6 +4,7 @@
 
 export default {
   "counting": "Everything counts from 0: layers, features, polygons, rings, edges, vertices, bytes and the numbers of a list.",
+  "profiles": {"polygon": 0, "feature": 1},
   "scopes": {
     "tile": "the tile",
     "layer": "layer {layer}",
@@ -23,6 +24,8 @@ export default {
   },
   "faults": {
     "101": {
+      "name": "WireCode::Ends",
+      "keys": {"at": "number", "field": "field", "scope": "scope"},
       "title": "Varint ends too early",
       "sentence": "In {scope}, the varint of {field} that is due at byte {at} ends too early.",
       "place": "byte {at}, in {scope}",
@@ -32,6 +35,8 @@ export default {
       "sample": "cut_geometry"
     },
     "102": {
+      "name": "WireCode::TooLong",
+      "keys": {"at": "number", "field": "field", "scope": "scope"},
       "title": "Varint too long",
       "sentence": "In {scope}, the varint of {field} at byte {at} is too long.",
       "place": "byte {at}, in {scope}",
@@ -41,6 +46,8 @@ export default {
       "sample": "long_key"
     },
     "103": {
+      "name": "WireCode::BadNumber",
+      "keys": {"at": "number", "field": "field", "scope": "scope"},
       "title": "Field key out of range",
       "sentence": "In {scope}, the field key at byte {at} is out of range, or its field number is 0.",
       "place": "byte {at}, in {scope}",
@@ -50,6 +57,8 @@ export default {
       "sample": "number_zero"
     },
     "104": {
+      "name": "WireCode::BadWireType",
+      "keys": {"at": "number", "field": "field", "scope": "scope"},
       "title": "Wire type that no tile uses",
       "sentence": "In {scope}, {field} at byte {at} has a wire type that no tile uses.",
       "place": "byte {at}, in {scope}",
@@ -59,6 +68,8 @@ export default {
       "sample": "group"
     },
     "105": {
+      "name": "WireCode::PastEnd",
+      "keys": {"at": "number", "field": "field", "scope": "scope"},
       "title": "Payload past the end of its message",
       "sentence": "In {scope}, the payload of {field} at byte {at} runs past the end of its message.",
       "place": "byte {at}, in {scope}",
@@ -68,6 +79,8 @@ export default {
       "sample": "truncated"
     },
     "106": {
+      "name": "WireCode::OtherType",
+      "keys": {"at": "number", "field": "field", "scope": "scope"},
       "title": "Field with another wire type",
       "sentence": "In {scope}, {field} at byte {at} has another wire type than its own.",
       "place": "byte {at}, in {scope}",
@@ -77,6 +90,8 @@ export default {
       "sample": "version_with_length"
     },
     "107": {
+      "name": "WireCode::Again",
+      "keys": {"at": "number", "field": "field", "scope": "scope"},
       "title": "Field that occurs twice",
       "sentence": "In {scope}, {field} occurs again at byte {at}, and may occur once.",
       "place": "byte {at}, in {scope}",
@@ -86,6 +101,8 @@ export default {
       "sample": "version_twice"
     },
     "108": {
+      "name": "WireCode::Missing",
+      "keys": {"at": "number", "field": "field", "scope": "scope"},
       "title": "Required field missing",
       "sentence": "In {scope}, which ends at byte {at}, {field} is missing.",
       "place": "byte {at}, in {scope}",
@@ -95,6 +112,8 @@ export default {
       "sample": "empty_layer"
     },
     "109": {
+      "name": "WireCode::OneField",
+      "keys": {"at": "number", "field": "field", "scope": "scope"},
       "title": "Value of no kind, or of several",
       "sentence": "In {scope}, which ends at byte {at}, there is none of the seven kinds of a value, or several.",
       "place": "byte {at}, in {scope}",
@@ -104,6 +123,8 @@ export default {
       "sample": "empty_value"
     },
     "110": {
+      "name": "WireCode::NotUtf8",
+      "keys": {"at": "number", "field": "field", "scope": "scope"},
       "title": "Text that isn't UTF-8",
       "sentence": "In {scope}, the text of {field} at byte {at} isn't UTF-8.",
       "place": "byte {at}, in {scope}",
@@ -113,6 +134,8 @@ export default {
       "sample": "name_not_utf8"
     },
     "111": {
+      "name": "WireCode::OutOfRange",
+      "keys": {"at": "number", "field": "field", "scope": "scope"},
       "title": "Number out of range",
       "sentence": "In {scope}, the number of {field} at byte {at} is out of range.",
       "place": "byte {at}, in {scope}",
@@ -122,6 +145,8 @@ export default {
       "sample": "type_out_of_range"
     },
     "201": {
+      "name": "Fault::Version",
+      "keys": {"layer": "number"},
       "title": "Layer version other than 2",
       "sentence": "The version of layer {layer} isn't 2.",
       "place": "layer {layer}",
@@ -131,6 +156,8 @@ export default {
       "sample": "version_one"
     },
     "202": {
+      "name": "Fault::Name",
+      "keys": {"first": "number", "second": "number"},
       "title": "Two layers of one name",
       "sentence": "Layers {first} and {second} have one name.",
       "place": "layers {first} and {second}",
@@ -140,6 +167,8 @@ export default {
       "sample": "three_layers_of_one_name"
     },
     "301": {
+      "name": "TagCode::OddLength",
+      "keys": {"feature": "number", "index": "number", "layer": "number"},
       "title": "Odd number of tags",
       "sentence": "In feature {feature} of layer {layer}, the list of tags has the odd length {index}, so its last key has no value.",
       "place": "layer {layer}, feature {feature}, end of its {index} tag numbers",
@@ -149,6 +178,8 @@ export default {
       "sample": "odd_tags"
     },
     "302": {
+      "name": "TagCode::NoKey",
+      "keys": {"feature": "number", "index": "number", "layer": "number"},
       "title": "Tag without a key",
       "sentence": "In feature {feature} of layer {layer}, number {index} of the tags names a key that the layer doesn't have.",
       "place": "layer {layer}, feature {feature}, number {index} of its tags",
@@ -158,6 +189,8 @@ export default {
       "sample": "no_such_key"
     },
     "303": {
+      "name": "TagCode::NoValue",
+      "keys": {"feature": "number", "index": "number", "layer": "number"},
       "title": "Tag without a value",
       "sentence": "In feature {feature} of layer {layer}, number {index} of the tags names a value that the layer doesn't have.",
       "place": "layer {layer}, feature {feature}, number {index} of its tags",
@@ -167,6 +200,8 @@ export default {
       "sample": "no_such_value"
     },
     "304": {
+      "name": "TagCode::Repeated",
+      "keys": {"feature": "number", "index": "number", "layer": "number"},
       "title": "Two tags of one key",
       "sentence": "In feature {feature} of layer {layer}, number {index} of the tags names the key of an earlier tag again.",
       "place": "layer {layer}, feature {feature}, number {index} of its tags",
@@ -176,6 +211,8 @@ export default {
       "sample": "key_twice"
     },
     "401": {
+      "name": "CommandCode::OtherCommand",
+      "keys": {"feature": "number", "index": "number", "layer": "number"},
       "title": "Wrong command, or a number too many",
       "sentence": "In feature {feature} of layer {layer}, number {index} of the geometry isn't the command that is due, or nothing is due there.",
       "place": "layer {layer}, feature {feature}, number {index} of its geometry",
@@ -185,6 +222,8 @@ export default {
       "sample": "no_such_command"
     },
     "402": {
+      "name": "CommandCode::OtherCount",
+      "keys": {"feature": "number", "index": "number", "layer": "number"},
       "title": "Command count not allowed",
       "sentence": "In feature {feature} of layer {layer}, number {index} of the geometry is a command whose count isn't allowed there.",
       "place": "layer {layer}, feature {feature}, number {index} of its geometry",
@@ -194,6 +233,8 @@ export default {
       "sample": "ring_of_two"
     },
     "403": {
+      "name": "CommandCode::Unfinished",
+      "keys": {"feature": "number", "index": "number", "layer": "number"},
       "title": "Geometry ends too early",
       "sentence": "In feature {feature} of layer {layer}, the geometry ends after {index} numbers, where more is due.",
       "place": "layer {layer}, feature {feature}, end of its {index} geometry numbers",
@@ -203,6 +244,8 @@ export default {
       "sample": "half_a_point"
     },
     "404": {
+      "name": "CommandCode::GreatestParameter",
+      "keys": {"feature": "number", "index": "number", "layer": "number"},
       "title": "Parameter out of range",
       "sentence": "In feature {feature} of layer {layer}, number {index} of the geometry is the parameter 4294967295, which would be -2^31.",
       "place": "layer {layer}, feature {feature}, number {index} of its geometry",
@@ -212,6 +255,8 @@ export default {
       "sample": "greatest_parameter"
     },
     "405": {
+      "name": "CommandCode::OutOfBounds",
+      "keys": {"feature": "number", "index": "number", "layer": "number"},
       "title": "Position out of range",
       "sentence": "In feature {feature} of layer {layer}, number {index} of the geometry leads to a position beyond 2^30 in a coordinate.",
       "place": "layer {layer}, feature {feature}, number {index} of its geometry",
@@ -221,6 +266,8 @@ export default {
       "sample": "above_greatest_coordinate"
     },
     "406": {
+      "name": "CommandCode::NoStep",
+      "keys": {"feature": "number", "index": "number", "layer": "number"},
       "title": "Step of no length",
       "sentence": "In feature {feature} of layer {layer}, number {index} of the geometry ends a LineTo step of (0, 0).",
       "place": "layer {layer}, feature {feature}, number {index} of its geometry",
@@ -230,6 +277,8 @@ export default {
       "sample": "no_step"
     },
     "501": {
+      "name": "RingCode::EndsAtItsBeginning",
+      "keys": {"feature": "number", "layer": "number", "ring": "number"},
       "title": "Ring that ends where it began",
       "sentence": "Ring {ring} of feature {feature} of layer {layer} has its first position as its last one too.",
       "place": "layer {layer}, feature {feature}, ring {ring}",
@@ -239,6 +288,8 @@ export default {
       "sample": "closed_by_hand"
     },
     "502": {
+      "name": "RingCode::NoArea",
+      "keys": {"feature": "number", "layer": "number", "ring": "number"},
       "title": "Ring without area",
       "sentence": "Ring {ring} of feature {feature} of layer {layer} has no area.",
       "place": "layer {layer}, feature {feature}, ring {ring}",
@@ -248,6 +299,8 @@ export default {
       "sample": "ring_without_area"
     },
     "503": {
+      "name": "RingCode::BeginsWithHole",
+      "keys": {"feature": "number", "layer": "number", "ring": "number"},
       "title": "Feature that begins with a hole",
       "sentence": "Ring {ring} of feature {feature} of layer {layer}, the first one, is a hole by its winding.",
       "place": "layer {layer}, feature {feature}, ring {ring}",
@@ -257,6 +310,8 @@ export default {
       "sample": "begins_with_hole"
     },
     "504": {
+      "name": "Fault::Meeting",
+      "keys": {"feature": "number", "first": "edge", "layer": "number", "polygon": "number", "second": "edge", "w": "digits", "x": "digits", "y": "digits"},
       "title": "Edges that meet",
       "sentence": "In feature {feature} of layer {layer}, edge {first.edge} of ring {first.ring} meets edge {second.edge} of ring {second.ring}, of polygon {polygon}, at ({x/w}, {y/w}).",
       "place": "layer {layer}, feature {feature}, polygon {polygon}, at ({x/w}, {y/w})",
@@ -266,6 +321,8 @@ export default {
       "sample": "crossing_edges"
     },
     "505": {
+      "name": "Fault::Outside",
+      "keys": {"feature": "number", "layer": "number", "polygon": "number", "ring": "number", "vertex": "number"},
       "title": "Hole outside its exterior",
       "sentence": "In feature {feature} of layer {layer}, vertex {vertex} of ring {ring}, a hole of polygon {polygon}, isn't inside the exterior.",
       "place": "layer {layer}, feature {feature}, polygon {polygon}, ring {ring}, vertex {vertex}",
@@ -275,6 +332,8 @@ export default {
       "sample": "hole_outside"
     },
     "506": {
+      "name": "Fault::HoleInHole",
+      "keys": {"feature": "number", "layer": "number", "other": "number", "polygon": "number", "ring": "number", "vertex": "number"},
       "title": "Hole in another hole",
       "sentence": "In feature {feature} of layer {layer}, vertex {vertex} of ring {ring}, a hole of polygon {polygon}, is inside another hole, ring {other}.",
       "place": "layer {layer}, feature {feature}, polygon {polygon}, ring {ring}, vertex {vertex}",
@@ -284,6 +343,8 @@ export default {
       "sample": "hole_in_hole"
     },
     "507": {
+      "name": "Fault::InPolygon",
+      "keys": {"feature": "number", "layer": "number", "other": "number", "polygon": "number", "vertex": "number"},
       "title": "Polygon in another polygon",
       "sentence": "In feature {feature} of layer {layer}, vertex {vertex} of the exterior of polygon {polygon} is inside polygon {other}.",
       "place": "layer {layer}, feature {feature}, polygon {polygon}, vertex {vertex} of its exterior",

@@ -5,7 +5,7 @@ import json
 import re
 from dataclasses import dataclass
 from fractions import Fraction
-from typing import Any, Dict, Mapping, Optional, Set, Tuple, Union
+from typing import Any, Dict, Mapping, Optional, Tuple, Union
 
 from . import _words
 
@@ -38,53 +38,39 @@ class RingEdge:
 
 
 _RING_EDGE = {"edge", "ring"}
-_OF_SCOPE: Dict[str, Set[str]] = {"tile": set(), "layer": {"layer"}, "value": {"layer", "value"}, "feature": {"layer", "feature"}}
-# (the keys of a text beside `code`, for codes 201 to 507)
-_KEYS: Dict[int, Set[str]] = {
-    201: {"layer"},
-    202: {"first", "second"},
-    **{code: {"feature", "index", "layer"} for code in (*range(301, 305), *range(401, 407))},
-    **{code: {"feature", "layer", "ring"} for code in range(501, 504)},
-    504: {"feature", "first", "layer", "polygon", "second", "w", "x", "y"},
-    505: {"feature", "layer", "polygon", "ring", "vertex"},
-    506: {"feature", "layer", "other", "polygon", "ring", "vertex"},
-    507: {"feature", "layer", "other", "polygon", "vertex"},
-}
 _DIGITS = re.compile(r"0|-?[1-9][0-9]*", re.ASCII)
 
 
-def _keys_of(members: Mapping[str, Any]) -> Set[str]:
-    """The keys that a fault's text with this code and scope has. LookupError where there is no such fault."""
+def _kinds_of(members: Mapping[str, Any]) -> Dict[str, str]:
+    """The keys that a fault's text with this code and scope has, and what each has. LookupError where there is no such fault."""
     code = members["code"]
     if type(code) is not int:
         raise LookupError
-    if 101 <= code <= 111:
-        return {"at", "code", "field", "scope", *_OF_SCOPE[members["scope"]]}
-    return {"code", *_KEYS[code]}
+    kinds = {"code": "number", **_words.kinds_of_fault(code)}
+    return {**kinds, **_words.kinds_of_scope(members["scope"])} if "scope" in kinds else kinds
 
 
 def _is_ordinal(it: object) -> bool:
     return type(it) is int and 0 <= it < 2**64
 
 
-def _has_kind(code: int, key: str, it: object) -> bool:
-    """Whether this is what the key of such a fault has."""
-    if key == "scope":
+def _has_kind(kind: str, it: object) -> bool:
+    """Whether this is what a key of this kind has (bindings/README.md)."""
+    if kind == "scope":
         return isinstance(it, str)
-    if key in ("x", "y", "w"):
+    if kind == "digits":
         return isinstance(it, str) and _DIGITS.fullmatch(it) is not None and len(it) <= 40 and -(2**127) <= int(it) < 2**127
-    if code == 504 and key in ("first", "second"):
+    if kind == "edge":
         return isinstance(it, dict) and set(it) == _RING_EDGE and all(map(_is_ordinal, it.values()))
-    return _is_ordinal(it) and (key != "field" or isinstance(it, int) and it < 2**32)
+    return _is_ordinal(it) and (kind != "field" or isinstance(it, int) and it < 2**32)
 
 
 def _is_fault(members: object) -> bool:
     try:
-        return (
-            isinstance(members, dict)
-            and set(members) == _keys_of(members)
-            and all(_has_kind(members["code"], key, it) for key, it in members.items())
-        )
+        if not isinstance(members, dict):
+            return False
+        kinds = _kinds_of(members)
+        return set(members) == set(kinds) and all(_has_kind(kinds[key], it) for key, it in members.items())
     except (LookupError, TypeError):
         return False
 

@@ -28,6 +28,17 @@ def words_of_fault(code: int) -> Dict[str, str]:
     return found
 
 
+def kinds_of_fault(code: int) -> Dict[str, str]:
+    """The keys of a fault's text beside `code`, with what each has. LookupError for a code that no fault has."""
+    found: Dict[str, str] = words()["faults"][str(code)]["keys"]
+    return found
+
+
+def kinds_of_scope(scope: str) -> Dict[str, str]:
+    """The same for the keys that name the scope of a wire fault. LookupError for a scope that none has."""
+    return {match[1]: "number" for match in _PLACE.finditer(words()["scopes"][scope])}
+
+
 def words_of_format(name: str) -> Dict[str, str]:
     """Title, sentence and remedy of another format. LookupError for a name that none has."""
     found: Dict[str, Any] = words()["formats"][name]
