@@ -1,0 +1,3 @@
+module mvtgate
+
+go 1.19

@@ -1,0 +1,76 @@
+package mvtgate_test
+
+import (
+	"bytes"
+	"errors"
+	"os"
+	"os/exec"
+	"runtime"
+	"strconv"
+	"strings"
+	"syscall"
+	"testing"
+
+	"mvtgate"
+)
+
+func allocated() uint64 {
+	var of runtime.MemStats
+	runtime.ReadMemStats(&of)
+	return of.TotalAlloc
+}
+
+func TestTheTileIsNotCopied(t *testing.T) {
+	tile := bytes.Repeat(layer(2, "a", feature(1, 9, 50, 34)), 1<<20)
+	before := allocated()
+	fault := faultOf(t, mvtgate.CheckQuickly(tile, mvtgate.ProfilePolygon))
+	if fault == nil || *fault != (mvtgate.Fault{Code: 202, SecondLayer: 1}) || !isTrue(t, tile, fault, mvtgate.ProfilePolygon) {
+		t.Fatal(fault)
+	}
+	if taken := allocated() - before; taken > 1<<20 {
+		t.Errorf("%d bytes of Go's heap for a tile of %d", taken, len(tile))
+	}
+}
+
+func TestACheckOfAValidTileTakesNoneOfGosHeap(t *testing.T) {
+	if taken := testing.AllocsPerRun(1000, func() { _ = mvtgate.Check(turned, mvtgate.ProfilePolygon) }); taken >= 1 {
+		t.Errorf("%v pieces of memory for each check", taken)
+	}
+}
+
+// addressSpace is how many bytes the process has mapped.
+func addressSpace(t *testing.T) uint64 {
+	pages, err := strconv.ParseUint(strings.Fields(string(read(t, "/proc/self/statm")))[0], 10, 64)
+	if err != nil {
+		t.Fatal(err)
+	}
+	return pages * uint64(os.Getpagesize())
+}
+
+// TestMemoryIsRefused runs itself as another process, which has little address space left when it judges.
+func TestMemoryIsRefused(t *testing.T) {
+	const marker = "MVTGATE_TEST_WITHOUT_MEMORY"
+	if os.Getenv(marker) == "" {
+		child := exec.Command(os.Args[0], "-test.run=^TestMemoryIsRefused$")
+		child.Env = append(os.Environ(), marker+"=1")
+		if said, err := child.CombinedOutput(); err != nil {
+			t.Errorf("%v\n%s", err, said)
+		}
+		return
+	}
+	if mvtgate.Version() == "" {
+		t.Fatal("(so that the library is there before memory is scarce)")
+	}
+	// (4 million layers, for each of which the judge takes some bytes)
+	tile := bytes.Repeat(layer(2, ""), 4<<20)
+	limit := addressSpace(t) + 24<<20
+	if err := syscall.Setrlimit(syscall.RLIMIT_AS, &syscall.Rlimit{Cur: limit, Max: limit}); err != nil {
+		t.Fatal(err)
+	}
+	if err := mvtgate.Check(tile, mvtgate.ProfilePolygon); !errors.Is(err, mvtgate.ErrOutOfMemory) {
+		t.Fatal(err)
+	}
+	if err := mvtgate.Check(turned, mvtgate.ProfilePolygon); err != nil {
+		t.Fatal("afterwards:", err)
+	}
+}

@@ -1,0 +1,144 @@
+package mvtgate_test
+
+import (
+	"encoding/json"
+	"errors"
+	"flag"
+	"math"
+	"strings"
+	"testing"
+
+	"mvtgate"
+)
+
+func TestOnlyTheTextOfAFaultIsRead(t *testing.T) {
+	for _, text := range []string{
+		`{}`,
+		`null`,
+		`[]`,
+		`{"ok":true}`,
+		`{"code":201,"layer":-1}`,
+		`{"code":201,"layer":1e3}`,
+		`{"code":201,"layer":1.0}`,
+		`{"code":201,"layer":"0"}`,
+		`{"code":201,"layer":null}`,
+		`{"code":"201","layer":0}`,
+		`{"code":201,"layer":18446744073709551616}`,
+		`{"code":201,"layer":0,"feature":0}`,
+		`{"code":201}`,
+		`{"code":200,"layer":0}`,
+		`{"code":65737,"layer":0}`,
+		`{"code":305,"feature":0,"index":0,"layer":0}`,
+		`{"at":0,"code":112,"field":0,"scope":"tile"}`,
+		`{"at":0,"code":101,"field":4294967296,"scope":"tile"}`,
+		`{"at":0,"code":101,"field":0,"layer":0,"scope":"tile"}`,
+		`{"at":0,"code":101,"field":0,"scope":"layer"}`,
+		`{"at":0,"code":101,"field":0,"scope":7}`,
+		`{"at":0,"code":101,"feature":0,"field":0,"layer":0,"scope":"value","value":0}`,
+		`{"code":505,"feature":0,"layer":0,"other":0,"polygon":0,"ring":1,"vertex":0}`,
+		`{"code":506,"feature":0,"layer":0,"polygon":0,"ring":1,"vertex":0}`,
+		`{"code":507,"feature":0,"layer":0,"other":0,"polygon":0,"ring":1,"vertex":0}`,
+		`{"code":504,"feature":0,"first":{"edge":0,"ring":0},"layer":0,"polygon":0,"second":{"edge":2,"ring":0},"w":1,"x":"8","y":"8"}`,
+		`{"code":504,"feature":0,"first":{"edge":0,"ring":0},"layer":0,"polygon":0,"second":{"edge":2},"w":"1","x":"8","y":"8"}`,
+		`{"code":504,"feature":0,"first":{"edge":0,"ring":0},"layer":0,"polygon":0,"second":{"edge":2,"ring":0},"w":"1","x":"08","y":"8"}`,
+		`{"code":504,"feature":0,"first":{"edge":0,"ring":0},"layer":0,"polygon":0,"second":{"edge":2,"ring":0},"w":"1","x":"-0","y":"8"}`,
+		`{"code":504,"feature":0,"first":{"edge":0,"ring":0},"layer":0,"polygon":0,"second":{"edge":2,"ring":0},"w":"1","x":"+8","y":"8"}`,
+		`{"code":504,"feature":0,"first":{"edge":0,"ring":0},"layer":0,"polygon":0,"second":{"edge":2,"ring":0},"w":"1","x":"170141183460469231731687303715884105728","y":"8"}`,
+	} {
+		if fault, err := mvtgate.ParseFault([]byte(text)); !errors.Is(err, mvtgate.ErrNotAFault) {
+			t.Errorf("%s: %v, %v", text, fault, err)
+		}
+	}
+	for _, text := range []string{"", "{", `{"code":201,"layer":00}`, `{"code":201,"layer":0}x`} {
+		if _, err := mvtgate.ParseFault([]byte(text)); !errors.Is(err, mvtgate.ErrNotJSON) {
+			t.Errorf("%s: %v", text, err)
+		}
+	}
+}
+
+func TestSpacesAndTheOrderOfKeysDoNotMatter(t *testing.T) {
+	fault := parse(t, "{\n \"layer\" : 3, \"code\": 201 }\n")
+	if *fault != (mvtgate.Fault{Code: 201, Layer: 3}) || fault.Text() != `{"code":201,"layer":3}` {
+		t.Error(fault.Text())
+	}
+	var kept struct{ Fault mvtgate.Fault }
+	if err := json.Unmarshal([]byte(`{"Fault": {"second": 1, "first": 0, "code": 202}}`), &kept); err != nil || kept.Fault != (mvtgate.Fault{Code: 202, SecondLayer: 1}) {
+		t.Error(kept, err)
+	}
+}
+
+func TestTheGreatestNumbersAreRead(t *testing.T) {
+	text := strings.NewReplacer("N", "18446744073709551615", "M", "170141183460469231731687303715884105727", "L", "-170141183460469231731687303715884105728").Replace(
+		`{"code":504,"feature":N,"first":{"edge":N,"ring":N},"layer":N,"polygon":N,"second":{"edge":N,"ring":N},"w":"M","x":"L","y":"M"}`)
+	fault := parse(t, text)
+	if len(text) > 384 || fault.Text() != text || fault.SecondEdge.Edge != math.MaxUint64 {
+		t.Error(fault.Text())
+	}
+	x, y := fault.Point()
+	if x.RatString() != "-170141183460469231731687303715884105728/170141183460469231731687303715884105727" || y.RatString() != "1" {
+		t.Error(x, y)
+	}
+}
+
+func TestAValueThatIsNoFaultHasAText(t *testing.T) {
+	for _, it := range []mvtgate.Fault{{}, {Code: 200}, {Code: 101}, {Code: 101, Scope: "other"}} {
+		if it.Text() != "{}" || it.Error() == "" {
+			t.Error(it)
+		}
+		if _, err := mvtgate.Confirm(nil, &it, mvtgate.ProfilePolygon); !errors.Is(err, mvtgate.ErrNotAFault) {
+			t.Error(err)
+		}
+	}
+}
+
+func TestATextThatIsNoFaultIsToldFromAFaultThatIsNotTrue(t *testing.T) {
+	tile := []byte("\x1a\x05")
+	for text, wanted := range map[string]struct {
+		isTrue bool
+		err    error
+	}{
+		`{"at":0,"code":105,"field":3,"scope":"tile"}`: {true, nil},
+		`{"at":1,"code":105,"field":3,"scope":"tile"}`: {false, nil},
+		``:             {false, mvtgate.ErrNotJSON},
+		`{"code":999}`: {false, mvtgate.ErrNotAFault},
+		`{}`:           {false, mvtgate.ErrNotAFault},
+		`{"at":0,"code":101,"field":4294967296,"scope":"tile"}`: {false, mvtgate.ErrFaultRange},
+	} {
+		if isTrue, err := mvtgate.ConfirmText(tile, []byte(text), mvtgate.ProfilePolygon); isTrue != wanted.isTrue || !errors.Is(err, wanted.err) {
+			t.Errorf("%s: %v, %v", text, isTrue, err)
+		}
+	}
+}
+
+func TestASentenceHasThePlaces(t *testing.T) {
+	for text, wanted := range map[string]string{
+		`{"at":15,"code":101,"feature":0,"field":4,"layer":2,"scope":"feature"}`:                                                                 "101: In feature 0 of layer 2, the varint of field 4 (geometry) that is due at byte 15 ends too early.",
+		`{"at":1,"code":101,"field":0,"scope":"tile"}`:                                                                                           "101: In the tile, the varint of a field key that is due at byte 1 ends too early.",
+		`{"at":7,"code":101,"field":99,"layer":1,"scope":"value","value":3}`:                                                                     "101: In value 3 of layer 1, the varint of field 99 that is due at byte 7 ends too early.",
+		`{"code":504,"feature":3,"first":{"edge":1,"ring":5},"layer":0,"polygon":4,"second":{"edge":2,"ring":6},"w":"180","x":"800","y":"-360"}`: "504: In feature 3 of layer 0, edge 1 of ring 5 meets edge 2 of ring 6, of polygon 4, at (40/9, -2).",
+		`{"code":504,"feature":3,"first":{"edge":1,"ring":5},"layer":0,"polygon":4,"second":{"edge":2,"ring":6},"w":"0","x":"8","y":"0"}`:        "504: In feature 3 of layer 0, edge 1 of ring 5 meets edge 2 of ring 6, of polygon 4, at (8/0, 0/0).",
+	} {
+		if said := parse(t, text).Error(); said != wanted {
+			t.Errorf("%s\n%s", said, wanted)
+		}
+	}
+}
+
+func TestAProfileIsAFlag(t *testing.T) {
+	flags := flag.NewFlagSet("test", flag.ContinueOnError)
+	flags.SetOutput(new(strings.Builder))
+	profile := mvtgate.ProfilePolygon
+	flags.TextVar(&profile, "profile", profile, "what polygons are held against")
+	if err := flags.Parse([]string{"-profile", "feature"}); err != nil || profile != mvtgate.ProfileFeature {
+		t.Error(profile, err)
+	}
+	if err := flags.Parse([]string{"-profile", "polygons"}); err == nil {
+		t.Error("polygons is no profile")
+	}
+	if _, err := mvtgate.Profile(2).MarshalText(); err == nil {
+		t.Error("2 is no profile")
+	}
+	if err := mvtgate.Check(nil, mvtgate.Profile(2)); err == nil || !strings.Contains(err.Error(), "profile") {
+		t.Error(err)
+	}
+}
