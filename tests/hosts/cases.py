@@ -16,7 +16,7 @@ from runs import Cluster, Judged, Libraries, Run, expect, is_of, wait_for
 REFUSED, UNFINISHED = 3, 4
 # what Dask is given: the shortest time that it takes (a connection that says nothing for so long has ended)
 TIMEOUT = "11s"
-# By docs/PLANET.md a run goes on so many seconds after a host fell silent, at the latest, and a silent scheduler is reported
+# By bench/README.md a run goes on so many seconds after a host fell silent, at the latest, and a silent scheduler is reported
 GOES_ON, GOES_ON_BY_DEFAULT = 60.0, 120.0
 TOLD, TOLD_BY_DEFAULT = 45.0, 120.0
 # of a worker whose host answers, while it does nothing: how long the scheduler waits for a word of it, and then the run
