@@ -18,7 +18,8 @@ static int mended(FunctionCallInfo fcinfo, Tile tile, Written *out, Written *rep
     int status = sql_mend(profile, PG_GETARG_BOOL(2), tile.bytes, out, report);
     CHECK_FOR_INTERRUPTS();
     if (status == SQL_TOO_LONG)
-        ereport(ERROR, (errcode(ERRCODE_PROGRAM_LIMIT_EXCEEDED), errmsg("a tile of %zu bytes is too long to be mended", tile.bytes.length),
+        ereport(ERROR, (errcode(ERRCODE_PROGRAM_LIMIT_EXCEEDED),
+                        errmsg("a tile of %zu bytes is too long to be mended", tile.bytes.length),
                         errdetail("By the profile feature, tiles of at most %d bytes are mended.", LONGEST_MENDED_BY_FEATURE)));
     if (status != MVTGATE_MENDED)
         expect_status(status, MVTGATE_VALID, MVTGATE_FAULT);
@@ -30,8 +31,10 @@ static void refuse(const char *fault) pg_attribute_noreturn();
 /* The detail is the fault, so that a handler can read it. */
 static void refuse(const char *fault)
 {
-    ereport(ERROR, (errcode(ERRCODE_INVALID_BINARY_REPRESENTATION), errmsg("the tile can't be mended"), errdetail_internal("%s", fault),
-                    errhint("mvt_explain() of this fault says what to do. With drop => true, features whose polygons can't be mended are left out.")));
+    ereport(ERROR,
+            (errcode(ERRCODE_INVALID_BINARY_REPRESENTATION), errmsg("the tile can't be mended"), errdetail_internal("%s", fault),
+             errhint("mvt_explain() of this fault says what to do. With drop => true, features whose polygons can't be mended "
+                     "are left out.")));
 }
 
 PG_FUNCTION_INFO_V1(mvt_mend);

@@ -29,7 +29,8 @@ void expect_status(int status, int one, int other)
     if (status == one || status == other)
         return;
     if (status == MVTGATE_NO_MEMORY)
-        ereport(ERROR, (errcode(ERRCODE_OUT_OF_MEMORY), errmsg("out of memory"), errdetail("mvtgate was refused memory for a tile.")));
+        ereport(ERROR,
+                (errcode(ERRCODE_OUT_OF_MEMORY), errmsg("out of memory"), errdetail("mvtgate was refused memory for a tile.")));
     elog(ERROR, "mvtgate answered the status %d", status);
 }
 
@@ -101,7 +102,8 @@ void refuse_no_fault(void)
 /* Adds a member that is a number or a string. Its name is that of the object it is in, with a full stop, and its own. */
 static bool add_member(Members *members, const char *name, JsonbValue *value)
 {
-    char *text = value->type == jbvNumeric ? DatumGetCString(DirectFunctionCall1(numeric_out, NumericGetDatum(value->val.numeric)))
+    char *text = value->type == jbvNumeric
+                     ? DatumGetCString(DirectFunctionCall1(numeric_out, NumericGetDatum(value->val.numeric)))
                  : value->type == jbvString ? pnstrdup(value->val.string.val, value->val.string.len)
                                             : NULL;
     return text && members_add(members, name, strlen(name), text, strlen(text));

@@ -1,7 +1,6 @@
 """The extension as it is installed: by pg_regress, by users, as an upgrade, and beside its words."""
 from __future__ import annotations
 
-import pathlib
 import re
 import subprocess
 from typing import Any, Callable
