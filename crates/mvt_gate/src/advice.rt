@@ -104,6 +104,3 @@ fn with_advice(alloc: Global, line: String, tile: &Tile<'_>) -> Result<String, A
     lines.push_str("\n")?;
     Ok(lines)
 }
-
-#[cfg(test)]
-mod tests;

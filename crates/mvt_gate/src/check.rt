@@ -131,6 +131,3 @@ fn ok_line(alloc: Global) -> Result<String, AllocError>
 {
     String::from_str(alloc, "{\"ok\":true}\n")
 }
-
-#[cfg(test)]
-mod tests;

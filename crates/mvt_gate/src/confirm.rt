@@ -189,6 +189,3 @@ fn confirm_line(
         Ok((Outcome::No, line))
     }
 }
-
-#[cfg(test)]
-mod tests;

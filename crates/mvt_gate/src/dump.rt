@@ -75,6 +75,3 @@ impl Task for DumpTile {
         }
     }
 }
-
-#[cfg(test)]
-mod tests;

@@ -250,6 +250,3 @@ fn may_try_again(error: &io::Error, interruptions: u64, others: u64) -> bool
 {
     error.kind() == ErrorKind::Interrupted && interruptions <= INTERRUPTION_LIMIT - others
 }
-
-#[cfg(test)]
-mod tests;

@@ -127,6 +127,3 @@ fn faults_by<R: FeatureRule>(
     faults.push(fault)?;
     Ok(faults)
 }
-
-#[cfg(test)]
-mod tests;

@@ -72,6 +72,3 @@ impl Task for ListFields {
         }
     }
 }
-
-#[cfg(test)]
-mod tests;

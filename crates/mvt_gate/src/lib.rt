@@ -6,8 +6,6 @@ mod advice;
 mod agreement;
 mod check;
 mod confirm;
-#[cfg(test)]
-mod device;
 mod dump;
 mod engine;
 mod faults;
@@ -16,8 +14,6 @@ mod geometry;
 pub mod laws;
 mod polygons;
 mod quick;
-#[cfg(test)]
-mod runs;
 mod tally;
 mod verdict;
 

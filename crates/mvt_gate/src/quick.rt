@@ -93,6 +93,3 @@ fn fault_of_features(alloc: Global, bytes: &[u8]) -> Result<Option<Fault>, Alloc
 {
     rule_fault(alloc, bytes, &mut QuickGeometry::new(alloc))
 }
-
-#[cfg(test)]
-mod tests;

@@ -97,6 +97,3 @@ fn fault_of_rules(
         Profile::Feature => rule_fault(alloc, bytes, &mut FeatureGeometry::new(alloc)),
     }
 }
-
-#[cfg(test)]
-mod tests;

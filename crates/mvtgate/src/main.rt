@@ -1,7 +1,6 @@
 //! A gate before the publishing of Mapbox vector tiles: the program.
 #![tactic(auto)]
 
-mod command_line;
 mod not_empty;
 mod run;
 mod standard_error;

@@ -4,7 +4,6 @@ ghost use Rattle.clap.specs.Words.{first_value, found_of, kind_of, one_text};
 ghost use Rattle.mvt_gate.specs.Engine.{Answers, IsOfClaim};
 ghost use Rattle.mvtgate.specs.Status.{status_of};
 
-use crate::command_line::command_line;
 use crate::not_empty::NotEmpty;
 use crate::standard_error::StandardError;
 use clap::ArgMatches;
@@ -15,6 +14,7 @@ use mvt_gate::{
     dump_stream, fields_stream,
 };
 use mvt_mender::mend_stream;
+use mvtgate_words::command_line;
 use std::alloc::Global;
 use std::io::{Read, Write};
 use std::rt::{Env, Files};

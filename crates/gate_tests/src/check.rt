@@ -1,7 +1,6 @@
-use crate::agreement::{Agreement, judge_and_confirm};
+use mvt_gate::{Agreement, Verdict, judge, judge_and_confirm};
 use crate::device::bytes_of;
 use crate::runs::{Engine, writes};
-use crate::verdict::{Verdict, judge};
 use mvt_fault::{Fault, fault_from_text};
 use std::test::Fail;
 

@@ -2,7 +2,7 @@
 //! interrupted, or that never end.
 use super::{CROSSED, CROSSING, Engine, outcome_of, run};
 use crate::device::{CALM, Manner, bytes_of, fails, interrupted};
-use crate::engine::EngineFault;
+use mvt_gate::EngineFault;
 use mvt_fault::Profile;
 use std::io::ErrorKind;
 use std::test::Fail;

@@ -1,9 +1,7 @@
 //! Features of several polygons, by either profile.
-use crate::agreement::{Agreement, judge_and_confirm_with};
+use mvt_gate::{Agreement, Outcome, Verdict, judge_and_confirm_with, judge_with};
 use crate::device::{CALM, bytes_of};
-use crate::engine::Outcome;
 use crate::runs::{Engine, run};
-use crate::verdict::{Verdict, judge_with};
 use mvt_fault::{Fault, Profile, fault_from_text};
 use std::test::Fail;
 

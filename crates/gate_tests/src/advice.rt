@@ -1,4 +1,4 @@
-use super::advice_text;
+use mvt_gate::advice_text;
 use crate::device::bytes_of;
 use crate::runs::{Engine, writes};
 use mvt_fault::Profile;

@@ -2,7 +2,7 @@
 //! arithmetic of these tests' own finds the point on both edges.
 use super::{MOVED_TOOTH, TOOTH_ABOVE, comb_tile};
 use crate::device::{CALM, bytes_of};
-use crate::engine::Outcome;
+use mvt_gate::Outcome;
 use crate::runs::{Engine, run, writes};
 use mvt_confirm::confirm;
 use mvt_fault::{Fault, RingEdge, fault_from_text};

@@ -1,8 +1,6 @@
-use super::fields_stream;
+use mvt_gate::{EngineFault, Outcome, Tally, fields_stream};
 use crate::device::{CALM, Manner, Sink, Source, interrupted};
-use crate::engine::{EngineFault, Outcome};
 use crate::runs::{Engine, rows_held, run};
-use crate::tally::Tally;
 use std::test::Fail;
 
 /// A tile of one layer with one point.

@@ -1,6 +1,6 @@
 //! A ring of a million vertices is judged within two minutes.
 use super::{COMB_END, TOOTH_ABOVE, TOOTH_BELOW, WAY_ABOVE, tile_of};
-use crate::verdict::{Verdict, judge};
+use mvt_gate::{Verdict, judge};
 use std::test::Fail;
 use std::time::{Duration, Instant};
 

@@ -1,4 +1,4 @@
-use super::EngineFault;
+use mvt_gate::EngineFault;
 
 /// Each fault and its text.
 const TEXTS: [(EngineFault, &str); 7] = [

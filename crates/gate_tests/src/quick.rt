@@ -1,8 +1,6 @@
-use super::{Search, judge_quickly};
-use crate::check::CheckOptions;
+use mvt_gate::{CheckOptions, Search, Verdict, judge_quickly, judge_with};
 use crate::device::bytes_of;
 use crate::runs::{Engine, writes};
-use crate::verdict::{Verdict, judge_with};
 use mvt_confirm::confirm_with;
 use mvt_fault::Profile;
 use std::test::Fail;

@@ -1,6 +1,6 @@
 //! Tiles that were cut short or have a wrong byte.
 use crate::device::bytes_of;
-use crate::verdict::{Verdict, judge};
+use mvt_gate::{Verdict, judge};
 use mvt_confirm::confirm;
 use mvt_fault::{fault_from_text, fault_text};
 use std::test::Fail;

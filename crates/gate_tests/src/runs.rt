@@ -1,12 +1,6 @@
 //! Runs of the engines, for tests.
-use crate::advice::advise_stream;
-use crate::check::{CheckOptions, check_stream, check_stream_by, check_stream_with};
-use crate::confirm::{confirm_streams, confirm_streams_with};
+use mvt_gate::{CheckOptions, EngineFault, Outcome, Tally, advise_stream, check_stream, check_stream_by, check_stream_with, confirm_streams, confirm_streams_with, dump_stream, fields_stream};
 use crate::device::{CALM, Manner, Sink, Source, bytes_of};
-use crate::dump::dump_stream;
-use crate::engine::{EngineFault, Outcome};
-use crate::fields::fields_stream;
-use crate::tally::Tally;
 use mvt_fault::Profile;
 use std::test::Fail;
 

@@ -1,4 +1,4 @@
-use super::dump_text;
+use mvt_gate::dump_text;
 use crate::runs::{Engine, rows_held};
 use mvt_tile::read_tile;
 use std::test::Fail;

@@ -1,8 +1,6 @@
-use super::confirm_streams;
+use mvt_gate::{EngineFault, Outcome, Tally, confirm_streams};
 use crate::device::{CALM, Manner, Sink, Source, bytes_of, fails, interrupted};
-use crate::engine::{EngineFault, Outcome};
 use crate::runs::{CROSSED, CROSSING};
-use crate::tally::Tally;
 use std::io::ErrorKind;
 use std::test::Fail;
 

@@ -1,9 +1,6 @@
-use super::{faults_quickly, faults_with};
-use crate::check::CheckOptions;
+use mvt_gate::{CheckOptions, Search, Verdict, faults_quickly, faults_with, judge_with};
 use crate::device::bytes_of;
-use crate::quick::Search;
 use crate::runs::{Engine, writes};
-use crate::verdict::{Verdict, judge_with};
 use mvt_confirm::confirm_with;
 use mvt_fault::{Fault, Profile};
 use std::test::Fail;

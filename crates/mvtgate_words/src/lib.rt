@@ -1,0 +1,6 @@
+//! The words of the program `mvtgate`.
+#![tactic(auto)]
+
+mod command_line;
+
+pub use command_line::command_line;
