@@ -11,9 +11,10 @@ use Rattle.mvt_tile.specs.declared.advice.Advice.{Advice}
 use Rattle.mvt_wire.proofs.Parts.Tiles.{one_tile}
 use Rattle.mvt_wire.specs.Tile.{TileRecord}
 use Rattle.mvt_gate.proofs.Verdicts as verdicts
-use Rattle.mvt_gate.specs.Advice.{AddsAdvice, IsAdviseAnswerBy, advice_line}
-use Rattle.mvt_gate.specs.FaultLine.{fault_line}
-use Rattle.mvt_gate.specs.declared.engine.Outcome.{Outcome}
+use Rattle.mvt_engine.specs.AdviceText.{advice_line}
+use Rattle.mvt_gate.specs.Advice.{AddsAdvice, IsAdviseAnswerBy}
+use Rattle.mvt_engine.specs.FaultLine.{fault_line}
+use Rattle.mvt_engine.specs.declared.engine.Outcome.{Outcome}
 
 -- after two lines that answer one input, the same is added
 same_after : (input line other lines others : List ℕ) → AddsAdvice input line lines → AddsAdvice input other others

@@ -1,6 +1,5 @@
--- What is written of advice, and where there is none.
-use Rattle.std.proofs.Common.{◌≡◌, List, ℕ, ◌++◌, Result, Ok, Err, OnOk, if◌then◌else◌, inr, refl, subst}
-use Rattle.std.specs.Result.{is_ok}
+-- Where there is no advice.
+use Rattle.std.proofs.Common.{List, ℕ, ◌≡◌, inr, refl, subst}
 use Rattle.mvt_confirm.proofs.Validity.TrueFaults.{no_fault_of_tile}
 use Rattle.mvt_fault.specs.Place.{IsLeast}
 use Rattle.mvt_fault.specs.TrueFaults.{IsWireFault}
@@ -9,13 +8,6 @@ use Rattle.mvt_tile.specs.ReadFault.{IsReadFault}
 use Rattle.mvt_tile.specs.declared.read.ReadFault.{ReadFault}
 use Rattle.mvt_tile.specs.declared.read.ReadFault.TheVariants.{Wire}
 use Rattle.mvt_gate.specs.Advice.{AddsAdvice}
-
--- a piece was written after a text
-pub pushed : {E : Type 0} (result : Result (Unit {0}) E) (old new piece : List ℕ)
-    → new ≡ (if is_ok result then old ++ piece else old)
-    → OnOk result (new ≡ old ++ piece)
-pushed (Ok unit) old new piece written = written
-pushed (Err error) old new piece written = tt
 
 -- bytes with a wire fault are no tile, so nothing is after their line
 pub no_advice : (input line : List ℕ) (found : ReadFault) (fault : Fault) → found ≡ Wire fault → IsReadFault input found → AddsAdvice input line line

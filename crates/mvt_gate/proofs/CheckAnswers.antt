@@ -4,9 +4,9 @@ use Rattle.mvt_fault.specs.declared.fault.Fault.{Fault}
 use Rattle.mvt_fault.specs.declared.profile.Profile.{Profile}
 use Rattle.mvt_gate.specs.Check.{ok_line}
 use Rattle.mvt_gate.specs.CheckOptions.{IsVerdictAnswer}
-use Rattle.mvt_gate.specs.FaultLine.{fault_line}
+use Rattle.mvt_engine.specs.FaultLine.{fault_line}
 use Rattle.mvt_gate.specs.Verdict.{IsVerdictFor}
-use Rattle.mvt_gate.specs.declared.engine.Outcome.TheVariants as outcomes
+use Rattle.mvt_engine.specs.declared.engine.Outcome.TheVariants as outcomes
 use Rattle.mvt_gate.specs.declared.quick.Search.{Search}
 use Rattle.mvt_gate.specs.declared.quick.Search.TheVariants.{Least, Quick}
 use Rattle.mvt_gate.specs.declared.verdict.Verdict.TheVariants.{Yes, No}

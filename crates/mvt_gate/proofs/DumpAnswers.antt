@@ -6,10 +6,10 @@ use Rattle.mvt_fault.specs.declared.fault.Fault.{Fault}
 use Rattle.mvt_fault.specs.declared.profile.Profile.TheVariants.{Polygon}
 use Rattle.mvt_wire.proofs.Parts.Tiles.{one_tile}
 use Rattle.mvt_wire.specs.Tile.{TileRecord}
-use Rattle.mvt_gate.specs.Dump.{IsDumpAnswer, dump_text}
-use Rattle.mvt_gate.specs.FaultLine.{fault_line}
-use Rattle.mvt_gate.specs.declared.engine.Outcome.{Outcome}
-use Rattle.mvt_gate.specs.declared.engine.Outcome.TheVariants.{Yes, No}
+use Rattle.mvt_engine.specs.Dump.{IsDumpAnswer, dump_text}
+use Rattle.mvt_engine.specs.FaultLine.{fault_line}
+use Rattle.mvt_engine.specs.declared.engine.Outcome.{Outcome}
+use Rattle.mvt_engine.specs.declared.engine.Outcome.TheVariants.{Yes, No}
 use Rattle.mvt_confirm.proofs.Validity.TrueFaults.{no_fault_of_tile}
 use Rattle.mvt_gate.proofs.Verdicts.{least_of_wire, one_least}
 

@@ -4,11 +4,11 @@ use Rattle.mvt_wire.proofs.Encoding.Messages.{one_list, whole_or_defect, one_def
 use Rattle.mvt_wire.specs.declared.cause.WireCause.{WireCause}
 use Rattle.mvt_wire.specs.declared.scope.Scope.TheVariants.{Tile}
 use Rattle.mvt_fault.specs.TrueFaults.{wire_fault_in}
-use Rattle.mvt_gate.specs.FaultLine.{fault_line}
-use Rattle.mvt_gate.specs.Fields.{IsFieldsAnswer}
-use Rattle.mvt_gate.specs.FieldsLine.{fields_line}
-use Rattle.mvt_gate.specs.declared.engine.Outcome.{Outcome}
-use Rattle.mvt_gate.specs.declared.engine.Outcome.TheVariants.{Yes, No}
+use Rattle.mvt_engine.specs.FaultLine.{fault_line}
+use Rattle.mvt_engine.specs.Fields.{IsFieldsAnswer}
+use Rattle.mvt_engine.specs.FieldsLine.{fields_line}
+use Rattle.mvt_engine.specs.declared.engine.Outcome.{Outcome}
+use Rattle.mvt_engine.specs.declared.engine.Outcome.TheVariants.{Yes, No}
 
 pub some_answer : (input : List ℕ) → (outcome : Outcome) × (line : List ℕ) × IsFieldsAnswer input outcome line
 some_answer input = elim (message_or_defect input 0 (omega arith)) [

@@ -1,12 +1,8 @@
 pub mod AdviceAnswers
 pub mod AdviceTexts
 pub mod CheckAnswers
-pub mod ConfirmAnswers
 pub mod DrawnRings
 pub mod DumpAnswers
-pub mod DumpLists
-pub mod DumpTexts
-pub mod EngineLemmas
 pub mod FaultListLaws
 pub mod FaultLists
 pub mod FaultSubjects
@@ -14,7 +10,6 @@ pub mod FeatureFaults
 pub mod FeatureGeometries
 pub mod FeatureSearches
 pub mod FieldsAnswers
-pub mod FieldsLineWalk
 pub mod FirstFaults
 pub mod PolygonFaults
 pub mod PolygonParts

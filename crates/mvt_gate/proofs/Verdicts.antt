@@ -22,11 +22,11 @@ use Rattle.mvt_wire.specs.WireFault.{WireFault}
 use Rattle.mvt_wire.specs.declared.cause.WireCause.{WireCause}
 use Rattle.mvt_wire.specs.declared.scope.Scope.{Scope}
 use Rattle.mvt_gate.specs.Check.{IsCheckAnswerBy}
-use Rattle.mvt_gate.specs.FaultLine.{fault_line}
+use Rattle.mvt_engine.specs.FaultLine.{fault_line}
 use Rattle.mvt_gate.specs.Quick.{IsFreeBy, IsQuickFaultBy}
 use Rattle.mvt_gate.specs.Verdict.{IsVerdictBy}
-use Rattle.mvt_gate.specs.declared.engine.Outcome.{Outcome}
-use Rattle.mvt_gate.specs.declared.engine.Outcome.TheVariants as outcomes
+use Rattle.mvt_engine.specs.declared.engine.Outcome.{Outcome}
+use Rattle.mvt_engine.specs.declared.engine.Outcome.TheVariants as outcomes
 use Rattle.mvt_gate.specs.declared.verdict.Verdict.{Verdict}
 use Rattle.mvt_gate.specs.declared.verdict.Verdict.TheVariants.{Yes, No}
 

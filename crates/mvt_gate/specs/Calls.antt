@@ -1,4 +1,3 @@
 -- Definitions that only state contracts of private functions. No public contract rests on them.
 pub mod Faults
 pub mod Polygons
-pub mod Tally

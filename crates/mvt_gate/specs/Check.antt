@@ -3,10 +3,10 @@ use Rattle.std.specs.Prelude.{◌≡◌, ℕ, List, codes}
 use Rattle.mvt_fault.specs.declared.fault.Fault.{Fault}
 use Rattle.mvt_fault.specs.declared.profile.Profile.{Profile}
 use Rattle.mvt_fault.specs.declared.profile.Profile.TheVariants.{Polygon}
-use Rattle.mvt_gate.specs.FaultLine.{fault_line}
+use Rattle.mvt_engine.specs.FaultLine.{fault_line}
 use Rattle.mvt_gate.specs.Verdict.{IsVerdictBy}
-use Rattle.mvt_gate.specs.declared.engine.Outcome.{Outcome}
-use Rattle.mvt_gate.specs.declared.engine.Outcome.TheVariants.{Yes, No}
+use Rattle.mvt_engine.specs.declared.engine.Outcome.{Outcome}
+use Rattle.mvt_engine.specs.declared.engine.Outcome.TheVariants.{Yes, No}
 use Rattle.mvt_gate.specs.declared.verdict.Verdict.TheVariants as verdicts
 
 -- the line of a tile in which nothing is wrong, with its LF

@@ -6,12 +6,12 @@ use Rattle.mvt_fault.specs.declared.fault.Fault.{Fault}
 use Rattle.mvt_fault.specs.declared.profile.Profile.{Profile}
 use Rattle.mvt_gate.specs.Advice.{AddsAdvice}
 use Rattle.mvt_gate.specs.Check.{IsCheckAnswerBy, ok_line}
-use Rattle.mvt_gate.specs.FaultLine.{fault_line, fault_lines}
+use Rattle.mvt_engine.specs.FaultLine.{fault_line, fault_lines}
 use Rattle.mvt_gate.specs.FaultList.{AreFaultsFor}
 use Rattle.mvt_gate.specs.Verdict.{IsQuickVerdictBy}
 use Rattle.mvt_gate.specs.declared.check.options.CheckOptions.{CheckOptions}
-use Rattle.mvt_gate.specs.declared.engine.Outcome.{Outcome}
-use Rattle.mvt_gate.specs.declared.engine.Outcome.TheVariants.{Yes, No}
+use Rattle.mvt_engine.specs.declared.engine.Outcome.{Outcome}
+use Rattle.mvt_engine.specs.declared.engine.Outcome.TheVariants.{Yes, No}
 use Rattle.mvt_gate.specs.declared.quick.Search.{Search}
 use Rattle.mvt_gate.specs.declared.quick.Search.TheVariants.{Least, Quick}
 use Rattle.mvt_gate.specs.declared.verdict.Verdict.TheVariants as verdicts

@@ -1,3 +1,12 @@
+pub use Rattle.mvt_engine.specs.AdviceText
+pub use Rattle.mvt_engine.specs.Claim
+pub use Rattle.mvt_engine.specs.Confirm
+pub use Rattle.mvt_engine.specs.Dump
+pub use Rattle.mvt_engine.specs.Engine
+pub use Rattle.mvt_engine.specs.FaultLine
+pub use Rattle.mvt_engine.specs.Fields
+pub use Rattle.mvt_engine.specs.FieldsLine
+pub use Rattle.mvt_engine.specs.Tally
 pub use Rattle.mvt_fault.specs.Place
 pub use Rattle.mvt_fault.specs.Text
 pub use Rattle.mvt_wire.specs.Field
@@ -7,14 +16,6 @@ pub mod Advice
 pub mod Calls
 pub mod Check
 pub mod CheckOptions
-pub mod Claim
-pub mod Confirm
-pub mod Dump
-pub mod Engine
-pub mod FaultLine
 pub mod FaultList
-pub mod Fields
-pub mod FieldsLine
 pub mod Quick
-pub mod Tally
 pub mod Verdict

@@ -1,25 +1,20 @@
 //! The engine of `check` with advice: the line of the verdict, and after it what may be a mistake
 //! in the tile, though no rule forbids it.
 ghost use Rattle.std.specs.Prelude.{◌≡◌, ◌≢◌, ℕ, List, ◌++◌, IfOk, IfErr, OnOk, string_bytes};
-ghost use Rattle.mvt_gate.specs.Advice.{AddsAdvice, IsAdviseAnswerBy, advice_line};
-ghost use Rattle.mvt_gate.specs.Engine.{Answers, BreaksOff, HasFailed, IsClean, IsOfClaim, IsTooLarge, ReadsBytes};
-ghost use Rattle.mvt_gate.specs.Tally.{IsUntouched, counts_of};
+ghost use Rattle.mvt_engine.specs.AdviceText.{advice_line};
+ghost use Rattle.mvt_gate.specs.Advice.{AddsAdvice, IsAdviseAnswerBy};
+ghost use Rattle.mvt_engine.specs.Engine.{Answers, BreaksOff, HasFailed, IsClean, IsOfClaim, IsTooLarge, ReadsBytes};
+ghost use Rattle.mvt_engine.specs.Tally.{IsUntouched, counts_of};
 ghost use Rattle.mvt_tile.specs.Advice.{IsAdvice};
 ghost use Rattle.mvt_tile.specs.View.{tile_of};
 ghost use Rattle.mvt_tile.specs.declared.advice.Advice.{Advice};
 
-mod text;
-
 use crate::check::CheckTile;
-use crate::engine;
-use crate::engine::{EngineFault, Outcome, Task};
-use crate::tally::Tally;
+use mvt_engine::{EngineFault, Outcome, Tally, Task, push_advice};
 use mvt_fault::Profile;
 use mvt_tile::{ReadFault, Tile, advise, read_tile};
 use std::alloc::{AllocError, Global};
 use std::io::{Read, Write};
-pub use text::advice_text;
-use text::push_advice;
 
 /// Reads a whole tile, of at most 67,108,864 bytes, and writes the line that `check_stream_with`
 /// writes. Where the bytes have no wire fault, so that they are a tile, whatever other rules it
@@ -59,7 +54,7 @@ pub fn advise_stream<R: Read, W: Write>(
     ensures prefix { result ≡ Err EngineFault.Write → BreaksOff (IsAdviseAnswerBy profile)
         R.remaining W.contents reader.old reader.new writer.old writer.new }
 {
-    engine::run(alloc, &AdviseOnTile { profile }, reader, writer)
+    mvt_engine::run(alloc, &AdviseOnTile { profile }, reader, writer)
 }
 
 /// To judge a tile by a profile, and to give advice on it.

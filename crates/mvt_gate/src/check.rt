@@ -2,16 +2,14 @@
 ghost use Rattle.std.specs.Prelude.{◌≡◌, ◌≢◌, ℕ, List, IfOk, IfErr, OnOk, string_bytes};
 ghost use Rattle.mvt_gate.specs.Check.{IsCheckAnswer, IsCheckAnswerBy, ok_line};
 ghost use Rattle.mvt_gate.specs.CheckOptions.{IsVerdictAnswer};
-ghost use Rattle.mvt_gate.specs.Engine.{Answers, BreaksOff, HasFailed, IsClean, IsOfClaim, IsTooLarge, ReadsBytes};
-ghost use Rattle.mvt_gate.specs.Tally.{IsUntouched, counts_of};
+ghost use Rattle.mvt_engine.specs.Engine.{Answers, BreaksOff, HasFailed, IsClean, IsOfClaim, IsTooLarge, ReadsBytes};
+ghost use Rattle.mvt_engine.specs.Tally.{IsUntouched, counts_of};
 
 mod options;
 
-use crate::engine;
-use crate::engine::{EngineFault, Outcome, Task, fault_line};
 use crate::quick::{Search, judge_for};
-use crate::tally::Tally;
 use crate::verdict::Verdict;
+use mvt_engine::{EngineFault, Outcome, Tally, Task, fault_line};
 use mvt_fault::Profile;
 pub use options::{CheckOptions, check_stream_by, fault_lines};
 use std::alloc::{AllocError, Global};
@@ -92,7 +90,7 @@ pub fn check_stream_with<R: Read, W: Write>(
     ensures prefix { result ≡ Err EngineFault.Write → BreaksOff (IsCheckAnswerBy profile)
         R.remaining W.contents reader.old reader.new writer.old writer.new }
 {
-    engine::run(alloc, &CheckTile { profile }, reader, writer)
+    mvt_engine::run(alloc, &CheckTile { profile }, reader, writer)
 }
 
 /// To judge a tile by a profile.

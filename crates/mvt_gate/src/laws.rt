@@ -10,13 +10,13 @@ ghost use Rattle.mvt_fault.specs.declared.profile.Profile.{Profile};
 ghost use Rattle.mvt_fault.specs.declared.profile.Profile.TheVariants as profiles;
 ghost use Rattle.mvt_gate.specs.Advice.{IsAdviseAnswerBy};
 ghost use Rattle.mvt_gate.specs.Check.{IsCheckAnswerBy};
-ghost use Rattle.mvt_gate.specs.Confirm.{IsConfirmAnswerBy};
-ghost use Rattle.mvt_gate.specs.Dump.{IsDumpAnswer};
-ghost use Rattle.mvt_gate.specs.FaultLine.{fault_line};
+ghost use Rattle.mvt_engine.specs.Confirm.{IsConfirmAnswerBy};
+ghost use Rattle.mvt_engine.specs.Dump.{IsDumpAnswer};
+ghost use Rattle.mvt_engine.specs.FaultLine.{fault_line};
 ghost use Rattle.mvt_gate.specs.FaultList.{AreFaultsFor, HasNoMeetingIn, IsFirstOfItsSubject, subject_of};
-ghost use Rattle.mvt_gate.specs.Fields.{IsFieldsAnswer};
+ghost use Rattle.mvt_engine.specs.Fields.{IsFieldsAnswer};
 ghost use Rattle.mvt_gate.specs.Verdict.{IsQuickVerdictBy, IsVerdictBy};
-ghost use Rattle.mvt_gate.specs.declared.engine.Outcome.{Outcome};
+ghost use Rattle.mvt_engine.specs.declared.engine.Outcome.{Outcome};
 ghost use Rattle.mvt_gate.specs.declared.quick.Search.{Search};
 ghost use Rattle.mvt_gate.specs.declared.verdict.Verdict.{Verdict};
 

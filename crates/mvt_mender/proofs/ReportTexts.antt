@@ -4,7 +4,7 @@ use Rattle.std.specs.Result.{is_ok}
 use Rattle.serde_json.proofs.OnLiterals.{serde_json_on_literals}
 use Rattle.serde_json.specs.Written.{compact_text}
 use Rattle.mvt_fault.specs.Text.{digits, whole}
-use Rattle.mvt_gate.specs.Dump.{list_data}
+use Rattle.mvt_engine.specs.Dump.{list_data}
 use Rattle.mvt_mender.specs.Report.{change_data, mended_data, pair_data, report_text}
 use Rattle.mvt_mender.specs.declared.mending.FeatureChange.{FeatureChange}
 use Rattle.mvt_mender.specs.declared.mending.MendedFeature.{MendedFeature}

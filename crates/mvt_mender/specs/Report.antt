@@ -4,7 +4,7 @@ use Rattle.serde_json.specs.Data.{Data, boolean, string, array, object, member, 
 use Rattle.serde_json.specs.View.{items_of}
 use Rattle.serde_json.specs.Written.{compact_text}
 use Rattle.mvt_fault.specs.Text.{digits, whole}
-use Rattle.mvt_gate.specs.Dump.{list_data}
+use Rattle.mvt_engine.specs.Dump.{list_data}
 use Rattle.mvt_mender.specs.declared.mending.FeatureChange.{FeatureChange}
 use Rattle.mvt_mender.specs.declared.mending.MendedFeature.{MendedFeature}
 use Rattle.mvt_mender.specs.declared.mending.WhatChanged.{WhatChanged}

@@ -1,12 +1,12 @@
 -- The answer of the program's `mend`, and what its engine reads and writes.
 use Rattle.std.specs.Prelude.{◌≡◌, ◌⊎◌, ◌+◌, ℕ, Bool, List, [], take, Option}
 use Rattle.mvt_fault.specs.declared.profile.Profile.{Profile}
-use Rattle.mvt_gate.specs.Engine.{HasFailed, IsClean, ReadsWhole, Writes}
-use Rattle.mvt_gate.specs.FaultLine.{fault_line}
-use Rattle.mvt_gate.specs.Tally.{IsUntouched, counts_of}
-use Rattle.mvt_gate.specs.declared.engine.Outcome.{Outcome}
-use Rattle.mvt_gate.specs.declared.engine.Outcome.TheVariants.{Yes, No}
-use Rattle.mvt_gate.specs.declared.tally.Tally.{Tally}
+use Rattle.mvt_engine.specs.Engine.{HasFailed, IsClean, ReadsWhole, Writes}
+use Rattle.mvt_engine.specs.FaultLine.{fault_line}
+use Rattle.mvt_engine.specs.Tally.{IsUntouched, counts_of}
+use Rattle.mvt_engine.specs.declared.engine.Outcome.{Outcome}
+use Rattle.mvt_engine.specs.declared.engine.Outcome.TheVariants.{Yes, No}
+use Rattle.mvt_engine.specs.declared.tally.Tally.{Tally}
 use Rattle.mvt_mender.specs.Mending.{IsMendingBy}
 use Rattle.mvt_mender.specs.Report.{report_line}
 use Rattle.mvt_mender.specs.declared.mending.Mending.{Mending}

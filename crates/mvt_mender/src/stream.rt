@@ -1,7 +1,7 @@
 //! The engine of `mend`: it reads a tile, and writes a valid one and what was changed.
 ghost use Rattle.std.specs.Prelude.{◌≡◌, ◌≢◌, ◌+◌, ◌≤◌, ℕ, List, IfOk, IfErr, OnErr, OnOk, string_bytes};
-ghost use Rattle.mvt_gate.specs.Engine.{HasFailed, IsClean, IsOfClaim, IsTooLarge, ReadsBytes, interruption_limit};
-ghost use Rattle.mvt_gate.specs.Tally.{IsUntouched, counts_of, no_counts};
+ghost use Rattle.mvt_engine.specs.Engine.{HasFailed, IsClean, IsOfClaim, IsTooLarge, ReadsBytes, interruption_limit};
+ghost use Rattle.mvt_engine.specs.Tally.{IsUntouched, counts_of, no_counts};
 ghost use Rattle.mvt_mender.specs.Report.{report_line};
 ghost use Rattle.mvt_mender.specs.Stream.{AnswersTwice, BreaksOffTwice, HasFailedOnce, HasLineFailed, IsLineClean, IsMendAnswerBy, LineBreaksOff, LineGoes};
 

@@ -1,9 +1,9 @@
 -- What the program's words have answered.
 use Rattle.std.specs.Prelude.{ℕ, List}
 use Rattle.mvt_gate.specs.CheckOptions.{IsCheckAnswerOf}
-use Rattle.mvt_gate.specs.Dump.{IsDumpAnswer}
-use Rattle.mvt_gate.specs.Fields.{IsFieldsAnswer}
-use Rattle.mvt_gate.specs.declared.engine.Outcome.{Outcome}
+use Rattle.mvt_engine.specs.Dump.{IsDumpAnswer}
+use Rattle.mvt_engine.specs.Fields.{IsFieldsAnswer}
+use Rattle.mvt_engine.specs.declared.engine.Outcome.{Outcome}
 use Rattle.mvtgate.specs.declared.run.Engine.{Engine}
 use Rattle.mvtgate.specs.declared.run.Engine.TheVariants.{Fields, Check, Dump}
 

@@ -1,9 +1,9 @@
 -- The status that the program exits with.
 use Rattle.std.specs.Prelude.{ℕ, Result, Ok, Err}
-use Rattle.mvt_gate.specs.declared.engine.Outcome.{Outcome}
-use Rattle.mvt_gate.specs.declared.engine.Outcome.TheVariants.{Yes, No}
-use Rattle.mvt_gate.specs.declared.engine.EngineFault.{EngineFault}
-use Rattle.mvt_gate.specs.declared.engine.EngineFault.TheVariants.{Read, TooLarge, Write, NotJson, NotAFault, FaultRange, Memory}
+use Rattle.mvt_engine.specs.declared.engine.Outcome.{Outcome}
+use Rattle.mvt_engine.specs.declared.engine.Outcome.TheVariants.{Yes, No}
+use Rattle.mvt_engine.specs.declared.engine.EngineFault.{EngineFault}
+use Rattle.mvt_engine.specs.declared.engine.EngineFault.TheVariants.{Read, TooLarge, Write, NotJson, NotAFault, FaultRange, Memory}
 
 -- the status of an engine's fault
 abbrev pub fault_status : EngineFault → ℕ

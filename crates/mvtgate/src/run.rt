@@ -1,7 +1,7 @@
 //! The whole run of the program: its words, its devices and its exit status.
 ghost use Rattle.std.specs.Prelude.{◌≡◌, ◌≢◌, ◌≤◌, ◌⊎◌, codes, IsTrue, IsFalse, IfOk, IfErr, None, Some};
 ghost use Rattle.clap.specs.Words.{first_value, found_of, kind_of, one_text};
-ghost use Rattle.mvt_gate.specs.Engine.{Answers, IsOfClaim};
+ghost use Rattle.mvt_engine.specs.Engine.{Answers, IsOfClaim};
 ghost use Rattle.mvtgate.specs.Status.{status_of};
 
 use crate::not_empty::NotEmpty;

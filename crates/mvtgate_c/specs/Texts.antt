@@ -5,9 +5,9 @@ use Rattle.mvt_fault.specs.Text.{text_of}
 use Rattle.mvt_fault.specs.TrueFaults.{IsWireFault}
 use Rattle.mvt_fault.specs.declared.fault.Fault.{Fault}
 use Rattle.mvt_fault.specs.declared.profile.Profile.{Profile}
-use Rattle.mvt_gate.specs.Advice.{advice_text}
-use Rattle.mvt_gate.specs.Dump.{dump_text}
-use Rattle.mvt_gate.specs.FaultLine.{fault_lines}
+use Rattle.mvt_engine.specs.AdviceText.{advice_text}
+use Rattle.mvt_engine.specs.Dump.{dump_text}
+use Rattle.mvt_engine.specs.FaultLine.{fault_lines}
 use Rattle.mvt_gate.specs.FaultList.{AreFaultsFor}
 use Rattle.mvt_gate.specs.Verdict.{IsVerdictBy, IsVerdictFor}
 use Rattle.mvt_gate.specs.declared.quick.Search.{Search}

@@ -1,6 +1,6 @@
 //! What may be a mistake in a tile, for C.
 ghost use Rattle.std.specs.Prelude.{◌≡◌, ◌≤ℤ◌, ◌⊎◌, List, pos, IfOk, string_bytes};
-ghost use Rattle.mvt_gate.specs.Advice.{advice_text};
+ghost use Rattle.mvt_engine.specs.AdviceText.{advice_text};
 ghost use Rattle.mvt_tile.specs.Advice.{IsAdvice};
 ghost use Rattle.mvt_tile.specs.View.{tile_of};
 ghost use Rattle.mvt_tile.specs.declared.advice.Advice.{Advice};

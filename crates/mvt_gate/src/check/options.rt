@@ -1,17 +1,15 @@
 //! The engine of `check` with all its options.
 ghost use Rattle.std.specs.Prelude.{◌≡◌, ◌≢◌, ℕ, List, IfOk, IfErr, OnOk, string_bytes};
 ghost use Rattle.mvt_gate.specs.CheckOptions.{IsCheckAnswerOf, IsFaultsAnswer, IsListAnswer};
-ghost use Rattle.mvt_gate.specs.Engine.{Answers, BreaksOff, HasFailed, IsClean, IsOfClaim, IsTooLarge, ReadsBytes};
-ghost use Rattle.mvt_gate.specs.FaultLine.{fault_lines};
-ghost use Rattle.mvt_gate.specs.Tally.{IsUntouched, counts_of};
+ghost use Rattle.mvt_engine.specs.Engine.{Answers, BreaksOff, HasFailed, IsClean, IsOfClaim, IsTooLarge, ReadsBytes};
+ghost use Rattle.mvt_engine.specs.FaultLine.{fault_lines};
+ghost use Rattle.mvt_engine.specs.Tally.{IsUntouched, counts_of};
 
 use super::{ok_line, verdict_answer};
 use crate::advice::add_advice;
-use crate::engine;
-use crate::engine::{EngineFault, Outcome, Task, fault_line};
 use crate::faults::faults_for;
 use crate::quick::Search;
-use crate::tally::Tally;
+use mvt_engine::{EngineFault, Outcome, Tally, Task, fault_line};
 use mvt_fault::{Fault, Profile};
 use std::alloc::{AllocError, Global};
 use std::io::{Read, Write};
@@ -67,7 +65,7 @@ pub fn check_stream_by<R: Read, W: Write>(
     ensures prefix { result ≡ Err EngineFault.Write → BreaksOff (IsCheckAnswerOf options)
         R.remaining W.contents reader.old reader.new writer.old writer.new }
 {
-    engine::run(alloc, &CheckBy { options }, reader, writer)
+    mvt_engine::run(alloc, &CheckBy { options }, reader, writer)
 }
 
 /// To check a tile by options.

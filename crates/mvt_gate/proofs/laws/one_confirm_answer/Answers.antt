@@ -1,4 +1,4 @@
-use Rattle.mvt_gate.proofs.ConfirmAnswers.{one_answer}
+use Rattle.mvt_engine.proofs.ConfirmAnswers.{one_answer}
 use Rattle.mvt_gate.proofs.laws.one_confirm_answer.Goals as goal
 
 pub returns : goal.returns

@@ -1,5 +1,5 @@
 use Rattle.std.proofs.Common.{◌≡◌, string_bytes, take}
-use Rattle.mvt_gate.specs.FaultLine.{fault_lines}
+use Rattle.mvt_engine.specs.FaultLine.{fault_lines}
 use Rattle.mvt_gate.proofs.check.options.fault_lines.Given as goal
 
 -- the lines of the faults so far are written

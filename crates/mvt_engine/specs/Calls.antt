@@ -1,0 +1,2 @@
+-- Definitions that only state contracts of private functions. No public contract rests on them.
+pub mod Tally

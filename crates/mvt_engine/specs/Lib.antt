@@ -1,0 +1,15 @@
+pub use Rattle.mvt_fault.specs.Place
+pub use Rattle.mvt_fault.specs.Text
+pub use Rattle.mvt_wire.specs.Field
+pub use Rattle.mvt_wire.specs.Message
+pub use Rattle.mvt_wire.specs.Tile
+pub mod AdviceText
+pub mod Calls
+pub mod Claim
+pub mod Confirm
+pub mod Dump
+pub mod Engine
+pub mod FaultLine
+pub mod Fields
+pub mod FieldsLine
+pub mod Tally
