@@ -1,7 +1,7 @@
-use mvt_gate::advice_text;
 use crate::device::bytes_of;
 use crate::runs::{Engine, writes};
 use mvt_fault::Profile;
+use mvt_gate::advice_text;
 use mvt_tile::Advice;
 use std::test::Fail;
 

@@ -1,7 +1,7 @@
-use mvt_gate::{Agreement, Verdict, judge, judge_and_confirm};
 use crate::device::bytes_of;
 use crate::runs::{Engine, writes};
 use mvt_fault::{Fault, fault_from_text};
+use mvt_gate::{Agreement, Verdict, judge, judge_and_confirm};
 use std::test::Fail;
 
 const OK: &str = r#"{"ok":true}"#;

@@ -1,6 +1,6 @@
-use mvt_gate::{EngineFault, Outcome, Tally, confirm_streams};
 use crate::device::{CALM, Manner, Sink, Source, bytes_of, fails, interrupted};
 use crate::runs::{CROSSED, CROSSING};
+use mvt_gate::{EngineFault, Outcome, Tally, confirm_streams};
 use std::io::ErrorKind;
 use std::test::Fail;
 

@@ -1,5 +1,5 @@
-use mvt_gate::dump_text;
 use crate::runs::{Engine, rows_held};
+use mvt_gate::dump_text;
 use mvt_tile::read_tile;
 use std::test::Fail;
 

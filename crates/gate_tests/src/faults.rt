@@ -1,8 +1,8 @@
-use mvt_gate::{CheckOptions, Search, Verdict, faults_quickly, faults_with, judge_with};
 use crate::device::bytes_of;
 use crate::runs::{Engine, writes};
 use mvt_confirm::confirm_with;
 use mvt_fault::{Fault, Profile};
+use mvt_gate::{CheckOptions, Search, Verdict, faults_quickly, faults_with, judge_with};
 use std::test::Fail;
 
 /// Three layers of one name, the second of version 1. The first has a feature with a wrong command,

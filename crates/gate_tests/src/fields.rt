@@ -1,6 +1,6 @@
-use mvt_gate::{EngineFault, Outcome, Tally, fields_stream};
 use crate::device::{CALM, Manner, Sink, Source, interrupted};
 use crate::runs::{Engine, rows_held, run};
+use mvt_gate::{EngineFault, Outcome, Tally, fields_stream};
 use std::test::Fail;
 
 /// A tile of one layer with one point.

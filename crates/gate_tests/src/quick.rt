@@ -1,8 +1,8 @@
-use mvt_gate::{CheckOptions, Search, Verdict, judge_quickly, judge_with};
 use crate::device::bytes_of;
 use crate::runs::{Engine, writes};
 use mvt_confirm::confirm_with;
 use mvt_fault::Profile;
+use mvt_gate::{CheckOptions, Search, Verdict, judge_quickly, judge_with};
 use std::test::Fail;
 
 /// Tiles in hexadecimal, and the lines of the quick verdict where the polygons of a feature are kept

@@ -1,7 +1,10 @@
 //! Runs of the engines, for tests.
-use mvt_gate::{CheckOptions, EngineFault, Outcome, Tally, advise_stream, check_stream, check_stream_by, check_stream_with, confirm_streams, confirm_streams_with, dump_stream, fields_stream};
 use crate::device::{CALM, Manner, Sink, Source, bytes_of};
 use mvt_fault::Profile;
+use mvt_gate::{
+    CheckOptions, EngineFault, Outcome, Tally, advise_stream, check_stream, check_stream_by,
+    check_stream_with, confirm_streams, confirm_streams_with, dump_stream, fields_stream,
+};
 use std::test::Fail;
 
 mod devices;

@@ -18,11 +18,7 @@ pub fn advice_text(alloc: Global, advice: &[Advice]) -> Result<String, AllocErro
 }
 
 /// Writes that text after another.
-pub fn push_advice(
-    alloc: Global,
-    text: &mut String,
-    advice: &[Advice],
-) -> Result<(), AllocError>
+pub fn push_advice(alloc: Global, text: &mut String, advice: &[Advice]) -> Result<(), AllocError>
     ensures { OnOk result (string_bytes text.new
         ≡ string_bytes text.old ++ advice_text advice.now) }
 {

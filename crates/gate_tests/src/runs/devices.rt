@@ -2,8 +2,8 @@
 //! interrupted, or that never end.
 use super::{CROSSED, CROSSING, Engine, outcome_of, run};
 use crate::device::{CALM, Manner, bytes_of, fails, interrupted};
-use mvt_gate::EngineFault;
 use mvt_fault::Profile;
+use mvt_gate::EngineFault;
 use std::io::ErrorKind;
 use std::test::Fail;
 

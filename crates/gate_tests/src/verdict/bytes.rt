@@ -1,8 +1,8 @@
 //! Tiles that were cut short or have a wrong byte.
 use crate::device::bytes_of;
-use mvt_gate::{Verdict, judge};
 use mvt_confirm::confirm;
 use mvt_fault::{fault_from_text, fault_text};
+use mvt_gate::{Verdict, judge};
 use std::test::Fail;
 
 /// Tiles of 16, 46, 33 and 33 bytes: a point; the standard's example of two polygons, one of them

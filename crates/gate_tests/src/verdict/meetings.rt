@@ -2,10 +2,10 @@
 //! arithmetic of these tests' own finds the point on both edges.
 use super::{MOVED_TOOTH, TOOTH_ABOVE, comb_tile};
 use crate::device::{CALM, bytes_of};
-use mvt_gate::Outcome;
 use crate::runs::{Engine, run, writes};
 use mvt_confirm::confirm;
 use mvt_fault::{Fault, RingEdge, fault_from_text};
+use mvt_gate::Outcome;
 use std::test::Fail;
 
 /// Tiles in hexadecimal, the vertices of their rings, and how the line of their meeting ends. Edges

@@ -1,8 +1,8 @@
 //! Features of several polygons, by either profile.
-use mvt_gate::{Agreement, Outcome, Verdict, judge_and_confirm_with, judge_with};
 use crate::device::{CALM, bytes_of};
 use crate::runs::{Engine, run};
 use mvt_fault::{Fault, Profile, fault_from_text};
+use mvt_gate::{Agreement, Outcome, Verdict, judge_and_confirm_with, judge_with};
 use std::test::Fail;
 
 /// Tiles in hexadecimal; the lines of `check` where the polygons of a feature are kept apart, of
