@@ -86,6 +86,10 @@ test_place() {
     expect "the folder as it was" are_lines "$before" listing "$prefix"
     expect "tools/install --uninstall again" tools/install --uninstall "$prefix"
     expect "the folder still as it was" are_lines "$before" listing "$prefix"
+    expect "make install" make install PREFIX="$prefix"
+    expect "the same files by make" are_lines "$after" listing "$prefix"
+    expect "make uninstall" make uninstall PREFIX="$prefix"
+    expect "the folder as it was before make" are_lines "$before" listing "$prefix"
 }
 
 # An earlier version's files go when this one comes.
