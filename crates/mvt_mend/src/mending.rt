@@ -26,6 +26,14 @@ use old::Old;
 use proposal::{Proposal, propose};
 use std::alloc::{AllocError, Global};
 
+/// The work that each feature, ring and vertex takes anyway: for reading, judging, sorting, sweeps and
+/// memory. That of a step of a search is 1.
+const FEATURE_WORK: u64 = 300;
+
+const RING_WORK: u64 = 100;
+
+const VERTEX_WORK: u64 = 100;
+
 /// Rings in place of those of a feature, and what was done.
 #[derive(Drop)]
 pub struct MendedRings {
@@ -55,8 +63,7 @@ pub fn mend_rings(
         → AreKept (rings_of rings.now) (rings_of mended.rings.items))) }
     ensures no_more { work.new ≤ work.old }
 {
-    // (where many features follow one that took all, each would cost a sort)
-    if work.left() == 0 {
+    if !work.spend(least_work(rings)) {
         return Ok(None);
     }
     let judged = judge(alloc, rings)?;
@@ -79,6 +86,16 @@ pub fn mend_rings(
         return Ok(None);
     }
     Ok(Some(proposal.mended()))
+}
+
+/// The work that rings take anyway.
+fn least_work(rings: &[Vec<Point>]) -> u64 {
+    let mut least = FEATURE_WORK;
+    for ring in rings {
+        let its = VERTEX_WORK.saturating_mul(ring.len() as u64);
+        least = least.saturating_add(its.saturating_add(RING_WORK));
+    }
+    least
 }
 
 /// What `propose` answers. There is no more work left afterwards than before.
