@@ -1,5 +1,5 @@
 /** Times the page's module, for bench/page.py: in Node, and as one script in a browser. */
-import { Gate } from '../web/site/gate/gate.js';
+import { Calls } from '../bindings/js/src/gate/calls.js';
 
 /** In milliseconds: calls are counted together until they take as long, since a browser's clock is coarse. */
 const BATCH = 5;
@@ -30,10 +30,10 @@ function timeOf(work, count) {
  */
 export function times(module, tile, rounds) {
   const [bytes, given] = [bytesOf(module), bytesOf(tile)];
-  /** @type {Gate} */
+  /** @type {Calls} */
   let gate;
   const compile = timeOf(() => {
-    gate = new Gate(new WebAssembly.Module(bytes));
+    gate = new Calls(new WebAssembly.Module(bytes));
   }, 1);
   const check = () => {
     gate.check(given, 'polygon');

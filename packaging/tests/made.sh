@@ -62,7 +62,7 @@ test_made() {
     # (no toolchain is needed where all is built)
     expect "tools/package again, with the system's programs alone" env PATH=$bare tools/package "$room/again"
     names=("libmvtgate-dev_${version}_amd64.deb" "mvtgate-$version-linux-x86_64.tar.gz" "mvtgate_${version}_amd64.deb"
-        "python3-mvtgate_${version}_all.deb")
+        "python3-mvtgate_${version}_all.deb" "mvtgate-$version.tgz")
     ! has /usr/lib/python3/dist-packages/build "the wheel" || ! has /usr/lib/python3/dist-packages/wheel "the wheel" ||
         names+=("mvtgate-$version-py3-none-manylinux_2_34_x86_64.whl")
     expect "the files of tools/package" are_lines "$(printf '%s\n' "${names[@]}" | LC_ALL=C sort)" env LC_ALL=C ls "$made"

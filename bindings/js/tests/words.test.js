@@ -80,7 +80,7 @@ test('fractions', () => {
 
 test('what is no fault has no words', () => {
   for (const it of [{}, { code: 100 }, { code: 'constructor' }, { code: 201 }, { code: 504, layer: 0 }, { code: 101, scope: 'ring' }]) {
-    assert.throws(() => faultInWords(words, it), RangeError);
+    assert.throws(() => faultInWords(words, it), TypeError);
   }
-  assert.throws(() => adviceInWords(words, { kind: 'toString' }), RangeError);
+  assert.throws(() => adviceInWords(words, { kind: 'toString' }), TypeError);
 });

@@ -1,219 +1,91 @@
 /**
- * The calls of the gate's module, over bytes and texts. They block, so a page makes them in a worker (remote.js).
+ * The gate in this thread: its calls block.
  *
- * @typedef {'polygon' | 'feature'} Profile
- * @typedef {'confirmed' | 'not confirmed' | 'not JSON' | 'not a fault' | 'out of range'} Confirmation
- * @typedef {{count: number, texts: string[]}} Faults how many faults a tile has, and the texts of the first ones
- * @typedef {import('./instance.js').Exports} Exports
- * @typedef {import('./instance.js').Address} Address
+ * @typedef {import('../types.js').Bytes} Bytes
+ * @typedef {import('../types.js').Fault} Fault
+ * @typedef {import('../types.js').Options} Options
+ * @typedef {import('../types.js').QuickOptions} QuickOptions
+ * @typedef {import('../types.js').FaultsOptions} FaultsOptions
+ * @typedef {import('../types.js').MendOptions} MendOptions
  */
-import { OutOfMemory } from './errors.js';
-import { Instance } from './instance.js';
-import { firstLines } from './lines.js';
-
-/** @type {{[profile in Profile]: number}} */
-const NUMBER_OF_PROFILE = { polygon: 0, feature: 1 };
-
-// The statuses of bindings/c/mvtgate.h, as far as this file names them.
-const FAULT = 1;
-const NO_MEMORY = 2;
-const NO_ROOM = 3;
-
-/** @type {{[status: number]: Confirmation}} */
-const CONFIRMATIONS = { 0: 'confirmed', 1: 'not confirmed', 5: 'not JSON', 6: 'not a fault', 7: 'out of range' };
-
-/** In bytes: no text of a fault is longer. */
-const FAULT_ROOM = 384;
-
-/** In bytes: a text of faults that is longer is written once more, in a room of its own length. */
-const FAULTS_ROOM = 1024 * 1024;
-
-/** How many faults of a tile leave the module: the text of all may have hundreds of megabytes. */
-const FAULTS_LIMIT = 2000;
-
-/** In bytes: the size of a length in the module's memory. */
-const LENGTH_ROOM = 8;
-
-/** In bytes: an instance with no more memory is used again. Making one takes far longer than checking a small tile. */
-const SMALL_MEMORY = 4 * 1024 * 1024;
-
-/**
- * @param {Profile} profile
- * @returns {number}
- */
-function numberOf(profile) {
-  if (!Object.hasOwn(NUMBER_OF_PROFILE, profile)) throw new RangeError(`there is no profile ${profile}`);
-  return NUMBER_OF_PROFILE[profile];
-}
-
-/**
- * @param {Uint8Array} tile
- * @returns {number} in bytes: room for what most tiles hold, so that they are gone over once
- */
-const recordRoom = (tile) => 4096 + 4 * tile.length;
-
-/**
- * @param {number} status
- * @returns {Error} for a status that the call's contract excludes
- */
-const unexpected = (status) => new Error(`the module answered with the status ${status}`);
+import { explain } from '../words/explain.js';
+import { advisedOf, dumpedOf, faultOf, faultsOf, isConfirmed, mendedOf } from './answers.js';
+import { Calls } from './calls.js';
+import { bytesOf, limitOf, profileOf, textOf } from './options.js';
 
 export class Gate {
-  #module;
-  /** @type {Instance | null} with no block in use */
-  #kept = null;
-
-  /** The size in bytes to which the module's memory grew in the last call. */
-  memory = 0;
+  #calls;
+  /** The version of the gate, such as '0.1.0'. */
+  version;
 
   /** @param {WebAssembly.Module} module */
   constructor(module) {
-    this.#module = module;
+    this.#calls = new Calls(module);
+    this.version = this.#calls.version();
   }
 
   /**
-   * An instance that stopped in the middle of its work takes no further call, nor does one with much memory, which is given back
-   * only with the instance.
-   *
-   * @template Answer
-   * @param {(instance: Instance) => Answer} work
-   * @returns {Answer}
+   * @param {Bytes} tile
+   * @param {QuickOptions} [options]
+   * @returns {Fault | null} the tile's first fault; null for a valid tile
    */
-  #call(work) {
-    const instance = this.#kept ?? new Instance(this.#module);
-    this.#kept = null;
-    try {
-      const answer = work(instance);
-      if (instance.memory <= SMALL_MEMORY) {
-        instance.exports.forget();
-        this.#kept = instance;
-      }
-      return answer;
-    } finally {
-      this.memory = instance.memory;
-    }
-  }
-
-  /** @returns {string} such as '0.1.0' */
-  version() {
-    const number = this.#call((instance) => instance.exports.version());
-    return [Math.floor(number / 10000), Math.floor(number / 100) % 100, number % 100].join('.');
+  check(tile, options = {}) {
+    const call = options.quick ? 'checkQuickly' : 'check';
+    return faultOf(this.#calls[call](bytesOf(tile), profileOf(options)));
   }
 
   /**
-   * @param {Uint8Array} tile
-   * @param {Profile} profile
-   * @returns {string | null} the text of the tile's first fault; null for a valid tile
+   * @param {Bytes} tile
+   * @param {FaultsOptions} [options]
+   * @returns {Fault[]} one fault of each layer and feature that has any
    */
-  check(tile, profile) {
-    return this.#judge('check', tile, profile);
+  faults(tile, options = {}) {
+    const call = options.quick ? 'faultsQuickly' : 'faults';
+    return faultsOf(this.#calls[call](bytesOf(tile), profileOf(options), limitOf(options)));
   }
 
   /**
-   * @param {Uint8Array} tile
-   * @param {Profile} profile
-   * @returns {string | null} the text of the fault that is found in a time that grows little faster than the tile, in the first
-   *   layer or feature that has one; null for a valid tile
+   * @param {Bytes} tile
+   * @param {Fault | string} fault
+   * @param {Options} [options]
+   * @returns {boolean} whether the separate checker finds the fault true of the tile; TypeError for what is no fault
    */
-  checkQuickly(tile, profile) {
-    return this.#judge('check_quickly', tile, profile);
+  confirm(tile, fault, options = {}) {
+    return isConfirmed(this.#calls.confirm(bytesOf(tile), textOf(fault), profileOf(options)));
   }
 
   /**
-   * @param {'check' | 'check_quickly'} call
-   * @param {Uint8Array} tile
-   * @param {Profile} profile
-   * @returns {string | null}
+   * @param {Bytes} tile
+   * @param {MendOptions} [options]
+   * @returns {import('../types.js').Mended} a valid tile in the place of one whose polygons break the rules
    */
-  #judge(call, tile, profile) {
-    const number = numberOf(profile);
-    return this.#call((instance) => {
-      const [at, text, length] = [instance.put(tile), instance.take(FAULT_ROOM), instance.take(LENGTH_ROOM)];
-      const status = instance.exports[call](number, at, BigInt(tile.length), text, BigInt(FAULT_ROOM), length);
-      if (status === NO_MEMORY) throw new OutOfMemory();
-      if (status > FAULT) throw unexpected(status);
-      return status === FAULT ? instance.text(text, instance.length(length)) : null;
-    });
+  mend(tile, options = {}) {
+    const bytes = bytesOf(tile);
+    return mendedOf(bytes, this.#calls.mend(bytes, profileOf(options), Boolean(options.drop)));
   }
 
   /**
-   * @param {Uint8Array} tile
-   * @param {Profile} profile
-   * @returns {Faults} one fault of each layer and feature that has any, in order; the first is that of checkQuickly
-   */
-  faultsQuickly(tile, profile) {
-    const number = numberOf(profile);
-    return this.#write(tile, FAULTS_ROOM, (exports, ...given) => exports.faults_quickly(number, ...given), (instance, at, bytes) => {
-      const { count, length } = firstLines(instance.bytes(at, bytes), FAULTS_LIMIT);
-      return { count, texts: instance.text(at, length).split('\n').slice(0, -1) };
-    });
-  }
-
-  /**
-   * @param {Uint8Array} tile
-   * @param {string} fault a text, of any content
-   * @param {Profile} profile
-   * @returns {Confirmation}
-   */
-  confirm(tile, fault, profile) {
-    const number = numberOf(profile);
-    const bytes = new TextEncoder().encode(fault);
-    return this.#call((instance) => {
-      const [at, text] = [instance.put(tile), instance.put(bytes)];
-      const status = instance.exports.confirm(number, at, BigInt(tile.length), text, BigInt(bytes.length));
-      if (status === NO_MEMORY) throw new OutOfMemory();
-      if (!(status in CONFIRMATIONS)) throw unexpected(status);
-      return CONFIRMATIONS[status];
-    });
-  }
-
-  /**
-   * @param {Uint8Array} tile
-   * @returns {{record: string | null, fault: string | null}} what the tile holds, as a JSON text, or the wire fault for which it
-   *   is no tile
+   * @param {Bytes} tile
+   * @returns {import('../types.js').Dumped} what the tile holds
    */
   dump(tile) {
-    return this.#write(tile, recordRoom(tile), (exports, ...given) => exports.dump(...given), (instance, at, length, isFault) => {
-      const text = instance.text(at, length);
-      return isFault ? { record: null, fault: text } : { record: text, fault: null };
-    });
+    return dumpedOf(this.#calls.dump(bytesOf(tile)));
   }
 
   /**
-   * @param {Uint8Array} tile
-   * @returns {{advice: string | null, fault: string | null}} what may be a mistake in the tile, as a JSON text, or the wire fault
-   *   for which it is no tile
+   * @param {Bytes} tile
+   * @returns {import('../types.js').Advised} what may be a mistake in the tile, though no rule forbids it
    */
   advise(tile) {
-    return this.#write(tile, recordRoom(tile), (exports, ...given) => exports.advise(...given), (instance, at, length, isFault) => {
-      const text = instance.text(at, length);
-      return isFault ? { advice: null, fault: text } : { advice: text, fault: null };
-    });
+    return advisedOf(this.#calls.advise(bytesOf(tile)));
   }
 
   /**
-   * Has a text of any length written.
-   *
-   * @template Answer
-   * @param {Uint8Array} tile
-   * @param {number} firstRoom in bytes; where it is too small, the call is made again
-   * @param {(exports: Exports, tile: Address, tileLength: bigint, text: Address, room: bigint, length: Address) => number} call
-   * @param {(instance: Instance, text: Address, length: number, isFault: boolean) => Answer} read
-   * @returns {Answer}
+   * @param {Fault | import('../types.js').Advice} it
+   * @param {Bytes} [tile] to say also what other format its bytes are
+   * @returns {import('../types.js').Explanation}
    */
-  #write(tile, firstRoom, call, read) {
-    return this.#call((instance) => {
-      const [at, length] = [instance.put(tile), instance.take(LENGTH_ROOM)];
-      let room = firstRoom;
-      for (;;) {
-        const text = instance.take(room);
-        const status = call(instance.exports, at, BigInt(tile.length), text, BigInt(room), length);
-        if (status === NO_MEMORY) throw new OutOfMemory();
-        if (status > NO_ROOM) throw unexpected(status);
-        if (status !== NO_ROOM) return read(instance, text, instance.length(length), status === FAULT);
-        instance.exports.free(text);
-        room = instance.length(length);
-      }
-    });
+  explain(it, tile) {
+    return explain(it, tile && bytesOf(tile));
   }
 }

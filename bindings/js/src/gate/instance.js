@@ -11,7 +11,10 @@
  *   version: () => number,
  *   check: OfProfile,
  *   check_quickly: OfProfile,
+ *   faults: OfProfile,
  *   faults_quickly: OfProfile,
+ *   mend: (profile: number, drop: number, tile: Address, tileLength: bigint, out: Address, outRoom: bigint, outLength: Address,
+ *     report: Address, reportRoom: bigint, reportLength: Address) => number,
  *   confirm: (profile: number, tile: Address, tileLength: bigint, text: Address, textLength: bigint) => number,
  *   dump: (tile: Address, tileLength: bigint, text: Address, room: bigint, length: Address) => number,
  *   advise: (tile: Address, tileLength: bigint, text: Address, room: bigint, length: Address) => number,
@@ -69,6 +72,15 @@ export class Instance {
    */
   bytes(at, length) {
     return new Uint8Array(this.exports.memory.buffer, Number(at), length);
+  }
+
+  /**
+   * @param {Address} at
+   * @param {number} length
+   * @returns {Uint8Array} as many bytes outside of the module's memory
+   */
+  copy(at, length) {
+    return withMemory(() => this.bytes(at, length).slice());
   }
 
   /**

@@ -1,9 +1,11 @@
 /**
- * The gate in a worker, so that the page stays usable and a long check can be stopped.
+ * The gate in a worker, so that a page or a server goes on meanwhile and a long call can be stopped.
  *
- * @typedef {import('./gate.js').Profile} Profile
- * @typedef {import('./gate.js').Confirmation} Confirmation
- * @typedef {import('./gate.js').Faults} Faults
+ * @typedef {import('./calls.js').Profile} Profile
+ * @typedef {import('./calls.js').Confirmation} Confirmation
+ * @typedef {import('./calls.js').Faults} Faults
+ * @typedef {import('./calls.js').Mending} Mending
+ * @typedef {import('../types.js').GateWorker} GateWorker
  * @typedef {{fault: string | null, milliseconds: number, memory: number}} Judged the text of a fault, or null for a valid tile; the
  *   time of the check, and the size in bytes to which the module's memory grew
  * @typedef {import('./serve.js').Question} Question
@@ -19,10 +21,11 @@ export { OutOfMemory, Stopped };
 const MUCH_MEMORY = 128 * 1024 * 1024;
 
 export class RemoteGate {
-  #moduleBytes;
+  #module;
   #newWorker;
-  /** @type {Worker} */
+  /** @type {GateWorker} */
   #worker;
+  #isBroken = false;
   #asked = 0;
   /** @type {Map<number, Waiting>} */
   #waiting = new Map();
@@ -35,11 +38,11 @@ export class RemoteGate {
   ready;
 
   /**
-   * @param {Uint8Array} moduleBytes
-   * @param {() => Worker} newWorker
+   * @param {Uint8Array | WebAssembly.Module} module
+   * @param {() => GateWorker} newWorker
    */
-  constructor(moduleBytes, newWorker) {
-    this.#moduleBytes = moduleBytes;
+  constructor(module, newWorker) {
+    this.#module = module;
     this.#newWorker = newWorker;
     this.#worker = newWorker();
     this.ready = this.#begin();
@@ -48,9 +51,13 @@ export class RemoteGate {
   /** @returns {Promise<string>} */
   #begin() {
     const worker = this.#worker;
-    worker.onmessage = ({ data }) => this.#take(data);
-    worker.onerror = (event) => this.#rejectAll(new Error(event.message || 'the worker failed'));
-    const ready = this.#ask('load', [this.#moduleBytes]).then(({ answer }) => answer);
+    worker.onmessage = (/** @type {{data: Reply}} */ { data }) => this.#take(data);
+    worker.onerror = (/** @type {{message?: string}} */ event) => {
+      if (worker !== this.#worker) return;
+      this.#isBroken = true;
+      this.#rejectAll(new Error(event.message || 'the worker failed'));
+    };
+    const ready = this.#ask('load', [this.#module]).then(({ answer }) => answer);
     // (a stop before it is ready is no error that the page has to catch)
     ready.catch(() => {});
     return ready;
@@ -62,6 +69,7 @@ export class RemoteGate {
     this.#waiting.delete(reply.id);
     if (!('error' in reply)) waiting?.resolve(reply);
     else if (reply.error.name === 'OutOfMemory') waiting?.reject(new OutOfMemory());
+    else if (reply.error.name === 'TypeError') waiting?.reject(new TypeError(reply.error.message));
     else waiting?.reject(new Error(reply.error.message));
     if (reply.memory > MUCH_MEMORY && this.#waiting.size === 0) this.#replace();
   }
@@ -88,16 +96,20 @@ export class RemoteGate {
   }
 
   /**
-   * The tile is copied once, and the copy is handed over to the worker.
+   * Makes a call of calls.js. The tile is copied once, and the copy is handed over to the worker. A worker that failed is replaced
+   * before.
    *
-   * @param {Question['call']} call
+   * @param {import('./serve.js').Call} call
    * @param {Uint8Array} tile
    * @param {any[]} others
+   * @param {boolean} [isGiven] whether the tile itself is handed over, where it has a buffer of its own
    * @returns {Promise<Answered>}
    */
-  #askOf(call, tile, ...others) {
-    const copy = withMemory(() => new Uint8Array(tile));
-    return this.#ask(call, [copy, ...others], [copy.buffer]);
+  async ask(call, tile, others, isGiven = false) {
+    if (this.#isBroken) this.#replace();
+    const isAlone = tile.byteLength === tile.buffer.byteLength && tile.buffer instanceof ArrayBuffer;
+    const moved = isGiven && isAlone ? tile : withMemory(() => new Uint8Array(tile));
+    return this.#ask(call, [moved, ...others], [moved.buffer]);
   }
 
   /**
@@ -125,7 +137,7 @@ export class RemoteGate {
    * @returns {Promise<Judged>}
    */
   async #judge(call, tile, profile) {
-    const { answer, milliseconds, memory } = await this.#askOf(call, tile, profile);
+    const { answer, milliseconds, memory } = await this.ask(call, tile, [profile]);
     return { fault: answer, milliseconds, memory };
   }
 
@@ -135,7 +147,17 @@ export class RemoteGate {
    * @returns {Promise<Faults>} one fault of each layer and feature that has any, in order, as far as they are found quickly
    */
   async faultsQuickly(tile, profile) {
-    return (await this.#askOf('faultsQuickly', tile, profile)).answer;
+    return (await this.ask('faultsQuickly', tile, [profile])).answer;
+  }
+
+  /**
+   * @param {Uint8Array} tile
+   * @param {Profile} profile
+   * @param {boolean} drop whether features that can't be mended are left out
+   * @returns {Promise<Mending>}
+   */
+  async mend(tile, profile, drop) {
+    return (await this.ask('mend', tile, [profile, drop])).answer;
   }
 
   /**
@@ -145,7 +167,7 @@ export class RemoteGate {
    * @returns {Promise<Confirmation>} what the separate checker says of it
    */
   async confirm(tile, faultText, profile) {
-    return (await this.#askOf('confirm', tile, faultText, profile)).answer;
+    return (await this.ask('confirm', tile, [faultText, profile])).answer;
   }
 
   /**
@@ -154,7 +176,7 @@ export class RemoteGate {
    *   which it is no tile
    */
   async dump(tile) {
-    return (await this.#askOf('dump', tile)).answer;
+    return (await this.ask('dump', tile, [])).answer;
   }
 
   /**
@@ -163,7 +185,7 @@ export class RemoteGate {
    *   fault for which it is no tile
    */
   async advise(tile) {
-    return (await this.#askOf('advise', tile)).answer;
+    return (await this.ask('advise', tile, [])).answer;
   }
 
   /** Ends the worker, whatever it does. The calls that wait are rejected with Stopped, and a new worker takes further calls. */
@@ -172,8 +194,15 @@ export class RemoteGate {
     this.#replace();
   }
 
+  /** Ends the worker for good. */
+  close() {
+    this.#rejectAll(new Stopped());
+    this.#worker.terminate();
+  }
+
   #replace() {
     this.#worker.terminate();
+    this.#isBroken = false;
     this.#worker = this.#newWorker();
     this.ready = this.#begin();
   }

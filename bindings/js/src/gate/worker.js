@@ -1,5 +1,5 @@
-/** The script of the worker, which the page has as a text: see remote.js. */
+/** The script of a worker of browsers: see remote.js. The page has it as a text. */
 import { server } from './serve.js';
 
-const serve = server((reply) => postMessage(reply));
+const serve = server((reply, transfer) => postMessage(reply, { transfer }));
 addEventListener('message', ({ data }) => serve(data));

@@ -19,6 +19,8 @@ const COLOURS = {
   'first-fill': ['#f6c9cf', '#5c2229'],
   second: ['#0b5fd3', '#62a8ff'],
   'second-fill': ['#c6dcf8', '#1c3c66'],
+  cut: ['#ee8a96', '#a3313f'],
+  added: ['#7fb2f0', '#2f66a8'],
   path: ['#2a6f4e', '#6fcf9f'],
   fault: ['#c4162a', '#ff6b78'],
   'fault-fill': ['#fde2e5', '#58202a'],

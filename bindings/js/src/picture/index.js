@@ -2,8 +2,8 @@
 // written as an SVG file.
 //
 // What a drawing shows has attributes, so that it can be found in a page or a file. `data-role` is
-// - of a plane: extent, grid; ring, other-ring, first-edge, second-edge, point, vertex, hole, other-hole, other-polygon; path,
-//   last-position, step (that would lead out of range), rest (after a step of no length); feature (of a map), features (of a map, too
+// - of a plane: extent, grid; ring, other-ring, first-edge, second-edge, point, vertex, hole, other-hole, other-polygon; cut, added,
+//   kept, before, after (of a mended feature); path, last-position, step (that would lead out of range), rest (after a step of no length); feature (of a map), features (of a map, too
 //   many for elements of their own);
 // - of a strip: number, fault-number; layer, fault-layer; byte, fault-byte, field.
 // With it come data-layer, data-feature, data-polygon, data-ring, data-edge, data-vertex, data-path, data-index (of a number) and
@@ -18,6 +18,7 @@ import { pictureOfFeature } from './kinds/feature.js';
 import { pictureOfLayers } from './kinds/layers.js';
 import { mapOfTile } from './kinds/map.js';
 import { pictureOfMeeting } from './kinds/meeting.js';
+import { pictureOfMended } from './kinds/mended.js';
 import { pictureOfRing } from './kinds/ring.js';
 import { pictureOfTags } from './kinds/tags.js';
 import { pictureOfVertexInHole, pictureOfVertexInPolygon, pictureOfVertexOutside } from './kinds/vertex.js';
@@ -25,7 +26,7 @@ import { pictureTree } from './svg.js';
 import { fileOf } from './tree.js';
 import { cut } from './words.js';
 
-export { mapOfTile, pictureOfFeature };
+export { mapOfTile, pictureOfFeature, pictureOfMended };
 
 /** @typedef {import('./types.js').Picture} Picture */
 /** @typedef {import('./types.js').Fault} Fault */

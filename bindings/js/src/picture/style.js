@@ -33,6 +33,13 @@ const PLANE = `
 .picture-arrows.picture-first-edge, .picture-arrows.picture-named { fill: $first; }
 .picture-arrows.picture-second-edge, .picture-arrows.picture-second { fill: $second; }
 .picture-arrows.picture-path { fill: $path; }
+.picture-area.picture-filled { fill-opacity: 1; }
+.picture-area.picture-cut { fill: $cut; }
+.picture-area.picture-added { fill: $added; }
+.picture-area.picture-kept { fill: $ring-fill; }
+.picture-line.picture-cut-edge { stroke: $first; stroke-width: 1.5; stroke-dasharray: 5 4; }
+.picture-line.picture-added-edge { stroke: $second; stroke-width: 1.5; }
+.picture-dots.picture-added-edge { stroke: $second; }
 .picture-dots.picture-ring { stroke: $ring; }
 .picture-dots.picture-first-edge, .picture-dots.picture-named { stroke: $first; }
 .picture-dots.picture-second-edge, .picture-dots.picture-second { stroke: $second; }

@@ -42,10 +42,10 @@ export function fractionText(above, below) {
  * @template Words
  * @param {{[key: string]: Words}} table
  * @param {string | number} key
- * @returns {Words} RangeError where the table hasn't the key
+ * @returns {Words} TypeError where the table hasn't the key
  */
 function wordsUnder(table, key) {
-  if (!Object.hasOwn(table, key)) throw new RangeError(`there are no words for ${key}`);
+  if (!Object.hasOwn(table, key)) throw new TypeError(`there are no words for ${key}`);
   return table[key];
 }
 
@@ -71,7 +71,7 @@ function memberAt(members, path) {
   /** @type {any} */
   let it = members;
   for (const key of path.split('.')) it = it?.[key];
-  if (it === undefined) throw new RangeError(`the fault has no member ${path}`);
+  if (it === undefined) throw new TypeError(`the fault has no member ${path}`);
   return it;
 }
 
@@ -79,7 +79,7 @@ function memberAt(members, path) {
  * @param {Words} words
  * @param {string} template
  * @param {Members} members
- * @returns {string} the template with each place filled. RangeError where a member is missing.
+ * @returns {string} the template with each place filled. TypeError where a member is missing.
  */
 export function fill(words, template, members) {
   return template.replace(PLACE, (_, name, below) => {
@@ -104,7 +104,7 @@ function filled(words, templates, members) {
 /**
  * @param {Words} words
  * @param {Members} fault
- * @returns {Explanation} RangeError where it is no fault
+ * @returns {Explanation} TypeError where it is no fault
  */
 export function faultInWords(words, fault) {
   return filled(words, wordsUnder(words.faults, fault.code), fault);
@@ -113,7 +113,7 @@ export function faultInWords(words, fault) {
 /**
  * @param {Words} words
  * @param {Members} advice
- * @returns {Explanation} RangeError where it is no advice
+ * @returns {Explanation} TypeError where it is no advice
  */
 export function adviceInWords(words, advice) {
   return filled(words, wordsUnder(words.advice, advice.kind), advice);

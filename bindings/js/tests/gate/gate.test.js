@@ -1,183 +1,173 @@
+// The package as its user has it, in this thread.
 import assert from 'node:assert/strict';
 import { test } from 'node:test';
-import { OutOfMemory } from '../../src/gate/errors.js';
-import { Gate } from '../../src/gate/gate.js';
-import { SAMPLES, YES, faultyLayers, moduleBytes, sample } from '../samples.js';
-import { withGreatestMemory } from './small_memory.js';
+import { Gate, OutOfMemory, explain, load } from '../../src/node.js';
+import { SAMPLES, TOP, YES, faultyLayers, moduleBytes, sample } from '../samples.js';
 import { feature, tileOf } from '../wire.js';
+import { withGreatestMemory } from './small_memory.js';
+import { readFileSync } from 'node:fs';
 
-/** @typedef {import('../../src/gate/gate.js').Profile} Profile */
+/** @typedef {import('../../src/types.js').Profile} Profile */
 
-const gate = new Gate(new WebAssembly.Module(moduleBytes()));
+const gate = await load();
 /** @type {Profile[]} */
 const PROFILES = ['polygon', 'feature'];
-
-/** @param {string} text of a fault */
-function placeOf(text) {
-  const { layer, feature } = JSON.parse(text);
-  return { layer, feature };
-}
-
-test('there are sample tiles', () => {
-  assert.ok(SAMPLES.length > 100);
-});
+const POLYGONS_FAULTS = new Set([402, 406, 501, 502, 503, 504, 505, 506, 507]);
 
 for (const { name, tile, lines } of SAMPLES) {
   for (const profile of PROFILES) {
     test(`${name} by ${profile}`, () => {
-      const fault = gate.check(tile, profile);
-      assert.ok(lines[profile].includes(fault ?? YES), `${fault} is none of ${lines[profile]}`);
-      if (fault !== null) assert.equal(gate.confirm(tile, fault, profile), 'confirmed');
+      const fault = gate.check(tile, { profile });
+      const line = fault === null ? YES : JSON.stringify(fault);
+      assert.ok(lines[profile].includes(line), `${line} is none of ${lines[profile]}`);
+      const all = gate.faults(tile, { profile });
+      assert.deepEqual(all[0] ?? null, fault);
+      for (const it of all) assert.equal(gate.confirm(tile, it, { profile }), true);
     });
 
-    test(`all faults of ${name} by ${profile}`, () => {
-      const { count, texts } = gate.faultsQuickly(tile, profile);
-      const [first] = lines[profile];
-      assert.deepEqual(placeOf(texts[0] ?? YES), placeOf(first));
-      assert.equal(texts[0] ?? null, gate.checkQuickly(tile, profile));
-      if (profile === 'polygon') assert.equal(texts[0] ?? null, gate.check(tile, profile));
-      assert.equal(count, texts.length);
-      for (const text of texts) assert.equal(gate.confirm(tile, text, profile), 'confirmed');
-    });
+    test(`${name} mended by ${profile}`, () => assertMended(tile, profile));
   }
 }
 
-for (const profile of PROFILES) {
-  test(`faults of many layers by ${profile}`, () => {
-    const { tile, faults } = faultyLayers();
-    const { count, texts } = gate.faultsQuickly(tile, profile);
-    assert.deepEqual(texts.map((text) => JSON.parse(text)), faults[profile]);
-    assert.equal(count, profile === 'feature' ? 20 : 19);
-    for (const text of texts) assert.equal(gate.confirm(tile, text, profile), 'confirmed');
-  });
+/**
+ * What comes out is valid, and is refused only for faults that are never mended.
+ * @param {Uint8Array} tile
+ * @param {Profile} profile
+ */
+function assertMended(tile, profile) {
+  const before = Uint8Array.from(tile), faults = gate.faults(tile, { profile });
+  const { outcome, tile: mended, changed, fault } = gate.mend(tile, { profile, drop: true });
+  assert.deepEqual(tile, before);
+  const others = faults.filter((it) => !isOfPolygons(tile, it));
+  if (faults.length === 0) assert.deepEqual([outcome, mended, changed, fault], ['valid', tile, [], null]);
+  else if (others.length) assert.deepEqual([outcome, mended, changed, fault], ['refused', null, [], others[0]]);
+  else {
+    assert.equal(outcome, 'mended');
+    assert.equal(gate.check(/** @type {Uint8Array} */ (mended), { profile }), null);
+    assert.deepEqual(changed.map(({ layer, feature: at }) => ({ layer, at })), faults.map((it) => 'feature' in it && { layer: it.layer, at: it.feature }));
+    assert.deepEqual(gate.mend(/** @type {Uint8Array} */ (mended), { profile }), { outcome: 'valid', tile: mended, changed: [], fault: null });
+  }
 }
 
-// (a line to a place without a start, in each feature: their text is longer than the first room for it)
-test('more faults than leave the module', () => {
-  const tile = tileOf(Array(50000).fill(feature(1, [10, 2, 2])));
-  const { count, texts } = gate.faultsQuickly(tile, 'polygon');
-  assert.equal(count, 50000);
-  assert.equal(texts.length, 2000);
-  texts.forEach((text, at) => assert.deepEqual(JSON.parse(text), { code: 401, feature: at, index: 0, layer: 0 }));
+/**
+ * @param {Uint8Array} tile
+ * @param {import('../../src/types.js').Fault} fault
+ */
+function isOfPolygons(tile, fault) {
+  if (!POLYGONS_FAULTS.has(fault.code) || !('feature' in fault)) return false;
+  return gate.dump(tile).record?.layers[fault.layer].features[fault.feature].type === 3;
+}
+
+test('samples are mended, refused and valid', () => {
+  const outcomes = new Set(SAMPLES.map(({ tile }) => gate.mend(tile).outcome));
+  assert.deepEqual([...outcomes].sort(), ['mended', 'refused', 'valid']);
 });
 
-test('no fault of another tile is true of a valid one', () => {
-  const valid = SAMPLES.filter(({ lines }) => lines.feature[0] === YES);
-  const faults = SAMPLES.flatMap(({ lines }) => lines.feature).filter((line) => line !== YES);
-  assert.ok(valid.length > 20 && faults.length > 50);
-  for (const { tile } of valid.slice(0, 10)) {
-    for (const fault of faults) assert.equal(gate.confirm(tile, fault, 'feature'), 'not confirmed');
-  }
+test('what mending says of a feature', () => {
+  // (edges that cross at (40/9, 40/9), which is rounded to a position)
+  const { changed } = gate.mend(sample('crossing_edges'));
+  assert.equal(changed.length, 1);
+  const [change] = changed;
+  assert.ok(change.what === 'mended' && change.layer === 0 && change.feature === 0);
+  assert.ok(change.area.every((it) => /^-?\d+$/.test(it)) && change.crossings >= 1);
 });
 
-test('a fault of another profile is not confirmed', () => {
-  const [line] = SAMPLES.filter(({ lines }) => lines.feature !== lines.polygon && lines.polygon[0] === YES);
-  const fault = line.lines.feature[0];
-  assert.equal(gate.confirm(line.tile, fault, 'feature'), 'confirmed');
-  assert.equal(gate.confirm(line.tile, fault, 'polygon'), 'not confirmed');
+test('a tile of many changes is longer than the first room for its report', () => {
+  const crossing = feature(3, [9, 0, 0, 26, 20, 16, 0, 19, 19, 20, 15]);
+  const tile = tileOf(Array(300).fill(crossing));
+  assert.equal(gate.faults(tile).length, 300);
+  const { tile: mended, changed } = gate.mend(tile);
+  assert.equal(changed.length, 300);
+  assert.equal(gate.check(/** @type {Uint8Array} */ (mended)), null);
+  assert.equal(gate.mend(tile, { profile: 'feature' }).changed.length, 300);
 });
 
-test('what confirm says of texts that are no fault', () => {
-  const tile = sample('crossing_edges');
-  for (const text of ['', 'no', '{"code":201,"layer":0', '\u0000']) assert.equal(gate.confirm(tile, text, 'polygon'), 'not JSON');
-  for (const text of ['[]', '{}', '{"ok":true}', '{"code":201}', '{"code":201,"layer":"0"}', '{"code":201,"layer":18446744073709551616}']) {
-    assert.equal(gate.confirm(tile, text, 'polygon'), 'not a fault');
-  }
-  // (the number of a field has 32 bits, and x, y and w have 128 with a sign)
-  assert.equal(gate.confirm(tile, '{"at":0,"code":102,"field":4294967296,"scope":"tile"}', 'polygon'), 'out of range');
-  const meeting = JSON.parse(gate.check(tile, 'polygon') ?? '');
-  assert.equal(gate.confirm(tile, JSON.stringify({ ...meeting, w: String(2n ** 127n) }), 'polygon'), 'out of range');
-  assert.equal(gate.confirm(tile, ' { "layer" : 0, "code" : 201 }\n', 'polygon'), 'not confirmed');
+test('features are left out only where that is asked for', () => {
+  const line = feature(3, [9, 0, 0, 10, 2, 2, 15]); // (a ring of two positions has no area, and a LineTo of one is a fault)
+  const tile = tileOf([line]);
+  assert.equal(gate.mend(tile).outcome, 'refused');
+  assert.deepEqual(gate.mend(tile, { drop: true }).changed, [{ feature: 0, layer: 0, what: 'dropped' }]);
+});
+
+test('a limit of the list', () => {
+  const { tile, faults } = faultyLayers();
+  assert.deepEqual(gate.faults(tile), faults.polygon);
+  assert.deepEqual(gate.faults(tile, { limit: 3 }), faults.polygon.slice(0, 3));
+  assert.deepEqual(gate.faults(tile, { limit: 0, quick: true }), []);
+  const many = tileOf(Array(50000).fill(feature(1, [10, 2, 2])));
+  assert.equal(gate.faults(many, { quick: true }).length, 50000);
 });
 
 test('what a tile holds', () => {
   const { record, fault } = gate.dump(sample('point'));
   assert.equal(fault, null);
-  const { layers } = JSON.parse(record ?? '');
-  assert.equal(layers.length, 1);
-  assert.equal(layers[0].name, 'a');
+  assert.equal(record?.layers[0].name, 'a');
+  assert.deepEqual(gate.dump(sample('truncated')), { record: null, fault: { at: 0, code: 105, field: 3, scope: 'tile' } });
 });
 
-test('bytes that are no tile have a wire fault, and no record or advice', () => {
-  const expected = '{"at":0,"code":105,"field":3,"scope":"tile"}';
-  assert.deepEqual(gate.dump(sample('truncated')), { record: null, fault: expected });
-  assert.deepEqual(gate.advise(sample('truncated')), { advice: null, fault: expected });
+test('an id of 64 bits is whole', () => {
+  const id = [0x08, ...Array(9).fill(0xff), 0x01];
+  const tile = new Uint8Array([0x1a, 7 + id.length + 2 + 5, 0x78, 2, 0x0a, 1, 0x61, 0x12, id.length + 2 + 5, ...id, 0x18, 1, 0x22, 3, 9, 2, 2]);
+  assert.equal(gate.check(tile), null);
+  assert.equal(gate.dump(tile).record?.layers[0].features[0].id, '18446744073709551615');
 });
 
-test('what may be a mistake', () => {
-  assert.deepEqual(gate.advise(sample('empty')), { advice: '{"advice":[{"kind":"no_layer"}]}', fault: null });
-  assert.deepEqual(gate.advise(sample('bare_layer')), { advice: '{"advice":[{"kind":"no_feature","layer":0}]}', fault: null });
-  assert.deepEqual(gate.advise(sample('point')), { advice: '{"advice":[]}', fault: null });
+test('advice', () => {
+  assert.deepEqual(gate.advise(sample('empty')), { advice: [{ kind: 'no_layer' }], fault: null });
+  assert.equal(gate.advise(sample('truncated')).fault?.code, 105);
 });
 
-test('the text of a record is longer than the first room for it', () => {
-  const tile = tileOf(Array(6000).fill(feature(0, [])));
-  const { record } = gate.dump(tile);
-  assert.equal(JSON.parse(record ?? '').layers[0].features.length, 6000);
-  assert.ok((record ?? '').length > 4 * tile.length + 4096);
+test('words', () => {
+  const words = JSON.parse(readFileSync(`${TOP}bindings/faults.json`, 'utf8'));
+  const tile = sample('crossing_edges'), fault = gate.check(tile);
+  assert.ok(fault);
+  const { title, sentence, format } = gate.explain(fault, tile);
+  assert.equal(title, words.faults[504].title);
+  assert.ok(sentence.includes('40/9') && format === null);
+  assert.equal(explain({ kind: 'no_layer' }).title, words.advice.no_layer.title);
+  const gzip = Uint8Array.of(0x1f, 0x8b, 8, 0), packed = gate.check(gzip);
+  assert.ok(packed && gate.explain(packed, gzip).format?.title === words.formats.gzip.title);
+  for (const it of [{ code: 100 }, { kind: 'other' }, null, 'no']) assert.throws(() => explain(/** @type {any} */ (it)), TypeError);
+});
+
+test('bytes of each kind', () => {
+  const tile = sample('crossing_edges'), fault = gate.check(tile);
+  const buffer = tile.buffer.slice(tile.byteOffset, tile.byteOffset + tile.length);
+  const shared = new SharedArrayBuffer(tile.length);
+  new Uint8Array(shared).set(tile);
+  const inside = new Uint8Array([7, ...tile, 7]).subarray(1, 1 + tile.length);
+  for (const it of [Buffer.from(tile), buffer, shared, new DataView(buffer), inside, new Uint8Array(shared)]) assert.deepEqual(gate.check(it), fault);
+  for (const it of [null, undefined, 'tile', 7, [...tile], {}]) assert.throws(() => gate.check(/** @type {any} */ (it)), TypeError);
+});
+
+test('words that no call takes', () => {
+  const tile = sample('point');
+  for (const profile of ['neither', 'toString', 0, null]) assert.throws(() => gate.check(tile, { profile: /** @type {any} */ (profile) }), TypeError);
+  for (const limit of [-1, NaN, '3']) assert.throws(() => gate.faults(tile, { limit: /** @type {any} */ (limit) }), TypeError);
+  for (const fault of ['', '{}', undefined, {}, { code: 201 }]) assert.throws(() => gate.confirm(tile, /** @type {any} */ (fault)), TypeError);
+  assert.equal(gate.check(tile), null);
+});
+
+test('refused memory, and the call after it', async () => {
+  const small = await load(withGreatestMemory(moduleBytes(), 64));
+  const large = new Uint8Array(64 * 65536);
+  for (const call of [() => small.check(large), () => small.faults(large), () => small.mend(large), () => small.dump(large), () => small.confirm(large, '{}')]) {
+    assert.throws(call, OutOfMemory);
+    assert.equal(small.check(sample('point')), null);
+  }
+});
+
+test('a module that is given', async () => {
+  const compiled = new WebAssembly.Module(moduleBytes());
+  const response = () => new Response(moduleBytes(), { headers: { 'Content-Type': 'application/wasm' } });
+  for (const source of [compiled, moduleBytes(), Promise.resolve(compiled), response(), Promise.resolve(response())]) {
+    assert.equal((await load(source)).version, gate.version);
+  }
+  assert.equal(new Gate(compiled).version, gate.version);
+  await assert.rejects(load(new Uint8Array(8)), WebAssembly.CompileError);
+  await assert.rejects(load(new Response('', { status: 404 })), TypeError);
 });
 
 test('the version', () => {
-  assert.match(gate.version(), /^\d+\.\d+\.\d+$/);
-});
-
-test('a call leaves nothing for the next one', () => {
-  const other = new Gate(new WebAssembly.Module(moduleBytes()));
-  const tile = tileOf(Array(2000).fill(feature(0, [])));
-  const calls = () => [other.check(tile, 'polygon'), other.faultsQuickly(tile, 'feature'), other.dump(tile), other.advise(tile), other.confirm(tile, '[', 'polygon')];
-  const first = calls();
-  const { memory } = other;
-  for (let at = 0; at < 50; at++) assert.deepEqual(calls(), first);
-  assert.equal(other.memory, memory);
-});
-
-test('a profile that there is not', () => {
-  assert.throws(() => gate.check(sample('point'), /** @type {any} */ ('neither')), RangeError);
-  assert.throws(() => gate.check(sample('point'), /** @type {any} */ ('toString')), RangeError);
-  assert.throws(() => gate.faultsQuickly(sample('point'), /** @type {any} */ ('neither')), RangeError);
-});
-
-/**
- * @param {number} pages
- * @returns {Gate} whose memory can't be larger
- */
-function gateOf(pages) {
-  return new Gate(new WebAssembly.Module(withGreatestMemory(moduleBytes(), pages)));
-}
-
-test('memory that is refused for the tile ends the call, and not the next one', () => {
-  const small = gateOf(64);
-  const large = new Uint8Array(64 * 65536);
-  assert.throws(() => small.check(large, 'polygon'), OutOfMemory);
-  assert.throws(() => small.checkQuickly(large, 'polygon'), OutOfMemory);
-  assert.throws(() => small.faultsQuickly(large, 'polygon'), OutOfMemory);
-  assert.throws(() => small.confirm(large, '{}', 'polygon'), OutOfMemory);
-  assert.throws(() => small.dump(large), OutOfMemory);
-  assert.throws(() => small.advise(large), OutOfMemory);
-  assert.equal(small.check(sample('point'), 'polygon'), null);
-});
-
-test('memory that is refused to the judge ends the call', () => {
-  const teeth = 20000;
-  const steps = Array.from({ length: teeth }, (_, at) => [2, at % 2 ? 199 : 399, 2, at % 2 ? 200 : 400]).flat();
-  const tile = tileOf([feature(3, [9, 0, 0, (2 * teeth + 1) * 8 + 2, ...steps, 0, 2000, 15])]);
-  assert.equal(gate.check(tile, 'polygon'), null);
-  // (there is room for the tile, and little more)
-  const small = gateOf(26);
-  assert.ok(gate.memory > 30 * 65536 && tile.length < 4 * 65536);
-  assert.throws(() => small.check(tile, 'polygon'), OutOfMemory);
-  assert.equal(small.check(sample('point'), 'polygon'), null);
-});
-
-test('a text that is longer than a string can be', () => {
-  const decoder = globalThis.TextDecoder;
-  const failures = [() => '', () => { throw new Error('Cannot create a string longer than 0x1fffffe8 characters'); }];
-  try {
-    for (const decode of failures) {
-      globalThis.TextDecoder = /** @type {any} */ (class { decode = decode; });
-      assert.throws(() => gate.dump(sample('point')), OutOfMemory);
-    }
-  } finally {
-    globalThis.TextDecoder = decoder;
-  }
+  assert.equal(gate.version, readFileSync(`${TOP}VERSION`, 'utf8').trim());
 });

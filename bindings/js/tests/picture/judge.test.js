@@ -1,13 +1,13 @@
 import assert from 'node:assert/strict';
 import { test } from 'node:test';
-import { Gate } from '../../src/gate/gate.js';
+import { Calls } from '../../src/gate/calls.js';
 import { mapOfTile, pictureOfFault, toText } from '../../src/picture/index.js';
 import { SAMPLES, moduleBytes } from '../samples.js';
 
 /** @typedef {import('../../src/picture/types.js').Picture} Picture */
 
 const TILES = 1500;
-const gate = new Gate(new WebAssembly.Module(moduleBytes()));
+const gate = new Calls(new WebAssembly.Module(moduleBytes()));
 
 /** A known generator of numbers, so that a failure can be repeated. */
 class Numbers {

@@ -76,9 +76,25 @@ function drawShape(shape, frame) {
   if (!meets(shape.bounds, drawnBox(frame))) return [];
   const { kind, style, attributes } = shape;
   const arrows = shape.arrows ? arrowsData(shape, frame) : '', dots = shape.dots ? dotsData(shape, frame) : '';
+  const clip = shape.within?.length ? clipOf(shape.within, frame) : null;
   return [
-    tree('path', { class: classOf(`${kind} ${style}`), ...attributes, d: pathData(shape, frame) }),
+    ...(clip ? [clip] : []),
+    tree('path', { class: classOf(`${kind} ${style}`), ...attributes, ...(clip ? { 'clip-path': `url(#${clip.attributes.id})` } : {}),
+      d: pathData(shape, frame) }),
     ...(arrows ? [tree('path', { class: classOf(`arrows ${style}`), d: arrows })] : []),
     ...(dots ? [tree('path', { class: classOf(`dots ${style}`), d: dots })] : []),
   ];
+}
+
+/**
+ * What is in one of some polygons. Its name is made of its content, so that equal ones may have one name in a page.
+ * @param {import('./clip.js').Line[][]} polygons
+ * @param {Frame} frame
+ * @returns {Tree}
+ */
+function clipOf(polygons, frame) {
+  const data = polygons.map((lines) => pathData({ lines }, frame));
+  let sum = 0;
+  for (const letter of data.join()) sum = (Math.imul(sum, 31) + letter.charCodeAt(0)) | 0;
+  return tree('clipPath', { id: `clip-${data.join().length}-${sum >>> 0}` }, data.map((d) => tree('path', { 'clip-rule': 'evenodd', d })));
 }

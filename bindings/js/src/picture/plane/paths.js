@@ -25,7 +25,7 @@ export function drawnBox(frame) {
 }
 
 /**
- * @param {Shape} shape
+ * @param {Pick<Shape, 'lines'>} shape
  * @param {Frame} frame
  * @returns {string}
  */

@@ -17,6 +17,7 @@ import { emptyBox, union } from './box.js';
  * @property {Box} bounds
  * @property {boolean} arrows
  * @property {boolean} dots
+ * @property {Line[][]} [within] polygons: only what is in one of them is drawn of an area
  */
 /**
  * A mark of constant size at a position.

@@ -1,0 +1,80 @@
+/** A response of node:http whose body is kept back, where it is a tile. */
+
+const TILE_TYPES = /^application\/(vnd\.mapbox-vector-tile|x-protobuf)\b/i;
+const HELD = ['writeHead', 'flushHeaders', 'write', 'end'];
+
+export class Held {
+  /** The whole body of a tile, null where it is too large. It never comes for other responses, which are sent as they are written. */
+  body;
+  #asked;
+  #answer;
+  #limit;
+  #own;
+  #parts = [];
+  #length = 0;
+  #resolve;
+  #ended;
+
+  constructor(asked, answer, limit) {
+    this.body = new Promise((resolve) => { this.#resolve = resolve; });
+    [this.#asked, this.#answer, this.#limit] = [asked, answer, limit];
+    this.#own = Object.fromEntries(HELD.map((name) => [name, answer[name]]));
+    answer.writeHead = (...given) => this.#writeHead(...given);
+    answer.flushHeaders = () => {};
+    answer.write = (...given) => this.#write(...given);
+    answer.end = (...given) => this.#end(...given);
+  }
+
+  /** Sends another body in the place of the one that was kept. */
+  send(body) {
+    this.#letGo();
+    this.#answer.end(body, this.#ended);
+  }
+
+  #letGo() {
+    Object.assign(this.#answer, this.#own);
+  }
+
+  #isTile() {
+    const { method } = this.#asked, { statusCode } = this.#answer;
+    return method !== 'HEAD' && statusCode === 200 && TILE_TYPES.test(String(this.#answer.getHeader('content-type') ?? ''));
+  }
+
+  #writeHead(status, ...rest) {
+    this.#answer.statusCode = status;
+    const headers = rest.find((it) => typeof it === 'object') ?? {};
+    const pairs = Array.isArray(headers) ? headers.flatMap((name, at) => (at % 2 ? [] : [[name, headers[at + 1]]])) : Object.entries(headers);
+    for (const [name, value] of pairs) this.#answer.setHeader(name, value);
+    return this.#answer;
+  }
+
+  #write(part, ...rest) {
+    if (!this.#isTile()) {
+      this.#letGo();
+      return this.#answer.write(part, ...rest);
+    }
+    this.#keep(part, rest[0]);
+    const written = rest.find((it) => typeof it === 'function');
+    if (written) process.nextTick(written);
+    return true;
+  }
+
+  #end(...given) {
+    if (!this.#isTile()) {
+      this.#letGo();
+      return this.#answer.end(...given);
+    }
+    const [part, encoding] = given;
+    if (part && typeof part !== 'function') this.#keep(part, encoding);
+    this.#ended = given.find((it) => typeof it === 'function');
+    Object.assign(this.#answer, { write: () => false, end: () => this.#answer });
+    this.#resolve(this.#length > this.#limit ? null : Buffer.concat(this.#parts));
+    return this.#answer;
+  }
+
+  #keep(part, encoding) {
+    const bytes = typeof part === 'string' ? Buffer.from(part, typeof encoding === 'string' ? encoding : 'utf8') : Buffer.from(part);
+    this.#length += bytes.length;
+    if (this.#length <= this.#limit) this.#parts.push(bytes);
+  }
+}
