@@ -2,6 +2,7 @@
 
 import { gatherChosen, gatherDropped } from './files/gather.js';
 import { readLink } from './files/link.js';
+import { bytesOfText } from './files/pasted.js';
 import { Unreadable } from './files/read.js';
 import { byId } from './tools/dom.js';
 
@@ -18,7 +19,7 @@ import { byId } from './tools/dom.js';
 
 // (so it is in Chromium)
 const NO_FOLDER = "a page that was opened from a disk can't read a folder that is dropped; use 'Choose a folder'";
-const NO_LINK = 'it is no link with a tile, which stands after #tile=';
+const NO_LINK = 'it is no link with a tile, which stands after #tile=, nor a tile in hexadecimal or base64';
 
 /** @param {Receiver} receiver */
 export function receiveFiles(receiver) {
@@ -43,8 +44,10 @@ export function receiveFiles(receiver) {
  * @param {string} text that was pasted
  */
 function receiveText(receiver, text) {
-  const isLink = receiveLink(receiver, text.slice(text.indexOf('#') + 1), 'pasted link');
-  if (!isLink) receiver.refuse(new Unreadable(NO_LINK), 'pasted text');
+  if (receiveLink(receiver, text.slice(text.indexOf('#') + 1), 'pasted link')) return;
+  const bytes = bytesOfText(text);
+  if (bytes) receiver.take([{ name: 'pasted tile', file: new Blob([bytes]) }]);
+  else receiver.refuse(new Unreadable(NO_LINK), 'pasted text');
 }
 
 /** @param {Receiver} receiver */

@@ -10,9 +10,11 @@ import { Checks, newEntry, reasonOf } from './files/checks.js';
 import { FileList } from './files/list.js';
 import { totalsText, verdictText } from './files/words.js';
 import { receiveFiles, receiveLinks } from './incoming.js';
+import { mendAll } from './mend/all.js';
+import { csvOf, geojsonOf, jsonOf } from './results/write.js';
 import { Status } from './status.js';
 import { byId } from './tools/dom.js';
-import { copyText } from './tools/hand_over.js';
+import { copyText, saveFile } from './tools/hand_over.js';
 import { counted } from './tools/text.js';
 
 /** @typedef {import('./files/checks.js').Entry} Entry */
@@ -25,17 +27,19 @@ class Page {
   #gate;
   #checks;
   #answer;
+  #gateOfAll;
+  #isMendingAll = false;
   #status = new Status(() => this.#stop());
   #list = new FileList({ choose: (entry) => this.#chosenByUser(entry), enter: () => this.#answer.focus() });
 
   /**
-   * @param {RemoteGate} gate of the checks, which may be stopped
-   * @param {RemoteGate} gateOfAnswer of what is said of the file that is shown
+   * @param {() => RemoteGate} newGate
    */
-  constructor(gate, gateOfAnswer) {
-    this.#gate = gate;
-    this.#checks = new Checks(gate, (entry) => this.#changed(entry), explainFormat);
-    this.#answer = new Answer(this.#checks, gateOfAnswer);
+  constructor(newGate) {
+    this.#gate = newGate(); // of the checks, which may be stopped
+    this.#gateOfAll = onceAsked(newGate); // which mends all files, and may be stopped too
+    this.#checks = new Checks(this.#gate, (entry) => this.#changed(entry), explainFormat);
+    this.#answer = new Answer(this.#checks, newGate(), onceAsked(newGate));
   }
 
   async start() {
@@ -66,6 +70,11 @@ class Page {
     }
     byId('clear', HTMLElement).addEventListener('click', () => this.#clear());
     byId('again', HTMLElement).addEventListener('click', () => this.#again());
+    byId('mend-all', HTMLElement).addEventListener('click', () => this.#mendAll());
+    byId('save-csv', HTMLElement).addEventListener('click', () => saveFile('results.csv', 'text/csv', csvOf(this.#checks.entries)));
+    byId('save-json', HTMLElement).addEventListener('click', () => saveFile('results.jsonl', 'application/jsonl', jsonOf(this.#checks.entries)));
+    byId('save-geojson', HTMLElement).addEventListener('click', () => this.#saveGeojson());
+    document.addEventListener('keydown', (event) => this.#pressed(event));
     this.#copyOnClick('copy-fault', () => this.#answer.said);
     this.#copyOnClick('copy-link', () => location.href.replace(/#.*/, '') + this.#answer.link);
     this.#setProfile(chosenProfile()); // (a browser may restore it when the page is loaded again)
@@ -128,6 +137,7 @@ class Page {
   #changed(entry) {
     this.#list.update(entry);
     this.#list.showTotals(this.#checks.counts);
+    byId('mending-all', HTMLElement).hidden = this.#checks.counts.fault === 0;
     if (entry === this.#answer.entry) this.#choose(entry);
     this.#sayState(entry);
     if (entry !== this.#awaited || entry.state === 'waiting' || entry.state === 'checking') return;
@@ -144,8 +154,42 @@ class Page {
     else this.#status.say('done', isOne ? `${name}: ${verdictText(entry)}.` : totalsText(counts));
   }
 
+  #saveGeojson() {
+    const { text, count } = geojsonOf(this.#checks.entries);
+    if (count) saveFile('faults.geojson', 'application/geo+json', text);
+    else this.#tell("No name of a file with a fault ends with z/x/y, so it isn't known where the tiles are.");
+  }
+
+  /**
+   * F8 leads to the next file with a fault, and with Shift to the previous one.
+   * @param {KeyboardEvent} event
+   */
+  #pressed(event) {
+    if (event.key !== 'F8' || event.ctrlKey || event.altKey || event.metaKey) return;
+    event.preventDefault();
+    const found = this.#list.neighbour(this.#answer.entry, event.shiftKey ? -1 : 1);
+    if (found && found !== this.#answer.entry) this.#chosenByUser(found);
+    else this.#status.announce(found ? 'No other file has a fault.' : 'No file has a fault.');
+  }
+
+  /** Mends all files with a fault, and has the browser save those that were mended. */
+  async #mendAll() {
+    if (this.#isMendingAll) return;
+    this.#isMendingAll = true;
+    const say = (/** @type {string} */ sentence) => this.#status.say('working', sentence);
+    try {
+      const { archive, sentence } = await mendAll(this.#checks, this.#gateOfAll(), byId('drop-all', HTMLInputElement).checked, say);
+      if (archive) saveFile('mended.zip', archive.type, archive);
+      this.#tell(sentence);
+    } catch (error) {
+      this.#tell(`No archive was made: ${reasonOf(error)}.`);
+    }
+    this.#isMendingAll = false;
+  }
+
   #stop() {
     this.#awaited = null;
+    if (this.#isMendingAll) this.#gateOfAll().stop();
     this.#checks.stop();
     byId('verdict', HTMLElement).focus(); // (the button that had it is gone)
   }
@@ -170,5 +214,16 @@ function chosenProfile() {
   return byId('feature', HTMLInputElement).checked ? 'feature' : 'polygon';
 }
 
+/**
+ * @template It
+ * @param {() => It} make
+ * @returns {() => It} the same one at each call, made at the first
+ */
+function onceAsked(make) {
+  /** @type {It|undefined} */
+  let made;
+  return () => (made ??= make());
+}
+
 const module = embeddedModule(document), newWorker = workersOfPage();
-new Page(new RemoteGate(module, newWorker), new RemoteGate(module, newWorker)).start();
+new Page(() => new RemoteGate(module, newWorker)).start();

@@ -1,7 +1,8 @@
 // What a tile holds: numbers that a double doesn't hold, tags, and features that are found.
 import assert from 'node:assert/strict';
 import { test } from 'node:test';
-import { readRecord, tagsOf } from '../../site/app/contents/record.js';
+import { readRecord } from '../../../bindings/js/src/tile/record.js';
+import { tagsOf } from '../../site/app/contents/record.js';
 import { Finder } from '../../site/app/contents/search.js';
 
 const LAYERS = [

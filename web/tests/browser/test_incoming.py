@@ -122,7 +122,7 @@ def test_paste_of_a_link(page_in_each: Page) -> None:
     assert page.fault in accepted("crossing_edges", "polygon")
 
 
-NO_LINK = "The pasted text couldn't be read: it is no link with a tile, which stands after #tile=."
+NO_LINK = "The pasted text couldn't be read: it is no link with a tile, which stands after #tile=, nor a tile in hexadecimal or base64."
 IS_SEEN = """
 const { top, bottom } = document.getElementById('status').getBoundingClientRect();
 return document.getElementById('status').checkVisibility() && top >= 0 && bottom <= innerHeight"""

@@ -1,7 +1,7 @@
 /** What the module answers, for compare_native, in Node or in a browser. */
-import { Gate } from '../../../bindings/js/src/gate/gate.js';
+import { Calls } from '../../../bindings/js/src/gate/calls.js';
 
-/** @type {import('../../../bindings/js/src/gate/gate.js').Profile[]} */
+/** @type {import('../../../bindings/js/src/gate/calls.js').Profile[]} */
 const PROFILES = ['polygon', 'feature'];
 
 /**
@@ -11,12 +11,18 @@ const PROFILES = ['polygon', 'feature'];
 const bytesOf = (base64) => Uint8Array.from(atob(base64), (letter) => letter.charCodeAt(0));
 
 /**
+ * @param {import('../../../bindings/js/src/gate/calls.js').Mending} mending
+ * @returns {(string | null)[]} the mended tile in base64, the report, and the fault
+ */
+const mendedAs = ({ tile, report, fault }) => [tile && btoa(Array.from(tile, (byte) => String.fromCharCode(byte)).join('')), report, fault];
+
+/**
  * @param {string} module in base64
  * @returns {(question: string) => string} answers a question, a JSON text of a tile in base64 and of texts of faults, by a JSON
  *   text of the results of all calls
  */
 export function answerer(module) {
-  const gate = new Gate(new WebAssembly.Module(bytesOf(module)));
+  const gate = new Calls(new WebAssembly.Module(bytesOf(module)));
   return (question) => {
     const { tile, faults } = JSON.parse(question);
     const bytes = bytesOf(tile);
@@ -25,6 +31,7 @@ export function answerer(module) {
       check_quickly: PROFILES.map((profile) => gate.checkQuickly(bytes, profile)),
       faults_quickly: PROFILES.map((profile) => gate.faultsQuickly(bytes, profile)),
       confirm: faults.map((/** @type {string} */ fault) => PROFILES.map((profile) => gate.confirm(bytes, fault, profile))),
+      mend: PROFILES.map((profile) => [false, true].map((drop) => mendedAs(gate.mend(bytes, profile, drop)))),
       dump: gate.dump(bytes),
       advise: gate.advise(bytes),
     });

@@ -1,11 +1,12 @@
 // All that is said of the file that is chosen.
 
+import { readRecord } from '../../../../bindings/js/src/tile/record.js';
 import { Contents } from '../contents/contents.js';
 import { excerptOf, recordAt } from '../contents/excerpt.js';
-import { readRecord } from '../contents/record.js';
 import { reasonOf } from '../files/checks.js';
 import { RECORD_LIMIT } from '../files/limits.js';
 import { writeLink } from '../files/link.js';
+import { MendPanel } from '../mend/panel.js';
 import { byId } from '../tools/dom.js';
 import { shortSize } from '../tools/text.js';
 import { checkerText, showBanner } from './banner.js';
@@ -35,6 +36,7 @@ export class Answer {
   #faults = new FaultList((text) => this.#choose(text));
   #contents = new Contents();
   #confirm;
+  #mend;
   #turns = 0; // what is shown, and each fault that is chosen, has its own
   /** @type {TileRecord|null} of the tile that is shown */
   #record = null;
@@ -44,10 +46,12 @@ export class Answer {
   /**
    * @param {Checks} checks
    * @param {RemoteGate} gate
+   * @param {() => RemoteGate} gateOfMending made when it is asked for
    */
-  constructor(checks, gate) {
+  constructor(checks, gate, gateOfMending) {
     this.#checks = checks;
     this.#gate = gate;
+    this.#mend = new MendPanel(checks, gateOfMending);
     this.#confirm = new ConfirmForm(async (claim) => gate.confirm(await checks.tileOf(this.#shown()), claim, checks.profile));
   }
 
@@ -71,6 +75,7 @@ export class Answer {
     this.#section.hidden = entry === null;
     document.body.classList.toggle('has-answer', entry !== null);
     this.#clear();
+    this.#mend.show(entry);
     if (!entry) return;
     showBanner(entry, this.#checks.profile);
     showMeasures(entry);
@@ -139,7 +144,7 @@ export class Answer {
   async #draw(fault, tile, isCurrent) {
     if (!isCurrent()) return;
     const drawn = this.#record ?? await this.#excerptOf(fault, tile);
-    if (isCurrent()) this.#fault.draw(fault, tile, drawn);
+    if (isCurrent()) this.#fault.draw(this.#shown().name, fault, tile, drawn);
   }
 
   /**

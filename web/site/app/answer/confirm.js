@@ -3,7 +3,7 @@
 import { reasonOf } from '../files/checks.js';
 import { byId } from '../tools/dom.js';
 
-/** @typedef {import('../../../../bindings/js/src/gate/gate.js').Confirmation} Confirmation */
+/** @typedef {import('../../../../bindings/js/src/gate/calls.js').Confirmation} Confirmation */
 
 /** @type {{[answer in Confirmation]: string}} */
 const ANSWERS = {

@@ -26,6 +26,14 @@ export function showFacts(text, fault) {
 }
 
 /**
+ * Adds where the fault is on the earth, where that is known.
+ * @param {string} text
+ */
+export function showPlace(text) {
+  if (text) byId('facts', HTMLElement).append(element('div', {}, element('dt', {}, 'Longitude, latitude'), element('dd', {}, text)));
+}
+
+/**
  * A text of JSON that may be broken after each comma.
  * @param {string} text
  */

@@ -3,7 +3,8 @@
 import { pictureOfFault } from '../../../../bindings/js/src/picture/index.js';
 import { PicturePanel } from '../pictures/panel.js';
 import { byId } from '../tools/dom.js';
-import { showFacts } from './facts.js';
+import { placeText } from '../results/place.js';
+import { showFacts, showPlace } from './facts.js';
 
 /** @typedef {import('../contents/record.js').TileRecord} TileRecord */
 /** @typedef {import('../../../../bindings/js/src/picture/types.js').Fault} Fault */
@@ -41,12 +42,14 @@ export class FaultPanel {
   }
 
   /**
-   * Shows the picture of the fault, where there is one.
+   * Shows the picture of the fault, where there is one, and where it is on the earth.
+   * @param {string} name of the file
    * @param {Fault} fault
    * @param {Uint8Array} tile
    * @param {TileRecord|null} record
    */
-  draw(fault, tile, record) {
+  draw(name, fault, tile, record) {
+    showPlace(placeText(name, fault, tile));
     const picture = pictureOfFault(fault, tile, record);
     if (picture) this.#picture.show(picture);
   }

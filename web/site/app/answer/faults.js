@@ -5,7 +5,7 @@ import { byId, element, prose } from '../tools/dom.js';
 import { Listbox } from '../tools/listbox.js';
 import { counted, digits } from '../tools/text.js';
 
-/** @typedef {import('../../../../bindings/js/src/gate/gate.js').Faults} Faults */
+/** @typedef {import('../../../../bindings/js/src/gate/calls.js').Faults} Faults */
 
 /** How many faults are listed. */
 const LISTED = 1000;

@@ -1,6 +1,7 @@
 // The files, and the check of one after another.
 
 import { OutOfMemory, Stopped } from '../../../../bindings/js/src/gate/errors.js';
+import { aboutOf } from '../results/about.js';
 import { packingOf, unpack } from './packing.js';
 import { readFile, Unreadable } from './read.js';
 
@@ -22,6 +23,7 @@ import { readFile, Unreadable } from './read.js';
  * @property {string} said
  * @property {Fault|null} fault
  * @property {Format|null} format what the bytes are, where they are no tile and that is known
+ * @property {import('../results/about.js').About|null} about what the fault is about
  * @property {boolean} isLeast whether the fault is known to be the tile's first one
  * @property {boolean} isConfirmed
  * @property {number} milliseconds
@@ -43,8 +45,8 @@ const LEAST_TIME = 10000;
  */
 export function newEntry(name, file) {
   return {
-    name, file, state: 'waiting', isPacked: false, size: 0, said: '', fault: null, format: null, isLeast: true, isConfirmed: false, milliseconds: 0,
-    memory: 0, reason: '',
+    name, file, state: 'waiting', isPacked: false, size: 0, said: '', fault: null, format: null, about: null, isLeast: true,
+    isConfirmed: false, milliseconds: 0, memory: 0, reason: '',
   };
 }
 
@@ -187,10 +189,10 @@ export class Checks {
     if (!isCurrent()) throw new Stopped();
     const { fault, milliseconds, memory, isLeast } = await this.#verdictOn(tile);
     const measured = { size: tile.length, milliseconds, memory, isLeast };
-    if (fault === null) return { state: 'valid', said: '', fault: null, format: null, isConfirmed: false, ...measured };
+    if (fault === null) return { state: 'valid', said: '', fault: null, format: null, about: null, isConfirmed: false, ...measured };
     const isConfirmed = (await this.#gate.confirm(tile, fault, this.profile)) === 'confirmed';
-    const members = JSON.parse(fault);
-    return { state: 'fault', said: fault, fault: members, format: this.#formatOf(members, tile), isConfirmed, ...measured };
+    const members = JSON.parse(fault), about = aboutOf(members, tile);
+    return { state: 'fault', said: fault, fault: members, format: this.#formatOf(members, tile), about, isConfirmed, ...measured };
   }
 
   /**

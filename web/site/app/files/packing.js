@@ -43,13 +43,14 @@ export function packingOf(bytes) {
 }
 
 /**
- * Bytes packed by gzip, or as they are where the browser can't pack them.
+ * Packed bytes, or as they are where the browser can't pack them.
  * @param {Uint8Array} bytes
+ * @param {Packing} [packing]
  * @returns {Promise<Uint8Array>}
  */
-export async function pack(bytes) {
+export async function pack(bytes, packing = 'gzip') {
   if (!streams.CompressionStream) return bytes;
-  const packed = new Blob([bytes]).stream().pipeThrough(new streams.CompressionStream('gzip'));
+  const packed = new Blob([bytes]).stream().pipeThrough(new streams.CompressionStream(FORMATS[packing]));
   return new Uint8Array(await new Response(packed).arrayBuffer());
 }
 

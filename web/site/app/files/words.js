@@ -1,6 +1,7 @@
 // What is said of a file, and of all of them.
 
 import { explainFault } from '../../../../bindings/js/src/words/explain.js';
+import words from '../../../../bindings/js/src/words/faults.js';
 import { counted, digits, listed } from '../tools/text.js';
 
 /** @typedef {import('./checks.js').Entry} Entry */
@@ -18,6 +19,11 @@ export function verdictText(entry) {
     case 'unreadable': return `couldn't be read: ${entry.reason}`;
     default: return entry.fault ? faultText(entry.fault, entry.format) : '';
   }
+}
+
+/** @param {number} code of a fault */
+export function explainTitle(code) {
+  return words.faults[/** @type {keyof typeof words.faults} */ (String(code))].title;
 }
 
 /**

@@ -35,7 +35,7 @@ function copyBySelection(text) {
  * Has the browser save a text or bytes as a file.
  * @param {string} name
  * @param {string} type
- * @param {string|Uint8Array} content
+ * @param {string|Uint8Array|Blob} content
  */
 export function saveFile(name, type, content) {
   const address = URL.createObjectURL(new Blob([content], { type }));

@@ -78,13 +78,16 @@ export class Listbox {
     if (index >= 0) this.#chosenByUser(index);
   }
 
-  /** @param {KeyboardEvent} event */
+  /**
+   * Keys go over lines that are hidden.
+   * @param {KeyboardEvent} event
+   */
   #pressed(event) {
-    const last = this.#options.length - 1;
-    const index = indexAfter(event.key, this.#chosen, last);
+    const seen = this.#options.filter((option) => !option.hidden), last = seen.length - 1;
+    const index = indexAfter(event.key, seen.indexOf(this.#options[this.#chosen]), last);
     if (index === null || last < 0 || event.ctrlKey || event.altKey || event.metaKey) return;
     event.preventDefault();
-    this.#chosenByUser(Math.min(Math.max(index, 0), last));
+    this.#chosenByUser(this.#options.indexOf(seen[Math.min(Math.max(index, 0), last)]));
   }
 
   /** @param {number} index */
