@@ -14,10 +14,10 @@ from aiohttp import hdrs, web
 
 from .application import Parts, application
 from .database import Database, bound_all_waiting
-from .gate import Gate
+from .gate import Gate, Mending
 from .health import Health
 from .metrics import Metrics
-from .publishing import OnFault, Publisher
+from .publishing import Publisher
 from .server import Server
 from .sharing import Sharing
 from .tilejson import Description
@@ -44,10 +44,10 @@ def arguments() -> argparse.ArgumentParser:
     reader.add_argument("--allow-origin", metavar="ORIGIN", default="*", help="whose scripts may read the tiles (%(default)s)")
     reader.add_argument("--profile", choices=_PROFILES, default="polygon", help="what polygons are held against (%(default)s)")
     reader.add_argument("--exact", action="store_true", help="name a tile's first fault, however long that takes by the profile feature")
-    faulty = reader.add_mutually_exclusive_group()
-    faulty.add_argument("--report-only", action="store_true", help="send a faulty tile all the same, and tell of its fault")
-    faulty.add_argument("--repair", action="store_true", help="make a faulty tile anew, on a finer grid")
-    faulty.add_argument("--no-gate", action="store_true", help="send tiles unjudged, to measure what the gate costs")
+    reader.add_argument("--mend", action="store_true", help="mend polygons that break the rules")
+    reader.add_argument("--drop", action="store_true", help="with --mend, leave out features that can't be mended")
+    reader.add_argument("--report-only", action="store_true", help="send a tile that stays faulty all the same, and tell of its fault")
+    reader.add_argument("--no-gate", action="store_true", help="send tiles unjudged, to measure what the gate costs")
     reader.add_argument("--keep", type=pathlib.Path, metavar="FOLDER", help="leave faulty tiles here")
     reader.add_argument("--workers", type=int, default=4, help="how many tiles are made at one time (%(default)s)")
     reader.add_argument("--max-bytes", type=int, default=2**20, help="the longest tile that is judged (%(default)s)")
@@ -57,11 +57,22 @@ def arguments() -> argparse.ArgumentParser:
     return reader
 
 
-def on_fault(said: argparse.Namespace) -> OnFault:
-    """What the words say of faulty tiles."""
-    if said.report_only:
-        return OnFault.REPORT
-    return OnFault.REPAIR if said.repair else OnFault.REFUSE
+def contradiction(said: argparse.Namespace) -> Optional[str]:
+    """What is wrong with words that are right one by one."""
+    if said.drop and not said.mend:
+        return "--drop is for features that can't be mended: only with --mend"
+    others = {"--mend": said.mend, "--report-only": said.report_only, "--exact": said.exact, "--keep": said.keep}
+    if said.no_gate and any(others.values()):
+        return f"{next(it for it in others if others[it])} is for a tile that was judged: not with --no-gate"
+    return None
+
+
+def gate_of(said: argparse.Namespace) -> Optional[Gate]:
+    """The gate that the words describe."""
+    if said.no_gate:
+        return None
+    mending = Mending.OR_DROP if said.drop else Mending.ALL if said.mend else Mending.NOT
+    return Gate(_PROFILES[said.profile], said.max_bytes, said.exact, mending)
 
 
 def application_of(said: argparse.Namespace) -> web.Application:
@@ -69,9 +80,8 @@ def application_of(said: argparse.Namespace) -> web.Application:
     bound_all_waiting(said.query_seconds)
     database = Database(said.dsn, said.workers, said.query_seconds)
     health = Health(Database(said.dsn, 1, said.query_seconds))
-    gate = None if said.no_gate else Gate(_PROFILES[said.profile], said.max_bytes, said.exact)
     metrics = Metrics()
-    publisher = Publisher(Tiles(database), gate, on_fault(said), said.keep, metrics)
+    publisher = Publisher(Tiles(database), gate_of(said), said.report_only, said.keep, metrics)
     cached: Dict[str, str] = {hdrs.CACHE_CONTROL: f"public, max-age={said.max_age}"}
     parts = Parts(
         Server(publisher, metrics, said.workers, said.max_zoom, cached),
@@ -87,8 +97,9 @@ def main(words: Optional[List[str]] = None) -> int:
     """Serves until SIGTERM or SIGINT, answers what has come until then, and returns the exit status."""
     reader = arguments()
     said = reader.parse_args(words)
-    if said.no_gate and said.keep:
-        reader.error("--keep is for tiles that don't pass the gate: not with --no-gate")
+    wrong = contradiction(said)
+    if wrong is not None:
+        reader.error(wrong)
     logging.basicConfig(level=logging.INFO, format="%(asctime)s %(levelname)s %(message)s")
     try:
         if said.keep:

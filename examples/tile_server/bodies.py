@@ -4,16 +4,20 @@ from __future__ import annotations
 import gzip
 import hashlib
 from dataclasses import dataclass
-from typing import Collection, Dict, Optional
+from typing import Collection, Dict, Optional, Sequence
 
 from aiohttp import hdrs, web
 from aiohttp.helpers import ETAG_ANY
 
 from .publishing import Published
+from .rows import Row
 
 MEDIA_TYPE = "application/vnd.mapbox-vector-tile"
-# the code of the fault that a tile had before it was repaired
-REPAIRED_HEADER = "X-Tile-Repaired"
+# how many features of the tile were mended, and the rows of those that couldn't be and were left out
+MENDED_HEADER = "X-Tile-Mended"
+DROPPED_HEADER = "X-Tile-Dropped"
+# (servers and proxies bound the length of headers)
+_MOST_NAMED = 20
 # why a tile didn't pass that is sent all the same: the fault's text, as JSON
 FAULT_HEADER = "X-Tile-Fault"
 
@@ -45,9 +49,15 @@ class Body:
     judgement: Dict[str, str]
 
 
+def _dropped(rows: Sequence[Row]) -> Dict[str, str]:
+    named = [*map(str, rows[:_MOST_NAMED]), *([f"{len(rows) - _MOST_NAMED} more"] if len(rows) > _MOST_NAMED else [])]
+    return {DROPPED_HEADER: ", ".join(named)} if named else {}
+
+
 def _judgement(published: Published) -> Dict[str, str]:
-    if published.repaired:
-        return {REPAIRED_HEADER: str(published.repaired.code)}
+    if published.changes:
+        dropped = [it.row for it in published.changes if it.is_dropped]
+        return {MENDED_HEADER: str(len(published.changes) - len(dropped)), **_dropped(dropped)}
     return {FAULT_HEADER: published.reported.text} if published.reported else {}
 
 

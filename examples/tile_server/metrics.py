@@ -3,7 +3,7 @@ from __future__ import annotations
 
 import contextlib
 import time
-from typing import Iterator, Sequence, Tuple
+from typing import Iterable, Iterator, Sequence, Tuple
 
 from aiohttp import hdrs, web
 from mvtgate import Fault
@@ -12,6 +12,7 @@ from prometheus_client.exposition import choose_encoder
 
 from .database import Unavailable
 from .gate import Reason
+from .rows import RowChange
 from .tiles import Address, Tile
 
 # (all names begin with it)
@@ -21,6 +22,8 @@ OTHER = "other"
 GONE, TOO_SLOW, REFUSED = "gone", "too_slow", "refused"
 _CHECK_BUCKETS = (0.0001, 0.0003, 0.001, 0.003, 0.01, 0.03, 0.1, 0.3, 1.0, 3.0, 10.0)
 _QUERY_BUCKETS = (0.001, 0.003, 0.01, 0.03, 0.1, 0.3, 1.0, 3.0, 10.0, 30.0)
+# (a cut corner takes half a unit)
+_AREA_BUCKETS = (0.0, 0.5, 1.0, 3.0, 10.0, 30.0, 100.0, 1000.0, 10000.0)
 
 
 class Metrics:
@@ -33,8 +36,11 @@ class Metrics:
         of_fault = ("code", "layer", "zoom")
         self.requests = self._counter("requests", "Requests for tiles that were answered", "status", "zoom")
         self.refused = self._counter("refused", "Tiles that were not sent, since they did not pass the gate", *of_fault)
-        self.repaired = self._counter("repaired", "Tiles that were sent after a repair, by the fault that they had", *of_fault)
         self.reported = self._counter("reported", "Tiles that were sent though they did not pass the gate", *of_fault)
+        self._mended = self._counter("mended", "Tiles that were sent after they were mended", "zoom")
+        self._changed = self._counter("changed_features", "Features of these tiles that were mended or dropped", "layer", "what", "zoom")
+        meaning = "By how many square units of the tile's grid the area of a mended feature changed"
+        self._area_change = self._histogram("area_change", meaning, _AREA_BUCKETS, "layer")
         self.query_failures = self._counter("query_failures", "Queries for tiles that failed", "reason")
         for reason in (GONE, TOO_SLOW, REFUSED):
             # (so that each is there from the beginning, as 0)
@@ -45,8 +51,8 @@ class Metrics:
     def _counter(self, name: str, meaning: str, *labels: str) -> Counter:
         return Counter(f"{_PREFIX}_{name}", meaning, labels, registry=self._registry)
 
-    def _histogram(self, name: str, meaning: str, buckets: Sequence[float]) -> Histogram:
-        return Histogram(f"{_PREFIX}_{name}", meaning, buckets=buckets, registry=self._registry)
+    def _histogram(self, name: str, meaning: str, buckets: Sequence[float], *labels: str) -> Histogram:
+        return Histogram(f"{_PREFIX}_{name}", meaning, labels, buckets=buckets, registry=self._registry)
 
     @contextlib.contextmanager
     def timed_query(self) -> Iterator[None]:
@@ -61,6 +67,19 @@ class Metrics:
         finally:
             if not is_gone:
                 self._query_seconds.observe(time.perf_counter() - begun)
+
+    def count_mended(self, address: Address, changes: Iterable[RowChange]) -> None:
+        """Counts a tile that was mended. The rows, of which there are too many for labels, are told as exemplars: of each count the
+        last one."""
+        zoom = str(address.zoom)
+        self._mended.labels(zoom).inc()
+        for it in changes:
+            layer, exemplar = it.row.layer or OTHER, {"tile": str(address), "id": str(it.row.id)}
+            self._changed.labels(layer, it.change.what, zoom).inc(exemplar=exemplar)
+            if not it.is_dropped:
+                before, after = it.areas
+                areas = {"before": str(before), "after": str(after)}
+                self._area_change.labels(layer).observe(abs(after - before), exemplar={**exemplar, **areas})
 
     async def answer(self, request: web.Request) -> web.Response:
         """All of them, in the form that Prometheus asks for."""

@@ -1,47 +1,41 @@
-"""What becomes of a tile: asked for, judged, perhaps repaired, and published or refused. All of this blocks, so call it in a thread."""
+"""What becomes of a tile: asked for, judged, perhaps mended, and published or refused. All of this blocks, so call it in a thread."""
 from __future__ import annotations
 
-import enum
+import contextlib
+import json
 import logging
 import os
 import pathlib
 import tempfile
 from dataclasses import dataclass
-from typing import Optional, Union
+from typing import Optional, Sequence, Union
 
-from mvtgate import Fault
+import mvtgate
+from mvtgate import Fault, Mended
 
-from .gate import OUT_OF_MEMORY, Gate, Reason, logged
+from .gate import OUT_OF_MEMORY, Gate, Reason
 from .metrics import Metrics, labels_of
-from .tiles import PLAIN, REPAIRED, Address, Grid, Tile, Tiles
+from .rows import Row, RowChange, changes_of, logged, row_of
+from .tiles import Address, Tile, Tiles
 
 _log = logging.getLogger(__name__)
 
 
-class OnFault(enum.Enum):
-    """What is done with a tile that doesn't pass the gate."""
-
-    REFUSE = enum.auto()
-    REPAIR = enum.auto()
-    REPORT = enum.auto()
-
-
 @dataclass(frozen=True)
 class Published:
-    """A tile that is sent. `repaired` is the fault that it had before a repair; `reported` is why it didn't pass, where it is sent
-    all the same."""
+    """A tile that is sent. `changes` are what was mended in it; `reported` is why it didn't pass, where it is sent all the same."""
 
     tile: bytes
-    repaired: Optional[Fault] = None
+    changes: Sequence[RowChange] = ()
     reported: Optional[Reason] = None
 
 
 @dataclass(frozen=True)
 class Refused:
-    """Why there is no tile to be sent, and why there is none after a repair, where that was tried."""
+    """Why there is no tile to be sent, and the row at fault, where it is of one."""
 
     reason: Reason
-    after_repair: Optional[Reason] = None
+    row: Optional[Row]
 
 
 Outcome = Union[Published, Refused]
@@ -59,65 +53,62 @@ def keep(folder: pathlib.Path, address: Address, tile: bytes, fault: Fault) -> N
 
 @dataclass(frozen=True)
 class Publisher:
-    """Makes tiles and has them judged. Without a gate, which is for measurements alone, it publishes whatever comes."""
+    """Makes tiles and has them judged. Where it only reports, it sends also those that don't pass. Without a gate, which is for
+    measurements alone, it publishes whatever comes."""
 
     tiles: Tiles
     gate: Optional[Gate]
-    on_fault: OnFault
+    only_reports: bool
     kept: Optional[pathlib.Path]
     metrics: Metrics
 
     def publish(self, address: Address) -> Outcome:
         """A tile to be sent, or why there is none."""
-        tile = self._fetched(address, PLAIN)
-        if self.on_fault is OnFault.REPORT:
-            return self._reported(address, tile)
-        reason = self._reason_against(tile)
-        if reason is None:
-            return Published(tile.content)
-        self._keep(address, tile, reason)
-        if self.on_fault is OnFault.REPAIR and isinstance(reason, Fault):
-            return self._repaired(address, tile, reason)
-        _log.error("tile %s refused: %s", address, logged(reason))
-        return self._refused(address, tile, reason)
-
-    def _fetched(self, address: Address, grid: Grid) -> Tile:
         with self.metrics.timed_query():
-            return self.tiles.fetch(address, grid)
-
-    def _reason_against(self, tile: Tile) -> Optional[Reason]:
+            tile = self.tiles.fetch(address)
         if self.gate is None:
-            return None
-        with self.metrics.check_seconds.time():
-            return self.gate.reason_against(tile.content)
+            return Published(tile.content)
+        judged = self._judged(self.gate, tile)
+        if isinstance(judged, Mended):
+            return self._mended(self.gate, address, tile, judged) if judged.changed else Published(judged.tile)
+        self._keep(address, tile, judged)
+        return self._reported(address, tile, judged) if self.only_reports else self._refused(address, tile, judged)
 
-    def _reported(self, address: Address, tile: Tile) -> Published:
-        """Whatever the gate says, or can't say, the tile is sent."""
+    def _judged(self, gate: Gate, tile: Tile) -> Union[Mended, Reason]:
+        """What the gate says. Where it can't say anything, and the tile is sent all the same, that is a reason too."""
         try:
-            reason = self._reason_against(tile)
+            with self.metrics.check_seconds.time():
+                return gate.judged(tile.content)
         except MemoryError:
-            reason = OUT_OF_MEMORY
-        if reason is not None:
-            self._keep(address, tile, reason)
-            _log.warning("tile %s sent all the same: %s", address, logged(reason))
-            self.metrics.reported.labels(*labels_of(address, tile, reason)).inc()
+            if self.only_reports:
+                return OUT_OF_MEMORY
+            raise
+
+    def _mended(self, gate: Gate, address: Address, tile: Tile, mended: Mended) -> Published:
+        self._keep_faulty(gate, address, tile)
+        changes = changes_of(tile, mended)
+        _log.warning("tile %s mended: %s", address, json.dumps([it.told for it in changes]))
+        self.metrics.count_mended(address, changes)
+        return Published(mended.tile, changes)
+
+    def _reported(self, address: Address, tile: Tile, reason: Reason) -> Published:
+        _log.warning("tile %s sent all the same: %s", address, logged(reason, row_of(tile, reason)))
+        self.metrics.reported.labels(*labels_of(address, tile, reason)).inc()
         return Published(tile.content, reported=reason)
 
-    def _repaired(self, address: Address, faulty: Tile, fault: Fault) -> Outcome:
-        tile = self._fetched(address, REPAIRED)
-        reason = self._reason_against(tile)
-        if reason is None:
-            _log.warning("tile %s repaired: it had %s", address, logged(fault))
-            self.metrics.repaired.labels(*labels_of(address, faulty, fault)).inc()
-            return Published(tile.content, repaired=fault)
-        _log.error("tile %s refused: %s; after the repair: %s", address, logged(fault), logged(reason))
-        return self._refused(address, faulty, fault, reason)
-
-    def _refused(self, address: Address, tile: Tile, reason: Reason, after_repair: Optional[Reason] = None) -> Refused:
+    def _refused(self, address: Address, tile: Tile, reason: Reason) -> Refused:
+        row = row_of(tile, reason)
+        _log.error("tile %s refused: %s", address, logged(reason, row))
         self.metrics.refused.labels(*labels_of(address, tile, reason)).inc()
-        return Refused(reason, after_repair)
+        return Refused(reason, row)
 
-    def _keep(self, address: Address, tile: Tile, reason: Reason) -> None:
+    def _keep_faulty(self, gate: Gate, address: Address, tile: Tile) -> None:
+        """Keeps a tile that was mended, as it came, with the fault that it had."""
+        with contextlib.suppress(MemoryError):
+            if self.kept is not None:
+                self._keep(address, tile, mvtgate.check(tile.content, gate.profile, quick=True))
+
+    def _keep(self, address: Address, tile: Tile, reason: Optional[Reason]) -> None:
         if self.kept is None or not isinstance(reason, Fault):
             return
         try:

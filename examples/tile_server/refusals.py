@@ -28,5 +28,5 @@ def refusal_for_now(error: str, address: Address, seconds: int) -> web.Response:
 
 def refusal_of_fault(refused: Refused, address: Address) -> web.Response:
     """The answer in place of a tile that didn't pass the gate."""
-    after = {"after_repair": told(refused.after_repair)} if refused.after_repair else {}
-    return refusal(500, "the tile did not pass the gate", address, **told(refused.reason), **after)
+    row = {"row": refused.row.told} if refused.row else {}
+    return refusal(500, "the tile did not pass the gate", address, **row, **told(refused.reason))

@@ -5,12 +5,12 @@ from typing import Dict
 
 from aiohttp import hdrs, web
 
-from .bodies import FAULT_HEADER, REPAIRED_HEADER
+from .bodies import DROPPED_HEADER, FAULT_HEADER, MENDED_HEADER
 
 # (the rest is for those who run the server)
 _SHARED = "/tiles"
 # what a script may read beside what it always may
-_EXPOSED = ", ".join([hdrs.ETAG, hdrs.RETRY_AFTER, REPAIRED_HEADER, FAULT_HEADER])
+_EXPOSED = ", ".join([hdrs.ETAG, hdrs.RETRY_AFTER, MENDED_HEADER, DROPPED_HEADER, FAULT_HEADER])
 # what a browser is told that asks before it sends a request with other headers than usual, such as If-None-Match
 _PREFLIGHT: Dict[str, str] = {
     hdrs.ALLOW: "GET,HEAD,OPTIONS",

@@ -54,7 +54,7 @@ SELECT id, name, properties::jsonb, ST_Multi(pg_temp.on_tile(tile_column, shape)
     (140, 4, 'a ring with a loop', '{}',
      'POLYGON((100 100, 600 100, 600 400, 400 400, 400 50, 900 50, 900 900, 100 900, 100 100))'),
 
-    -- A column twice: the properties have a key `name` too. No repair of geometry helps.
+    -- A column twice: the properties have a key `name` too. This isn't a fault of polygons, so it isn't mended.
     (150, 5, 'a name', '{"name": "another name"}',
      'POLYGON((100 100, 1000 100, 1000 1000, 100 1000, 100 100))'),
 
@@ -68,7 +68,7 @@ SELECT id, name, properties::jsonb, ST_Multi(pg_temp.on_tile(tile_column, shape)
     (170, 7, 'two that overlap', '{}',
      'MULTIPOLYGON(((100 100, 500 100, 500 500, 100 500, 100 100)), ((300 300, 800 300, 800 800, 300 800, 300 300)))'),
 
-    -- Two polygons of one feature that have a vertex in common: valid, but not by feature, and no repair helps.
+    -- Two polygons of one feature that have a vertex in common: valid, but not by feature.
     (180, 8, 'two with one corner', '{}',
      'MULTIPOLYGON(((100 100, 500 100, 500 500, 100 500, 100 100)), ((500 500, 900 500, 900 900, 500 900, 500 500)))'),
 

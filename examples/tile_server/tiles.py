@@ -23,19 +23,8 @@ class Address:
         return self.zoom <= max_zoom and max(self.column, self.row) < 2**self.zoom
 
 
-@dataclass(frozen=True)
-class Grid:
-    """How geometries come to the grid of a tile: its units along a side, and the SQL of what is rounded to it."""
-
-    extent: int
-    geometry: str
-
-
-PLAIN = Grid(4096, "source.geometry")
-# A repair has a finer grid, which parts what only rounding has made touch. ST_MakeValid goes first, by the method that unites
-# what overlaps: ST_AsMVTGeom by itself takes an area that is covered twice for a hole. After ST_AsMVTGeom it wouldn't help, since
-# what that returns is valid in the sense of ST_MakeValid; and by this method it would wind rings the other way round.
-REPAIRED = Grid(16384, "ST_MakeValid(source.geometry, 'method=structure keepcollapsed=false')")
+# the units along a side of a tile
+EXTENT = 4096
 
 
 @dataclass(frozen=True)
@@ -58,7 +47,7 @@ LAYERS = {
 # nothing of them in the tile, are left out by ST_AsMVT.)
 _LAYER = """(
     SELECT ST_AsMVT(its, '{layer}', %(extent)s, 'geometry', 'id') FROM (
-        SELECT id, {columns}, ST_AsMVTGeom({geometry}, bounds.tile, %(extent)s, %(buffer)s, true) AS geometry
+        SELECT id, {columns}, ST_AsMVTGeom(source.geometry, bounds.tile, %(extent)s, %(buffer)s, true) AS geometry
         FROM {layer} AS source, bounds WHERE source.geometry && bounds.with_margin ORDER BY id
     ) AS its
 )"""
@@ -72,16 +61,14 @@ SELECT {layers}"""
 _MARGIN = 1 / 64
 
 
-def query_of(grid: Grid) -> str:
-    """The query for a tile on such a grid. It answers each layer by itself, which has no bytes where it has no features."""
-    layers = (_LAYER.format(layer=name, columns=it.columns, geometry=grid.geometry) for name, it in LAYERS.items())
-    return _TILE.format(layers=", ".join(layers))
+# the query answers each layer by itself, which has no bytes where it has no features
+_QUERY = _TILE.format(layers=", ".join(_LAYER.format(layer=name, columns=it.columns) for name, it in LAYERS.items()))
 
 
-def parameters_of(address: Address, grid: Grid) -> Dict[str, float]:
+def parameters_of(address: Address) -> Dict[str, float]:
     """What the query's places are filled with."""
-    whole = {"zoom": address.zoom, "column": address.column, "row": address.row, "extent": grid.extent}
-    return {**whole, "buffer": round(_MARGIN * grid.extent), "margin": _MARGIN}
+    whole = {"zoom": address.zoom, "column": address.column, "row": address.row, "extent": EXTENT}
+    return {**whole, "buffer": round(_MARGIN * EXTENT), "margin": _MARGIN}
 
 
 @dataclass(frozen=True)
@@ -102,7 +89,7 @@ class Tiles:
     def __init__(self, database: Database) -> None:
         self._database = database
 
-    def fetch(self, address: Address, grid: Grid) -> Tile:
+    def fetch(self, address: Address) -> Tile:
         """The tile at this place."""
-        row = self._database.row(query_of(grid), parameters_of(address, grid))
+        row = self._database.row(_QUERY, parameters_of(address))
         return Tile(b"".join(row), tuple(name for name, layer in zip(LAYERS, row) if len(layer)))

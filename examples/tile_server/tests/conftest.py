@@ -3,11 +3,12 @@ from __future__ import annotations
 
 import contextlib
 import gzip
+import json
 import pathlib
 import tempfile
 import time
 from fractions import Fraction
-from typing import Dict, Iterable, Iterator, List, Optional, Set, Tuple
+from typing import Any, Callable, Dict, Iterable, Iterator, List, Optional, Set, Tuple
 
 import mvtgate
 import pytest
@@ -24,7 +25,7 @@ PONDS, PLACES, MILESTONES, NOTHING = 20, 24, 26, 30
 PLAIN: Dict[str, str] = {}
 GZIP = {"Accept-Encoding": "gzip"}
 
-# programs for `python3 -c` that are the server, whose gate gets no memory; the second for exact verdicts alone
+# programs for `python3 -c` that are the server, whose gate gets no memory; the second for exact verdicts alone, the third for mending
 OUT_OF_MEMORY = """
 import sys
 from mvtgate import _library
@@ -33,6 +34,7 @@ _library.calls.mvtgate_check_quickly = lambda *words: _library.NO_MEMORY
 sys.exit(main())
 """
 EXACT_OUT_OF_MEMORY = OUT_OF_MEMORY.replace("mvtgate_check_quickly", "mvtgate_check")
+MEND_OUT_OF_MEMORY = OUT_OF_MEMORY.replace("mvtgate_check_quickly", "mvtgate_mend")
 
 # The first fault of each tile, as the comments of tables.sql reason: its code, where it is, and for edges that meet the point.
 Expected = Tuple[int, str, Optional[Tuple[int, int]]]
@@ -43,6 +45,8 @@ FIRST: Dict[int, Expected] = {
     LOOP: (504, "layer 0, feature 0, polygon 0", (400, 100)),
     TWO_NAMES: (304, "layer 0, feature 0", None),
 }
+# the id of the row at fault
+ROW = {CLOSE_PONDS: 111, COMMON_CORNER: 120, CLOSE_TO_EDGE: 130, LOOP: 140, TWO_NAMES: 150}
 
 
 @pytest.fixture(scope="session")
@@ -54,22 +58,22 @@ def database() -> Iterator[Database]:
 
 @pytest.fixture(scope="session")
 def kept() -> Iterator[pathlib.Path]:
-    """Where the server without repairs leaves faulty tiles."""
+    """Where the server that mends nothing leaves faulty tiles."""
     with tempfile.TemporaryDirectory(prefix="tile_server.") as folder:
         yield pathlib.Path(folder)
 
 
 @pytest.fixture(scope="session")
 def server(database: Database, kept: pathlib.Path) -> Iterator[Server]:
-    """The server by the profile `polygon`, without repairs. A query may wait for a lock as long as a test holds it."""
+    """The server by the profile `polygon`, which mends nothing. A query may wait for a lock as long as a test holds it."""
     with tile_server(database.dsn, "--keep", str(kept), "--query-seconds", str(SECONDS)) as running:
         yield running
 
 
 @pytest.fixture(scope="session")
-def repairing(database: Database) -> Iterator[Server]:
-    """The same with repairs."""
-    with tile_server(database.dsn, "--repair") as running:
+def ungated(database: Database) -> Iterator[Server]:
+    """The server before it had a gate."""
+    with tile_server(database.dsn, "--no-gate") as running:
         yield running
 
 
@@ -81,12 +85,17 @@ def locked_areas(database: Database) -> Iterator[None]:
         yield
 
 
-def waits_for(database: Database, queries: int) -> None:
-    """Waits until so many queries wait for a lock."""
+def wait_for(holds: Callable[[], bool]) -> None:
+    """Waits until this holds."""
     end = time.monotonic() + SECONDS
-    while database.number("SELECT count(*) FROM pg_locks WHERE NOT granted") < queries:
+    while not holds():
         assert time.monotonic() < end
         time.sleep(0.02)
+
+
+def waits_for(database: Database, queries: int) -> None:
+    """Waits until so many queries wait for a lock."""
+    wait_for(lambda: database.number("SELECT count(*) FROM pg_locks WHERE NOT granted") >= queries)
 
 
 def families(server: Server) -> Iterable[Metric]:
@@ -101,11 +110,32 @@ def samples(server: Server, name: str) -> Dict[Tuple[str, ...], float]:
     return {tuple(value for _, value in sorted(it.labels.items())): it.value for it in found}
 
 
-def expect_fault(fault: Fault, wanted: Expected, scale: int = 1) -> None:
-    """Holds a fault against the one that is expected, by its point on a grid that is so much finer."""
+def expect_fault(fault: Fault, wanted: Expected) -> None:
+    """Holds a fault against the one that is expected."""
     code, place, point = wanted
     assert fault.code == code and fault.place.startswith(place)
-    assert fault.point == (None if point is None else tuple(Fraction(scale * it) for it in point))
+    assert fault.point == (None if point is None else tuple(map(Fraction, point)))
+
+
+def expect_told(told: Dict[str, Any], wanted: Expected) -> Fault:
+    """What an answer says of a fault, and the fault."""
+    fault = Fault.from_text(json.dumps(told["fault"]))
+    expect_fault(fault, wanted)
+    assert (told["code"], told["place"]) == (fault.code, fault.place)
+    words = told["explanation"]
+    assert words[0] == f"{fault.code}: {told['title']}"
+    assert any(it.startswith("Cause: ") for it in words) and any(it.startswith("What to do: ") for it in words)
+    return fault
+
+
+def expect_refusal(answer: Reply, column: int) -> Dict[str, Any]:
+    """What a refusal says. No cache may keep it, and no client takes it for what it has."""
+    assert answer.status == 500
+    assert answer.headers["Cache-Control"] == "no-store" and "Etag" not in answer.headers
+    assert answer.headers["Content-Type"] == "application/json; charset=utf-8"
+    told = answer.json()
+    assert told["error"] == "the tile did not pass the gate" and told["tile"] == {"z": 6, "x": column, "y": 20}
+    return told
 
 
 def lines_of(server: Server, column: int) -> List[str]:
@@ -129,17 +159,37 @@ def judged(reply: Reply, profile: Profile = Profile.POLYGON) -> Dict[str, Layer]
     return {it["name"]: it for it in layers}
 
 
-def rings_of(feature: Feature) -> List[Set[Tuple[int, int]]]:
-    """The positions of each ring of a polygon feature, which has MoveTo, LineTo and ClosePath for each."""
-    rings: List[Set[Tuple[int, int]]] = []
+def paths_of(feature: Feature) -> List[List[Tuple[int, int]]]:
+    """The positions of each ring of a polygon feature in their order. It has MoveTo, LineTo and ClosePath for each."""
+    paths: List[List[Tuple[int, int]]] = []
     numbers, x, y = iter(feature["geometry"]), 0, 0
     for command in numbers:
         if command & 7 == 1:
-            rings.append(set())
+            paths.append([])
         for _ in range(0 if command & 7 == 7 else command >> 3):
             x, y = x + unsigned(next(numbers)), y + unsigned(next(numbers))
-            rings[-1].add((x, y))
-    return rings
+            paths[-1].append((x, y))
+    return paths
+
+
+def rings_of(feature: Feature) -> List[Set[Tuple[int, int]]]:
+    """The positions of each ring of a polygon feature."""
+    return [set(it) for it in paths_of(feature)]
+
+
+def area_of(feature: Feature) -> float:
+    """The area of a polygon feature by its rings, of which holes are wound the other way round than exteriors."""
+    pairs = (pair for ring in paths_of(feature) for pair in zip(ring, ring[1:] + ring[:1]))
+    return sum(x * v - u * y for (x, y), (u, v) in pairs) / 2
+
+
+def without_rings(layer: Layer, numbers: Set[int]) -> Layer:
+    """What a layer has but for the geometries of these features."""
+    copy = layer.copy()
+    copy["features"] = [it.copy() for it in layer["features"]]
+    for number in numbers:
+        copy["features"][number]["geometry"] = []
+    return copy
 
 
 def unsigned(number: int) -> int:

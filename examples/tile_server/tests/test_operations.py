@@ -102,19 +102,9 @@ def test_faults_are_counted(database: Database) -> None:
             running.get(path_of(column))
         wanted = {("504", "areas", "6"): 3, ("304", "areas", "6"): 1}
         assert samples(running, "tile_server_refused_total") == wanted
-        assert samples(running, "tile_server_repaired_total") == samples(running, "tile_server_reported_total") == {}
+        assert samples(running, "tile_server_mended_total") == samples(running, "tile_server_reported_total") == {}
         # a check and a query for each tile
         assert samples(running, "tile_server_check_seconds_count") == samples(running, "tile_server_query_seconds_count") == {(): 5}
-
-
-def test_repairs_are_counted(database: Database) -> None:
-    with tile_server(database.dsn, "--repair") as running:
-        for column in (CLOSE_PONDS, LOOP, COMMON_CORNER, FIELD):
-            running.get(path_of(column))
-        assert samples(running, "tile_server_repaired_total") == {("504", "areas", "6"): 2}
-        assert samples(running, "tile_server_refused_total") == {("504", "areas", "6"): 1}
-        # three tiles were made twice
-        assert samples(running, "tile_server_check_seconds_count") == samples(running, "tile_server_query_seconds_count") == {(): 7}
 
 
 def test_tile_that_is_too_long_is_counted(database: Database) -> None:

@@ -22,6 +22,7 @@ from conftest import (
     PLACES,
     PLAIN,
     PONDS,
+    ROW,
     TWO_CORNERS,
     TWO_NAMES,
     expect_fault,
@@ -48,13 +49,6 @@ def reporting(database: Database, folder: pathlib.Path) -> Iterator[Server]:
         yield running
 
 
-@pytest.fixture(scope="module")
-def ungated(database: Database) -> Iterator[Server]:
-    """The server before it had a gate."""
-    with tile_server(database.dsn, "--no-gate") as running:
-        yield running
-
-
 def without_report(answer: Reply) -> Dict[str, str]:
     """The headers of an answer that don't change from one to the next, without the report."""
     return {key: it for key, it in answer.headers.items() if key not in (FAULT, "Date")}
@@ -70,7 +64,7 @@ def test_faulty_tile_is_sent(reporting: Server, ungated: Server, folder: pathlib
     expect_fault(fault, FIRST[column])
     assert mvtgate.confirm(gzip.decompress(answer.body), text)
     (line,) = lines_of(reporting, column)[before:]
-    assert f" WARNING tile 6/{column}/20 sent all the same: {fault.code}: " in line and line.endswith(f" {text}")
+    assert f" WARNING tile 6/{column}/20 sent all the same: areas {ROW[column]}: {fault.code}: " in line and line.endswith(f" {text}")
     assert (folder / f"6-{column}-20.mvt").read_bytes() == gzip.decompress(answer.body)
     assert (folder / f"6-{column}-20.json").read_text() == text
 

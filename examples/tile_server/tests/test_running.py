@@ -7,7 +7,7 @@ import time
 
 import pytest
 
-from conftest import EXACT_OUT_OF_MEMORY, FIELD, GZIP, OUT_OF_MEMORY, PLACES, PONDS, expect_later, judged, locked_areas, waits_for
+from conftest import EXACT_OUT_OF_MEMORY, FIELD, GZIP, MEND_OUT_OF_MEMORY, OUT_OF_MEMORY, PLACES, PONDS, expect_later, judged, locked_areas, waits_for
 from running import SECONDS, Database, Server, load, path_of, tile_server
 
 def test_others_are_answered_while_queries_wait(server: Server, database: Database) -> None:
@@ -21,9 +21,9 @@ def test_others_are_answered_while_queries_wait(server: Server, database: Databa
             judged(it.result())
 
 
-@pytest.mark.parametrize("words", [[], ["--repair"]])
-def test_out_of_memory(database: Database, words: list[str]) -> None:
-    with tile_server(database.dsn, *words, program=["-c", OUT_OF_MEMORY]) as running:
+@pytest.mark.parametrize("words, refused", [([], OUT_OF_MEMORY), (["--mend"], MEND_OUT_OF_MEMORY)])
+def test_out_of_memory(database: Database, words: list[str], refused: str) -> None:
+    with tile_server(database.dsn, *words, program=["-c", refused]) as running:
         expect_later(running.get(path_of(FIELD)), "out of memory")
         assert f" ERROR tile 6/{FIELD}/20: mvtgate: out of memory" in running.log()
 

@@ -36,7 +36,7 @@ def test_all_answers_about_tiles_are_shared(server: Server, path: str, status: i
         answer = server.get(path, headers)
         assert (answer.status, answer.headers[ORIGIN]) == (status, "*")
         exposed = answer.headers["Access-Control-Expose-Headers"].lower().split(", ")
-        assert {"etag", "retry-after", "x-tile-fault", "x-tile-repaired"} == set(exposed)
+        assert {"etag", "retry-after", "x-tile-dropped", "x-tile-fault", "x-tile-mended"} == set(exposed)
 
 
 def test_what_a_client_has_is_shared(server: Server) -> None:
