@@ -18,7 +18,7 @@ import network
 import runs
 import tiles
 
-# so many tiles take one worker some 10 seconds, where it is slow
+# more than two workers judge before they come to a gate
 COUNT = 2000
 HOSTS = ("first", "second", "third")
 SHIM = tiles.TOP / "bindings/python/tests/planet/shim.c"

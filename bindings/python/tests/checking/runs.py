@@ -17,6 +17,8 @@ CROSSING = TOP / "tiles/crossing_edges.mvt"
 OVERLAP = TOP / "tiles/polygons_that_overlap.mvt"
 PNG = b"\x89PNG\r\n\x1a\n\x00\x00\x00\rIHDR"
 INDEX = "CREATE UNIQUE INDEX tile_index ON tiles (zoom_level, tile_column, tile_row)"
+# seconds that something may take on a machine which does much else
+LONG = 600.0
 EMPTY = "it is empty; --allow-empty takes that for a valid tile"
 
 Run = subprocess.CompletedProcess[str]
@@ -65,7 +67,7 @@ def children(process: int) -> List[int]:
     return list(map(int, path.read_text().split())) if path.exists() else []
 
 
-def wait_for(holds: Callable[[], bool], seconds: float = 60) -> None:
+def wait_for(holds: Callable[[], bool], seconds: float = LONG) -> None:
     """Waits until this holds."""
     last = time.monotonic() + seconds
     while not holds():

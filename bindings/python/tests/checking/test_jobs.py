@@ -9,7 +9,7 @@ from typing import Iterator, List
 
 import pytest
 
-from checking.runs import CROSSING, POINT, Run, children, command, environment, mbtiles, peak, run, wait_for
+from checking.runs import CROSSING, LONG, POINT, Run, children, command, environment, mbtiles, peak, run, wait_for
 from conftest import TOP
 
 FAULT, VALID = CROSSING.read_bytes(), POINT.read_bytes()
@@ -52,7 +52,7 @@ def test_as_many_as_processors(tmp_path: pathlib.Path, slow_library: str) -> Non
 
 
 def ended(process: "subprocess.Popen[str]") -> Run:
-    out, error = process.communicate(timeout=60)
+    out, error = process.communicate(timeout=LONG)
     return Run(process.args, process.returncode, out, error)
 
 
@@ -97,7 +97,7 @@ def test_interrupt(begun: "subprocess.Popen[str]", number: signal.Signals, whole
         os.killpg(begun.pid, number)
     else:
         begun.send_signal(number)
-    assert begun.wait(60) == -number
+    assert begun.wait(LONG) == -number
     wait_for(lambda: not any(pathlib.Path(f"/proc/{it}").exists() for it in workers))
     assert begun.communicate() == ("", "") and (tmp_path / "it.xml").read_text() == ""
 
@@ -108,7 +108,7 @@ def test_interrupt_of_one_process(tmp_path: pathlib.Path, slow_library: str) -> 
     try:
         wait_for((tmp_path / f"note.{process.pid}").exists)
         process.send_signal(signal.SIGINT)
-        assert process.wait(60) == -signal.SIGINT
+        assert process.wait(LONG) == -signal.SIGINT
         assert process.communicate() == ("", "")
     finally:
         process.kill()

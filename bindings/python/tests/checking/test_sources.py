@@ -12,7 +12,7 @@ from typing import Any, Dict, Iterator, List, Tuple
 
 import pytest
 
-from checking.runs import CROSSING, EMPTY, PNG, POINT, command, environment, json_lines, last_line, mbtiles, run
+from checking.runs import CROSSING, EMPTY, LONG, PNG, POINT, command, environment, json_lines, last_line, mbtiles, run
 from mvtgate._files import LIMIT
 from mvtgate.checking import sources
 from mvtgate.checking.answers import Answer
@@ -84,7 +84,7 @@ def test_links(tmp_path: pathlib.Path) -> None:
     (folder / "c.mvt").symlink_to("c.mvt")
     (folder / "d").symlink_to(tmp_path / "elsewhere")
     os.mkfifo(folder / "e.mvt")
-    said = run("--json", folder, timeout=60)
+    said = run("--json", folder, timeout=LONG)
     told = {pathlib.Path(it["file"]).name: it.get("error") for it in json_lines(said.stdout)}
     assert told == {"a.mvt": None, "b.mvt": "No such file or directory", "c.mvt": "Too many levels of symbolic links", "e.mvt": "it is no regular file"}
     assert said.returncode == 3
@@ -158,7 +158,7 @@ def test_pipes() -> None:
     """`<(gunzip -c ..)` of bash is a pipe with a name."""
     for jobs in ("1", "2"):
         words = 'exec "$@" --json <(cat "$0")'
-        said = subprocess.run(["bash", "-c", words, CROSSING, *command("--jobs", jobs)], env=environment(), capture_output=True, text=True, timeout=60)
+        said = subprocess.run(["bash", "-c", words, CROSSING, *command("--jobs", jobs)], env=environment(), capture_output=True, text=True, timeout=LONG)
         assert said.returncode == 1 and json_lines(said.stdout)[0]["fault"]["code"] == 504
 
 

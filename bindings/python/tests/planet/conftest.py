@@ -4,7 +4,8 @@ from __future__ import annotations
 import pathlib
 import shutil
 import subprocess
-from typing import Any, Callable, Dict, Iterator
+from dataclasses import dataclass
+from typing import Any, Callable, Dict, Iterator, List
 
 import pytest
 
@@ -15,10 +16,20 @@ from planet.runs import environment
 HERE = pathlib.Path(__file__).resolve().parent
 # the environment of a run with the library of shim.c, which takes so many microseconds more for a tile
 Shimmed = Callable[[int], Dict[str, str]]
+# tiles that a worker judges before it comes to the gate: fewer than two may have of a planet's before the run is at its end
+FREE = 256
 
 
 @pytest.fixture(scope="session")
-def shimmed(tmp_path_factory: pytest.TempPathFactory) -> Shimmed:
+def gate_path(tmp_path_factory: pytest.TempPathFactory) -> pathlib.Path:
+    """Where the gate of all tests is. It is open, unless a test has closed it."""
+    path = tmp_path_factory.mktemp("gate") / "gate"
+    path.touch()
+    return path
+
+
+@pytest.fixture(scope="session")
+def shimmed(tmp_path_factory: pytest.TempPathFactory, gate_path: pathlib.Path) -> Shimmed:
     """The environment of a run whose library is slow, and does what a tile's last bytes say."""
     if shutil.which("gcc") is None:
         pytest.skip("there is no gcc, which makes the library that is slow and that kills")
@@ -28,9 +39,41 @@ def shimmed(tmp_path_factory: pytest.TempPathFactory) -> Shimmed:
 
     def of_delay(microseconds: int) -> Dict[str, str]:
         library = _library._candidates()[0]
-        return environment(MVTGATE_LIBRARY=str(made), SHIM_LIBRARY=library, SHIM_DELAY=str(microseconds), SHIM_NOTE=str(made.with_name("note")))
+        return environment(MVTGATE_LIBRARY=str(made), SHIM_LIBRARY=library, SHIM_DELAY=str(microseconds), SHIM_GATE=str(gate_path))
 
     return of_delay
+
+
+@dataclass(frozen=True)
+class Gate:
+    """Where tiles wait until a test opens it, so that what the test does comes in the middle of a run, however busy the machine is."""
+
+    path: pathlib.Path
+    waiting: pathlib.Path
+    # of a run whose workers come to it after some tiles
+    env: Dict[str, str]
+
+    def open(self) -> None:
+        self.path.touch()
+
+    def close(self) -> None:
+        for path in (self.path, self.waiting):
+            path.unlink(missing_ok=True)
+
+    @property
+    def processes(self) -> List[int]:
+        """Those that have come to it, and found it closed."""
+        lines = self.waiting.read_text().splitlines(keepends=True) if self.waiting.exists() else []
+        return [int(it) for it in lines if it.endswith("\n")]
+
+
+@pytest.fixture
+def gate(gate_path: pathlib.Path, shimmed: Shimmed) -> Iterator[Gate]:
+    """The gate, closed."""
+    it = Gate(gate_path, gate_path.with_name(f"{gate_path.name}.waiting"), {**shimmed(0), "SHIM_FREE": str(FREE)})
+    it.close()
+    yield it
+    it.open()
 
 
 @pytest.fixture(scope="session")

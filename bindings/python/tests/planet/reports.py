@@ -89,7 +89,7 @@ def opened(chromium: Chromium, address: str) -> Page:
     chromium.open(address)
     page = Page(chromium)
     if page.count("#map-view"):
-        page.until("return document.getElementById('map-scale').textContent !== ''", seconds=10)
+        page.until("return document.getElementById('map-scale').textContent !== ''")
     return page
 
 

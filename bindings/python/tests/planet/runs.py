@@ -9,9 +9,10 @@ import signal
 import sqlite3
 import subprocess
 import sys
+import tempfile
 import time
 from dataclasses import dataclass
-from typing import Any, Callable, Dict, Iterable, List, Optional, Protocol, Tuple
+from typing import Any, Callable, Dict, Iterable, List, Optional, Protocol, Sequence, Tuple
 
 from conftest import SAMPLES, TOP, Sample
 from mvtgate import Fault, Profile
@@ -21,6 +22,8 @@ PROGRAM = [sys.executable, "-m", "mvtgate.planet"]
 VALID_STATUS, FAULTY, UNJUDGED, REFUSED, UNFINISHED = range(5)
 TABLE = "CREATE TABLE tiles (zoom_level INTEGER, tile_column INTEGER, tile_row INTEGER, tile_data BLOB)"
 INDEX = "CREATE UNIQUE INDEX tile_index ON tiles (zoom_level, tile_column, tile_row)"
+# seconds that something may take on a machine which does much else
+LONG = 600.0
 _SECONDS = re.compile(r'"seconds": [0-9.e-]+')
 # sample tiles of which one fault alone is accepted, by the name of their file
 SAMPLE: Dict[str, Sample] = {it.path.stem: it for it in SAMPLES if it.path.parent == TOP / "tiles"}
@@ -59,13 +62,17 @@ def environment(**more: str) -> Dict[str, str]:
 class Run:
     """A process of mvtgate-planet that writes into a folder."""
 
-    def __init__(self, output: pathlib.Path, *words: object, env: Optional[Dict[str, str]] = None) -> None:
+    def __init__(
+        self, output: pathlib.Path, *words: object, env: Optional[Dict[str, str]] = None, program: Sequence[str] = PROGRAM
+    ) -> None:
         self.output = output
+        # (a file, so that it can be read while the program goes on)
+        self._stderr = tempfile.TemporaryFile()
         self.process = subprocess.Popen(
-            [*PROGRAM, "--output", str(output), *map(str, words)],
+            [*program, "--output", str(output), *map(str, words)],
             stdin=subprocess.DEVNULL,
             stdout=subprocess.PIPE,
-            stderr=subprocess.PIPE,
+            stderr=self._stderr,
             text=True,
             env=env or environment(),
             cwd=output.parent,
@@ -73,17 +80,22 @@ class Run:
             # (a shell has what it starts in the background pass over interrupts)
             preexec_fn=lambda: signal.signal(signal.SIGINT, signal.SIG_DFL),
         )
-        self.stdout = self.stderr = ""
+        self.stdout = ""
 
-    def end(self, seconds: float = 90) -> Optional[int]:
-        """Waits for its end and returns its exit status."""
+    def end(self) -> Optional[int]:
+        """Waits for its end, and that of all processes that write where it does, and returns its exit status."""
         try:
-            self.stdout, self.stderr = self.process.communicate(timeout=seconds)
+            self.stdout, _ = self.process.communicate(timeout=LONG)
         except subprocess.TimeoutExpired:
             self.process.kill()
-            self.stdout, self.stderr = self.process.communicate()
             raise AssertionError(f"it didn't end: {self.stderr}") from None
         return self.process.returncode
+
+    @property
+    def stderr(self) -> str:
+        """What it has said on standard error."""
+        file = self._stderr.fileno()
+        return os.pread(file, os.fstat(file).st_size, 0).decode()
 
     @property
     def said(self) -> List[str]:
@@ -99,7 +111,7 @@ class Run:
     def wait_for_lines(self, count: int) -> None:
         """Waits until the journal has so many lines of partitions."""
         wait_until(lambda: len(journal(self.output)) >= count or self.process.poll() is not None)
-        assert self.process.poll() is None, self.process.communicate()
+        assert self.process.poll() is None, self.stderr
 
 
 def run(output: pathlib.Path, *words: object, env: Optional[Dict[str, str]] = None) -> Run:
@@ -109,8 +121,8 @@ def run(output: pathlib.Path, *words: object, env: Optional[Dict[str, str]] = No
     return it
 
 
-def wait_until(holds: Callable[[], bool], seconds: float = 30) -> None:
-    until = time.monotonic() + seconds
+def wait_until(holds: Callable[[], bool]) -> None:
+    until = time.monotonic() + LONG
     while not holds():
         assert time.monotonic() < until, "it took too long"
         time.sleep(0.005)

@@ -1,9 +1,13 @@
 /* A library that stands before the real one, for tests of what goes wrong. It forwards all calls to the library that
  * SHIM_LIBRARY names. A check takes SHIM_DELAY microseconds more. A tile whose last bytes are one of the marks below is
- * forwarded without them, and what the mark says happens. A slow confirmation writes the number of its process into the
- * file that SHIM_NOTE names. With SHIM_ENDS it ends the process that loads it. */
+ * forwarded without them, and what the mark says happens. With SHIM_ENDS it ends the process that loads it.
+ *
+ * SHIM_GATE names a file that is a gate: a process that comes to it waits until there is such a file. It writes its number
+ * into the file of that name and '.waiting' before. To the gate come tiles with the mark for it, confirmations that are slow,
+ * and where SHIM_FREE is given all tiles of a process after so many. */
 #include <dlfcn.h>
 #include <signal.h>
+#include <stdatomic.h>
 #include <stddef.h>
 #include <stdint.h>
 #include <stdio.h>
@@ -22,6 +26,9 @@ static int (*real_dump)(const uint8_t *, size_t, uint8_t *, size_t, size_t *);
 static int (*real_advise)(const uint8_t *, size_t, uint8_t *, size_t, size_t *);
 static uint32_t (*real_version)(void);
 static useconds_t delay;
+static const char *gate;
+static long free_tiles = -1;
+static atomic_long judged;
 
 static void *found(void *library, const char *name)
 {
@@ -49,6 +56,9 @@ __attribute__((constructor)) static void load(void)
     *(void **)&real_advise = found(library, "mvtgate_advise");
     *(void **)&real_version = found(library, "mvtgate_version");
     delay = said ? (useconds_t)atol(said) : 0;
+    gate = getenv("SHIM_GATE");
+    if (getenv("SHIM_FREE"))
+        free_tiles = atol(getenv("SHIM_FREE"));
 }
 
 static int ends_with(const uint8_t *tile, size_t length, const char *mark)
@@ -62,14 +72,19 @@ static size_t unmarked(const uint8_t *tile, size_t length)
     return length >= MARK && !memcmp(tile + length - MARK, "\xff\xff!!", 4) ? length - MARK : length;
 }
 
-static void confirm_slowly(void)
+static void wait_at_gate(void)
 {
-    FILE *note = fopen(getenv("SHIM_NOTE"), "a");
-    if (note) {
-        fprintf(note, "%d\n", (int)getpid());
-        fclose(note);
+    char name[4096];
+    if (!gate || !access(gate, F_OK))
+        return;
+    snprintf(name, sizeof name, "%s.waiting", gate);
+    FILE *waiting = fopen(name, "a");
+    if (waiting) {
+        fprintf(waiting, "%d\n", (int)getpid());
+        fclose(waiting);
     }
-    usleep(1500000);
+    while (access(gate, F_OK))
+        usleep(5000);
 }
 
 static int judge(Judge *real, uint32_t profile, const uint8_t *tile, size_t length, uint8_t *text, size_t room,
@@ -77,8 +92,9 @@ static int judge(Judge *real, uint32_t profile, const uint8_t *tile, size_t leng
 {
     if (delay)
         usleep(delay);
-    if (ends_with(tile, length, "\xff\xff!!wait"))
-        usleep(30000);
+    int is_free = free_tiles < 0 || atomic_fetch_add(&judged, 1) < free_tiles;
+    if (!is_free || ends_with(tile, length, "\xff\xff!!gate"))
+        wait_at_gate();
     if (ends_with(tile, length, "\xff\xff!!kill"))
         raise(SIGKILL);
     if (ends_with(tile, length, "\xff\xff!!full")) {
@@ -121,7 +137,7 @@ int mvtgate_confirm(uint32_t profile, const uint8_t *tile, size_t length, const 
     if (ends_with(tile, length, "\xff\xff!!deny"))
         return NOT_CONFIRMED;
     if (ends_with(tile, length, "\xff\xff!!slow"))
-        confirm_slowly();
+        wait_at_gate();
     return real_confirm(profile, tile, unmarked(tile, length), text, text_length);
 }
 

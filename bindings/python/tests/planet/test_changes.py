@@ -10,6 +10,7 @@ from typing import Callable, Iterator
 
 import pytest
 
+from planet.conftest import Gate
 from planet.planets import Planet, full_zoom
 from planet.runs import REFUSED, UNFINISHED, VALID, Run, expect_whole, faults_text, journal, run
 
@@ -46,12 +47,14 @@ def remove(path: pathlib.Path) -> None:
 
 @pytest.fixture(scope="module")
 def slow_planet(tmp_path_factory: pytest.TempPathFactory) -> Planet:
-    """256 tiles, of which each fourth takes some hundredths of a second."""
-    return full_zoom(tmp_path_factory.mktemp("slow") / "planet.mbtiles", 4, [(at, b"\xff\xff!!wait") for at in range(0, 256, 4)])
+    """256 tiles, of which one of the last waits at the gate."""
+    return full_zoom(tmp_path_factory.mktemp("slow") / "planet.mbtiles", 4, [(243, b"\xff\xff!!gate")])
 
 
 @pytest.mark.parametrize("change", [update, replace, touch, remove])
-def test_changes(slow_planet: Planet, tmp_path: pathlib.Path, scheduler: str, change: Callable[[pathlib.Path], None]) -> None:
+def test_changes(
+    slow_planet: Planet, tmp_path: pathlib.Path, scheduler: str, gate: Gate, change: Callable[[pathlib.Path], None]
+) -> None:
     path = tmp_path / "planet.mbtiles"
     shutil.copy(slow_planet.path, path)
     # (with workers that have the file open when the next run comes)
@@ -59,6 +62,7 @@ def test_changes(slow_planet: Planet, tmp_path: pathlib.Path, scheduler: str, ch
     it = Run(tmp_path / "out", *words)
     it.wait_for_lines(5)
     change(path)
+    gate.open()
     assert it.end() == REFUSED
     assert len(it.said) == 1 and f": {path}" in it.said[0], it.stderr
     assert not (it.output / "faults.jsonl").exists() and "isn't the file that it was" in it.said[0] or change is remove
@@ -95,9 +99,10 @@ def small_disk(tmp_path: pathlib.Path) -> Iterator[pathlib.Path]:
 def test_full_disk(planet: Planet, tmp_path: pathlib.Path, small_disk: pathlib.Path, scheduler: str) -> None:
     words = [planet.path, "--scheduler", scheduler, "--partition", 16]
     it = run(small_disk / "out", *words)
-    journal_path = it.output / "journal.jsonl"
     assert it.process.returncode == UNFINISHED
-    assert it.said == [f"mvtgate-planet: {journal_path}: No space left on device; what was written before stands"]
+    # (whichever of the two it was that had no room)
+    reasons = [f"{it.output / 'journal.jsonl'}: No space left on device; what was written before stands", f"{it.output / 'journal.bin'}: No space left on device"]
+    assert [line.removeprefix("mvtgate-planet: ") for line in it.said] in [[reason] for reason in reasons]
     done = journal(it.output)
     assert 5 < len(done) < 64
     # (still full)
@@ -113,7 +118,7 @@ def test_full_disk_under_the_results(planet: Planet, small_disk: pathlib.Path, s
     words = [planet.path, "--scheduler", scheduler, "--partition", 1024]
     it = run(small_disk / "out", *words)
     assert it.process.returncode == UNFINISHED
-    assert it.said == [f"mvtgate-planet: {it.output / 'faults.jsonl'}: No space left on device"]
-    assert sorted(path.name for path in it.output.iterdir()) == ["journal.jsonl"]
+    assert it.said in ([f"mvtgate-planet: {it.output / name}: No space left on device"] for name in ("faults.jsonl", "faults.geojson"))
+    assert sorted(path.name for path in it.output.iterdir()) == ["journal.bin", "journal.jsonl"]
     subprocess.run(["mount", "-o", "remount,size=8m", str(small_disk)], check=True)
     expect_whole(planet, run(it.output, *words))

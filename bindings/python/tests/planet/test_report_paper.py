@@ -36,7 +36,7 @@ def printed(browser: Chromium, scheme: str = "light") -> bytes:
 
 def unpacked(page: Page) -> Page:
     """The page when it has unpacked its tiles, which it does soon after it was opened."""
-    page.until("return document.body.dataset.pictures === 'ready'", seconds=10)
+    page.until("return document.body.dataset.pictures === 'ready'")
     return page
 
 

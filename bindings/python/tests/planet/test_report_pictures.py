@@ -3,7 +3,6 @@ from __future__ import annotations
 
 import json
 import pathlib
-import time
 from collections import Counter
 from typing import Any, Dict
 
@@ -16,6 +15,7 @@ from page import Page
 from pictures import is_shown
 from planet.reports import BUILT_PAGE, FAULTS, NAMES, SOURCE, address, chromium, draw_all, opened, quiet, report, rows, write
 from planet.report_samples import TILES, MemorySource, Sample
+from planet.runs import wait_until
 from samples import link_of
 from wire import layer, point
 
@@ -40,7 +40,7 @@ def test_pictures_wait_until_they_are_seen(report: Page) -> None:
     closed = report.script("return [...document.querySelectorAll('details.found:not([open])')].map((it) => it.id)")
     assert closed
     report.script("location.hash = arguments[0]", closed[-1])
-    report.until("return document.querySelector(`#${arguments[0]} svg`)", closed[-1], seconds=10)
+    report.until("return document.querySelector(`#${arguments[0]} svg`)", closed[-1])
     assert report.script("return document.getElementById(arguments[0]).open", closed[-1])
     assert all(report.count(f"#{it} svg") == 0 for it in closed[:-1])
 
@@ -66,11 +66,11 @@ def test_link_opens_the_tile(report: Page, code: int) -> None:
     lines = (TILES / f"expected/{NAMES[sample.feature_id]}.check").read_text().splitlines()
     accepted = [json.loads(it) for it in lines]
     report.script("document.querySelector(`#tile-${arguments[0]}-0`).scrollIntoView()", code)
-    link = report.until("return document.querySelector(`#tile-${arguments[0]}-0 .open-tile`)?.href", code, seconds=10)
+    link = report.until("return document.querySelector(`#tile-${arguments[0]}-0 .open-tile`)?.href", code)
     page = Page(report.browser)
     said = report.script("return document.querySelector(`#tile-${arguments[0]}-0 .said`).textContent", code)
     page.browser.open(link)
-    page.until("return document.body.dataset.state === 'done'", seconds=20)
+    page.until("return document.body.dataset.state === 'done'")
     assert json.loads(said) in accepted and json.loads(page.fault) in accepted
 
 
@@ -120,10 +120,7 @@ def saved(page: Page, chromium: Chromium, name: str) -> bytes:
     """What the first button for it saves."""
     path = chromium.downloads / name
     page.click(".buttons button")
-    for _ in range(250):
-        if path.exists() and path.stat().st_size:
-            break
-        time.sleep(0.02)
+    wait_until(lambda: path.exists() and path.stat().st_size > 0)
     data = path.read_bytes()
     path.unlink()
     return data

@@ -7,13 +7,12 @@ import pathlib
 import re
 import socket
 import struct
-import time
-from typing import Iterator, List, Set
+from typing import Iterator, List, Set, Tuple
 
-from planet.conftest import Shimmed
+from planet.conftest import Gate, Shimmed
 from planet.planets import Planet
-from planet.runs import Run, children, environment, expect_whole, wait_until
-from planet.test_endings import SLOW, Cluster, locally, shared
+from planet.runs import LONG, Run, children, environment, expect_whole, wait_until
+from planet.test_endings import Cluster, locally, shared
 
 LISTENS = "0A"  # the state, in /proc/net/tcp
 
@@ -51,11 +50,12 @@ def test_table_is_read_rightly() -> None:
             assert [str(found) for found in listening({str(os.fstat(it.fileno()).st_ino)})] == [address]
 
 
-def test_all_listen_on_the_loopback_address(planet: Planet, tmp_path: pathlib.Path, shimmed: Shimmed) -> None:
-    it = Run(tmp_path / "out", *locally(planet), env=shimmed(SLOW))
+def test_all_listen_on_the_loopback_address(planet: Planet, tmp_path: pathlib.Path, gate: Gate) -> None:
+    it = Run(tmp_path / "out", *locally(planet), env=gate.env)
     it.wait_for_lines(5)
     processes = [it.process.pid, *children(it.process.pid)]
     addresses = [address for process in processes for address in listening(sockets_of(process))]
+    gate.open()
     it.end()
     # (a scheduler and two workers, each with a dashboard of its own)
     assert len(addresses) >= 6
@@ -63,27 +63,37 @@ def test_all_listen_on_the_loopback_address(planet: Planet, tmp_path: pathlib.Pa
     expect_whole(planet, it)
 
 
-def test_workers_that_end_again_and_again(planet: Planet, tmp_path: pathlib.Path, shimmed: Shimmed) -> None:
+TOLD = re.compile(r"mvtgate-planet: (\d+) workers on 127\.0\.0\.1 have ended within 10 seconds after they had joined: ")
+STANDING = re.compile(r"(\d+) workers?, (\d+) faults?(?:, (\d+) ended early)?")
+
+
+def told(it: Run) -> List[int]:
+    """How many workers it has told that ended early, each time."""
+    return [int(found[1]) for found in map(TOLD.match, it.said) if found]
+
+
+def standing(it: Run) -> List[Tuple[int, int, int]]:
+    """How many workers and faults there were, and how many workers had ended early, by each line of its progress."""
+    return [(int(workers), int(faults), int(early or 0)) for workers, faults, early in STANDING.findall(it.stderr)]
+
+
+def test_workers_that_end_again_and_again(planet: Planet, tmp_path: pathlib.Path, shimmed: Shimmed, gate: Gate) -> None:
     """It is told, in the line of the progress too. A worker that comes later does the work."""
     cluster = Cluster(tmp_path, shimmed(0), workers=0)
     try:
         ending = cluster.add_worker({**shimmed(0), "SHIM_ENDS": "1"}, "--nanny")
         it = Run(tmp_path / "out", *shared(planet, cluster.address), env=environment())
-        wait_until(lambda: cluster.log.read_text().count("Restarting worker") >= 5, 150)
-        # (time for the program's look, once a second)
-        time.sleep(2)
+        # (it is told at a look at the workers, and the line is written now and then: more may have ended by then)
+        wait_until(lambda: any(early >= 3 for _, _, early in standing(it)) or it.process.poll() is not None)
+        assert told(it) and all(count >= 3 for count in told(it)), it.stderr
         ending.terminate()
-        ending.wait()
-        cluster.add_worker(shimmed(0), "--no-nanny")
-        it.end(150)
+        ending.wait(LONG)
+        cluster.add_worker(gate.env, "--no-nanny")
+        wait_until(lambda: standing(it)[-1][0] == 1 and len(gate.processes) == 1)
+        gate.open()
+        it.end()
     finally:
         cluster.end()
     expect_whole(planet, it)
-    # (three are told at the next look, and on a busy machine more have ended by then)
-    told = re.compile(r"mvtgate-planet: (\d+) workers on 127\.0\.0\.1 have ended within 10 seconds after they had joined: ")
-    counts = [int(found[1]) for found in map(told.match, it.said) if found]
-    assert counts and all(count >= 3 for count in counts), it.stderr
-    standing: List[str] = re.findall(r"\d+ workers?, \d+ faults?(?:, \d+ ended early)?", it.stderr)
-    early = [int(found[1]) for found in (re.fullmatch(r"0 workers, 0 faults, (\d+) ended early", line) for line in standing) if found]
-    assert any(count >= 3 for count in early), standing
-    assert re.fullmatch(rf"1 worker, {len(planet.lines)} faults, \d+ ended early", standing[-1])
+    workers, faults, early = standing(it)[-1]
+    assert (workers, faults) == (1, len(planet.lines)) and early >= 3, it.stderr

@@ -7,7 +7,7 @@ import logging
 import os
 import signal
 from multiprocessing import resource_tracker
-from typing import Any, Dict, Iterable, Iterator, Optional
+from typing import Any, ContextManager, Dict, Iterable, Iterator, List, Optional
 
 from .endings import Refused, Unfinished, reason_of
 
@@ -18,6 +18,22 @@ _ALLOWED_FAILURES = 2
 _LINES_OF_SCHEDULER = 1000
 # (any port: another run may have the usual one)
 _DASHBOARD = "127.0.0.1:0"
+
+# of a cluster of its own
+_SETTINGS = {
+    "distributed.scheduler.allowed-failures": _ALLOWED_FAILURES,
+    "distributed.scheduler.transition-log-length": _LINES_OF_SCHEDULER,
+    "distributed.scheduler.events-log-length": _LINES_OF_SCHEDULER,
+    # (a worker that ended comes again by itself. A cluster that waits for it gives it up where it ends once more meanwhile.)
+    "distributed.deploy.lost-worker-timeout": "1000 days",
+    # (so long a result is looked for at a worker that has ended, before another one finds it again)
+    "distributed.comm.timeouts.connect": "10s",
+    # (a large tile isn't a leak)
+    "distributed.worker.memory.terminate": False,
+    "distributed.worker.memory.pause": False,
+    "distributed.worker.memory.spill": False,
+    "distributed.worker.memory.target": False,
+}
 
 _INTERRUPTS = (signal.SIGINT, signal.SIGTERM)
 
@@ -37,12 +53,27 @@ def default_workers() -> int:
 
 @contextlib.contextmanager
 def _uninterrupted() -> Iterator[None]:
-    """Interrupts wait until its end. What is started meanwhile, and by what was, is never interrupted: `preload` lets that end."""
+    """Interrupts wait until its end. What is started meanwhile, and by what was, is never interrupted: `preload` lets that end.
+
+    A signal that this thread blocks goes to another thread of the process, for which Python calls the handler in this one all the
+    same. So while it lasts the handlers only note that there was one.
+    """
+    noted: List[int] = []
+    handlers: Dict[int, Any] = {}
     before = signal.pthread_sigmask(signal.SIG_BLOCK, _INTERRUPTS)
     try:
+        for it in _INTERRUPTS:
+            # (one that is ignored, as in a script's background, stays so)
+            if callable(signal.getsignal(it)):
+                handlers[it] = signal.signal(it, lambda number, _: noted.append(number))
         yield
     finally:
+        # (what waited is noted here)
         signal.pthread_sigmask(signal.SIG_SETMASK, before)
+        for number, handler in handlers.items():
+            signal.signal(number, handler)
+        if noted:
+            raise KeyboardInterrupt
 
 
 @contextlib.contextmanager
@@ -99,34 +130,23 @@ def client_of(scheduler: Optional[str], workers: int) -> Iterator[Any]:
             logging.getLogger(name).setLevel(logging.CRITICAL)
     except ImportError as error:
         raise NoCluster(f"{error}: Debian has it as python3-distributed") from None
-    settings = {
-        "distributed.scheduler.allowed-failures": _ALLOWED_FAILURES,
-        "distributed.scheduler.transition-log-length": _LINES_OF_SCHEDULER,
-        "distributed.scheduler.events-log-length": _LINES_OF_SCHEDULER,
-        # (a worker that ended comes again by itself. A cluster that waits for it gives it up where it ends once more meanwhile.)
-        "distributed.deploy.lost-worker-timeout": "1000 days",
-        # (so long a result is looked for at a worker that has ended, before another one finds it again)
-        "distributed.comm.timeouts.connect": "10s",
-        # (a large tile isn't a leak)
-        "distributed.worker.memory.terminate": False,
-        "distributed.worker.memory.pause": False,
-        "distributed.worker.memory.spill": False,
-        "distributed.worker.memory.target": False,
-    }
     # (of connections that end it writes pages, and a run says itself what came of it)
     logging.disable(logging.CRITICAL)
     with contextlib.ExitStack() as stack:
         if scheduler is None:
-            stack.enter_context(dask.config.set(settings))
+            stack.enter_context(dask.config.set(_SETTINGS))
             place: Any = stack.enter_context(_cluster_of(distributed, workers))
         else:
             _expect_address(scheduler)
             place = scheduler
+        # (that of a cluster of its own is there at once; a scheduler that is silent may be waited for in vain)
+        meanwhile: ContextManager[None] = _uninterrupted() if scheduler is None else contextlib.nullcontext()
         try:
-            client = distributed.Client(place, set_as_default=False)
+            with meanwhile:
+                client = stack.enter_context(distributed.Client(place, set_as_default=False))
         except OSError as error:
             raise NoScheduler(f"{scheduler}: {reason_of(error)}") from None
-        yield stack.enter_context(client)
+        yield client
 
 
 def versions_of(client: Any, workers: Iterable[str]) -> Dict[str, str]:

@@ -2,6 +2,7 @@
 from __future__ import annotations
 
 import contextlib
+import importlib
 import sys
 from typing import Any, TextIO
 
@@ -28,8 +29,9 @@ class Progress:
     """A bar on standard error, by tqdm, or a line now and then where that is no terminal."""
 
     def __init__(self, tiles: int, done: int) -> None:
-        from tqdm import tqdm  # type: ignore[import]
-
+        tqdm: Any = importlib.import_module("tqdm").tqdm
+        # (no thread beside this one, which would get the interrupts that this one lets wait; the bar is told each second how it stands)
+        tqdm.monitor_interval = 0
         self._stream = _Unheard(sys.stderr)
         is_terminal = sys.stderr.isatty()
         self._bar: Any = tqdm(
@@ -39,6 +41,7 @@ class Progress:
             unit_scale=True,
             dynamic_ncols=is_terminal,
             mininterval=0.5 if is_terminal else 10,
+            miniters=0,
             file=self._stream,
         )
 
