@@ -3,12 +3,23 @@ from __future__ import annotations
 
 import itertools
 from dataclasses import dataclass
-from typing import Iterable, Iterator, Optional, Sequence
+from typing import Iterable, Iterator, List, NamedTuple, Optional, Sequence
 
 from .._faults import Fault, fault_of_library
 from .._formats import Format
+from ..planet.geojson import Address
 from .._library import lines_of
+from .mending import Mending
 from .names import on_one_line
+
+
+class About(NamedTuple):
+    """Where a fault's tile is, and what of it the fault is about: a layer, a feature and a point, where it has them."""
+
+    address: Address
+    layer: Optional[str]
+    feature_id: Optional[int]
+    point: Optional[List[float]]
 
 
 @dataclass(frozen=True)
@@ -17,7 +28,8 @@ class Answer:
 
     `place` is z/x/y for a tile of an MBTiles file. `format` is what the bytes are instead of a tile, where they begin so, and
     `confirmed` what the separate checker says of the fault, where it was asked. `is_further` says that the tile has had an
-    answer already.
+    answer already, and `mending` what became of it, where it was to be mended, with the first answer. `about` is there where it is asked
+    for and the tile's place is known.
     """
 
     file: str
@@ -27,6 +39,8 @@ class Answer:
     confirmed: Optional[bool] = None
     error: Optional[str] = None
     is_further: bool = False
+    mending: Optional[Mending] = None
+    about: Optional[About] = None
 
     @property
     def is_valid(self) -> bool:
@@ -59,12 +73,16 @@ class Verdict:
     format: Optional[Format] = None
     confirmed: Optional[Sequence[bool]] = None
     error: Optional[str] = None
+    mending: Optional[Mending] = None
+    abouts: Optional[Sequence[About]] = None
 
     def answers(self) -> Iterator[Answer]:
         """An answer for each fault, or one where there is none."""
         if not self.lines:
             yield Answer(self.file, self.place, error=self.error)
         each: Iterable[Optional[bool]] = itertools.repeat(None) if self.confirmed is None else self.confirmed
-        for at, (text, confirmed) in enumerate(zip(lines_of(self.lines), each)):
+        abouts: Iterable[Optional[About]] = itertools.repeat(None) if self.abouts is None else self.abouts
+        for at, (text, confirmed, about) in enumerate(zip(lines_of(self.lines), each, abouts)):
             fault = fault_of_library(text)
-            yield Answer(self.file, self.place, fault, self.format, confirmed, is_further=at > 0)
+            mending = None if at else self.mending
+            yield Answer(self.file, self.place, fault, self.format, confirmed, is_further=at > 0, mending=mending, about=about)

@@ -20,8 +20,11 @@ import mvtgate
 from .answers import Verdict
 from .counts import Counts
 from .judging import Settings, verdicts_of
+from .geojson import GeoJson
 from .junit import Junit
 from .lines import PROGRAM, Lines, tell
+from .mending import Copies, NoFolder
+from .names import INPUT
 from .processes import WorkerGone, verdicts_by
 from .progress import Bar, tqdm_of_terminal
 from .report import Report, naming
@@ -58,8 +61,11 @@ def arguments() -> argparse.ArgumentParser:
     reader.add_argument("--confirm", action="store_true", help="hand each fault to the separate checker, too")
     reader.add_argument("--allow-empty", action="store_true", help="take a tile of no bytes for a valid one, and not for an error")
     reader.add_argument("--jobs", type=jobs, default=1, metavar="N", help="judge by N processes; 0: one for each processor (1)")
+    reader.add_argument("--mend", metavar="FOLDER", help="write mended copies of files whose polygons break the rules into a new folder")
+    reader.add_argument("--drop", action="store_true", help="with --mend, leave out features that can't be mended")
     reader.add_argument("--junit", metavar="REPORT", help="write a report for CI servers: JUnit's XML")
     reader.add_argument("--sarif", metavar="REPORT", help="write a report for code hosts and editors: SARIF 2.1.0")
+    reader.add_argument("--geojson", metavar="REPORT", help="write a report for maps: a point for each fault of a tile named z/x/y")
     reader.add_argument("--version", action="version", version=f"{PROGRAM} {mvtgate.version()}")
     return reader
 
@@ -72,11 +78,16 @@ def read_words(words: List[str]) -> argparse.Namespace:
     said.file += words[end + 1 :]
     if not said.file:
         reader.error("no FILE is named")
+    if said.drop and said.mend is None:
+        reader.error("--drop is for --mend")
+    if said.mend is not None and INPUT in said.file:
+        reader.error("--mend takes files and folders; mvtgate mend takes standard input")
     return said
 
 
 def _verdicts(said: argparse.Namespace) -> Generator[Verdict, None, None]:
-    settings = Settings(_PROFILES[said.profile], said.confirm, said.allow_empty, said.all, said.quick)
+    copies = None if said.mend is None else Copies.of(said.mend, said.file, said.drop)
+    settings = Settings(_PROFILES[said.profile], said.confirm, said.allow_empty, said.all, said.quick, copies, said.geojson is not None)
     pieces = pieces_of(said.file)
     if said.jobs > 1:
         yield from verdicts_by(said.jobs, pieces, settings)
@@ -91,6 +102,8 @@ def _reports(said: argparse.Namespace, counts: Counts) -> Iterator[Report]:
         yield Junit(said.junit, counts, said.profile, said.all)
     if said.sarif is not None:
         yield Sarif(said.sarif, counts, said.profile)
+    if said.geojson is not None:
+        yield GeoJson(said.geojson, counts)
 
 
 def _bar(said: argparse.Namespace) -> Bar:
@@ -98,8 +111,8 @@ def _bar(said: argparse.Namespace) -> Bar:
     return Bar(tqdm, count(said.file) if tqdm else 0)
 
 
-def _judge(said: argparse.Namespace, counts: Counts) -> None:
-    """Judges all tiles, and writes what is asked for."""
+def _judge(said: argparse.Namespace, counts: Counts) -> List[str]:
+    """Judges all tiles, and writes what is asked for. What is said beside the summary is returned."""
     with contextlib.ExitStack() as stack:
         reports = [stack.enter_context(it) for it in _reports(said, counts)]
         bar = stack.enter_context(contextlib.closing(_bar(said)))
@@ -112,17 +125,18 @@ def _judge(said: argparse.Namespace, counts: Counts) -> None:
                 report.write(answer)
             with naming("standard output"):
                 lines.write(answer)
+    return [line for report in reports for line in report.words()]
 
 
 def _run(said: argparse.Namespace) -> int:
     counts = Counts(said.all)
-    _judge(said, counts)
+    more = _judge(said, counts)
     if not said.quiet:
         with naming("standard error"):
-            print("\n".join(counts.summary()), file=sys.stderr)
+            print("\n".join([*more, *counts.summary()]), file=sys.stderr)
     if counts.failed or counts.unconfirmed:
         return NOT_DONE
-    return FAULTY if counts.faulty else VALID
+    return FAULTY if counts.staying else VALID
 
 
 def _prepare() -> None:
@@ -160,7 +174,7 @@ def main(words: Optional[List[str]] = None) -> int:
         return READER_GONE
     except MemoryError:
         return _fail("out of memory")
-    except WorkerGone as error:
+    except (WorkerGone, NoFolder) as error:
         return _fail(str(error))
     except OSError as error:
         return _fail(f"{error.filename}: {error.strerror}" if error.filename else str(error))

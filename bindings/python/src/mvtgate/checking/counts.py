@@ -17,6 +17,9 @@ class Counts:
         self.faulty = 0
         self.failed = 0
         self.unconfirmed = 0
+        self.mended = 0
+        self.dropped = 0
+        self.not_mended = 0
         self.codes: Counter[int] = collections.Counter()
 
     def add(self, answer: Answer) -> None:
@@ -27,10 +30,19 @@ class Counts:
         if answer.fault is not None:
             self.faulty += not answer.is_further
             self.codes[answer.fault.code] += 1
+        if answer.mending is not None:
+            self.mended += answer.mending.is_mended
+            self.not_mended += not answer.mending.is_mended
+            self.dropped += answer.mending.count("dropped")
 
     @property
     def faults(self) -> int:
         return sum(self.codes.values())
+
+    @property
+    def staying(self) -> int:
+        """How many tiles keep their faults."""
+        return self.faulty - self.mended
 
     @property
     def tiles(self) -> int:
@@ -51,4 +63,11 @@ class Counts:
             said.append(f"{self.failed} not judged")
         if self.unconfirmed:
             said.append(f"{self.unconfirmed} not confirmed")
-        return [*lines, f"{self.tiles} tile{'' if self.tiles == 1 else 's'}: {', '.join(said)}"]
+        return [*lines, f"{self.tiles} tile{'' if self.tiles == 1 else 's'}: {', '.join(said)}{self._mended}"]
+
+    @property
+    def _mended(self) -> str:
+        if not self.mended and not self.not_mended:
+            return ""
+        dropped = f", without {self.dropped} feature{'' if self.dropped == 1 else 's'}" if self.dropped else ""
+        return f"; {self.mended} mended{dropped}, {self.not_mended} not mended"

@@ -11,7 +11,9 @@ from .._faults import fault_of_library
 from .._files import LIMIT
 from .._formats import Format, format_of
 from ..planet.unpack import NotUnpacked, unpacked
-from .answers import Verdict
+from .answers import About, Verdict
+from .geojson import abouts_of, address_of
+from .mending import Copies
 from .pieces import Piece, Raw
 
 
@@ -24,6 +26,8 @@ class Settings:
     allows_empty: bool = False
     has_all: bool = False
     is_quick: bool = False
+    copies: Optional[Copies] = None
+    has_places: bool = False
 
 
 def _lines(tile: bytes, settings: Settings) -> str:
@@ -44,6 +48,13 @@ def _confirmed(tile: bytes, lines: str, settings: Settings) -> Optional[List[boo
     return [mvtgate.confirm(tile, it, settings.profile) for it in _library.lines_of(lines)]
 
 
+def _abouts(raw: Raw, tile: bytes, lines: str, settings: Settings) -> Optional[List[About]]:
+    address = address_of(raw.file, raw.place) if settings.has_places else None
+    if address is None:
+        return None
+    return abouts_of(tile, [fault_of_library(it) for it in _library.lines_of(lines)], address)
+
+
 def _judged(raw: Raw, settings: Settings) -> Verdict:
     if len(raw.data) > LIMIT:
         raise NotUnpacked(f"it is larger than {LIMIT} bytes")
@@ -54,7 +65,9 @@ def _judged(raw: Raw, settings: Settings) -> Verdict:
     lines = _lines(tile, settings)
     if not lines:
         return Verdict(raw.file, raw.place)
-    return Verdict(raw.file, raw.place, lines, _format(tile, lines), _confirmed(tile, lines, settings))
+    confirmed = _confirmed(tile, lines, settings)
+    mending = None if settings.copies is None else settings.copies.mend(raw, tile, settings.profile)
+    return Verdict(raw.file, raw.place, lines, _format(tile, lines), confirmed, mending=mending, abouts=_abouts(raw, tile, lines, settings))
 
 
 def _verdict(raw: Raw, settings: Settings) -> Verdict:

@@ -30,6 +30,8 @@ def as_json(answer: Answer, is_explaining: bool) -> str:
             line["explanation"] = explanation(answer.fault, answer.format)
     if answer.confirmed is not None:
         line["confirmed"] = answer.confirmed
+    if answer.mending is not None:
+        line.update(answer.mending.members)
     return json.dumps(line)
 
 
@@ -38,7 +40,8 @@ def as_words(answer: Answer, is_explaining: bool) -> str:
     if answer.fault is None:
         return f"{answer.name}: {answer.sentence}"
     said = {None: "", True: " (confirmed)", False: " (NOT CONFIRMED)"}[answer.confirmed]
-    line = f"{answer.name}: {answer.fault.code}: {answer.sentence}{said}"
+    mending = "" if answer.mending is None else f" ({answer.mending.words(answer.fault)})"
+    line = f"{answer.name}: {answer.fault.code}: {answer.sentence}{said}{mending}"
     if is_explaining:
         # (the sentence of a format stands in the line)
         told = answer.format and answer.format.sentence

@@ -6,7 +6,7 @@ import contextlib
 import shutil
 import tempfile
 from types import TracebackType
-from typing import Iterator, Optional, Type
+from typing import Iterator, List, Optional, Type
 
 from .answers import Answer
 from .counts import Counts
@@ -45,6 +45,10 @@ class Report(abc.ABC):
     @abc.abstractmethod
     def tail(self) -> str:
         """What stands after them."""
+
+    def words(self) -> List[str]:
+        """What is to be said of it beside the summary."""
+        return []
 
     def write(self, answer: Answer) -> None:
         """Takes one more answer."""
