@@ -1,8 +1,9 @@
-// The script of a run's report: the map of the tiles, and the pictures of faults. All else is in the file as it is written.
+// The script of a run's report: the map of the tiles, the list of all that have a fault, and the pictures of faults. All else is in the file as it is written.
 
 import { byId } from '../app/tools/dom.js';
 import { MapView } from './map/view.js';
 import { Pictures } from './pictures.js';
+import { TileList } from './tiles/view.js';
 
 /**
  * The content of a script element with JSON.
@@ -17,4 +18,10 @@ addEventListener('beforeprint', () => document.documentElement.classList.add('on
 addEventListener('afterprint', () => document.documentElement.classList.remove('on-paper'));
 
 new Pictures(dataOf('page-data')).start();
-if (document.getElementById('map-view')) new MapView(dataOf('map-data')).start();
+if (document.getElementById('map-view')) {
+  const map = dataOf('map-data');
+  const list = document.getElementById('tiles') ? new TileList(dataOf('tiles-data'), map) : null;
+  new MapView(map, list && ((block, name) => list.show(block, name))).start();
+  // (what is seen first comes first)
+  setTimeout(() => list?.start());
+}

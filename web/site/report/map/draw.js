@@ -1,10 +1,12 @@
 // Draws the cells of the map.
 
 import { lookOf, strengthOf } from './cells.js';
+import { WHOLE, sidesOf } from './frame.js';
 
 /** @typedef {import('./cells.js').Zoom} Zoom */
 /** @typedef {import('./cells.js').Cells} Cells */
 /** @typedef {import('./cells.js').CodeClass} CodeClass */
+/** @typedef {import('./frame.js').Frame} Frame */
 
 const LARGEST = 48; // pixels of a cell
 const HIGHEST = 620; // pixels of the map
@@ -28,17 +30,19 @@ export function sizeOfMap({ columns, rows }, room) {
  * @param {Zoom} zoom
  * @param {Cells} cells
  * @param {CodeClass[]} classes
+ * @param {Frame} [frame] what of it is seen
  */
-export function drawCells(canvas, zoom, cells, classes) {
+export function drawCells(canvas, zoom, cells, classes, frame = WHOLE) {
   const context = canvas.getContext('2d');
   if (!context) return;
   const { columns, rows } = zoom;
   const colours = coloursOf(canvas, [...classes.map(({ name }) => name), 'unjudged', 'valid', 'empty']);
-  const across = edgesOf(columns, canvas.width), down = edgesOf(rows, canvas.height);
+  const sides = sidesOf(frame, zoom, canvas);
+  const across = edgesOf(columns, sides.across, frame.left), down = edgesOf(rows, sides.down, frame.top);
   context.fillStyle = colours.empty;
   context.fillRect(0, 0, canvas.width, canvas.height);
-  for (let row = 0; row < rows; row += 1) {
-    for (let column = 0; column < columns; column += 1) {
+  for (let row = Math.floor(frame.top); row < rows && down[row] < canvas.height; row += 1) {
+    for (let column = Math.floor(frame.left); column < columns && across[column] < canvas.width; column += 1) {
       const at = row * columns + column, look = lookOf(cells, at, classes);
       if (look === 'empty') continue;
       fill(context, look === 'unjudged' ? colours.unjudged : colours.valid, 1, across, down, column, row);
@@ -68,10 +72,11 @@ function fill(context, colour, strength, across, down, column, row) {
 /**
  * Where cells begin and end, in whole pixels.
  * @param {number} count
- * @param {number} length
+ * @param {number} side of a cell
+ * @param {number} first the cell at the edge of the map, or a part of it
  */
-function edgesOf(count, length) {
-  return Array.from({ length: count + 1 }, (_, at) => Math.round((at * length) / count));
+function edgesOf(count, side, first) {
+  return Array.from({ length: count + 1 }, (_, at) => Math.round((at - first) * side));
 }
 
 /**

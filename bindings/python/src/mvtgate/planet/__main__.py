@@ -12,11 +12,13 @@ import argparse
 import contextlib
 import importlib.util
 import os
+import re
 import signal
 import sys
 import traceback
 import warnings
-from typing import Any, List, NoReturn, Optional
+from fractions import Fraction
+from typing import Any, List, NoReturn, Optional, Tuple
 
 import mvtgate
 
@@ -24,6 +26,7 @@ from .cluster import default_workers
 from .endings import Ending, Refused, Status, ending_of
 from .outputs import REPORT, Counts
 from .settings import Settings
+from .window import LAST_ZOOM, Box, Window, box_of, zooms_of
 
 _PARTITION = 4000
 # what the module alone doesn't need, and Debian's packages of it
@@ -36,6 +39,39 @@ def positive(word: str) -> int:
     if number < 1:
         raise argparse.ArgumentTypeError("it is at least 1")
     return number
+
+
+def count(word: str) -> int:
+    """A number of tiles."""
+    number = int(word)
+    if number < 0:
+        raise argparse.ArgumentTypeError("it is at least 0")
+    return number
+
+
+def rate(word: str) -> Fraction:
+    """A share, from 0 to 1 or in percent."""
+    found = re.fullmatch(r"(\d{1,9}(?:\.\d{1,15})?|\.\d{1,15})(%?)", word, re.ASCII)
+    share = Fraction(found[1]) / (100 if found[2] else 1) if found else Fraction(2)
+    if share > 1:
+        raise argparse.ArgumentTypeError("it is from 0 to 1, or from 0% to 100%")
+    return share
+
+
+def zooms(word: str) -> Tuple[int, int]:
+    """Zooms from a first to a last one."""
+    try:
+        return zooms_of(word)
+    except ValueError:
+        raise argparse.ArgumentTypeError(f"a zoom is from 0 to {LAST_ZOOM}, and several are such as 3-10") from None
+
+
+def box(word: str) -> Box:
+    """A box of the earth."""
+    try:
+        return box_of(word)
+    except ValueError:
+        raise argparse.ArgumentTypeError("a box is west,south,east,north in degrees, with west less than east and south less than north") from None
 
 
 class Words(argparse.ArgumentParser):
@@ -58,6 +94,15 @@ def arguments() -> argparse.ArgumentParser:
     reader.add_argument("--profile", choices=("polygon", "feature"), default="polygon", help="what polygons are held against (polygon)")
     reader.add_argument("--all", action="store_true", help="name each faulty layer and feature of a tile, and not the first one alone")
     reader.add_argument("--advice", action="store_true", help="write advice.jsonl, too: what may be a mistake in a valid tile")
+    reader.add_argument("--mend", metavar="OUT", help="write a copy of FILE in which the tiles are mended whose polygons break the rules")
+    reader.add_argument("--drop", action="store_true", help="with --mend, leave out features that can't be mended")
+    reader.add_argument("--since", metavar="RUN", help="judge only tiles whose bytes are others than in this folder's run, and say what is new")
+    reader.add_argument("--zoom", type=zooms, default=(0, LAST_ZOOM), metavar="ZOOMS", help="judge the tiles of a zoom, as 14, or of some, as 3-10")
+    reader.add_argument("--bbox", type=box, metavar="W,S,E,N", help="judge the tiles of a box: west, south, east and north in degrees")
+    reader.add_argument("--layer", action="append", default=[], metavar="NAME", help="look for faults in this layer alone; it may be given again")
+    reader.add_argument("--max-faults", type=count, metavar="N", help="have the status 0 where at most N tiles have a fault")
+    reader.add_argument("--max-rate", type=rate, metavar="SHARE", help="have the status 0 where at most this share of the tiles has a fault, as 0.001 or 0.1%%")
+    reader.add_argument("--junit", metavar="REPORT", help="write a report for CI servers: JUnit's XML with a case for each zoom")
     reader.add_argument("--workers", type=positive, metavar="N", help="workers on this machine (one for each processor)")
     reader.add_argument("--scheduler", metavar="ADDRESS", help="use the workers of this Dask scheduler, such as tcp://host:8786")
     reader.add_argument("--partition", type=positive, metavar="N", default=_PARTITION, help=f"tiles that a worker gets at a time ({_PARTITION})")
@@ -82,6 +127,8 @@ def paths_of(said: argparse.Namespace) -> List[str]:
 def settings_of(said: argparse.Namespace) -> Settings:
     """What the words ask for."""
     paths = paths_of(said)
+    if said.drop and said.mend is None:
+        raise Refused("--drop is for --mend")
     return Settings(
         paths=paths,
         output=said.output or f"{os.path.basename(os.path.abspath(paths[0]))}.mvtgate",
@@ -92,10 +139,16 @@ def settings_of(said: argparse.Namespace) -> Settings:
         scheduler=said.scheduler,
         partition=said.partition,
         is_anew=said.anew,
+        mend=said.mend,
+        is_dropping=said.drop,
+        since=said.since,
+        window=Window(said.zoom[0], said.zoom[1], said.bbox),
+        layers=tuple(said.layer),
+        junit=said.junit,
     )
 
 
-def summary(counts: Counts, has_all: bool) -> str:
+def summary(counts: Counts, has_all: bool, is_mending: bool = False) -> str:
     """The last line."""
     said = [f"{counts.valid} valid", f"{counts.faulty} with a fault"]
     if has_all:
@@ -104,7 +157,8 @@ def summary(counts: Counts, has_all: bool) -> str:
         said.append(f"{counts.failed} not judged")
     if counts.unconfirmed:
         said.append(f"{counts.unconfirmed} not confirmed")
-    return f"{counts.tiles} tile{'' if counts.tiles == 1 else 's'}: {', '.join(said)}"
+    mended = f"; {counts.mended} mended, {counts.faulty - counts.mended} not mended" if is_mending else ""
+    return f"{counts.tiles} tile{'' if counts.tiles == 1 else 's'}: {', '.join(said)}{mended}"
 
 
 def require_packages() -> None:
@@ -129,19 +183,39 @@ def go(said: argparse.Namespace) -> Status:
 
     run = Run(settings_of(said))
     counts = run.go()
-    say(f"{summary(counts, said.all)}; see {os.path.join(run.settings.output, REPORT)}")
+    say(f"{summary(counts, said.all, said.mend is not None)}; see {os.path.join(run.settings.output, REPORT)}")
     if counts.failed or counts.unconfirmed:
         return Status.UNJUDGED
-    return Status.FAULTY if counts.faulty else Status.VALID
+    return Status.FAULTY if has_too_many(counts, said) else Status.VALID
+
+
+def has_too_many(counts: Counts, said: argparse.Namespace) -> bool:
+    """Whether more tiles have a fault that stays than the words allow: none, where they allow no number."""
+    staying = counts.faulty - counts.mended
+    if said.max_faults is None and said.max_rate is None:
+        return staying > 0
+    is_many = said.max_faults is not None and staying > said.max_faults
+    return is_many or (said.max_rate is not None and staying > said.max_rate * counts.tiles)
 
 
 def interrupt(*_: Any) -> None:
     raise KeyboardInterrupt
 
 
+def _joined(words: List[str]) -> List[str]:
+    """The words, with a box that begins with a minus taken for what it is, and not for an option."""
+    joined: List[str] = []
+    for word in words:
+        if joined and joined[-1] == "--bbox" and re.match(r"-[\d.]", word):
+            joined[-1] = f"--bbox={word}"
+        else:
+            joined.append(word)
+    return joined
+
+
 def main(words: Optional[List[str]] = None) -> int:
     """Runs the command and returns its exit status."""
-    said = arguments().parse_args(words)
+    said = arguments().parse_args(_joined(sys.argv[1:] if words is None else words))
     signal.signal(signal.SIGTERM, interrupt)
     # (of a call of Dask's that an interrupt ends)
     warnings.filterwarnings("ignore", "coroutine .* was never awaited", RuntimeWarning)

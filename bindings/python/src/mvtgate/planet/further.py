@@ -10,17 +10,19 @@ from dataclasses import dataclass
 from typing import Any, Counter, Dict, Iterator, List, Mapping, NamedTuple, Optional, Tuple
 
 from .._faults import fault_of_library
+from .geojson import Address, point_of
 from .names import Names
 
 _json_of = json.JSONEncoder(separators=(",", ":")).encode
 
 
 class OneFault(NamedTuple):
-    """A fault, the name of its layer and the id of its feature, where it has them."""
+    """A fault, and the name of its layer, the id of its feature, and longitude and latitude of its point, where it has them."""
 
     fault: Dict[str, Any]
     layer: Optional[str]
     feature_id: Optional[int]
+    point: Optional[List[float]] = None
 
 
 @dataclass(frozen=True)
@@ -31,7 +33,7 @@ class Further:
     packed: str
 
     @classmethod
-    def of_lines(cls, tile: bytes, lines: Iterator[str]) -> Optional[Further]:
+    def of_lines(cls, tile: bytes, lines: Iterator[str], address: Optional[Address] = None) -> Optional[Further]:
         """Those that the library has told of a tile, in its order. None where there are none."""
         names = Names(tile)
         counts: Counter[Tuple[int, Optional[str]]] = collections.Counter()
@@ -39,9 +41,11 @@ class Further:
         with gzip.GzipFile(fileobj=content, mode="wb", mtime=0) as file:
             for line in lines:
                 fault = fault_of_library(line)
-                layer, feature_id = names.of(fault)
-                counts[fault.code, layer] += 1
-                file.write(_json_of([fault.members, layer, feature_id]).encode() + b"\n")
+                subject = names.subject_of(fault)
+                counts[fault.code, subject.layer] += 1
+                point = None if address is None else point_of(fault.members, address, subject)
+                told: List[Any] = [fault.members, subject.layer, subject.feature_id]
+                file.write(_json_of(told if point is None else [*told, point]).encode() + b"\n")
         if not counts:
             return None
         return cls([(*it, count) for it, count in counts.items()], base64.b64encode(content.getvalue()).decode())

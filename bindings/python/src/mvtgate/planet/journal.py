@@ -15,8 +15,9 @@ from typing import Any, BinaryIO, Callable, Dict, Iterator, List
 
 from .endings import Refused, Unfinished, ending_of
 from .records import Judged, Partition
+from .store import Store
 
-FORMAT = 2
+FORMAT = 3
 
 
 class JournalError(Refused):
@@ -28,7 +29,8 @@ class NotWritten(Unfinished):
 
 
 class Journal:
-    """Opened for one call alone, which began `seconds` ago by the clock. The lines themselves stay in the file.
+    """Opened for one call alone, which began `seconds` ago by the clock. The lines themselves stay in the file, and bytes of tiles in a
+    store beside it.
 
     `faults` is how many tiles with a fault it has. `on_begin` is called where the run begins, before anything is written, and not
     where it goes on.
@@ -47,9 +49,10 @@ class Journal:
         self._done: Dict[Partition, int] = {}
         self._splits: Dict[Partition, List[Partition]] = {}
         self._file = self._open()
-        self._end = 0
+        self._end = self._stored = 0
         self._earlier = 0.0
         self._began = time.monotonic() - seconds
+        self.store = Store(f"{os.path.splitext(path)[0]}.bin")
         try:
             self._begin(run, is_anew, on_begin)
         except OSError as error:
@@ -64,6 +67,7 @@ class Journal:
             os.ftruncate(self._file.fileno(), 0)
         self._read(run)
         os.ftruncate(self._file.fileno(), self._end)
+        self.store.cut(self._stored)
         if self._end == 0:
             on_begin()
             self._write({"run": run})
@@ -101,6 +105,7 @@ class Journal:
         if "judged" in members:
             self._done[Partition.of(members["judged"]["partition"])] = self._end
             self.faults += sum(it["fault"] is not None for it in members["judged"]["findings"])
+            self._stored = int(members["stored"])
         else:
             self._splits[Partition.of(members["split"])] = [Partition.of(it) for it in members["into"]]
         self._earlier = float(members["clock"])
@@ -134,9 +139,20 @@ class Journal:
         """A partition is done."""
         at = self._end
         assert judged.partition not in self._done
-        self._write({"judged": judged.members(), "clock": self._clock()})
+        self._keep(judged)
+        self._write({"judged": judged.members(), "clock": self._clock(), "stored": self.store.end})
         self._done[judged.partition] = at
         self.faults += len(judged.faults)
+
+    def _keep(self, judged: Judged) -> None:
+        """Puts the bytes of its tiles into the store."""
+        mended = [it.mending for it in judged.findings if it.mending is not None and it.mending.is_mended]
+        for mending, payload in zip(mended, judged.payloads):
+            mending.at = self.store.add(payload)
+        judged.sums = self.store.add(judged.block), len(judged.block)
+        if judged.payloads or judged.block:
+            self.store.sync()
+        judged.payloads, judged.block = [], b""
 
     def split(self, partition: Partition, into: List[Partition]) -> None:
         """A partition goes on as these parts, also in a later run."""
@@ -175,4 +191,5 @@ class Journal:
             return Judged.of(json.loads(file.readline())["judged"])
 
     def close(self) -> None:
+        self.store.close()
         self._file.close()

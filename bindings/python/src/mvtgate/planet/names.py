@@ -3,66 +3,19 @@ from __future__ import annotations
 
 import codecs
 import itertools
-from typing import Iterator, Optional, Tuple, Union
+from typing import NamedTuple, Optional, Tuple
 
 from .._faults import Fault
+from .wire import EXTENT, FEATURE, ID, LAYER, NAME, nth, number_of, payloads
 
-# fields of the messages of a tile (MVT 2.1 section 4), and wire types (Protocol Buffers encoding)
-_LAYER, _NAME, _FEATURE, _ID = 3, 1, 2, 1
 # (bytes of a name that are kept; a tile may have one of megabytes)
 _LONGEST_NAME = 200
-_VARINT, _BYTES = 0, 2
-# the sizes of the other wire types
-_FIXED = {1: 8, 5: 4}
+_USUAL_EXTENT = 4096
 _decoder = codecs.getincrementaldecoder("utf-8")
 
 
-def _varint(message: memoryview, at: int) -> Tuple[int, int]:
-    """A varint, and where it ends. IndexError where it is cut."""
-    if message[at] < 128:
-        return message[at], at + 1
-    value = shift = 0
-    while True:
-        byte = message[at]
-        at += 1
-        value |= (byte & 127) << shift
-        if byte < 128:
-            return value, at
-        shift += 7
-        if shift > 63:
-            raise IndexError(at)
-
-
-def _payloads(message: memoryview, number: int) -> Iterator[Union[int, memoryview]]:
-    """Those of the fields of a number, up to the first field that can't be read."""
-    at = 0
-    try:
-        while at < len(message):
-            key, at = _varint(message, at)
-            kind = key & 7
-            if kind == _VARINT:
-                value, at = _varint(message, at)
-                if key >> 3 == number:
-                    yield value
-                continue
-            size, at = _varint(message, at) if kind == _BYTES else (_FIXED[kind], at)
-            if at + size > len(message):
-                return
-            if key >> 3 == number:
-                yield message[at : at + size]
-            at += size
-    except LookupError:
-        return
-
-
-def _nth(message: memoryview, number: int, index: int) -> Optional[memoryview]:
-    """The payload of the field that occurs `index` times before it."""
-    payloads = (it for it in _payloads(message, number) if isinstance(it, memoryview))
-    return next(itertools.islice(payloads, index, None), None)
-
-
 def _name_of(layer: memoryview) -> Optional[str]:
-    raw = _nth(layer, _NAME, 0)
+    raw = nth(layer, NAME, 0)
     if raw is None:
         return None
     is_whole = len(raw) <= _LONGEST_NAME
@@ -80,16 +33,16 @@ def names_of(tile: bytes, fault: Fault) -> Tuple[Optional[str], Optional[int]]:
     index = fault.layer if fault.layer is not None else fault.first
     if not isinstance(index, int):
         return None, None
-    layer = _nth(memoryview(tile), _LAYER, index)
+    layer = nth(memoryview(tile), LAYER, index)
     if layer is None:
         return None, None
     name = _name_of(layer)
-    feature = _nth(layer, _FEATURE, fault.feature) if fault.feature is not None else None
+    feature = nth(layer, FEATURE, fault.feature) if fault.feature is not None else None
     return name, None if feature is None else _id_of(feature)
 
 
 def _id_of(feature: memoryview) -> Optional[int]:
-    found = next((it for it in _payloads(feature, _ID) if isinstance(it, int)), None)
+    found = number_of(feature, ID)
     return found if found is None or found < 1 << 64 else None
 
 
@@ -97,7 +50,7 @@ class _Walk:
     """The payloads of the fields of a number, for indices that don't get less."""
 
     def __init__(self, message: memoryview, number: int) -> None:
-        self._left = (it for it in _payloads(message, number) if isinstance(it, memoryview))
+        self._left = (it for it in payloads(message, number) if isinstance(it, memoryview))
         self._taken = 0
         self._last: Optional[memoryview] = None
 
@@ -109,31 +62,46 @@ class _Walk:
         return self._last
 
 
+class Subject(NamedTuple):
+    """What a fault or a change is about, as far as the tile has it."""
+
+    layer: Optional[str] = None
+    feature_id: Optional[int] = None
+    extent: int = _USUAL_EXTENT
+    feature: Optional[memoryview] = None
+
+
 class Names:
     """The same for many faults of one tile, in the order of faults, by two walks over it: for those of layers, and of features."""
 
     def __init__(self, tile: bytes) -> None:
         self._tile = memoryview(tile)
-        self._layers = _Walk(self._tile, _LAYER)
+        self._layers = _Walk(self._tile, LAYER)
         self._at = -1
-        self._name: Optional[str] = None
+        self._layer = Subject()
         self._features: Optional[_Walk] = None
 
     def of(self, fault: Fault) -> Tuple[Optional[str], Optional[int]]:
         """What `names_of` says of the fault."""
+        return self.subject_of(fault)[:2]
+
+    def subject_of(self, fault: Fault) -> Subject:
+        """What a fault is about."""
         # (of two layers with one name the second one, since the order goes by it)
         index = fault.second if fault.code == 202 else fault.layer
-        if not isinstance(index, int):
-            return None, None
-        if index != self._at:
-            self._go_to(index)
-        feature = None if self._features is None or fault.feature is None else self._features.at(fault.feature)
-        return self._name, None if feature is None else _id_of(feature)
+        return self.subject(index, fault.feature) if isinstance(index, int) else Subject()
+
+    def subject(self, layer: int, feature: Optional[int]) -> Subject:
+        """A layer by its number, or a feature of it."""
+        if layer != self._at:
+            self._go_to(layer)
+        found = None if self._features is None or feature is None else self._features.at(feature)
+        return self._layer if found is None else self._layer._replace(feature_id=_id_of(found), feature=found)
 
     def _go_to(self, index: int) -> None:
         if index < self._at:
-            self._layers = _Walk(self._tile, _LAYER)
+            self._layers = _Walk(self._tile, LAYER)
         self._at = index
         layer = self._layers.at(index)
-        self._name = None if layer is None else _name_of(layer)
-        self._features = None if layer is None else _Walk(layer, _FEATURE)
+        self._features = None if layer is None else _Walk(layer, FEATURE)
+        self._layer = Subject() if layer is None else Subject(_name_of(layer), extent=number_of(layer, EXTENT) or _USUAL_EXTENT)

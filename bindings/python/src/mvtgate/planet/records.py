@@ -10,6 +10,7 @@ from dataclasses import dataclass, field
 from typing import Any, Dict, List, Mapping, Optional, Tuple
 
 from .further import Further
+from .mending.tiles import Mending
 
 # A cell of the report's map is a block of tiles, so that a zoom has at most this many cells in a row or column.
 CELLS = 256
@@ -91,9 +92,9 @@ class Finding:
     """A tile that isn't valid: it has a fault, or couldn't be judged, for which `error` says why.
 
     `size` is that of the bytes that were judged, or those that are stored where there are none. `seconds` is the processor's time
-    for judging it. `layer` is the name of the fault's layer and `feature_id` the id of its feature, where it has them. `format` is
+    for judging it. `layer` is the name of the fault's layer and `feature_id` the id of its feature, and `point` longitude and latitude of its point, where it has them. `format` is
     the name of another format, where the bytes are no tile and begin as its files do. `further` has the tile's other faults, where all
-    are asked for, none of which is confirmed.
+    are asked for, none of which is confirmed. `mending` says what became of the tile, where refused tiles are mended.
     """
 
     column: int
@@ -107,6 +108,8 @@ class Finding:
     confirmed: Optional[bool] = None
     format: Optional[str] = None
     further: Optional[Further] = None
+    mending: Optional[Mending] = None
+    point: Optional[List[float]] = None
 
     @classmethod
     def of(cls, members: Mapping[str, Any]) -> Finding:
@@ -114,11 +117,18 @@ class Finding:
         found = cls(**members)
         if found.further is not None:
             found.further = Further.of(members["further"])
+        if found.mending is not None:
+            found.mending = Mending.of(members["mending"])
         return found
 
     def members(self) -> Dict[str, Any]:
         """What the journal's line has."""
-        return {**vars(self), "further": None if self.further is None else vars(self.further)}
+        further = None if self.further is None else vars(self.further)
+        return {**vars(self), "further": further, "mending": None if self.mending is None else vars(self.mending)}
+
+    @property
+    def is_mended(self) -> bool:
+        return self.mending is not None and self.mending.is_mended
 
     @property
     def count(self) -> int:
@@ -138,7 +148,12 @@ class Timed:
 
 @dataclass
 class Judged:
-    """All that was found in a partition: a line of the journal."""
+    """All that was found in a partition: a line of the journal.
+
+    `payloads` are the bytes of mended tiles, in the order of the findings that have some, and `block` the sums of all tiles, until
+    they are in the run's store; `sums` says where the block is there, and how long. `reused` is how many tiles an earlier run had
+    judged, of which the bytes are the same.
+    """
 
     partition: Partition
     judged_by: str
@@ -150,11 +165,20 @@ class Judged:
     advice: List[Dict[str, Any]] = field(default_factory=list)
     slowest: List[Timed] = field(default_factory=list)
     confirmed_by: Optional[str] = None
+    payloads: List[bytes] = field(default_factory=list)
+    block: bytes = b""
+    sums: Tuple[int, int] = (0, 0)
+    reused: int = 0
 
     @property
     def faults(self) -> List[Finding]:
         """The findings that are faults."""
         return [it for it in self.findings if it.fault is not None]
+
+    @property
+    def unconfirmed(self) -> List[Finding]:
+        """The faults of which the checker wasn't asked."""
+        return [it for it in self.faults if it.confirmed is None]
 
     def members(self) -> Dict[str, Any]:
         """What the journal's line has."""
@@ -164,7 +188,9 @@ class Judged:
             "findings": [it.members() for it in self.findings],
             "slowest": [vars(it) for it in self.slowest],
         }
-        return {**vars(self), **of_types}
+        members = {**vars(self), **of_types}
+        del members["payloads"], members["block"]
+        return members
 
     @classmethod
     def of(cls, members: Mapping[str, Any]) -> Judged:
@@ -174,5 +200,6 @@ class Judged:
             "cells": [tuple(it) for it in members["cells"]],
             "findings": [Finding.of(it) for it in members["findings"]],
             "slowest": [Timed(**it) for it in members["slowest"]],
+            "sums": tuple(members["sums"]),
         }
         return cls(**{**members, **of_types})

@@ -7,7 +7,7 @@ import os
 import time
 import uuid
 from dataclasses import asdict
-from typing import Any, Dict, Iterator, List, Tuple
+from typing import Any, Dict, Iterator, List, Optional, Tuple
 
 import mvtgate
 
@@ -15,14 +15,19 @@ from .attendance import Attendance
 from .cluster import client_of
 from .endings import ending_of
 from .journal import FORMAT, Journal
+from .mending.changes import Changes
+from .mending.copy import NoCopy, copy_of, replaced
 from .outputs import PAGE, REPORT, Counts, remove_outputs, write_outputs
 from .page import built_page
 from .progress import Progress
-from .records import Extent, Partition
+from .records import Extent, Partition, Place
 from .report import Report, require_parts
+from .report.limits import LISTED
 from .schedule import Schedule
 from .settings import Settings
+from .since import Difference, EarlierRun, Known
 from .sources import NotASource, open_source
+from .summary import write_summary
 from .whole_file import WholeFile
 from .work import Task
 
@@ -33,7 +38,7 @@ class Run:
     def __init__(self, settings: Settings) -> None:
         require_parts()
         self.settings = settings
-        self._sources = [open_source(path) for path in settings.paths]
+        self._sources = [open_source(path, settings.window) for path in settings.paths]
         self._began = time.monotonic()
         self._name = uuid.uuid4().hex
         surveys = [source.survey() for source in self._sources]
@@ -43,7 +48,11 @@ class Run:
             if not survey:
                 raise NotASource(f"{source.path}: there is no tile in it")
         self._stamps = [source.stamp() for source in self._sources]
+        self._copy = None if settings.mend is None else copy_of(self._sources, settings.mend)
         self._members = self._first_line(surveys)
+        self._earlier = None if settings.since is None else EarlierRun(settings.since)
+        if self._earlier is not None:
+            self._earlier.expect(self._members)
 
     def _first_line(self, surveys: List[List[Extent]]) -> Dict[str, Any]:
         """What the journal says of the run. Where one of these isn't the same, another run can't go on with it."""
@@ -54,6 +63,11 @@ class Run:
             "advice": self.settings.has_advice,
             "all": self.settings.has_all,
             "partition": self.settings.partition,
+            "mend": None if self._copy is None else os.path.abspath(self._copy.path),
+            "drop": self.settings.is_dropping,
+            "since": None if self.settings.since is None else os.path.abspath(self.settings.since),
+            "window": self.settings.window.members(),
+            "layers": list(self.settings.layers),
             "sources": [
                 {
                     "path": source.path,
@@ -78,7 +92,14 @@ class Run:
             self._members["version"],
             self._name,
             self.settings.has_all,
+            self._copy is not None,
+            self.settings.is_dropping,
+            self.settings.layers,
+            self.settings.window,
         )
+
+    def _known_of(self, partition: Partition) -> Optional[Known]:
+        return None if self._earlier is None else self._earlier.known(partition)
 
     def _left(self, journal: Journal) -> Iterator[Partition]:
         """What is to be done."""
@@ -88,6 +109,10 @@ class Run:
 
     def go(self) -> Counts:
         """Does the run, and writes what was found."""
+        if self._copy is not None:
+            self._copy.check()
+        if self.settings.is_anew:
+            self._expect_no_copy()
         journal = self._journal()
         try:
             unjudged, workers = self._judge(journal)
@@ -104,7 +129,17 @@ class Run:
             raise ending_of(error) from None
         seconds = time.monotonic() - self._began
         path = os.path.join(folder, "journal.jsonl")
-        return Journal(path, self._members, self.settings.is_anew, seconds, lambda: remove_outputs(folder))
+        return Journal(path, self._members, self.settings.is_anew, seconds, self._begin)
+
+    def _begin(self) -> None:
+        """Before a run begins, and not where it goes on."""
+        self._expect_no_copy()
+        remove_outputs(self.settings.output)
+
+    def _expect_no_copy(self) -> None:
+        """Nothing is written over: where there is a copy of this name, it is this run's, or the run doesn't begin."""
+        if self._copy is not None and os.path.lexists(self._copy.path):
+            raise NoCopy(f"{self._copy.path} is there already; name another file for the mended tiles, or remove it")
 
     def _judge(self, journal: Journal) -> Tuple[List[Tuple[Partition, str]], int]:
         """Those that can't be judged, with the reasons, and how many workers there were."""
@@ -125,18 +160,41 @@ class Run:
 
         try:
             with client_of(self.settings.scheduler, self.settings.workers) as client, attendance.hearing(client):
-                schedule = Schedule(client, self._task_of, journal, take, look)
+                schedule = Schedule(client, self._task_of, journal, take, look, self._known_of)
                 schedule.run(itertools.chain([first], left))
                 return schedule.unjudged, schedule.most_workers
         finally:
             progress.close()
+
+    def _difference(self, earlier: EarlierRun, journal: Journal) -> Difference:
+        """What is new since the earlier run, and what isn't there any more."""
+        difference = Difference(earlier, self.settings.output)
+        faults = (
+            (Place(partition.source, partition.zoom, it.column, it.row), it)
+            for partition in journal.partitions()
+            for it in journal.judged(partition).faults
+        )
+        difference.write(faults, self._sources, LISTED, self._is_wanted)
+        return difference
+
+    def _is_wanted(self, place: Place) -> bool:
+        """Whether this run judges a tile, where it is there."""
+        ranges, window = self.settings.window.ranges(place.zoom), self.settings.window
+        return window.has_zoom(place.zoom) and ranges.has_row(place.row) and ranges.first_column <= place.column <= ranges.last_column
 
     def _write(self, journal: Journal, unjudged: List[Tuple[Partition, str]], workers: int) -> Counts:
         """Writes what was found, by this call and the earlier ones."""
         for source, stamp in zip(self._sources, self._stamps):
             source.check(stamp)
         report = Report(self._members, self._sources)
-        counts = write_outputs(self.settings, journal, unjudged, self._sources, report)
+        changes = None if self._copy is None else Changes(self.settings.output, journal.store)
+        counts = write_outputs(self.settings, journal, unjudged, self._sources, report, changes)
+        if self._copy is not None:
+            self._copy.write(replaced(journal, self._sources))
+        report.changes, report.opened = changes, self._sources
+        if self._earlier is not None:
+            report.difference = self._difference(self._earlier, journal)
+        write_summary(self.settings, self._members, counts, report, journal.seconds)
         page = built_page()
         if page is not None:
             with WholeFile(os.path.join(self.settings.output, PAGE)) as file:

@@ -13,7 +13,7 @@ import math
 import queue
 import time
 import uuid
-from dataclasses import dataclass
+from dataclasses import dataclass, field, replace
 from typing import Any, Callable, Deque, Dict, Iterator, List, Optional, Set, Tuple
 
 import mvtgate
@@ -22,6 +22,7 @@ from .cluster import versions_of
 from .endings import Unfinished, reason_of
 from .journal import Journal
 from .records import Judged, Partition
+from .since import Known
 from .sources import SourceChanged
 from .work import Task, UnfitWorker, confirm, judge
 
@@ -51,12 +52,16 @@ class _UnderWay:
     judged: Optional[Judged] = None
     allowed: Optional[List[str]] = None
     is_alone: bool = False
+    # (of mended tiles, and the sums of all, which the checker isn't sent)
+    payloads: List[bytes] = field(default_factory=list)
+    block: bytes = b""
 
 
 class Schedule:
     """Does what is left of a run. `unjudged` are the single tiles that can't be judged, each with the reason.
 
-    `on_done` is told of each partition that is done, and `on_look` each second how many workers there are.
+    `on_done` is told of each partition that is done, and `on_look` each second how many workers there are. `known_of` says what an
+    earlier run knows of a partition's tiles.
     """
 
     def __init__(
@@ -66,12 +71,14 @@ class Schedule:
         journal: Journal,
         on_done: Callable[[Partition], None],
         on_look: Callable[[int], None] = lambda _: None,
+        known_of: Callable[[Partition], Optional[Known]] = lambda _: None,
     ) -> None:
         self._client = client
         self._task_of = task_of
         self._journal = journal
         self._on_done = on_done
         self._on_look = on_look
+        self._known_of = known_of
         self._name = uuid.uuid4().hex
         self._ended: queue.Queue[Tuple[Any, Any, Optional[Exception]]] = queue.Queue()
         self._under_way: Dict[Any, _UnderWay] = {}
@@ -157,7 +164,7 @@ class Schedule:
     def _submit_again(self, it: _UnderWay) -> None:
         """Hands out what is next for a partition: it is judged, or confirmed where it was judged."""
         if it.judged is None:
-            self._submit(it, None, judge, self._task_of(it.partition), it.partition)
+            self._submit(it, None, judge, self._task_of(it.partition), it.partition, self._known_of(it.partition))
         else:
             self._submit_confirm(it, it.judged)
 
@@ -208,15 +215,20 @@ class Schedule:
     def _take(self, it: _UnderWay, result: Any) -> None:
         """What a call returned."""
         if it.judged is None:
-            it.judged = result
-            if it.judged.faults:
+            it.judged, it.payloads, it.block = replace(result, payloads=[], block=b""), result.payloads, result.block
+            if it.judged.unconfirmed:
                 self._submit_again(it)
                 return
         else:
             it.judged.confirmed_by, answers = result
-            for finding, answer in zip(it.judged.faults, answers):
+            for finding, answer in zip(it.judged.unconfirmed, answers):
                 finding.confirmed = answer
-        self._journal.add(it.judged)
+        self._add(it, it.judged)
+
+    def _add(self, it: _UnderWay, judged: Judged) -> None:
+        """A partition is done."""
+        judged.payloads, judged.block = it.payloads, it.block
+        self._journal.add(judged)
         self._on_done(it.partition)
 
     def _fail(self, it: _UnderWay, error: BaseException) -> None:
@@ -234,8 +246,7 @@ class Schedule:
             self._suspects.append(it)
         elif it.judged is not None:
             # (it was judged, and ended the checker's worker: it stays without an answer)
-            self._journal.add(it.judged)
-            self._on_done(it.partition)
+            self._add(it, it.judged)
         else:
             self.unjudged.append((it.partition, _ENDED if _is_ended(error) else reason_of(error)))
             self._on_done(it.partition)

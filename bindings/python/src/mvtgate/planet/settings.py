@@ -2,12 +2,15 @@
 from __future__ import annotations
 
 from dataclasses import dataclass
-from typing import List, Optional
+from typing import List, Optional, Tuple
+
+from .window import Window
 
 
 @dataclass(frozen=True)
 class Settings:
-    """What is judged, how, and by whom."""
+    """What is judged, how, and by whom. `mend` is where the copy goes in which refused tiles are mended, and `since` the
+    folder of an earlier run."""
 
     paths: List[str]
     output: str
@@ -18,3 +21,9 @@ class Settings:
     scheduler: Optional[str]
     partition: int
     is_anew: bool
+    mend: Optional[str] = None
+    is_dropping: bool = False
+    since: Optional[str] = None
+    window: Window = Window()
+    layers: Tuple[str, ...] = ()
+    junit: Optional[str] = None

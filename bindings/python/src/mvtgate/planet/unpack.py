@@ -1,6 +1,7 @@
 """The bytes of a tile out of those that are stored: by gzip, by zlib, by Zstandard, or as they are."""
 from __future__ import annotations
 
+import enum
 import importlib
 import zlib
 from typing import Any, List
@@ -17,6 +18,24 @@ _ZSTD_STEP = 1024
 
 class NotUnpacked(ValueError):
     """Stored bytes that can't be unpacked, with the reason."""
+
+
+class Packing(enum.Enum):
+    """By what a tile is packed."""
+
+    NONE = enum.auto()
+    GZIP = enum.auto()
+    ZLIB = enum.auto()
+    ZSTD = enum.auto()
+
+
+def packing_of(stored: bytes) -> Packing:
+    """By what stored bytes are packed, by how they begin."""
+    if stored[:2] == _GZIP:
+        return Packing.GZIP
+    if _has_zlib_head(stored):
+        return Packing.ZLIB
+    return Packing.ZSTD if stored[:4] == _ZSTD else Packing.NONE
 
 
 def _has_zlib_head(stored: bytes) -> bool:
@@ -73,11 +92,12 @@ def _of_zstd(stored: bytes) -> bytes:
 
 def unpacked(stored: bytes) -> bytes:
     """The tile's bytes. NotUnpacked where there are more than 64 MiB of them, or where a packed stream is cut or broken."""
-    if stored[:2] == _GZIP:
+    packing = packing_of(stored)
+    if packing is Packing.GZIP:
         return _inflated(stored, _GZIP_BITS, "gzip")
-    if _has_zlib_head(stored):
+    if packing is Packing.ZLIB:
         return _inflated(stored, _ZLIB_BITS, "zlib")
-    if stored[:4] == _ZSTD:
+    if packing is Packing.ZSTD:
         return _of_zstd(stored)
     _check_size(len(stored))
     return stored

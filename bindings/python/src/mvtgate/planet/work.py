@@ -18,18 +18,29 @@ from .. import _library
 from .._faults import fault_of_library
 from .endings import Refused
 from .further import Further
-from .names import names_of
+from .geojson import Address, point_of
+from .mending.tiles import mend
+from .names import Names
 from .records import Extent, Finding, Judged, Partition, Timed
+from .since import Known, Lookup
 from .sources import NotASource, Source, SourceChanged, Stored, open_source
+from .sums import Sums
 from .unpack import NotUnpacked, unpacked
+from .window import Window
 
 # how many slow tiles are kept of a partition, and how many pieces of advice of a tile
 _SLOWEST = 10
 _MOST_ADVICE = 20
+# bytes of mended tiles that a call returns; where there are more, the partition goes on in parts
+_MOST_MENDED = 32 << 20
 
 
 class UnfitWorker(Refused):
     """A worker with another version of this package than the run's, or without a part of it."""
+
+
+class TooManyMended(Exception):
+    """More bytes of mended tiles than a call returns, in a partition of several tiles."""
 
 
 @dataclass(frozen=True)
@@ -45,6 +56,10 @@ class Task:
     # (a worker may outlive a run: what it opened for one isn't taken for another)
     run: str = ""
     has_all: bool = False
+    is_mending: bool = False
+    is_dropping: bool = False
+    layers: Tuple[str, ...] = ()
+    window: Window = Window()
 
     @property
     def of_profile(self) -> mvtgate.Profile:
@@ -55,7 +70,7 @@ class Task:
         if mvtgate.version() != self.version:
             raise UnfitWorker(f"worker {_worker_name()} has mvtgate {mvtgate.version()}, and the run {self.version}")
         try:
-            source = _opened(self.path, self.run)
+            source = _opened(self.path, self.run, self.window)
         except NotASource as error:
             raise SourceChanged(f"worker {_worker_name()}: {error}") from None
         self.check(source)
@@ -70,8 +85,8 @@ class Task:
 
 
 @functools.lru_cache(maxsize=16)
-def _opened(path: str, _run: str) -> Source:
-    return open_source(path)
+def _opened(path: str, _run: str, window: Window) -> Source:
+    return open_source(path, window)
 
 
 def _worker_name() -> str:
@@ -87,13 +102,16 @@ def _worker_name() -> str:
 class _Judging:
     """One partition while it is judged."""
 
-    def __init__(self, task: Task, partition: Partition) -> None:
+    def __init__(self, task: Task, partition: Partition, known: Optional[Known]) -> None:
         self._task = task
+        self._earlier = None if known is None else Lookup(known)
+        self._sums = Sums()
         self._profile = task.of_profile
         self._slowest: List[Tuple[float, int, int, int]] = []
         self._cells: Dict[Tuple[int, int], int] = {}
         self.judged = Judged(partition, _worker_name())
         self.count = 0
+        self._mended = 0
 
     def add(self, stored: Stored) -> None:
         """Judges one tile."""
@@ -101,6 +119,8 @@ class _Judging:
         cell = self._task.extent.cell(stored.column, stored.row)
         self._cells[cell] = self._cells.get(cell, 0) + 1
         self.judged.packed += stored.size
+        if self._is_reused(stored):
+            return
         try:
             if stored.error is not None:
                 raise NotUnpacked(stored.error)
@@ -110,10 +130,26 @@ class _Judging:
         except MemoryError:
             self._fail(stored, "memory was refused")
 
+    def _is_reused(self, stored: Stored) -> bool:
+        """Takes what an earlier run found in a tile with these bytes."""
+        own_sum = self._sums.add(stored.column, stored.row, stored.data)
+        tile = stored.column, stored.row
+        if self._earlier is None or stored.error is not None or not self._earlier.is_same(tile, own_sum):
+            return False
+        finding, advice = self._earlier.finding(tile), self._earlier.advice(tile)
+        # (what has to be mended is mended by this run)
+        if finding is not None and self._task.is_mending:
+            return False
+        self.judged.findings += [] if finding is None else [finding]
+        self.judged.advice += [] if advice is None else [advice]
+        self.judged.reused += 1
+        return True
+
     def _judge(self, stored: Stored, tile: bytes) -> None:
         began = time.thread_time_ns()
         # (quickly, so that no tile holds a worker for long)
-        told = _library.faults(self._profile, tile, True) if self._task.has_all else _library.check(self._profile, tile, True)
+        has_all = self._task.has_all or bool(self._task.layers)
+        told = _library.faults(self._profile, tile, True) if has_all else _library.check(self._profile, tile, True)
         seconds = (time.thread_time_ns() - began) / 1e9
         self.judged.unpacked += len(tile)
         keep = heapq.heappush if len(self._slowest) < _SLOWEST else heapq.heappushpop
@@ -122,16 +158,39 @@ class _Judging:
         if self._task.advice:
             self._advise(stored, tile)
         if told:
-            self._find(stored, tile, _library.lines_of(told), seconds)
+            self._find(stored, tile, self._wanted(tile, _library.lines_of(told)), seconds)
+
+    def _wanted(self, tile: bytes, lines: Iterator[str]) -> Iterator[str]:
+        """The faults of the layers that are asked for, and those of bytes that are no tile."""
+        if not self._task.layers:
+            return lines
+        names = Names(tile)
+        return (it for it in lines if names.subject_of(fault_of_library(it)).layer in (None, *self._task.layers))
 
     def _find(self, stored: Stored, tile: bytes, lines: Iterator[str], seconds: float) -> None:
-        fault = fault_of_library(next(lines))
-        layer, feature_id = names_of(tile, fault)
+        first = next(lines, None)
+        if first is None:
+            return
+        fault = fault_of_library(first)
+        address = Address(self.judged.partition.zoom, stored.column, stored.row)
+        subject = Names(tile).subject_of(fault)
         other = mvtgate.format_of(fault, tile)
-        finding = Finding(stored.column, stored.row, len(tile), seconds, fault=fault.members, layer=layer, feature_id=feature_id)
+        finding = Finding(stored.column, stored.row, len(tile), seconds, fault=fault.members)
+        finding.layer, finding.feature_id, finding.point = subject.layer, subject.feature_id, point_of(fault.members, address, subject)
         finding.format = None if other is None else other.name
-        finding.further = Further.of_lines(tile, lines) if self._task.has_all else None
+        finding.further = Further.of_lines(tile, lines, address) if self._task.has_all else None
+        if self._task.is_mending:
+            self._mend(stored, tile, finding, address)
         self.judged.findings.append(finding)
+
+    def _mend(self, stored: Stored, tile: bytes, finding: Finding, address: Address) -> None:
+        finding.mending, payload = mend(self._profile, self._task.is_dropping, address, stored.data, tile)
+        if not finding.mending.is_mended:
+            return
+        self.judged.payloads.append(payload)
+        self._mended += len(payload)
+        if self._mended > _MOST_MENDED and self.judged.partition.tiles > 1:
+            raise TooManyMended(f"mended tiles have more than {_MOST_MENDED} bytes")
 
     def _advise(self, stored: Stored, tile: bytes) -> None:
         try:
@@ -148,14 +207,16 @@ class _Judging:
     def end(self) -> Judged:
         """All that was found."""
         self.judged.cells = [(*cell, tiles) for cell, tiles in sorted(self._cells.items())]
+        self.judged.block = self._sums.packed()
         self.judged.slowest = [Timed(*it) for it in sorted(self._slowest, reverse=True)]
         return self.judged
 
 
-def judge(task: Task, partition: Partition) -> Judged:
-    """Judges all tiles of a partition. SourceChanged where there are more or fewer than there were."""
+def judge(task: Task, partition: Partition, known: Optional[Known] = None) -> Judged:
+    """Judges all tiles of a partition, but for those of which an earlier run knows. SourceChanged where there are more or fewer than
+    there were."""
     source = task.source()
-    judging = _Judging(task, partition)
+    judging = _Judging(task, partition, known)
     began = time.thread_time_ns()
     for stored in source.tiles(partition):
         judging.add(stored)
@@ -167,9 +228,9 @@ def judge(task: Task, partition: Partition) -> Judged:
 
 
 def confirm(task: Task, judged: Judged) -> Tuple[str, List[bool]]:
-    """The name of this worker, and for each fault of a partition whether the checker confirms it."""
+    """The name of this worker, and for each fault of a partition that isn't confirmed whether the checker confirms it."""
     source = task.source()
-    answers = [_is_confirmed(source, task, judged.partition.zoom, it) for it in judged.faults]
+    answers = [_is_confirmed(source, task, judged.partition.zoom, it) for it in judged.unconfirmed]
     task.check(source)
     return _worker_name(), answers
 

@@ -7,7 +7,8 @@ from typing import TYPE_CHECKING, Optional
 import jinja2
 from markupsafe import Markup
 
-from . import views
+from . import changes, views
+from .listing import data_of, listing_of
 from .parts import embedded, embedded_json, part, sum_of
 from .texts import breakable, capital, counted, digits, prose, share_text, size_text, time_text
 
@@ -50,12 +51,17 @@ def written(report: Report, pictures: Pictures, duration: Duration, page: Option
             has_all=report.has_all,
             overview=views.overview_of(report, duration),
             codes=codes,
+            changes=changes.changes_of(report),
+            rows=views.rows_of(report),
+            difference=views.difference_of(report),
             formats=views.formats_of(report),
             zooms=views.zooms_of(report),
             classes=views.classes_of(report),
             unjudged=views.unjudged_of(report),
             slowest=views.slowest_of(report),
             advice=views.advice_of(report),
+            listing=listing_of(report),
+            tiles_data=embedded_json(data_of(report, views.paths_of(report), views.source_names(report))),
             map_data=embedded_json(views.map_data(report, codes)),
             page_data=embedded_json({"page": page, "profile": report.run["profile"]}),
         )

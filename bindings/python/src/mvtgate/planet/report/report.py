@@ -8,12 +8,18 @@ from typing import Any, Dict, Optional, Sequence, Union
 
 import mvtgate
 
-from ..records import Finding, Judged, Partition
+from ..further import OneFault
+from ..mending.changes import Changes
+from ..records import Finding, Judged, Partition, Place
+from ..since import Difference
+from ..sources import Source
+from ..rows import Rows
 from ..whole_file import WholeFile
 from .counts import CountsByCode, Labels
 from .firsts import AdviceFound, Firsts, FormatsFound, Found, Slowest, Unjudged, firsts_of_codes, found_in, place_of
 from .html import written
 from .limits import LAYERS
+from .listing import Listing
 from .pictures import Dump, Pictures, SourceLike
 from .tile_map import TileMap
 
@@ -26,6 +32,7 @@ class Totals:
     faulty: int = 0
     faults: int = 0
     unjudged: int = 0
+    reused: int = 0
     packed: int = 0
     unpacked: int = 0
     seconds: float = 0.0
@@ -70,6 +77,13 @@ class Report:
         self.slowest = Slowest()
         self.unjudged = Unjudged()
         self.advice = AdviceFound()
+        self.rows = Rows()
+        self.listing = Listing()
+        # (what was changed, where tiles are mended, and the sources to read them from)
+        self.changes: Optional[Changes] = None
+        self.opened: Sequence[Source] = ()
+        # (what is new and what isn't there any more, where there is an earlier run)
+        self.difference: Optional[Difference] = None
         self._dump = dump
 
     @property
@@ -81,6 +95,7 @@ class Report:
         """Takes in what was found in a partition."""
         self.totals.tiles += judged.partition.tiles
         self.totals.packed += judged.packed
+        self.totals.reused += judged.reused
         self.totals.unpacked += judged.unpacked
         self.totals.seconds += judged.seconds
         self.map.add(judged)
@@ -129,6 +144,11 @@ class Report:
         self.totals.unjudged += partition.tiles
         self.map.add_unjudged(partition)
         self.unjudged.add_partition(partition, reason)
+
+    def add_fault(self, place: Place, fault: OneFault) -> None:
+        """Takes in a fault for the list of all, and the rows of the data."""
+        self.listing.add(place, fault)
+        self.rows.add(place, fault.layer, fault.feature_id, fault.fault["code"])
 
     def write(
         self, path: Union[str, os.PathLike[str]], seconds: float, workers: int, page: Optional[str] = "page.html"

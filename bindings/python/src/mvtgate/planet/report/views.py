@@ -11,9 +11,9 @@ from ..records import Partition, Place
 from .classes import CLASSES, class_of
 from .counts import Label
 from .firsts import Found
-from .limits import FIRST_LAYERS, PICTURED
+from .limits import FIRST_LAYERS, PICTURED, WORST_ROWS
 from .pictures import Picture, Pictures
-from .texts import capital, counted, moment_text, rate_text, readable, share_text, size_text, time_text
+from .texts import capital, counted, cut, moment_text, rate_text, readable, share_text, size_text, time_text
 
 if TYPE_CHECKING:
     from .report import Duration, Report
@@ -29,20 +29,21 @@ def tile_name(place: Place) -> str:
     return f"{place.zoom}/{place.column}/{place.row}"
 
 
-def _paths(report: Report) -> List[str]:
+def paths_of(report: Report) -> List[str]:
+    """The paths of the sources."""
     return [readable(str(it["path"])) for it in report.run["sources"]]
 
 
 def source_names(report: Report) -> List[str]:
     """The sources as the tables name them: empty where there is just one."""
-    paths = _paths(report)
+    paths = paths_of(report)
     return paths if len(paths) > 1 else [""] * len(paths)
 
 
 def overview_of(report: Report, duration: Duration) -> View:
     """The verdict on all tiles, the figures of the run, and its sources."""
     totals, run = report.totals, report.run
-    sources = _paths(report)
+    sources = paths_of(report)
     return {
         "title": sources[0].rstrip("/").rpartition("/")[2] if len(sources) == 1 else counted(len(sources), "source", "sources"),
         "state": "fault" if totals.faulty else "unreadable" if totals.unjudged or not totals.tiles else "valid",
@@ -288,6 +289,51 @@ def advice_of(report: Report) -> List[View]:
         }
         for kind, count in ordered
     ]
+
+
+def rows_of(report: Report) -> View:
+    """The rows of the data that break the most tiles."""
+    names = source_names(report)
+    return {
+        "count": report.rows.count,
+        "nameless": report.rows.nameless,
+        "worst": [
+            {
+                "source": names[it.source],
+                "layer": _layer_view(Label(cut(it.layer)), 0),
+                "feature_id": it.feature_id,
+                "tiles": it.tiles,
+                "zooms": f"{it.zooms[0]}" if len(it.zooms) == 1 else f"{len(it.zooms)}, from {it.zooms[0]} to {it.zooms[-1]}",
+                "code": it.code,
+                "class": class_of(it.code).name,
+                "first_tile": it.first_tile,
+            }
+            for it in report.rows.worst(WORST_ROWS)
+        ],
+    }
+
+
+def difference_of(report: Report) -> Optional[View]:
+    """What is new since an earlier run. None where there is none."""
+    it, totals = report.difference, report.totals
+    if it is None:
+        return None
+    names = source_names(report)
+    sources = {str(source["path"]): name for source, name in zip(report.run["sources"], names)}
+    kinds = (("new", "with a fault that had none"), ("still", "that still have one"), ("mended", "that have none any more"), ("gone", "that are gone"))
+    return {
+        "folder": readable(it.folder),
+        "judged": totals.tiles - totals.reused - totals.unjudged,
+        "kinds": [
+            {
+                "name": name,
+                "words": words,
+                "tiles": it.counts[name],
+                "places": [{"tile": line["tile"], "source": sources.get(line["source"], ""), "code": line["code"]} for line in it.firsts[name]],
+            }
+            for name, words in kinds
+        ],
+    }
 
 
 def map_data(report: Report, codes: Sequence[View]) -> View:

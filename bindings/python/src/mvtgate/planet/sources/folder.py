@@ -49,8 +49,9 @@ class Folder(Source):
 
     def _files(self, zoom: int, column: int) -> List[_File]:
         """The tiles of a column, in the order of their rows."""
+        ranges = self.window.ranges(zoom)
         matches = (_TILE.fullmatch(it) for it in self._names(zoom, column))
-        return sorted(_File(int(it[1]), it[0]) for it in matches if it)
+        return sorted(_File(int(it[1]), it[0]) for it in matches if it and ranges.has_row(int(it[1])))
 
     def survey(self) -> List[Extent]:
         extents: Dict[int, Extent] = {}
@@ -62,8 +63,9 @@ class Folder(Source):
         return list(extents.values())
 
     def columns(self, number: int) -> Iterator[Partition]:
-        for zoom in self._numbers(_ZOOM):
-            for column in self._numbers(_NUMBER, zoom):
+        for zoom in filter(self.window.has_zoom, self._numbers(_ZOOM)):
+            ranges = self.window.ranges(zoom)
+            for column in (it for it in self._numbers(_NUMBER, zoom) if ranges.first_column <= it <= ranges.last_column):
                 files = self._files(zoom, column)
                 if files:
                     yield Partition(number, zoom, (column, files[0].row), (column, files[-1].row), len(files))

@@ -11,10 +11,9 @@ from typing import Any, Dict, Iterator, List, Optional, Tuple
 
 from ..._files import LIMIT
 from ..records import Extent, Partition
+from ..window import LAST_ZOOM, Window
 from .source import NotASource, Source, SourceChanged, Stored
 
-# more than any writer of tiles makes, and few enough for numbers of 64 bits
-_LAST_ZOOM = 30
 # the head of a database's file, with a number that each change of the file counts up
 _HEAD = 100
 
@@ -22,10 +21,20 @@ _SURVEY = """
     SELECT zoom_level, count(*), min(tile_column), max(tile_column), min(tile_row), max(tile_row),
         sum(typeof(tile_column) = 'integer' AND typeof(tile_row) = 'integer')
     FROM tiles GROUP BY zoom_level ORDER BY zoom_level"""
+_SURVEY_OF_WINDOW = """
+    SELECT zoom_level, count(*), min(tile_column), max(tile_column), min(tile_row), max(tile_row),
+        sum(typeof(tile_column) = 'integer' AND typeof(tile_row) = 'integer')
+    FROM tiles WHERE zoom_level = ? AND tile_column BETWEEN ? AND ? AND tile_row BETWEEN ? AND ? GROUP BY zoom_level"""
+_COLUMNS_OF_WINDOW = """
+    SELECT zoom_level, tile_column, count(*), min(tile_row), max(tile_row)
+    FROM tiles WHERE zoom_level = ? AND tile_column BETWEEN ? AND ? AND tile_row BETWEEN ? AND ?
+    GROUP BY zoom_level, tile_column ORDER BY zoom_level, tile_column"""
 _COLUMNS = """
     SELECT zoom_level, tile_column, count(*), min(tile_row), max(tile_row)
     FROM tiles GROUP BY zoom_level, tile_column ORDER BY zoom_level, tile_column"""
-_BETWEEN = "zoom_level = ? AND (tile_column, tile_row) BETWEEN (?, ?) AND (?, ?) ORDER BY tile_column, tile_row"
+# (the plus keeps the index for the range before it)
+_BETWEEN = """zoom_level = ? AND (tile_column, tile_row) BETWEEN (?, ?) AND (?, ?) AND +tile_row BETWEEN ? AND ?
+    ORDER BY tile_column, tile_row"""
 _PLACES = f"SELECT tile_column, tile_row FROM tiles WHERE {_BETWEEN}"
 # (a text is read as its bytes, of which `length` counts the characters. What is too large for a tile isn't read.)
 _SIZE = "CASE typeof(tile_data) WHEN 'text' THEN length(CAST(tile_data AS BLOB)) ELSE length(tile_data) END"
@@ -42,8 +51,8 @@ class Mbtiles(Source):
 
     kind = "mbtiles"
 
-    def __init__(self, path: str) -> None:
-        super().__init__(path)
+    def __init__(self, path: str, window: Window = Window()) -> None:
+        super().__init__(path, window)
         if not os.path.isfile(self.path):
             raise NotASource(f"{path}: there is no such file or folder")
         log = self._log()
@@ -75,7 +84,7 @@ class Mbtiles(Source):
 
     def _require_index(self) -> None:
         """Without an index each part would cost a walk over all tiles."""
-        steps = [row[3] for row in self._rows(f"EXPLAIN QUERY PLAN {_TILES}", (0, 0, 0, 0, 0))]
+        steps = [row[3] for row in self._rows(f"EXPLAIN QUERY PLAN {_TILES}", (0, 0, 0, 0, 0, 0, 0))]
         if not steps or not _BY_INDEX.match(steps[0]) or any("SCAN" in it or "AUTOMATIC" in it for it in steps):
             index = "CREATE UNIQUE INDEX tile_index ON tiles (zoom_level, tile_column, tile_row)"
             raise NotASource(f"{self.path} has no index for its tiles; where they are a table, make one: {index}")
@@ -98,8 +107,8 @@ class Mbtiles(Source):
     def survey(self) -> List[Extent]:
         self._require_index()
         extents = []
-        for zoom, tiles, first_column, last_column, first_row, last_row, whole in self._rows(_SURVEY):
-            if type(zoom) is not int or not 0 <= zoom <= _LAST_ZOOM:
+        for zoom, tiles, first_column, last_column, first_row, last_row, whole in self._of_window(_SURVEY, _SURVEY_OF_WINDOW):
+            if type(zoom) is not int or not 0 <= zoom <= LAST_ZOOM:
                 raise NotASource(f"{self.path}: there is a tile of zoom {zoom!r}")
             if whole != tiles:
                 raise NotASource(f"{self.path}: there is a tile at zoom {zoom} whose column or row is no whole number")
@@ -108,15 +117,29 @@ class Mbtiles(Source):
         return extents
 
     def columns(self, number: int) -> Iterator[Partition]:
-        for zoom, column, tiles, first_row, last_row in self._rows(_COLUMNS):
+        for zoom, column, tiles, first_row, last_row in self._of_window(_COLUMNS, _COLUMNS_OF_WINDOW):
             yield Partition(number, zoom, (column, first_row), (column, last_row), tiles)
 
+    def _of_window(self, of_all: str, of_zoom: str) -> Iterator[Tuple[Any, ...]]:
+        """The rows of a query over all tiles, or of one for each zoom of the window."""
+        if self.window.is_all:
+            yield from self._rows(of_all)
+            return
+        for zoom in range(self.window.first_zoom, self.window.last_zoom + 1):
+            ranges = self.window.ranges(zoom)
+            yield from self._rows(of_zoom, (zoom, ranges.first_column, ranges.last_column, *ranges.southern_rows(zoom)))
+
+    def _words_of(self, partition: Partition) -> Tuple[int, ...]:
+        """What a query for the tiles of a partition is given."""
+        zoom = partition.zoom
+        return (zoom, *partition.first, *partition.last, *self.window.ranges(zoom).southern_rows(zoom))
+
     def places(self, partition: Partition) -> Iterator[Tuple[int, int]]:
-        for column, row in self._rows(_PLACES, (partition.zoom, *partition.first, *partition.last)):
+        for column, row in self._rows(_PLACES, self._words_of(partition)):
             yield column, row
 
     def tiles(self, partition: Partition) -> Iterator[Stored]:
-        for column, row, size, data in self._rows(_TILES, (partition.zoom, *partition.first, *partition.last)):
+        for column, row, size, data in self._rows(_TILES, self._words_of(partition)):
             yield Stored(column, _turned(partition.zoom, row), data or b"", _why_not_read(size, data), size or 0)
 
     def northern(self, partition: Partition) -> Tuple[int, int]:

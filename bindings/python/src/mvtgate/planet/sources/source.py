@@ -8,6 +8,7 @@ from typing import Any, ClassVar, Dict, Iterator, List, NamedTuple, Optional, Tu
 
 from ..endings import Refused
 from ..records import Extent, Partition
+from ..window import Window
 
 
 class NotASource(Refused):
@@ -32,12 +33,13 @@ class Stored(NamedTuple):
 
 
 class Source(abc.ABC):
-    """Tiles by zoom, column and row. Each process opens a source for itself, by its path."""
+    """Tiles by zoom, column and row, those of a window alone but for `at`. Each process opens a source for itself, by its path."""
 
     kind: ClassVar[str]
 
-    def __init__(self, path: str) -> None:
+    def __init__(self, path: str, window: Window = Window()) -> None:
         self.path = os.path.abspath(path)
+        self.window = window
 
     @abc.abstractmethod
     def stamp(self) -> Dict[str, Any]:

@@ -1,0 +1,107 @@
+"""The copy of a source, with the mended tiles in it: whole under its name, or not there."""
+from __future__ import annotations
+
+import abc
+import os
+import shutil
+from typing import Iterator, NamedTuple, Sequence
+
+from ..endings import Refused, Unfinished, reason_of
+from ..journal import Journal
+from ..records import Place
+from ..sources import Source
+from ..sources.folder import Folder
+from ..sources.mbtiles import Mbtiles
+from .tiles import sum_of
+
+
+class NoCopy(Refused):
+    """A copy that can't be made, with the reason."""
+
+
+class Replaced(NamedTuple):
+    """A tile that was mended: its place, the bytes that are stored in the source, and those in their place."""
+
+    place: Place
+    before: bytes
+    after: bytes
+
+
+class Copy(abc.ABC):
+    """A copy that is made beside its name, and then put there. What an earlier call left beside it is begun anew."""
+
+    def __init__(self, source: str, path: str) -> None:
+        self.source, self.path, self.part = source, path, f"{path}.part"
+
+    @abc.abstractmethod
+    def check(self) -> None:
+        """NoCopy where none can be made of this source."""
+
+    @abc.abstractmethod
+    def fill(self, tiles: Iterator[Replaced]) -> None:
+        """Makes the whole copy beside its name, and has it be on the disk."""
+
+    def remove_part(self) -> None:
+        """Removes what is beside the name."""
+        if os.path.isdir(self.part) and not os.path.islink(self.part):
+            shutil.rmtree(self.part)
+        for left in (self.part, *(f"{self.part}{it}" for it in ("-wal", "-shm", "-journal"))):
+            if os.path.lexists(left):
+                os.remove(left)
+
+    def write(self, tiles: Iterator[Replaced]) -> None:
+        """Makes the copy, unless an earlier call of the same run has put it there."""
+        if os.path.lexists(self.path):
+            return
+        try:
+            self.remove_part()
+            self.fill(tiles)
+            os.rename(self.part, self.path)
+            _sync_folder(os.path.dirname(os.path.abspath(self.path)))
+        except (OSError, shutil.Error) as error:
+            raise Unfinished(f"{self.path}: {reason_of(error)}") from None
+
+
+def _sync_folder(folder: str) -> None:
+    """Has the names in a folder be on the disk."""
+    descriptor = os.open(folder, os.O_RDONLY | os.O_DIRECTORY)
+    try:
+        os.fsync(descriptor)
+    finally:
+        os.close(descriptor)
+
+
+def copy_of(sources: Sequence[Source], path: str) -> Copy:
+    """The copy of the one source of a run. NoCopy where there are more."""
+    from .folder import CopyOfFolder
+    from .mbtiles import CopyOfMbtiles
+
+    if len(sources) != 1:
+        raise NoCopy("--mend takes one FILE")
+    [source] = sources
+    here, there = os.path.realpath(source.path), os.path.realpath(path)
+    if isinstance(source, Folder):
+        if os.path.commonpath([here, there]) == here:
+            raise NoCopy(f"{path} lies in the folder that is judged")
+        return CopyOfFolder(source.path, path)
+    if isinstance(source, Mbtiles):
+        return CopyOfMbtiles(source.path, path)
+    raise NoCopy(f"{source.path} can't be copied")
+
+
+def replaced(journal: Journal, sources: Sequence[Source]) -> Iterator[Replaced]:
+    """The tiles that were mended, in the order of the tiles."""
+    for partition in journal.partitions():
+        for it in journal.judged(partition).findings:
+            if it.mending is None or not it.mending.is_mended:
+                continue
+            before = _stored(sources[partition.source], partition.zoom, it.column, it.row, it.mending.before)
+            after = journal.store.read(it.mending.at, it.mending.size)
+            yield Replaced(Place(partition.source, partition.zoom, it.column, it.row), before, after)
+
+
+def _stored(source: Source, zoom: int, column: int, row: int, wanted: str) -> bytes:
+    for data in source.at(zoom, column, row):
+        if sum_of(data) == wanted:
+            return data
+    raise Refused(f"{source.path}: tile {zoom}/{column}/{row} isn't what it was when it was mended")
