@@ -16,10 +16,13 @@ from runs import Cluster, Judged, Libraries, Run, expect, is_of, wait_for
 REFUSED, UNFINISHED = 3, 4
 # what Dask is given: the shortest time that it takes (a connection that says nothing for so long has ended)
 TIMEOUT = "11s"
-# one that a short silence, also on a machine which does much else, doesn't come near
-LONG_TIMEOUT = "300s"
-# of a worker whose host answers, while it does nothing: how long the scheduler waits for a word of it
-TTL = "15s"
+# By bench/README.md a run goes on so many seconds after a host fell silent, at the latest, and a silent scheduler is reported
+GOES_ON, GOES_ON_BY_DEFAULT = 60.0, 120.0
+TOLD, TOLD_BY_DEFAULT = 45.0, 120.0
+# of a worker whose host answers, while it does nothing: how long the scheduler waits for a word of it, and then the run
+TTL, GOES_ON_AFTER_TTL = "15s", 90.0
+# microseconds a tile: a run of one worker takes half a second for each thousand tiles, or five seconds
+QUICK, SLOW = 500, 5000
 
 
 class Expected(NamedTuple):
@@ -47,13 +50,10 @@ class Bench:
         folder.mkdir(parents=True)
         return Cluster(folder, self.libraries, timeout, settings)
 
-    def start(self, cluster: Cluster, scheduler: Host, is_gated: bool = False) -> Dict[Host, subprocess.Popen[bytes]]:
-        """Starts a scheduler, and a worker on each of two hosts, which have joined it afterwards.
-
-        Where they are gated, they don't do all of a run before the gate is opened.
-        """
+    def start(self, cluster: Cluster, scheduler: Host, delay: int) -> Dict[Host, subprocess.Popen[bytes]]:
+        """Starts a scheduler, and a worker on each of two hosts, which have joined it afterwards."""
         cluster.scheduler(scheduler)
-        workers = {host: cluster.worker(host, scheduler, cluster.environment(is_gated)) for host in (self.first, self.second)}
+        workers = {host: cluster.worker(host, scheduler, cluster.environment(delay)) for host in (self.first, self.second)}
         cluster.wait_for(*workers.values())
         return workers
 
@@ -86,7 +86,7 @@ class Bench:
 def shared_and_copies(it: Bench) -> None:
     """The file in a shared folder, and as a copy of another time on each host, gives the same lines."""
     cluster = it.cluster("copies")
-    it.start(cluster, it.third)
+    it.start(cluster, it.third, QUICK)
     for tiles, name in ((it.shared, "of_shared"), (it.copies, "of_copies")):
         client = cluster.client(it.first, it.third, tiles, name)
         run = client.end()
@@ -97,7 +97,7 @@ def shared_and_copies(it: Bench) -> None:
 def different_copy(it: Bench) -> None:
     """A copy of which one tile is another one, and one that isn't there, is reported."""
     cluster = it.cluster("different_copy")
-    it.start(cluster, it.third)
+    it.start(cluster, it.third, QUICK)
     for tiles, words in (
         (it.different, "isn't the file that it was when the run began"),
         (it.missing, "there is no such file or folder"),
@@ -115,7 +115,7 @@ def unfit_worker(it: Bench) -> None:
     """A worker without the package, and one with another version of it, is reported by its address."""
     cluster = it.cluster("unfit")
     cluster.scheduler(it.third)
-    cluster.worker(it.first, it.third, cluster.environment())
+    cluster.worker(it.first, it.third, cluster.environment(QUICK))
     for environment, words in (
         (cluster.bare_environment(), "has mvtgate none: No module named 'mvtgate'"),
         (cluster.environment(is_other=True), "has mvtgate 9.0.0, and the run"),
@@ -128,16 +128,15 @@ def unfit_worker(it: Bench) -> None:
         expect(words in run.said and names_worker(run.said, it.second), run.said)
 
 
-def lose_second(it: Bench, cluster: Cluster, lose: Callable[[subprocess.Popen[bytes]], None]) -> None:
-    """Loses the second host's worker in the middle of a run, which goes on, and finds all."""
-    workers = it.start(cluster, it.third, is_gated=True)
+def lose_second(it: Bench, cluster: Cluster, lose: Callable[[subprocess.Popen[bytes]], None], seconds: float) -> None:
+    """Loses the second host's worker in the middle of a run, which goes on in time, and finds all."""
+    workers = it.start(cluster, it.third, SLOW)
     client = cluster.client(it.first, it.third, it.shared, "run")
     before = tuple(client.wait_for_work_of([it.first, it.second], 3))
     lose(workers[it.second])
     lost = time.monotonic()
-    cluster.open_gate()
     # (more than was under way, which is eight)
-    client.wait_for_work_of([it.first], 9, len(client.journal()))
+    client.wait_for_work_of([it.first], 9, seconds)
     went_on = time.monotonic() - lost
     run = client.end()
     it.expect_whole(run, before)
@@ -147,21 +146,19 @@ def lose_second(it: Bench, cluster: Cluster, lose: Callable[[subprocess.Popen[by
 
 def silent_host(it: Bench) -> None:
     """A host that falls silent in the middle, for ever: the other one does the rest."""
-    lose_second(it, it.cluster("silent_host"), lambda _: it.second.cut())
+    lose_second(it, it.cluster("silent_host"), lambda _: it.second.cut(), GOES_ON)
 
 
 def short_silence(it: Bench) -> None:
     """A host that is silent for less than the timeout loses nothing, and nobody gives it up."""
-    cluster = it.cluster("short_silence", LONG_TIMEOUT)
-    it.start(cluster, it.third, is_gated=True)
+    cluster = it.cluster("short_silence")
+    it.start(cluster, it.third, SLOW)
     client = cluster.client(it.first, it.third, it.shared, "run")
     client.wait_for_work_of([it.first, it.second])
     it.second.cut()
     time.sleep(4)
     it.second.join()
-    before = len(client.journal())
-    cluster.open_gate()
-    client.wait_for_work_of([it.first, it.second], before=before)
+    client.wait_for_work_of([it.first, it.second])
     run = client.end()
     until_end, _, _ = (cluster.folder / "scheduler-third.log").read_text().partition("Close client")
     expect("Remove worker" not in until_end, "the host was given up")
@@ -172,7 +169,7 @@ def short_silence(it: Bench) -> None:
 def host_that_comes_back(it: Bench) -> None:
     """A host that is silent until it is given up, and then comes back, takes part again."""
     cluster = it.cluster("comes_back")
-    workers = it.start(cluster, it.third, is_gated=True)
+    it.start(cluster, it.third, SLOW)
     client = cluster.client(it.first, it.third, it.shared, "run")
     before = tuple(client.wait_for_work_of([it.first, it.second], 2))
     it.second.cut()
@@ -181,10 +178,7 @@ def host_that_comes_back(it: Bench) -> None:
         wait_for(lambda: "Remove worker" in log.read_text(), "the scheduler gives the host up")
     finally:
         it.second.join()
-    cluster.wait_for(workers[it.second], times=2)
-    done = len(client.journal())
-    cluster.open_gate()
-    client.wait_for_work_of([it.first, it.second], 2, done)
+    client.wait_for_work_of([it.first, it.second], 2)
     run = client.end()
     it.expect_whole(run, before)
     it.expect_apart(before)
@@ -192,17 +186,17 @@ def host_that_comes_back(it: Bench) -> None:
 
 def silent_scheduler(it: Bench) -> None:
     """A scheduler whose host falls silent is reported. With another one the same words go on."""
-    lose_scheduler(it, it.cluster("silent_scheduler"))
+    lose_scheduler(it, it.cluster("silent_scheduler"), TOLD)
 
 
-def lose_scheduler(it: Bench, cluster: Cluster) -> None:
-    workers = it.start(cluster, it.third, is_gated=True)
+def lose_scheduler(it: Bench, cluster: Cluster, seconds: float) -> None:
+    workers = it.start(cluster, it.third, SLOW)
     client = cluster.client(it.first, it.third, it.shared, "run")
     before = tuple(client.wait_for_work_of([it.first, it.second], 3))
     it.third.cut()
     cut = time.monotonic()
     try:
-        run = client.end()
+        run = client.end(seconds)
         print(f"    it was told {time.monotonic() - cut:.1f} s after the host fell silent")
     finally:
         it.third.join()
@@ -211,7 +205,7 @@ def lose_scheduler(it: Bench, cluster: Cluster) -> None:
     before = tuple(run.journal())
     for host, worker in workers.items():
         host.end(worker)
-    it.start(cluster, it.second)
+    it.start(cluster, it.second, QUICK)
     run = cluster.client(it.first, it.second, it.shared, "run").end()
     it.expect_whole(run, before)
     it.expect_apart(tuple(run.journal()))
@@ -219,18 +213,18 @@ def lose_scheduler(it: Bench, cluster: Cluster) -> None:
 
 def silent_host_by_default(it: Bench) -> None:
     """A host that falls silent, with the settings that Dask has."""
-    lose_second(it, it.cluster("silent_by_default", None), lambda _: it.second.cut())
+    lose_second(it, it.cluster("silent_by_default", None), lambda _: it.second.cut(), GOES_ON_BY_DEFAULT)
 
 
 def silent_scheduler_by_default(it: Bench) -> None:
     """A scheduler whose host falls silent, with the settings that Dask has."""
-    lose_scheduler(it, it.cluster("scheduler_by_default", None))
+    lose_scheduler(it, it.cluster("scheduler_by_default", None), TOLD_BY_DEFAULT)
 
 
 def stopped_worker(it: Bench) -> None:
     """A worker that does nothing any more, on a host that answers, is given up after the scheduler's worker-ttl."""
     cluster = it.cluster("stopped", DASK_DISTRIBUTED__SCHEDULER__WORKER_TTL=TTL)
-    lose_second(it, cluster, lambda worker: os.killpg(worker.pid, signal.SIGSTOP))
+    lose_second(it, cluster, lambda worker: os.killpg(worker.pid, signal.SIGSTOP), GOES_ON_AFTER_TTL)
 
 
 Case = Callable[[Bench], None]

@@ -18,7 +18,7 @@ import network
 import runs
 import tiles
 
-# more than two workers judge before they come to a gate
+# so many tiles take one worker some 10 seconds, where it is slow
 COUNT = 2000
 HOSTS = ("first", "second", "third")
 SHIM = tiles.TOP / "bindings/python/tests/planet/shim.c"

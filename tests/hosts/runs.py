@@ -17,12 +17,6 @@ PACKAGE = str(TOP / "bindings/python/src")
 PORT = 8786
 _SECONDS = re.compile(r'"seconds": [-+.0-9e]+')
 # a worker that ends is started again, as a service manager does
-# seconds that something may take on a machine which does much else
-LONG = 600.0
-# tiles that a worker judges before it waits at a cluster's gate
-FREE = 500
-# microseconds a tile, so that each of two workers has its share of a run, and of one with a gate
-DELAY, GATED_DELAY = 500, 5000
 _AGAIN = 'while :; do "$@"; sleep 0.2; done'
 
 Judged = Dict[str, Any]
@@ -37,7 +31,7 @@ def expect(holds: object, *said: object) -> None:
         raise Failed(" ".join(map(str, said)))
 
 
-def wait_for(holds: Callable[[], object], what: str, seconds: float = LONG) -> None:
+def wait_for(holds: Callable[[], object], what: str, seconds: float = 60) -> None:
     until = time.monotonic() + seconds
     while not holds():
         expect(time.monotonic() < until, "within", seconds, "seconds:", what)
@@ -83,7 +77,6 @@ class Cluster:
     def __init__(self, folder: pathlib.Path, libraries: Libraries, timeout: Optional[str], settings: Dict[str, str]) -> None:
         self.folder = folder
         self.libraries = libraries
-        self._gate = folder / "gate"
         self._logs: Dict[int, pathlib.Path] = {}
         # (PATH and HOME alone: no setting of this machine's user)
         self._environment = {key: os.environ[key] for key in ("PATH", "HOME") if key in os.environ}
@@ -92,8 +85,8 @@ class Cluster:
             self._environment["DASK_DISTRIBUTED__COMM__TIMEOUTS__TCP"] = timeout
             self._environment["DASK_DISTRIBUTED__COMM__TIMEOUTS__CONNECT"] = timeout
 
-    def _with_package(self, library: str) -> Dict[str, str]:
-        shim = {"SHIM_LIBRARY": self.libraries.real, "SHIM_DELAY": str(DELAY)}
+    def _with_package(self, library: str, delay: int) -> Dict[str, str]:
+        shim = {"SHIM_LIBRARY": self.libraries.real, "SHIM_DELAY": str(delay)}
         return {**self._environment, **shim, "PYTHONPATH": PACKAGE, "MVTGATE_LIBRARY": library}
 
     def scheduler(self, host: Host) -> subprocess.Popen[bytes]:
@@ -112,19 +105,15 @@ class Cluster:
         self._logs[process.pid] = log
         return process
 
-    def wait_for(self, *workers: subprocess.Popen[bytes], times: int = 1) -> None:
-        """Waits until these workers have joined, so many times."""
+    def wait_for(self, *workers: subprocess.Popen[bytes]) -> None:
+        """Waits until these workers have joined."""
         for worker in workers:
             log = self._logs[worker.pid]
-            wait_for(lambda: log.read_text().count("Starting established connection") >= times, f"{log.name} says that it has joined")
+            wait_for(lambda: "Starting established connection" in log.read_text(), f"{log.name} says that it has joined")
 
-    def environment(self, is_gated: bool = False, is_other: bool = False) -> Dict[str, str]:
-        """That of a worker whose library is of another version, or one that waits at the gate after some tiles."""
-        gated = {"SHIM_GATE": str(self._gate), "SHIM_FREE": str(FREE), "SHIM_DELAY": str(GATED_DELAY)} if is_gated else {}
-        return {**self._with_package(self.libraries.other if is_other else self.libraries.slow), **gated}
-
-    def open_gate(self) -> None:
-        self._gate.touch()
+    def environment(self, delay: int = 0, is_other: bool = False) -> Dict[str, str]:
+        """That of a worker whose library takes so many microseconds more for a tile, or is of another version."""
+        return self._with_package(self.libraries.other if is_other else self.libraries.slow, delay)
 
     def bare_environment(self) -> Dict[str, str]:
         """That of a worker without the package."""
@@ -137,7 +126,7 @@ class Cluster:
         words += ["--output", str(output), "--partition", "50"]
         log = self.folder / f"{name}.log"
         log.unlink(missing_ok=True)
-        return Client(host, host.start(words, log, **self._with_package(self.libraries.real)), output, log)
+        return Client(host, host.start(words, log, **self._with_package(self.libraries.real, 0)), output, log)
 
 
 class Client:
@@ -150,31 +139,26 @@ class Client:
         self._log = log
         self.output = output
 
-    def end(self) -> Run:
+    def end(self, seconds: float = 60) -> Run:
         """Waits for the end."""
         try:
-            status = self._process.wait(LONG)
+            status = self._process.wait(seconds)
         except subprocess.TimeoutExpired:
-            raise Failed(f"the run has not ended after {LONG} seconds: {self._log.read_text()[-500:]}") from None
+            raise Failed(f"the run has not ended after {seconds} seconds: {self._log.read_text()[-500:]}") from None
         took = time.monotonic() - self._began
         self._host.end(self._process)
         return Run(self.output, status, self._log.read_text(), took)
 
-    def journal(self) -> List[Judged]:
-        """The partitions that are done so far."""
-        return journal_of(self.output)
-
-    def wait_for_work_of(self, hosts: List[Host], more: int = 1, before: int = 0) -> List[Judged]:
-        """Waits until each of the hosts has judged so many partitions, after the first ones, and returns those that are done."""
+    def wait_for_work_of(self, hosts: List[Host], more: int = 1, seconds: float = 60) -> List[Judged]:
+        """Waits until each of the hosts has judged so many partitions more, and returns those that are done."""
+        before = len(journal_of(self.output))
 
         def is_done() -> bool:
-            has_ended = self._process.poll() is not None
+            expect(self._process.poll() is None, "the run has ended too early:", self._log.read_text()[-500:])
             judges = [judged["judged_by"] for judged in journal_of(self.output)[before:]]
-            holds = all(sum(is_of(it, host) for it in judges) >= more for host in hosts)
-            expect(holds or not has_ended, "the run has ended too early:", self._log.read_text()[-500:])
-            return holds
+            return all(sum(is_of(it, host) for it in judges) >= more for host in hosts)
 
-        wait_for(is_done, f"judged by {', '.join(it.name for it in hosts)}")
+        wait_for(is_done, f"judged by {', '.join(it.name for it in hosts)}", seconds)
         return journal_of(self.output)
 
 
