@@ -15,8 +15,8 @@ import psycopg2  # type: ignore[import]
 import pytest
 from mvtgate import Profile
 
-from running import POSTGRESQL, SECONDS, TOP, Database, map_database
 import shapes
+from running import POSTGRESQL, SECONDS, TOP, Database, map_database
 
 DOCUMENT = (TOP / "docs/POSTGIS.md").read_text()
 BLOCKS: List[Tuple[str, str]] = re.findall(r"(?ms)^```(\w+)\n(.*?)^```$", DOCUMENT)
@@ -115,10 +115,9 @@ def test_function_of_the_document(filled: Database) -> None:
 def folder() -> Iterator[pathlib.Path]:
     """Where the lines for a shell run, with the commands of Debian's packages."""
     with tempfile.TemporaryDirectory(prefix="tile_server.") as made:
-        commands = {"python3": sys.executable, "psql": str(POSTGRESQL / "psql"), "mvtgate-check": f"{sys.executable} -m mvtgate check"}
-        for name, words in commands.items():
+        for name, command in {"python3": sys.executable, "psql": str(POSTGRESQL / "psql")}.items():
             path = pathlib.Path(made) / name
-            path.write_text(f'#!/bin/sh\nexec {words} "$@"\n')
+            path.write_text(f'#!/bin/sh\nexec {command} "$@"\n')
             path.chmod(0o755)
         yield pathlib.Path(made)
 
@@ -137,7 +136,7 @@ SHELLS = {"sql": ["psql", "-Atq", "-v", "ON_ERROR_STOP=1"], "sh": ["bash", "-euo
 def output_of(language: str, lines: str, folder: pathlib.Path, settings: Dict[str, str]) -> str:
     """What lines of the document write."""
     words = ["env", *SHELLS[language]]
-    run = subprocess.run(words, input=lines, env=settings, cwd=folder, capture_output=True, text=True, timeout=SECONDS)
+    run = subprocess.run(words, input=lines, env=settings, cwd=folder, capture_output=True, text=True, timeout=5 * SECONDS)
     assert (run.returncode, run.stderr) == (0, ""), lines
     return run.stdout
 
