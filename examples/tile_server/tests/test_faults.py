@@ -14,7 +14,6 @@ from mvtgate import Fault, Profile
 
 from conftest import (
     CLOSE_PONDS,
-    CLOSE_TO_EDGE,
     COMMON_CORNER,
     FIELD,
     FIRST,

@@ -13,7 +13,6 @@ from conftest import (
     CLOSE_PONDS,
     COMMON_CORNER,
     FIELD,
-    LOOP,
     MILESTONES,
     NOTHING,
     PONDS,
