@@ -362,7 +362,7 @@ var formats = []formatRule{
 		begins: []string{"\x53\x51\x4c\x69\x74\x65\x20\x66\x6f\x72\x6d\x61\x74\x20\x33\x00"},
 	},
 	{
-		format: Format{Name: "pmtiles", Title: "PMTiles archive", Sentence: "The bytes begin as a PMTiles archive does: this is no tile, but holds many.", Remedy: "take the tiles out into an MBTiles file (`pmtiles-convert` of PMTiles' Python package), and judge that: `mvtgate-planet FILE`."},
+		format: Format{Name: "pmtiles", Title: "PMTiles archive", Sentence: "The bytes begin as a PMTiles archive does: this is no tile, but holds many.", Remedy: "judge the whole archive: `mvtgate-check FILE`, or `mvtgate-planet FILE` for a large one."},
 		begins: []string{"\x50\x4d\x54\x69\x6c\x65\x73"},
 	},
 	{

@@ -384,7 +384,7 @@ pub(crate) static FORMATS: &[Rule] = &[
             name: "pmtiles",
             title: "PMTiles archive",
             sentence: "The bytes begin as a PMTiles archive does: this is no tile, but holds many.",
-            remedy: "take the tiles out into an MBTiles file (`pmtiles-convert` of PMTiles' Python package), and judge that: `mvtgate-planet FILE`.",
+            remedy: "judge the whole archive: `mvtgate-check FILE`, or `mvtgate-planet FILE` for a large one.",
         },
         begins: &[b"\x50\x4d\x54\x69\x6c\x65\x73"],
         after: &[],

@@ -426,7 +426,7 @@ export default {
       "begins": ["504d54696c6573"],
       "title": "PMTiles archive",
       "sentence": "The bytes begin as a PMTiles archive does: this is no tile, but holds many.",
-      "remedy": "take the tiles out into an MBTiles file (`pmtiles-convert` of PMTiles' Python package), and judge that: `mvtgate-planet FILE`."
+      "remedy": "judge the whole archive: `mvtgate-check FILE`, or `mvtgate-planet FILE` for a large one."
     },
     "png": {
       "begins": ["89504e470d0a1a0a"],

@@ -128,7 +128,7 @@ def test_that_cannot_be_written(folder: pathlib.Path, tmp_path: pathlib.Path) ->
 def test_archives_are_the_planet_run_s(tmp_path: pathlib.Path) -> None:
     archive = mbtiles(tmp_path / "it.mbtiles", {(3, 1, 2): FAULT})
     said = run("--mend", tmp_path / "out", archive)
-    assert said.returncode == 1 and said.stdout.endswith(" (not mended: mvtgate-planet --mend is for MBTiles files)\n")
+    assert said.returncode == 1 and said.stdout.endswith(" (not mended: mvtgate-planet --mend is for MBTiles files and PMTiles archives)\n")
 
 
 WRONG: List[List[Any]] = [["--drop", CROSSING], ["--mend", "out", "-"], ["--mend", "out", CROSSING, "-"]]

@@ -115,7 +115,7 @@ def test_deep_folders(deep_folder: pathlib.Path) -> None:
 def test_folder_without_tiles(tmp_path: pathlib.Path) -> None:
     """It is told, and the others are judged."""
     said = run(tmp_path, POINT)
-    reason = "the folder has no file that ends with .mvt, .pbf, .mvt.gz, .pbf.gz, .mvt.zst, .pbf.zst, .mbtiles"
+    reason = "the folder has no file that ends with .mvt, .pbf, .mvt.gz, .pbf.gz, .mvt.zst, .pbf.zst, .mbtiles, .pmtiles"
     assert (said.returncode, said.stdout) == (3, "")
     assert said.stderr == f"mvtgate-check: {tmp_path}: {reason}\n2 tiles: 1 valid, 0 with a fault, 1 not judged\n"
 

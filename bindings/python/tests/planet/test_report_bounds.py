@@ -166,7 +166,7 @@ def test_cells() -> None:
     it = Judged(Partition(0, 3, (2, 5), (3, 6), 3), "a worker", cells=[(0, 0, 1), (0, 1, 1), (1, 0, 1)])
     it.findings = [Finding(2, 1, 10, fault={"code": 504}), Finding(3, 1, 10, error="cut")]
     cells.add(it)
-    cells.add_unjudged(Partition(0, 3, (4, 5), (4, 5), 2), counts_from_south=True)
+    cells.add_unjudged(Partition(0, 3, (4, 5), (4, 5), 2), kind="mbtiles")
     assert cells_of(cells) == {
         "tiles": [1, 1, 0, 1, 0, 0],
         "faulty": [1, 0, 0, 0, 0, 0],
@@ -177,15 +177,15 @@ def test_cells() -> None:
     assert (cells.tiles, cells.faulty, cells.unjudged, cells.worst) == (5, 1, 3, 504)
 
 
-@pytest.mark.parametrize("first, last, south, lost", [
-    ((4, 1), (4, 1), False, [2]),
-    ((4, 5), (4, 6), True, [2, 5]),
-    ((3, 2), (4, 1), False, [1, 2, 4, 5]),
-    ((2, 1), (9, 9), False, [0, 1, 2, 3, 4, 5]),
+@pytest.mark.parametrize("first, last, kind, lost", [
+    ((4, 1), (4, 1), "folder", [2]),
+    ((4, 5), (4, 6), "mbtiles", [2, 5]),
+    ((3, 2), (4, 1), "folder", [1, 2, 4, 5]),
+    ((2, 1), (9, 9), "folder", [0, 1, 2, 3, 4, 5]),
 ])  # fmt: skip
-def test_cells_of_what_was_not_judged(first: Any, last: Any, south: bool, lost: List[int]) -> None:
+def test_cells_of_what_was_not_judged(first: Any, last: Any, kind: str, lost: List[int]) -> None:
     cells = ZoomCells(Extent(3, 5, 2, 4, 1, 2))
-    cells.add_unjudged(Partition(0, 3, first, last, 1), south)
+    cells.add_unjudged(Partition(0, 3, first, last, 1), kind)
     assert [at for at, it in enumerate(cells_of(cells)["lost"]) if it] == lost
 
 

@@ -15,7 +15,7 @@ from ..planet.pack import packed_as
 from .names import on_one_line
 from .pieces import Raw
 
-_ARCHIVED = "mvtgate-planet --mend is for MBTiles files"
+_ARCHIVED = "mvtgate-planet --mend is for MBTiles files and PMTiles archives"
 
 
 class NoFolder(Exception):

@@ -1,4 +1,4 @@
-"""The tiles that words name: of files, folders, MBTiles files and standard input, in pieces and in an order that stays the same.
+"""The tiles that words name: of files, folders, MBTiles files, PMTiles archives and standard input, in pieces and in an order that stays the same.
 
 Nothing is kept of what was found but the names in one folder at a time.
 """
@@ -11,15 +11,18 @@ from typing import Iterable, Iterator, List, NamedTuple, Set, Union
 
 from .._files import ENDINGS, LIMIT
 from ..planet.sources import NotASource, SourceChanged, open_source
+from ..planet.sources.pmtiles import MAGIC, is_address
 from .names import INPUT
 from .pieces import ArchivePart, Failed, Files, Given, Piece, reason
 
 # how many tiles a piece has at most: few, so that each of several processes has its share of a small folder
 _MOST_FILES = 8
 _MOST_IN_ARCHIVE = 32
-_ARCHIVE = ".mbtiles"
+_ARCHIVES = (".mbtiles", ".pmtiles")
 _SQLITE = b"SQLite format 3\0"
-_WANTED = (*ENDINGS, _ARCHIVE)
+# (the header of a PMTiles archive)
+_HEAD = 127
+_WANTED = (*ENDINGS, *_ARCHIVES)
 
 # (a text is the path of a file with one tile)
 Found = Union[str, Piece]
@@ -99,7 +102,7 @@ def _of_folder(folder: str) -> Iterator[Found]:
 
 
 def _of_archive(path: str) -> Iterator[Found]:
-    """An MBTiles file. Its faults name tiles by z/x/y."""
+    """An MBTiles file or a PMTiles archive. Its faults name tiles by z/x/y."""
     try:
         source = open_source(path)
         stamp = source.stamp()
@@ -113,19 +116,20 @@ def _of_archive(path: str) -> Iterator[Found]:
 
 
 def _of_file(path: str) -> Iterator[Found]:
-    if path.endswith(_ARCHIVE):
+    if path.endswith(_ARCHIVES):
         yield from _of_archive(path)
     else:
         yield path
 
 
-def _is_database(path: str) -> bool:
+def _is_archive(path: str) -> bool:
     try:
         # (a pipe isn't read: what was read of it would be gone)
         if not os.path.isfile(path):
             return False
         with open(path, "rb") as file:
-            return file.read(len(_SQLITE)) == _SQLITE
+            head = file.read(_HEAD)
+            return head.startswith(_SQLITE) or (head.startswith(MAGIC) and len(head) == _HEAD)
     except OSError:
         return False
 
@@ -146,7 +150,7 @@ def _of_word(word: str) -> Iterator[Found]:
         yield _of_input()
     elif os.path.isdir(word):
         yield from _of_folder(word)
-    elif _is_database(word):
+    elif is_address(word) or _is_archive(word):
         yield from _of_archive(word)
     else:
         yield from _of_file(word)

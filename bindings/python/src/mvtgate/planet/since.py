@@ -56,6 +56,17 @@ class Lookup:
         return self._advice.get(tile)
 
 
+def _by_ids(run: Mapping[str, Any]) -> List[bool]:
+    """Of which sources the partitions are ranges of ids, and not of columns."""
+    return [it["kind"] == "pmtiles" for it in run["sources"]]
+
+
+def _overlap(one: Partition, other: Partition, is_by_ids: bool) -> bool:
+    """Whether they have a column in common, or an id."""
+    at = 1 if is_by_ids else 0
+    return one.first[at] <= other.last[at] and other.first[at] <= one.last[at]
+
+
 class EarlierRun:
     """A run that isn't under way any more. Its lines stay in its journal, of which the places are kept."""
 
@@ -73,6 +84,7 @@ class EarlierRun:
         except OSError as error:
             raise ending_of(error, self._path) from None
         self.run = self._read()
+        self._is_by_ids = _by_ids(self.run)
         self._store = Store(os.path.join(folder, "journal.bin"), is_read=True)
 
     def _read(self) -> Dict[str, Any]:
@@ -101,6 +113,8 @@ class EarlierRun:
         different = [key for key in _SAME if self.run.get(key) != run.get(key)]
         if len(self.run["sources"]) != len(run["sources"]):
             different.append("number of sources")
+        elif _by_ids(self.run) != _by_ids(run):
+            different.append("kind of sources")
         if different:
             raise NoEarlierRun(f"{self.folder}: a run can't go by it with other words or another version ({', '.join(different)} not the same)")
 
@@ -112,7 +126,7 @@ class EarlierRun:
         """What it knows of the columns of a partition."""
         known = Known()
         for it, at in self._done.get((partition.source, partition.zoom), ()):
-            if it.first[0] <= partition.last[0] and partition.first[0] <= it.last[0]:
+            if _overlap(it, partition, self._is_by_ids[partition.source]):
                 judged = self._judged(at)
                 known.blocks.append(self._store.read(*judged.sums))
                 known.findings.extend(finding.members() for finding in judged.findings)

@@ -31,6 +31,8 @@ from .window import Window
 # how many slow tiles are kept of a partition, and how many pieces of advice of a tile
 _SLOWEST = 10
 _MOST_ADVICE = 20
+# characters of what the library said of a tile that are kept, where its bytes may serve several places of a partition
+_LONGEST_KEPT = 1000
 # bytes of mended tiles that a call returns; where there are more, the partition goes on in parts
 _MOST_MENDED = 32 << 20
 
@@ -112,6 +114,8 @@ class _Judging:
         self.judged = Judged(partition, _worker_name())
         self.count = 0
         self._mended = 0
+        # what was said of bytes that may be stored once for several places
+        self._said: Dict[Tuple[int, int], Optional[str]] = {}
 
     def add(self, stored: Stored) -> None:
         """Judges one tile."""
@@ -147,9 +151,7 @@ class _Judging:
 
     def _judge(self, stored: Stored, tile: bytes) -> None:
         began = time.thread_time_ns()
-        # (quickly, so that no tile holds a worker for long)
-        has_all = self._task.has_all or bool(self._task.layers)
-        told = _library.faults(self._profile, tile, True) if has_all else _library.check(self._profile, tile, True)
+        told = self._told(stored, tile)
         seconds = (time.thread_time_ns() - began) / 1e9
         self.judged.unpacked += len(tile)
         keep = heapq.heappush if len(self._slowest) < _SLOWEST else heapq.heappushpop
@@ -159,6 +161,17 @@ class _Judging:
             self._advise(stored, tile)
         if told:
             self._find(stored, tile, self._wanted(tile, _library.lines_of(told)), seconds)
+
+    def _told(self, stored: Stored, tile: bytes) -> Optional[str]:
+        """What the library says of a tile. Of bytes that are stored once for several places it is asked once."""
+        if stored.content is not None and stored.content in self._said:
+            return self._said[stored.content]
+        has_all = self._task.has_all or bool(self._task.layers)
+        # (quickly, so that no tile holds a worker for long)
+        told = _library.faults(self._profile, tile, True) if has_all else _library.check(self._profile, tile, True)
+        if stored.content is not None and len(told or "") <= _LONGEST_KEPT:
+            self._said[stored.content] = told
+        return told
 
     def _wanted(self, tile: bytes, lines: Iterator[str]) -> Iterator[str]:
         """The faults of the layers that are asked for, and those of bytes that are no tile."""

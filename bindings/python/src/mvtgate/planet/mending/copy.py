@@ -12,6 +12,7 @@ from ..records import Place
 from ..sources import Source
 from ..sources.folder import Folder
 from ..sources.mbtiles import Mbtiles
+from ..sources.pmtiles import Pmtiles
 from .tiles import sum_of
 
 
@@ -75,6 +76,7 @@ def copy_of(sources: Sequence[Source], path: str) -> Copy:
     """The copy of the one source of a run. NoCopy where there are more."""
     from .folder import CopyOfFolder
     from .mbtiles import CopyOfMbtiles
+    from .pmtiles import CopyOfPmtiles
 
     if len(sources) != 1:
         raise NoCopy("--mend takes one FILE")
@@ -86,6 +88,8 @@ def copy_of(sources: Sequence[Source], path: str) -> Copy:
         return CopyOfFolder(source.path, path)
     if isinstance(source, Mbtiles):
         return CopyOfMbtiles(source.path, path)
+    if isinstance(source, Pmtiles):
+        return CopyOfPmtiles(source.path, path)
     raise NoCopy(f"{source.path} can't be copied")
 
 

@@ -9,6 +9,7 @@ from dataclasses import dataclass, field
 from typing import Any, Dict, List, Tuple
 
 from ..records import Extent, Finding, Judged, Partition
+from ..sources.pmtiles.ids import Box, box_of
 from .classes import worse
 
 
@@ -60,17 +61,24 @@ class ZoomCells:
         self._worst[at] = worse(self._worst[at], code)
         self.worst = worse(self.worst, code)
 
-    def add_unjudged(self, partition: Partition, counts_from_south: bool) -> None:
-        """Marks the cells of a partition that wasn't judged. Where in them its tiles are isn't known."""
-        self.tiles += partition.tiles
-        self.unjudged += partition.tiles
+    def box_of(self, partition: Partition, kind: str) -> Box:
+        """A box around the tiles of a partition, by the kind of its source."""
+        if kind == "pmtiles":
+            return box_of(partition.first[1], partition.last[1])
         (first_column, first_row), (last_column, last_row) = partition.first, partition.last
         if first_column != last_column:
             first_row, last_row = self.extent.first_row, self.extent.last_row
-        elif counts_from_south:
+        elif kind == "mbtiles":
             first_row, last_row = ((1 << partition.zoom) - 1 - it for it in (last_row, first_row))
-        left, top = self.extent.cell(first_column, first_row)
-        right, bottom = self.extent.cell(last_column, last_row)
+        return Box(first_column, last_column, first_row, last_row)
+
+    def add_unjudged(self, partition: Partition, kind: str) -> None:
+        """Marks the cells of a partition that wasn't judged. Where in them its tiles are isn't known."""
+        self.tiles += partition.tiles
+        self.unjudged += partition.tiles
+        box = self.box_of(partition, kind)
+        left, top = self.extent.cell(box.first_column, box.first_row)
+        right, bottom = self.extent.cell(box.last_column, box.last_row)
         for row in range(max(top, 0), min(bottom + 1, self.rows)):
             for column in range(max(left, 0), min(right + 1, self.columns)):
                 self._lost[row * self.columns + column] = 1
@@ -102,7 +110,7 @@ class TileMap:
     """The cells of all sources and zooms of a run, in the order of the sources and zooms."""
 
     def __init__(self, sources: List[Dict[str, Any]]) -> None:
-        self._south = [it["kind"] == "mbtiles" for it in sources]
+        self._kinds = [it["kind"] for it in sources]
         extents = ((at, Extent(**extent)) for at, it in enumerate(sources) for extent in it["zooms"])
         found = {(at, extent.zoom): extent for at, extent in extents}
         self.zooms: Dict[Tuple[int, int], ZoomCells] = {key: ZoomCells(found[key]) for key in sorted(found)}
@@ -111,4 +119,8 @@ class TileMap:
         self.zooms[judged.partition.source, judged.partition.zoom].add(judged)
 
     def add_unjudged(self, partition: Partition) -> None:
-        self.zooms[partition.source, partition.zoom].add_unjudged(partition, self._south[partition.source])
+        self.zooms[partition.source, partition.zoom].add_unjudged(partition, self._kinds[partition.source])
+
+    def box_of(self, partition: Partition) -> Box:
+        """A box around the tiles of a partition."""
+        return self.zooms[partition.source, partition.zoom].box_of(partition, self._kinds[partition.source])

@@ -245,7 +245,7 @@ def unjudged_of(report: Report) -> List[View]:
             "is_name": label.is_name,
             "tiles": tiles,
             "places": [_place_view(names, it) for it in report.unjudged.firsts.of(label)],
-            "partitions": [_partition_view(names, it) for it in report.unjudged.partitions.of(label)],
+            "partitions": [_partition_view(report, it) for it in report.unjudged.partitions.of(label)],
         }
         for label, tiles in ordered
     ]
@@ -255,13 +255,14 @@ def _place_view(names: Sequence[str], place: Place) -> View:
     return {"tile": tile_name(place), "source": names[place.source]}
 
 
-def _partition_view(names: Sequence[str], partition: Partition) -> View:
+def _partition_view(report: Report, partition: Partition) -> View:
+    box = report.map.box_of(partition)
     return {
         "zoom": partition.zoom,
-        "first": partition.first[0],
-        "last": partition.last[0],
+        "first": box.first_column,
+        "last": box.last_column,
         "tiles": partition.tiles,
-        "source": names[partition.source],
+        "source": source_names(report)[partition.source],
     }
 
 

@@ -22,7 +22,8 @@ class SourceChanged(Refused):
 class Stored(NamedTuple):
     """A tile as it is stored. The row is from the north. Where the bytes couldn't be read, `error` says why.
 
-    `size` is how many bytes are stored, which are more than those of `data` where there are too many to read.
+    `size` is how many bytes are stored, which are more than those of `data` where there are too many to read. Tiles of one source
+    with the same `content` have the same bytes, stored once.
     """
 
     column: int
@@ -30,6 +31,7 @@ class Stored(NamedTuple):
     data: bytes
     error: Optional[str]
     size: int
+    content: Optional[Tuple[int, int]] = None
 
 
 class Source(abc.ABC):
