@@ -16,6 +16,8 @@ PYTHON = "/usr/bin/python3"
 PACKAGE = str(TOP / "bindings/python/src")
 PORT = 8786
 _SECONDS = re.compile(r'"seconds": [-+.0-9e]+')
+# seconds that something may take on a machine which does much else
+LONG = 1200.0
 # a worker that ends is started again, as a service manager does
 _AGAIN = 'while :; do "$@"; sleep 0.2; done'
 
@@ -31,7 +33,7 @@ def expect(holds: object, *said: object) -> None:
         raise Failed(" ".join(map(str, said)))
 
 
-def wait_for(holds: Callable[[], object], what: str, seconds: float = 60) -> None:
+def wait_for(holds: Callable[[], object], what: str, seconds: float = LONG) -> None:
     until = time.monotonic() + seconds
     while not holds():
         expect(time.monotonic() < until, "within", seconds, "seconds:", what)
@@ -139,7 +141,7 @@ class Client:
         self._log = log
         self.output = output
 
-    def end(self, seconds: float = 60) -> Run:
+    def end(self, seconds: float = LONG) -> Run:
         """Waits for the end."""
         try:
             status = self._process.wait(seconds)
@@ -149,7 +151,7 @@ class Client:
         self._host.end(self._process)
         return Run(self.output, status, self._log.read_text(), took)
 
-    def wait_for_work_of(self, hosts: List[Host], more: int = 1, seconds: float = 60) -> List[Judged]:
+    def wait_for_work_of(self, hosts: List[Host], more: int = 1, seconds: float = LONG) -> List[Judged]:
         """Waits until each of the hosts has judged so many partitions more, and returns those that are done."""
         before = len(journal_of(self.output))
 

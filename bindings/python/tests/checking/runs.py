@@ -18,7 +18,7 @@ OVERLAP = TOP / "tiles/polygons_that_overlap.mvt"
 PNG = b"\x89PNG\r\n\x1a\n\x00\x00\x00\rIHDR"
 INDEX = "CREATE UNIQUE INDEX tile_index ON tiles (zoom_level, tile_column, tile_row)"
 # seconds that something may take on a machine which does much else
-LONG = 600.0
+LONG = 1200.0
 EMPTY = "it is empty; --allow-empty takes that for a valid tile"
 
 Run = subprocess.CompletedProcess[str]

@@ -23,7 +23,7 @@ VALID_STATUS, FAULTY, UNJUDGED, REFUSED, UNFINISHED = range(5)
 TABLE = "CREATE TABLE tiles (zoom_level INTEGER, tile_column INTEGER, tile_row INTEGER, tile_data BLOB)"
 INDEX = "CREATE UNIQUE INDEX tile_index ON tiles (zoom_level, tile_column, tile_row)"
 # seconds that something may take on a machine which does much else
-LONG = 600.0
+LONG = 1200.0
 _SECONDS = re.compile(r'"seconds": [0-9.e-]+')
 # sample tiles of which one fault alone is accepted, by the name of their file
 SAMPLE: Dict[str, Sample] = {it.path.stem: it for it in SAMPLES if it.path.parent == TOP / "tiles"}
