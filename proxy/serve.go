@@ -1,0 +1,143 @@
+package main
+
+import (
+	"context"
+	"log"
+	"net"
+	"net/http"
+	"os"
+	"runtime/debug"
+	"time"
+
+	"mvtgate-proxy/internal/bounds"
+	"mvtgate-proxy/internal/gate"
+	"mvtgate-proxy/internal/relay"
+	"mvtgate-proxy/internal/telling"
+)
+
+const (
+	idleTime        = 2 * time.Minute
+	dialTime        = 10 * time.Second
+	mostHeaders     = 64 << 10
+	mostUpstream    = 1 << 20
+	idleConnections = 512
+)
+
+// server is all that runs.
+type server struct {
+	*settings
+	metrics   *telling.Metrics
+	log       *telling.Log
+	transport *http.Transport
+	relay     *relay.Relay
+	health    *health
+}
+
+func newServer(it *settings) *server {
+	metrics := telling.NewMetrics()
+	made := &server{settings: it, metrics: metrics, log: telling.NewLog(os.Stderr, it.logLines, metrics.LeftOut)}
+	made.transport = &http.Transport{
+		DialContext:            (&net.Dialer{Timeout: dialTime, KeepAlive: 30 * time.Second}).DialContext,
+		TLSHandshakeTimeout:    dialTime,
+		ResponseHeaderTimeout:  it.upstreamTime,
+		DisableCompression:     true,
+		ForceAttemptHTTP2:      true,
+		MaxIdleConns:           idleConnections,
+		MaxIdleConnsPerHost:    idleConnections,
+		IdleConnTimeout:        idleTime,
+		MaxResponseHeaderBytes: mostUpstream,
+		WriteBufferSize:        4 << 10,
+		ReadBufferSize:         32 << 10,
+	}
+	budget := gate.NewBudget(int64(it.memory))
+	made.relay = &relay.Relay{
+		Upstream: made.transport, Known: it.known, Budget: budget, Mode: it.mode, MaxPacked: int64(it.maxPacked),
+		UpstreamTime: it.upstreamTime, Metrics: metrics, Log: made.log,
+		Gate: gate.New(gate.Settings{
+			Profile: it.profile, Exact: it.exact, NotEmpty: it.notEmpty, Drop: it.drop, MaxTile: int64(it.maxTile),
+			AtOnce: it.judgements, Wait: it.judgeWait, Remember: int64(it.remember), Observe: metrics.Judged,
+		}, budget),
+	}
+	if it.mode != relay.Report {
+		made.relay.Good = relay.NewGood(int64(it.lastGood))
+	}
+	made.health = newHealth(made.transport, it.healthURL(), it.host)
+	return made
+}
+
+// gauges adds what is kept and what is under way.
+func (it *server) gauges(listener *bounds.Listener) {
+	gauge := func(name, help string, value func() (int, int64), isBytes bool) {
+		it.metrics.Gauge(name, help, func() float64 {
+			count, bytes := value()
+			if isBytes {
+				return float64(bytes)
+			}
+			return float64(count)
+		})
+	}
+	gauge("last_good_tiles", "Last good tiles that are kept", it.relay.Good.Size, false)
+	gauge("last_good_bytes", "Bytes that the last good tiles take", it.relay.Good.Size, true)
+	gauge("remembered_verdicts", "Verdicts that are kept", it.relay.Gate.Remembered, false)
+	gauge("remembered_bytes", "Bytes that verdicts take", it.relay.Gate.Remembered, true)
+	it.metrics.Gauge("judging", "Tiles that are being judged", func() float64 { return float64(it.relay.Gate.Judging()) })
+	it.metrics.Gauge("memory_bytes", "Bytes of --memory that are taken", func() float64 { return float64(it.relay.Budget.Taken()) })
+	it.metrics.Gauge("connections", "Connections of clients", func() float64 { return float64(listener.Connections()) })
+}
+
+// serve serves until the context ends, and then what is under way.
+func serve(end context.Context, it *settings) error {
+	if os.Getenv("GOMEMLIMIT") == "" {
+		// (tiles take no more of Go's heap; so it is tidied before it is far above)
+		debug.SetMemoryLimit(int64(it.memory))
+	}
+	made := newServer(it)
+	inner, err := net.Listen("tcp", it.listen)
+	if err != nil {
+		return err
+	}
+	listener := bounds.NewListener(inner, it.connections, it.clientTime)
+	made.gauges(listener)
+	errors := log.New(made.log, "", 0)
+	tiles := &http.Server{
+		Handler:           bounds.Bodies(it.clientTime, made.relay.Proxy(it.url, it.host, errors)),
+		ReadHeaderTimeout: it.clientTime,
+		IdleTimeout:       idleTime,
+		MaxHeaderBytes:    mostHeaders,
+		ErrorLog:          errors,
+		ConnContext:       bounds.WithConnection,
+	}
+	admin, adminAddress, err := made.adminServer(errors)
+	if err != nil {
+		return err
+	}
+	made.log.Line("listening", map[string]any{
+		"address": listener.Addr().String(), "admin": adminAddress, "upstream": it.url.Redacted(), "mode": it.mode, "profile": it.profile.String(),
+	})
+	failed := make(chan error, 1)
+	go func() { failed <- tiles.Serve(listener) }()
+	select {
+	case err := <-failed:
+		return err
+	case <-end.Done():
+	}
+	return made.drain(tiles, admin)
+}
+
+// drain ends the server after what is under way.
+func (it *server) drain(tiles, admin *http.Server) error {
+	it.health.drain()
+	it.log.Line("draining", nil)
+	limit, cancel := context.WithTimeout(context.Background(), it.drainTime)
+	defer cancel()
+	err := tiles.Shutdown(limit)
+	if err != nil {
+		it.log.Line("cut", map[string]any{"message": "some requests were not answered in time"})
+		err = tiles.Close()
+	}
+	if admin != nil {
+		_ = admin.Close()
+	}
+	it.log.Flush()
+	return err
+}
