@@ -13,8 +13,11 @@ import (
 	"time"
 )
 
-// How long the upstream server may take to answer /healthz.
-const healthTime = 2 * time.Second
+// How long the upstream server may take to answer /healthz, and whoever asks for that or for /metrics.
+const (
+	healthTime = 2 * time.Second
+	adminTime  = time.Minute
+)
 
 // health asks the upstream server, once for all who ask meanwhile.
 type health struct {
@@ -112,7 +115,7 @@ func (it *server) adminServer(errors *log.Logger) (*http.Server, string, error) 
 	addresses.Handle("/metrics", it.metrics.Handler())
 	addresses.Handle("/healthz", it.health)
 	made := &http.Server{
-		Handler: addresses, ReadTimeout: it.clientTime, WriteTimeout: it.clientTime, IdleTimeout: idleTime,
+		Handler: addresses, ReadTimeout: adminTime, WriteTimeout: adminTime, IdleTimeout: idleTime,
 		MaxHeaderBytes: mostHeaders, ErrorLog: errors,
 	}
 	go func() { _ = made.Serve(listener) }()

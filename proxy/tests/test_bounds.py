@@ -5,7 +5,6 @@ import contextlib
 import gzip
 import socket
 import threading
-import zlib
 from typing import Iterator, List
 
 import pytest
@@ -44,10 +43,8 @@ def test_a_tile_may_be_as_long_as_the_limit_and_no_longer() -> None:
 
 
 def zeros(count: int) -> bytes:
-    """gzip of so many zeros."""
-    packing = zlib.compressobj(9, wbits=31)
-    parts = [packing.compress(bytes(MEGABYTE)) for _ in range(count // MEGABYTE)]
-    return b"".join([*parts, packing.flush()])
+    """gzip of so many zeros, in members of 16 MiB each."""
+    return gzip.compress(bytes(16 * MEGABYTE), 1) * (count // (16 * MEGABYTE))
 
 
 def test_a_gigabyte_of_zeros_costs_its_first_64_mib() -> None:
@@ -97,14 +94,14 @@ def test_memory_has_a_bound() -> None:
             return FILLER[-1:]
         return tile(FILLER) if asked.target == "/1/2/8" else tile(VALID)
 
-    words = ["--mode", "refuse", "--max-tile", "8400000", "--max-packed", "8400000", "--memory", "337000000"]
+    words = ["--mode", "refuse", "--max-tile", "8400000", "--max-packed", "8400000", "--memory", "337000000", "--remember", "0", "--upstream-time", "1h"]
     with upstream(answer) as server, proxy(server.url, *words) as gate:
         assert gate.get("/1/2/8").status == 200
         with held(gate, 10, "/1/2/9") as clients:
             wait_until(lambda: gate.metric("memory_bytes") > 80 * MEGABYTE)
             # (its worst is 32 times its length, and that isn't left)
-            expect_unjudged(gate, "/1/2/8", 503, "out_of_memory")
-            assert int(gate.get("/1/2/8").headers["Retry-After"]) > 0
+            refused = gate.get("/1/2/8")
+            assert (refused.status, refused.headers["Retry-After"]) == (503, "2") and refused.json()["unjudged"] == "out_of_memory"
             assert gate.get(TILE).body == VALID
             waiting.set()
             for it in clients:
@@ -113,49 +110,41 @@ def test_memory_has_a_bound() -> None:
         assert gate.get("/1/2/8").status == 200
 
 
-def hostile() -> bytes:
-    """A tile that takes seconds to be judged: one polygon of many vertices, each edge of which is long."""
-    def varint(number: int) -> bytes:
-        parts = bytearray()
-        while number > 127:
-            parts.append(number & 127 | 128)
-            number >>= 7
-        return bytes([*parts, number])
-
-    def block(key: int, payload: bytes) -> bytes:
-        return bytes([key]) + varint(len(payload)) + payload
-
-    def zigzag(number: int) -> bytes:
-        return varint(number * 2 if number >= 0 else -number * 2 - 1)
-
-    # a comb: up and down, a step to the right each time, and back below all
-    teeth = 400000
-    steps = b"".join(zigzag(1) + zigzag(1000000 if at % 2 == 0 else -1000000) for at in range(teeth))
-    geometry = varint(9) + zigzag(0) + zigzag(0) + varint(teeth + 1 << 3 | 2) + steps + zigzag(0) + zigzag(-10) + varint(15)
-    feature = bytes([0x18, 3]) + block(0x22, geometry)
-    return block(0x1A, b"\x78\x02" + block(0x0A, b"a") + block(0x12, feature))
+def slow_tile() -> bytes:
+    """A valid tile that takes a while to be judged: 500,000 layers, whose names are in no order."""
+    letters = [bytes([it]) for it in range(0x30, 0x30 + 64)]
+    pairs = [one + other for one in letters for other in letters]
+    # (an odd factor, so that each name comes once)
+    numbers = (it * 2654435761 % 2**24 for it in range(500_000))
+    return b"".join(b"\x1a\x08\x78\x02\x0a\x04" + pairs[it >> 12] + pairs[it & 4095] for it in numbers)
 
 
 def test_a_judgement_blocks_no_other_requests() -> None:
-    slow = hostile()
+    slow = slow_tile()
+    is_over = threading.Event()
+    statuses: List[int] = []
+
+    def keep_asking(gate: Proxy) -> None:
+        while not is_over.is_set():
+            statuses.append(gate.get("/1/2/3?slow").status)
+
     with upstream(lambda asked: tile(slow) if "slow" in asked.target else tile(VALID) if "tile" in asked.target else reply(b"page")) as server:
-        words = ["--mode", "refuse", "--judgements", "1", "--judge-wait", "10ms", "--remember", "0"]
-        with proxy(server.url, *words) as gate:
-            answers: List[int] = []
-            asking = threading.Thread(target=lambda: answers.append(gate.get("/1/2/3?slow").status))
+        with proxy(server.url, "--mode", "refuse", "--judgements", "1", "--judge-wait", "1ms", "--remember", "0") as gate:
+            asking = threading.Thread(target=keep_asking, args=[gate])
             asking.start()
-            # (each tile is refused while the other is judged, and each page is sent)
-            busy = 0
-            while asking.is_alive():
-                tile_answer, page = gate.get("/1/2/4?tile"), gate.get("/page")
-                assert page.body == b"page" and tile_answer.status in (200, 503)
-                if tile_answer.status == 503:
-                    assert tile_answer.json()["unjudged"] == "busy" and tile_answer.headers["Retry-After"]
-                    busy += 1
-            asking.join()
-            assert busy > 0 and len(answers) == 1
-            assert gate.get("/1/2/4?tile").status == 200
-            assert gate.metric('unjudged_total{answer="refused",reason="busy"}') == busy
+
+            def is_busy() -> bool:
+                answer = gate.get("/1/2/4?tile")
+                assert gate.get("/page").body == b"page" and answer.status in (200, 503)
+                return answer.status == 503 and answer.json()["unjudged"] == "busy" and answer.headers["Retry-After"] == "2"
+
+            try:
+                wait_until(is_busy)
+            finally:
+                is_over.set()
+                asking.join()
+            assert set(statuses) <= {200, 503} and gate.get("/1/2/4?tile").status == 200
+            assert gate.metric('unjudged_total{answer="refused",reason="busy"}') > 0
 
 
 def hang(asked: Asked) -> None:

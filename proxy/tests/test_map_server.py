@@ -37,7 +37,7 @@ def tile_of(gate: Proxy, column: int) -> bytes:
 def test_its_tiles_are_judged_by_each_mode(server: str) -> None:
     with proxy(server, "--mode", "refuse", "--exact") as refusing, proxy(server, "--exact") as reporting, proxy(server, "--mode", "mend") as mending:
         verdicts = set()
-        for column in range(10):
+        for column in range(9):
             path = f"/tiles/6/{column}/20.mvt"
             reported = tile_of(reporting, column)
             fault = mvtgate.check(reported)
