@@ -28,7 +28,7 @@ statuses_of_check() {
 
 test_pages() {
     local page
-    for page in packaging/mvtgate.1 packaging/mvtgate.3 packaging/mvtgate-check.1 packaging/mvtgate-planet.1 packaging/mvtgate-proxy.1; do
+    for page in packaging/mvtgate.1 packaging/mvtgate.3 packaging/mvtgate-check.1 packaging/mvtgate-planet.1; do
         ! has /usr/bin/mandoc "the lint of $page" || expect "the lint of $page" is_silent lint $page
         ! has /usr/bin/groff "groff's warnings on $page" || expect "groff's warnings on $page" is_silent groff -ww -mandoc -Tutf8 -z $page
         ! has /usr/bin/man "the warnings of man on $page" ||

@@ -158,21 +158,6 @@ run_planet() {
     [ -s "$root/tmp/judged/report.html" ] && cmp "$root/tmp/judged/page.html" web/out/index.html
 }
 
-# The proxy needs no other of the packages, and is told of its map server by its settings.
-run_proxy() {
-    cp "$made/mvtgate-proxy_${version}_amd64.deb" "$root/tmp/"
-    inside dpkg -i "/tmp/mvtgate-proxy_${version}_amd64.deb"
-    [ "$(inside mvtgate-proxy --version)" = "mvtgate-proxy $version" ]
-    ends_with 2 inside mvtgate-proxy
-    cmp "$root/etc/default/mvtgate-proxy" packaging/proxy/default
-    cmp "$root/lib/systemd/system/mvtgate-proxy.service" packaging/proxy/mvtgate-proxy.service
-    [ "$(inside dpkg --verify mvtgate-proxy)" = "" ]
-    echo MVTGATE_PROXY_MODE=mend >>"$root/etc/default/mvtgate-proxy"
-    inside dpkg -i "/tmp/mvtgate-proxy_${version}_amd64.deb"
-    grep -qx MVTGATE_PROXY_MODE=mend "$root/etc/default/mvtgate-proxy"
-    inside dpkg -P mvtgate-proxy
-}
-
 purge() { inside apt-get purge -y mvtgate libmvtgate-dev python3-mvtgate; }
 
 test_packages() {
@@ -190,7 +175,6 @@ test_packages() {
         expect "the samples by Python's module" are_samples_right by_module
         expect "dpkg --verify" are_lines "" inside dpkg --verify
         expect "dpkg -P of Python's package" dpkg_inside -P python3-mvtgate
-        ! has_proxy || expect "the proxy's package" run_proxy
     fi
     expect "dpkg -P" dpkg_inside -P libmvtgate-dev mvtgate
     expect "nothing is left" are_lines "$before" listed

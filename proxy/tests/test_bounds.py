@@ -136,7 +136,7 @@ def test_a_judgement_blocks_no_other_requests() -> None:
             def is_busy() -> bool:
                 answer = gate.get("/1/2/4?tile")
                 assert gate.get("/page").body == b"page" and answer.status in (200, 503)
-                return answer.status == 503 and answer.json()["unjudged"] == "busy" and answer.headers["Retry-After"] == "2"
+                return answer.status == 503 and bool(answer.json()["unjudged"] == "busy") and answer.headers["Retry-After"] == "2"
 
             try:
                 wait_until(is_busy)
