@@ -44,6 +44,17 @@ needs_named_libc() {
     [ "$named" = "libc6 (>= ${needed#GLIBC_})" ]
 }
 
+# The same of the extension for PostgreSQL, which has no other library beside it.
+extension_needs_named_libc() {
+    local named needed module=$room/extension/usr/lib/postgresql/15/lib/mvtgate.so
+    mkdir "$room/extension"
+    dpkg-deb -x "$made/postgresql-15-mvtgate_${version}_amd64.deb" "$room/extension"
+    named=$(dpkg-deb -f "$made/postgresql-15-mvtgate_${version}_amd64.deb" Depends)
+    needed=$(objdump -T "$module" | grep -o 'GLIBC_[0-9.]*' | sort -Vu | tail -1)
+    [ "$named" = "postgresql-15, libc6 (>= ${needed#GLIBC_})" ]
+    are_lines libc.so.6 sh -c "readelf --dynamic --wide '$module' | sed -n 's/.*(NEEDED).*\[\(.*\)\]/\1/p'"
+}
+
 # Each file of a package has its sum, and the names of no other file.
 has_sums() {
     local unpacked=$room/sums_$1
@@ -56,7 +67,7 @@ has_sums() {
 }
 
 test_made() {
-    local names package bare=/usr/sbin:/usr/bin:/sbin:/bin
+    local names package packages=(mvtgate libmvtgate-dev python3-mvtgate) bare=/usr/sbin:/usr/bin:/sbin:/bin
     version=$(<VERSION)
     expect "tools/package" tools/package "$made"
     # (no toolchain is needed where all is built)
@@ -65,13 +76,18 @@ test_made() {
         "python3-mvtgate_${version}_all.deb" "mvtgate-$version.tgz")
     ! has /usr/lib/python3/dist-packages/build "the wheel" || ! has /usr/lib/python3/dist-packages/wheel "the wheel" ||
         names+=("mvtgate-$version-py3-none-manylinux_2_34_x86_64.whl")
+    if has /usr/lib/postgresql/15/lib/pgxs/src/makefiles/pgxs.mk "the extension for PostgreSQL"; then
+        names+=("postgresql-15-mvtgate_${version}_amd64.deb")
+        packages+=(postgresql-15-mvtgate)
+        expect "the C library that the extension names" extension_needs_named_libc
+    fi
     expect "the files of tools/package" are_lines "$(printf '%s\n' "${names[@]}" | LC_ALL=C sort)" env LC_ALL=C ls "$made"
     expect "the same bytes twice" are_same "$made" "$room/again"
     expect "wrong words of tools/package" ends_with 2 tools/package a b
     expect "two versions" has_two_versions
     expect "the C library that is named" needs_named_libc
-    for package in mvtgate libmvtgate-dev python3-mvtgate; do
-        expect "the sums of $package" has_sums $package
+    for package in "${packages[@]}"; do
+        expect "the sums of $package" has_sums "$package"
     done
     if has /usr/bin/lintian "the errors of the packages"; then
         expect "lintian" lintian --allow-root --fail-on error "$made"/*.deb
