@@ -164,16 +164,17 @@ def test_hostile_directories(tmp_path: pathlib.Path, data: Hostile, why: str) ->
 @pytest.mark.parametrize(
     ("data", "why"),
     [
-        (archive(b"", b"", b"", version=2), "version 2"),
-        (archive(b"", b"", b"", kind=2), "PNG"),
-        (archive(b"", b"", b"", packing=4), "Zstandard"),
-        (b"PMTiles\x03", "no PMTiles archive"),
-        (archive(gzip.compress(directory([])), b"", VALID)[:-1], "beyond its end"),
-        (archive(b"", b"", b"")[:40] + struct.pack("<QQ", 1 << 63, 1 << 63) + archive(b"", b"", b"")[56:], "beyond its end"),
+        (lambda: archive(b"", b"", b"", version=2), "version 2"),
+        (lambda: archive(b"", b"", b"", kind=2), "PNG"),
+        (lambda: archive(b"", b"", b"", packing=4), "Zstandard"),
+        (lambda: b"PMTiles\x03", "no PMTiles archive"),
+        (lambda: archive(gzip.compress(directory([])), b"", VALID)[:-1], "beyond its end"),
+        (lambda: archive(b"", b"", b"")[:40] + struct.pack("<QQ", 1 << 63, 1 << 63) + archive(b"", b"", b"")[56:], "beyond its end"),
     ],
+    ids=["version", "pictures", "packing", "short", "cut", "beyond"],
 )
-def test_what_is_no_archive(tmp_path: pathlib.Path, data: bytes, why: str) -> None:
-    (tmp_path / "a.pmtiles").write_bytes(data)
+def test_what_is_no_archive(tmp_path: pathlib.Path, data: Hostile, why: str) -> None:
+    (tmp_path / "a.pmtiles").write_bytes(data())
     with pytest.raises(NotASource, match=why):
         open_source(str(tmp_path / "a.pmtiles"))
 
