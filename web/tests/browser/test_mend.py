@@ -198,8 +198,7 @@ def folder_of_tiles(folder: pathlib.Path) -> List[pathlib.Path]:
     return [written(folder / "tiles", name, content) for name, content in contents.items()]
 
 
-def test_all_tiles_of_a_folder(page_in_each: Page, tmp_path: pathlib.Path) -> None:
-    page = page_in_each
+def test_all_tiles_of_a_folder(page: Page, tmp_path: pathlib.Path) -> None:
     paths = folder_of_tiles(tmp_path)
     page.browser.type("folder", str(tmp_path / "tiles"))
     page.until("return document.querySelectorAll('#list [role=option]').length === arguments[0]", len(paths))

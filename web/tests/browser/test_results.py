@@ -50,8 +50,7 @@ def show(page: Page, value: str) -> None:
     page.script("const it = document.getElementById('show'); it.value = arguments[0]; it.dispatchEvent(new Event('change'))", value)
 
 
-def test_groups(page_in_each: Page, folder: pathlib.Path) -> None:
-    page = page_in_each
+def test_groups(page: Page, folder: pathlib.Path) -> None:
     choose_folder(page, folder)
     assert shown(page) == list(FILES)
     title = {code: WORDS["faults"][code]["title"] for code in ("105", "201", "504")}
@@ -83,8 +82,7 @@ def test_keys(page: Page, folder: pathlib.Path) -> None:
     page.until("return document.getElementById('status').textContent === 'No file has a fault.'")
 
 
-def test_results(page_in_each: Page, folder: pathlib.Path) -> None:
-    page = page_in_each
+def test_results(page: Page, folder: pathlib.Path) -> None:
     choose_folder(page, folder)
     rows = list(csv.DictReader(io.StringIO(saved(page.browser, "results.csv", lambda: page.click("#save-csv")).decode(), newline="")))
     assert [(it["file"], it["verdict"]) for it in rows] == [(name, "valid" if sample == "point" else "fault") for name, sample in FILES.items()]
