@@ -46,6 +46,10 @@ def note(crate: str, by: str, total: str) -> None:
     (CRATES / crate / "out/rlib/proved").write_text(f"{by} {total}\n", encoding="ascii")
 
 
+def forget(crate: str) -> None:
+    (CRATES / crate / "out/rlib/proved").unlink(missing_ok=True)
+
+
 def proved_by(crate: str) -> Optional[str]:
     """By whom the library of a crate was made as the crate is now, if it was."""
     try:
