@@ -158,6 +158,37 @@ run_planet() {
     [ -s "$root/tmp/judged/report.html" ] && cmp "$root/tmp/judged/page.html" web/out/index.html
 }
 
+# statements: makes a table of the sample tiles, a row for each line that is expected of one, and counts the tiles whose verdict is a
+# line of theirs.
+statements() {
+    local expected name tile line lines
+    echo 'CREATE EXTENSION mvtgate;'
+    echo 'CREATE TABLE samples (name text, tile bytea, line jsonb);'
+    for expected in tiles/expected/*.check; do
+        name=$(basename "$expected" .check)
+        tile=$(od -An -v -tx1 "tiles/$name.mvt" | tr -d ' \n')
+        mapfile -t lines <"$expected"
+        for line in "${lines[@]}"; do
+            printf "INSERT INTO samples VALUES ('%s', '\\\\x%s', '%s');\n" "$name" "$tile" "$line"
+        done
+    done
+    echo "COPY (SELECT count(DISTINCT name) FROM samples WHERE coalesce(mvt_fault(tile), '{\"ok\": true}') = line) TO '/tmp/right';"
+}
+
+# The extension for PostgreSQL, by apt with the server that it needs, in a server of one user, which ends with its input.
+run_extension() {
+    local server=/usr/lib/postgresql/15/bin as_owner=(setpriv --reuid postgres --regid postgres --init-groups)
+    mkdir -p "$root/etc/postgresql-common"
+    echo 'create_main_cluster = false' >"$root/etc/postgresql-common/createcluster.conf"
+    cp "$made/postgresql-15-mvtgate_${version}_amd64.deb" "$root/tmp/"
+    inside apt-get install -y --no-install-recommends "/tmp/postgresql-15-mvtgate_${version}_amd64.deb"
+    inside "${as_owner[@]}" $server/initdb -D /tmp/cluster -N
+    statements | inside "${as_owner[@]}" $server/postgres --single -D /tmp/cluster postgres
+    are_lines "$(find tiles/expected -name '*.check' | wc -l)" cat "$root/tmp/right"
+    inside apt-get purge -y postgresql-15-mvtgate
+    [ ! -e "$root$server/../lib/mvtgate.so" ]
+}
+
 purge() { inside apt-get purge -y mvtgate libmvtgate-dev python3-mvtgate; }
 
 test_packages() {
@@ -181,6 +212,8 @@ test_packages() {
     if [ -n "$is_debian" ]; then
         expect "apt-get install" by_apt
         expect "mvtgate-planet" run_planet
+        ! has /usr/lib/postgresql/15/lib/pgxs/src/makefiles/pgxs.mk "the extension in a fresh Debian" ||
+            expect "the extension for PostgreSQL" run_extension
         expect "apt-get purge" purge
     fi
     expect "no package is left" are_lines "" dpkg-query --admindir="$root/var/lib/dpkg" -W '*mvtgate*'
