@@ -1,10 +1,10 @@
 #!/usr/bin/env python3
-"""Times the gate's C library from C, Python and Rust, and its peers, on the same tiles in turn, and prints tables.
+"""Times the gate's C library from C and other languages, and its peers, on the same tiles in turn, and prints tables.
 
 usage: library.py FOLDER WITHOUT_POLYGONS CALLER=COMMAND..
 
-CALLER is C, Python or Rust, and COMMAND is one word with the words of the command in it: a program with the modes `times`
-and `rate`, as bench/peer/library.cpp has them. C is also the peers. FOLDER holds tiles, NAME.mvt, and WITHOUT_POLYGONS the
+CALLER is C or another language, and COMMAND is one word with the words of the command in it: a program with the mode `times`, as
+bench/peer/library.cpp has it, and those of RATED also with the mode `rate`. C is also the peers. FOLDER holds tiles, NAME.mvt, and WITHOUT_POLYGONS the
 same without their polygons.
 """
 import argparse
@@ -18,6 +18,7 @@ import subprocess
 # Each program is started so often, in turn with the others, and each time goes so often over the tiles.
 TURNS, ROUNDS = 3, 3
 RATE_TURNS, RATE_SECONDS = 5, 1.0
+RATED = ("C", "Python", "Rust", "Go")
 KIB = 1024
 CLASSES = [(256, "up to 256 bytes")] + [(size * KIB, f"up to {size} KiB") for size in (1, 4, 16, 64)]
 LARGEST = (float("inf"), "more")
@@ -118,6 +119,7 @@ def print_answers(tiles, times):
 
 def print_rates(callers, tiles):
     processors = os.cpu_count()
+    callers = {name: command for name, command in callers.items() if name in RATED}
     one = measure_rate(callers, tiles, "rate", 1)
     every = measure_rate(callers, tiles, "rate", processors)
     rows = [[caller, one[caller], every[caller]] for caller in callers]

@@ -1,4 +1,4 @@
-"""Tiles a second and memory of mvtgate-planet: planet.py [--tiles N] [--few N] [--many N] [--rounds N] FOLDER. bench/planet runs
+"""Tiles a second and memory of mvtgate-planet: planet.py [--pmtiles] [--tiles N] [--few N] [--many N] [--rounds N] FOLDER. bench/planet runs
 it, and bench/README.md says what is measured and how."""
 from __future__ import annotations
 
@@ -107,9 +107,9 @@ class Kind(NamedTuple):
         return whole * len(at_fault) + sum(it < rest for it in at_fault)
 
 
-def rates(kind: Kind, count: int, rounds: int, folder: str) -> float:
+def rates(kind: Kind, count: int, rounds: int, folder: str, ending: str) -> float:
     """Prints the table of tiles a second, and returns that of the most workers."""
-    file, one = f"{folder}/tiles.mbtiles", f"{folder}/one.mbtiles"
+    file, one = f"{folder}/tiles.{ending}", f"{folder}/one.{ending}"
     size = planet_tiles.write(file, kind.tiles, count)
     planet_tiles.write(one, kind.tiles, 1)
     all_runs: Dict[int, List[Taken]] = {it: [] for it in (0, *WORKERS)}
@@ -159,6 +159,7 @@ def memory(kind: Kind, count: int, folder: str) -> None:
 
 def main() -> None:
     reader = argparse.ArgumentParser()
+    reader.add_argument("--pmtiles", action="store_true")
     reader.add_argument("--tiles", type=int, default=200_000)
     reader.add_argument("--few", type=int, default=20_000)
     reader.add_argument("--many", type=int, default=2_000_000)
@@ -170,14 +171,17 @@ def main() -> None:
     small, at_fault = [it for it in valid if len(it) <= TINY], [it for it in tiles if it not in valid]
     with tempfile.TemporaryDirectory(prefix="mvtgate-planet-") as folder:
         kinds = [Kind(f"all {len(tiles)} of the folder", tiles), Kind(f"the {len(valid)} of them that are valid", valid)]
-        found = {kind.name: rates(kind, said.tiles, said.rounds, folder) for kind in kinds}
+        tiny = Kind(f"of up to {TINY} bytes, one of {ONE_OF} with a fault", [*(small * ONE_OF)[: ONE_OF - 1], min(at_fault, key=len)])
+        kinds += [tiny] if said.pmtiles else []
+        found = {kind.name: rates(kind, said.tiles, said.rounds, folder, "pmtiles" if said.pmtiles else "mbtiles") for kind in kinds}
         for name, rate in found.items():
             hours = ", ".join(f"{PLANET / rate / machines / 3600:.2f} hours on {machines}" for machines in MACHINES)
             print(f"at this rate 10^8 tiles ({name}) take {hours} machines of {max(WORKERS)} processors\n")
-        print(f"memory with {max(WORKERS)} workers, tiles of up to {TINY} bytes, one of {ONE_OF} with a fault:\n")
+        if said.pmtiles:
+            return
+        print(f"memory with {max(WORKERS)} workers, tiles {tiny.name}:\n")
         print("| Tiles | File, MiB | s | client with scheduler, peak MiB | a worker, peak MiB | Journal, MiB |")
         print("|---|---|---|---|---|---|")
-        tiny = Kind("tiny", [*(small * ONE_OF)[: ONE_OF - 1], min(at_fault, key=len)])
         for count in (said.few, said.many):
             memory(tiny, count, folder)
 

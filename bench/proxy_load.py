@@ -1,11 +1,14 @@
 """Times servers with the proxy in front of them and without it, for bench/proxy: proxy_load.py [ROUNDS].
 
 In each round each way to a tile is asked in turn, with 1, 8 and 64 connections; every second round goes the other way round. It prints
-the medians of all rounds, and of the quotients by the server alone in the same round.
+the medians of all rounds, and of the quotients by the server alone in the same round; and the processor time of the proxy for a
+request, which doesn't depend on what else the machine does.
 """
 import contextlib
+import dataclasses
 import gzip
 import importlib.util
+import os
 import pathlib
 import random
 import statistics
@@ -97,19 +100,46 @@ def files(made):
             yield inner, front
 
 
-def url_of(proxy):
-    return f"http://{proxy.address[0]}:{proxy.address[1]}"
+@dataclasses.dataclass(frozen=True)
+class Way:
+    """Where a tile is asked for, and the process of the proxy, if there is one."""
+
+    url: str
+    process: object = None
+
+    def used(self):
+        """The seconds of processor time of the proxy so far."""
+        if not self.process:
+            return 0
+        fields = pathlib.Path(f"/proc/{self.process.pid}/stat").read_text().rpartition(")")[2].split()
+        # (the fields 14 and 15 of the whole line)
+        return (int(fields[11]) + int(fields[12])) / os.sysconf("SC_CLK_TCK")
 
 
-def load_of(url, path, requests, connections):
-    load = theirs.load(url, path, requests, connections)
+def way_by(proxy):
+    return Way(f"http://{proxy.address[0]}:{proxy.address[1]}", proxy.process)
+
+
+@dataclasses.dataclass(frozen=True)
+class Load:
+    """What was measured: times in milliseconds, and microseconds of the proxy's processor time for a request."""
+
+    p50: float
+    p99: float
+    rate: float
+    processor: float
+
+
+def load_of(way, path, requests, connections):
+    before = way.used()
+    load = theirs.load(way.url, path, requests, connections)
     assert load.other_than_200 == load.socket_errors == 0, load
-    return load
+    return Load(load.p50, load.p99, load.rate, 1e6 * (way.used() - before) / load.requests)
 
 
 def table(title, ways, path, rounds, requests):
-    """Prints the medians of the rounds: `ways` are URLs by their names, of which the first is what the others are held against."""
-    print(f"\n{title}:\n\n| Connections | Way | p50, ms | p99, ms | Requests a second |\n|---|---|---|---|---|", flush=True)
+    """Prints the medians of the rounds: `ways` are those of each name, of which the first is what the others are held against."""
+    print(f"\n{title}:\n\n| Connections | Way | p50, ms | p99, ms | Requests a second | Processor, µs a request |\n|---|---|---|---|---|---|", flush=True)
     for connections in CONNECTIONS:
         loads = {name: [] for name in ways}
         for number in range(rounds):
@@ -121,6 +151,7 @@ def table(title, ways, path, rounds, requests):
             for key, digits in (("p50", 3), ("p99", 3), ("rate", 0)):
                 ratio = statistics.median(getattr(one, key) / getattr(other, key) for one, other in zip(of_way, first))
                 cells.append(f"{statistics.median(getattr(it, key) for it in of_way):,.{digits}f} ({ratio:.2f})")
+            cells.append(f"{statistics.median(it.processor for it in of_way):,.0f}" if ways[name].process else "-")
             print(f"| {connections} | {name} | {' | '.join(cells)} |", flush=True)
 
 
@@ -130,11 +161,11 @@ def main():
     print(f"the tile: {len(made):,} bytes, {len(gzip.compress(made)):,} packed")
     with files(made) as (inner, front), running.proxy(inner, "--mode", "refuse") as proxy, running.proxy(inner, "--mode", "refuse", "--remember", "0") as anew:
         before = proxy.resident()
-        ways = {"nginx": inner, "nginx behind nginx": front, "behind the proxy": url_of(proxy), "behind the proxy, --remember 0": url_of(anew)}
+        ways = {"nginx": Way(inner), "nginx behind nginx": Way(front), "behind the proxy": way_by(proxy), "behind the proxy, --remember 0": way_by(anew)}
         table("Files of nginx, packed", ways, "/1/2/3.mvt", rounds, REQUESTS.__getitem__)
         print(f"\nmemory of the proxy: {before >> 20} MiB at first, {proxy.resident() >> 20} MiB after it, {anew.resident() >> 20} MiB with --remember 0")
     with theirs.map_database() as database, theirs.tile_server(database.dsn, "--no-gate") as server, running.proxy(server.address, "--mode", "refuse") as proxy:
-        ways = {"the map server": server.address, "behind the proxy": url_of(proxy)}
+        ways = {"the map server": Way(server.address), "behind the proxy": way_by(proxy)}
         table("The map server over PostGIS", ways, theirs.path_of(20), rounds, lambda _: OF_MAP_SERVER)
 
 

@@ -116,6 +116,7 @@ func serve(end context.Context, it *settings) error {
 	})
 	failed := make(chan error, 1)
 	go func() { failed <- tiles.Serve(listener) }()
+	made.notify("READY=1")
 	select {
 	case err := <-failed:
 		return err
@@ -124,9 +125,17 @@ func serve(end context.Context, it *settings) error {
 	return made.drain(tiles, admin)
 }
 
+// notify tells systemd of a state. Without an answer systemd goes by its own time.
+func (it *server) notify(state string) {
+	if err := notify(state); err != nil {
+		it.log.Line("server", map[string]any{"message": "systemd is not told " + state + ": " + err.Error()})
+	}
+}
+
 // drain ends the server after what is under way.
 func (it *server) drain(tiles, admin *http.Server) error {
 	it.health.drain()
+	it.notify("STOPPING=1")
 	it.log.Line("draining", nil)
 	limit, cancel := context.WithTimeout(context.Background(), it.drainTime)
 	defer cancel()

@@ -28,11 +28,11 @@ statuses_of_check() {
 
 test_pages() {
     local page
-    for page in packaging/mvtgate.1 packaging/mvtgate.3 packaging/mvtgate-check.1 packaging/mvtgate-planet.1; do
-        ! has /usr/bin/mandoc "the lint of $page" || expect "the lint of $page" is_silent lint $page
-        ! has /usr/bin/groff "groff's warnings on $page" || expect "groff's warnings on $page" is_silent groff -ww -mandoc -Tutf8 -z $page
+    for page in packaging/*.[13]; do
+        ! has /usr/bin/mandoc "the lint of $page" || expect "the lint of $page" is_silent lint "$page"
+        ! has /usr/bin/groff "groff's warnings on $page" || expect "groff's warnings on $page" is_silent groff -ww -mandoc -Tutf8 -z "$page"
         ! has /usr/bin/man "the warnings of man on $page" ||
-            expect "the warnings of man on $page" is_silent env LC_ALL=C.UTF-8 man --warnings -E UTF-8 -l -Tutf8 -Z $page
+            expect "the warnings of man on $page" is_silent env LC_ALL=C.UTF-8 man --warnings -E UTF-8 -l -Tutf8 -Z "$page"
     done
     expect "the faults of mvtgate.1" "$python" packaging/tests/manual.py faults
     ! has /usr/bin/mandoc "the statuses of mvtgate.1" ||
@@ -125,6 +125,15 @@ x|FILE
 a --js|--json
 -- -|FILE'
 
+# The same for mvtgate-proxy, which takes no files.
+offers_of_proxy='|--admin --client-time --connections --drain-time --drop --exact --health-path --help --host --judge-wait --judgements --last-good --listen --log-lines --max-packed --max-tile --memory --mode --not-empty --path --profile --remember --type --upstream --upstream-time --version
+--up|--upstream --upstream-time
+--mode |report refuse mend
+--mode = r|report refuse
+--profile f|feature
+--drop --m|--max-packed --max-tile --memory --mode
+--upstream |'
+
 # test_offers PROGRAM LINES
 test_offers() {
     local line words wanted
@@ -154,6 +163,7 @@ test_documents() {
     test_pages
     test_offers mvtgate "$offers"
     test_offers mvtgate-check "$offers_of_check"
+    test_offers mvtgate-proxy "$offers_of_proxy"
     expect "the options of mvtgate-check" offers_all_of_check
     for it in "" check confirm mend dump fields; do
         expect "the options of 'mvtgate $it'" offers_all "$it"

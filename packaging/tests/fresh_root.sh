@@ -75,7 +75,7 @@ dpkg_inside() {
 
 install_debs() {
     local debs=("mvtgate_${version}_amd64.deb" "libmvtgate-dev_${version}_amd64.deb")
-    [ -z "$is_debian" ] || debs+=("python3-mvtgate_${version}_all.deb")
+    [ -z "$is_debian" ] || debs+=("python3-mvtgate_${version}_amd64.deb")
     (cd "$made" && cp "${debs[@]}" "$root/tmp/")
     if [ -n "$is_debian" ]; then inside dpkg -i "${debs[@]/#//tmp/}"; else dpkg_inside -i "${debs[@]/#/"$root/tmp/"}"; fi
 }
@@ -131,6 +131,7 @@ for it in pathlib.Path("/tmp/tiles").iterdir():
     done
     cmp "$root/usr/share/bash-completion/completions/mvtgate-check" packaging/mvtgate-check.bash-completion
     [ "$(inside python3 -c 'import importlib.metadata; print(importlib.metadata.version("mvtgate"))')" = "$version" ]
+    [ "$(inside python3 -c 'import mvtgate; print(type(mvtgate._library.calls).__module__)')" = mvtgate._native ]
 }
 
 # As packaging/README.md says, with the packages in any order.
@@ -214,6 +215,7 @@ test_packages() {
         expect "mvtgate-planet" run_planet
         ! has /usr/lib/postgresql/15/lib/pgxs/src/makefiles/pgxs.mk "the extension in a fresh Debian" ||
             expect "the extension for PostgreSQL" run_extension
+        test_service
         expect "apt-get purge" purge
     fi
     expect "no package is left" are_lines "" dpkg-query --admindir="$root/var/lib/dpkg" -W '*mvtgate*'

@@ -44,14 +44,28 @@ needs_named_libc() {
     [ "$named" = "libc6 (>= ${needed#GLIBC_})" ]
 }
 
-# The same of the extension for PostgreSQL, which has no other library beside it.
-extension_needs_named_libc() {
-    local named needed module=$room/extension/usr/lib/postgresql/15/lib/mvtgate.so
-    mkdir "$room/extension"
-    dpkg-deb -x "$made/postgresql-15-mvtgate_${version}_amd64.deb" "$room/extension"
-    named=$(dpkg-deb -f "$made/postgresql-15-mvtgate_${version}_amd64.deb" Depends)
+# needs_libc_alone PACKAGE FILE [BEFORE]: the same of a package with the library in its one program, which needs no other library. In
+# front of the C library it may name what else it needs.
+needs_libc_alone() {
+    local named needed file=$room/$1/$2
+    mkdir "$room/$1"
+    dpkg-deb -x "$made/$1_${version}_amd64.deb" "$room/$1"
+    named=$(dpkg-deb -f "$made/$1_${version}_amd64.deb" Depends)
+    needed=$(objdump -T "$file" | grep -o 'GLIBC_[0-9.]*' | sort -Vu | tail -1)
+    echo "$named, and the newest symbol is of $needed"
+    [ "$named" = "${3-}libc6 (>= ${needed#GLIBC_})" ]
+    are_lines libc.so.6 sh -c "readelf --dynamic --wide '$file' | sed -n 's/.*(NEEDED).*\[\(.*\)\]/\1/p'"
+}
+
+# And of Python's extension, which loads the first package's library when it runs.
+module_needs_named_libc() {
+    local named needed python module=$room/module/usr/lib/python3/dist-packages/mvtgate/_native.abi3.so
+    mkdir "$room/module"
+    dpkg-deb -x "$made/python3-mvtgate_${version}_amd64.deb" "$room/module"
+    named=$(dpkg-deb -f "$made/python3-mvtgate_${version}_amd64.deb" Depends)
     needed=$(objdump -T "$module" | grep -o 'GLIBC_[0-9.]*' | sort -Vu | tail -1)
-    [ "$named" = "postgresql-15, libc6 (>= ${needed#GLIBC_})" ]
+    python=$(sed -n 's/^requires-python = ">=\(.*\)"$/\1/p' bindings/python/pyproject.toml)
+    [ "$named" = "mvtgate (>= $version), python3 (>= $python), libc6 (>= ${needed#GLIBC_})" ]
     are_lines libc.so.6 sh -c "readelf --dynamic --wide '$module' | sed -n 's/.*(NEEDED).*\[\(.*\)\]/\1/p'"
 }
 
@@ -62,7 +76,10 @@ has_sums() {
     (
         cd "$unpacked" || exit
         md5sum --check --quiet DEBIAN/md5sums
-        diff <(find usr -type f | LC_ALL=C sort) <(sed 's/^[0-9a-f]*  //' DEBIAN/md5sums)
+        diff <(find . \( -path ./DEBIAN -o -path ./etc \) -prune -o -type f -printf '%P\n' | LC_ALL=C sort) \
+            <(sed 's/^[0-9a-f]*  //' DEBIAN/md5sums)
+        # (of settings dpkg keeps the sums itself)
+        [ ! -e etc ] || diff <(find etc -type f -printf '/%p\n' | LC_ALL=C sort) DEBIAN/conffiles
     )
 }
 
@@ -73,19 +90,28 @@ test_made() {
     # (no toolchain is needed where all is built)
     expect "tools/package again, with the system's programs alone" env PATH=$bare tools/package "$room/again"
     names=("libmvtgate-dev_${version}_amd64.deb" "mvtgate-$version-linux-x86_64.tar.gz" "mvtgate_${version}_amd64.deb"
-        "python3-mvtgate_${version}_all.deb" "mvtgate-$version.tgz")
+        "python3-mvtgate_${version}_amd64.deb" "mvtgate-$version.tgz")
     ! has /usr/lib/python3/dist-packages/build "the wheel" || ! has /usr/lib/python3/dist-packages/wheel "the wheel" ||
-        names+=("mvtgate-$version-py3-none-manylinux_2_34_x86_64.whl")
+        names+=("mvtgate-$version-cp310-abi3-manylinux_2_34_x86_64.whl")
     if has /usr/lib/postgresql/15/lib/pgxs/src/makefiles/pgxs.mk "the extension for PostgreSQL"; then
         names+=("postgresql-15-mvtgate_${version}_amd64.deb")
         packages+=(postgresql-15-mvtgate)
-        expect "the C library that the extension names" extension_needs_named_libc
+        expect "the C library that the extension names" needs_libc_alone postgresql-15-mvtgate \
+            usr/lib/postgresql/15/lib/mvtgate.so "postgresql-15, "
+    fi
+    if [ -n "$(tools/proxy --packages)" ]; then
+        tests/left_out package:proxy "mvtgate-proxy (not installed: $(tools/proxy --packages))" || failed=$((failed + 1))
+    else
+        names+=("mvtgate-proxy_${version}_amd64.deb")
+        packages+=(mvtgate-proxy)
+        expect "the C library that mvtgate-proxy names" needs_libc_alone mvtgate-proxy usr/bin/mvtgate-proxy
     fi
     expect "the files of tools/package" are_lines "$(printf '%s\n' "${names[@]}" | LC_ALL=C sort)" env LC_ALL=C ls "$made"
     expect "the same bytes twice" are_same "$made" "$room/again"
     expect "wrong words of tools/package" ends_with 2 tools/package a b
     expect "two versions" has_two_versions
     expect "the C library that is named" needs_named_libc
+    expect "the C library that Python's extension names" module_needs_named_libc
     for package in "${packages[@]}"; do
         expect "the sums of $package" has_sums "$package"
     done

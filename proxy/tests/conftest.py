@@ -1,6 +1,7 @@
 """What the tests share."""
 from __future__ import annotations
 
+import contextlib
 import gzip
 import pathlib
 from typing import Iterator
@@ -18,9 +19,9 @@ def path_of(name: str) -> str:
     return f"/7/0/{NAMES.index(name)}.mvt"
 
 
-@pytest.fixture(scope="session")
-def files() -> Iterator[str]:
-    """nginx with the sample tiles, as files 7/0/NUMBER.mvt and, packed, below /packed; and with a page."""
+def nginx_with_samples(more: str = "") -> "contextlib.AbstractContextManager[str]":
+    """nginx with the sample tiles, as files 7/0/NUMBER.mvt and, packed, below /packed; with a page, and with more locations, in which
+    PLAIN is the folder of the tiles."""
 
     def configuration(folder: pathlib.Path, port: int) -> str:
         for top in ("plain/7/0", "plain/page", "packed/7/0"):
@@ -32,8 +33,15 @@ def files() -> Iterator[str]:
         (folder / "plain/page/index.html").write_text("<html>" + "a page " * 10000)
         server = f"""types {{ application/vnd.mapbox-vector-tile mvt; text/html html; }}
         server {{ listen 127.0.0.1:{port}; keepalive_requests 1000000; root {folder}/plain;
-            location /packed/ {{ alias {folder}/packed/; gzip_static always; gunzip on; }} }}"""
+            location /packed/ {{ alias {folder}/packed/; gzip_static always; gunzip on; }}
+            {more.replace("PLAIN", f"{folder}/plain/7/0")} }}"""
         return nginx_of(server, folder)
 
-    with nginx(configuration) as url:
+    return nginx(configuration)
+
+
+@pytest.fixture(scope="session")
+def files() -> Iterator[str]:
+    """nginx with the sample tiles; its URL."""
+    with nginx_with_samples() as url:
         yield url

@@ -43,7 +43,7 @@ def test_settings_of_the_documents_are_flags() -> None:
     packaged = variables((TOP / "packaging/proxy/default").read_text())
     shown = variables(block("sh", "MVTGATE_PROXY_MODE"))
     assert {*packaged, *shown} <= names and "MVTGATE_PROXY_UPSTREAM" in packaged
-    assert unit("EnvironmentFile") == ["/etc/default/mvtgate-proxy"] and unit("ExecStart") == ["/usr/bin/mvtgate-proxy"]
+    assert unit("EnvironmentFile") == ["/etc/default/mvtgate-proxy"] and unit("ExecStart") == ["/usr/bin/mvtgate-proxy"] and unit("Type") == ["notify"]
     assert set(re.findall(r"`--([a-z-]+)[ `]", DOCUMENT)) <= {*flags(), "help"}
 
 
@@ -77,8 +77,7 @@ def test_the_files_work_together(tmp_path: pathlib.Path) -> None:
     port = settings["MVTGATE_PROXY_UPSTREAM"].rpartition(":")[2]
     (tmp_path / "map.conf").write_text(nginx_of(f"server {{ listen {port}; root {tmp_path}/files; }}", tmp_path).replace("/pid;", "/map.pid;"))
     # (Debian's nginx.conf takes such files into its block `http` too; its cache has to be where this user may write)
-    shown = block("nginx", "proxy_pass").replace("/var/cache/nginx/", f"{tmp_path}/cache/")
-    (tmp_path / "cache").mkdir()
+    shown = block("nginx", "proxy_pass").replace("/var/cache/nginx", f"{tmp_path}/cache")
     (tmp_path / "front.conf").write_text(nginx_of(shown, tmp_path))
     run = subprocess.run(
         ["unshare", "--net", *until_death("bash", str(HERE / "together.sh"), str(tmp_path), PROGRAM)],

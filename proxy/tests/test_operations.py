@@ -4,6 +4,7 @@ from __future__ import annotations
 import contextlib
 import pathlib
 import signal
+import socket
 import subprocess
 import threading
 import time
@@ -135,6 +136,22 @@ def test_a_signal_ends_it_after_what_is_under_way() -> None:
         goes_on.set()
         asking.join()
         assert bodies == [VALID] and gate.process.wait(SECONDS) == 0
+
+
+def test_systemd_is_told_when_it_listens_and_when_it_ends(tmp_path: pathlib.Path) -> None:
+    address = str(tmp_path / "notify")
+    with socket.socket(socket.AF_UNIX, socket.SOCK_DGRAM) as told, upstream(lambda _: tile(VALID)) as server:
+        told.bind(address)
+        told.settimeout(SECONDS)
+        with proxy(server.url, environment={"NOTIFY_SOCKET": address}) as gate:
+            assert told.recv(100) == b"READY=1" and gate.get(TILE).body == VALID
+        assert told.recv(100) == b"STOPPING=1" and gate.process.returncode == 0
+
+
+def test_a_socket_of_systemd_that_is_not_there_is_logged(tmp_path: pathlib.Path) -> None:
+    with upstream(lambda _: tile(VALID)) as server, proxy(server.url, environment={"NOTIFY_SOCKET": str(tmp_path / "none")}) as gate:
+        assert gate.get(TILE).body == VALID
+        wait_until(lambda: any("READY=1" in it["message"] for it in gate.lines("server")))
 
 
 def test_what_takes_too_long_is_cut_at_the_end() -> None:

@@ -9,7 +9,7 @@ import pytest
 
 import mvtgate
 from conftest import SAMPLES, YES, Sample, varint
-from mvtgate import Fault, Profile, RingEdge, _library
+from mvtgate import Fault, Profile, RingEdge
 
 EACH_PROFILE = [(it, profile) for it in SAMPLES for profile in it.lines]
 LAYER, NAME, FEATURE = 3, 1, 2
@@ -192,31 +192,13 @@ def test_first_fault_of_two_squares() -> None:
     assert mvtgate.check(tile, quick=True) is None
 
 
-def rooms_of_calls(monkeypatch: pytest.MonkeyPatch, name: str) -> List[int]:
-    """How long the rooms of the calls of this function are."""
-    rooms: List[int] = []
-    call = getattr(_library.calls, name)
-
-    def remembered(*words: Any) -> int:
-        rooms.append(words[4])
-        status: int = call(*words)
-        return status
-
-    monkeypatch.setattr(_library.calls, name, remembered)
-    return rooms
-
-
 @pytest.mark.parametrize("quick", [False, True])
-def test_long_list(quick: bool, monkeypatch: pytest.MonkeyPatch) -> None:
-    """A list that has no room in the first call's is asked for again, with a room of just its length."""
+def test_long_list(quick: bool) -> None:
+    """A list that has no room in the first call's."""
     tile = layer(2, *(3000 * [NO_POINT]))
-    rooms = rooms_of_calls(monkeypatch, "mvtgate_faults_quickly" if quick else "mvtgate_faults")
     wanted = [f'{{"code":402,"feature":{at},"index":0,"layer":0}}' for at in range(3000)]
     assert [it.text for it in mvtgate.faults(tile, quick=quick)] == wanted
-    assert rooms == [65_536, sum(map(len, wanted)) + len(wanted)]
-    # (and what was made for it isn't kept)
     assert len(mvtgate.faults(layer(2, NO_POINT), quick=quick)) == 1
-    assert rooms[2:] == [65_536]
 
 
 def test_threads() -> None:

@@ -1,4 +1,4 @@
-"""Which objects are taken for a tile, that none is copied, threads, and memory that is refused."""
+"""Which objects are taken for a tile, threads and interpreters, memory that is refused, and where the library is."""
 from __future__ import annotations
 
 import array
@@ -9,23 +9,17 @@ import subprocess
 import sys
 import threading
 import time
-from typing import Any, Callable, Dict, Iterator, List
+from typing import Any, Callable, Iterator, List
 
 import pytest
 
 import mvtgate
+from calls import HERE
 from conftest import SAMPLES, TOP, VERSION, YES, check_line, saw
 from mvtgate import Profile, _library
 
 FAULTY = (TOP / "tiles/crossing_edges.mvt").read_bytes()
 LINE = (TOP / "tiles/expected/crossing_edges.check").read_text().strip()
-
-
-def address_of(it: Any) -> int:
-    """Where the bytes of a bytes object, or of a writable one, lie."""
-    if isinstance(it, bytes):
-        return ctypes.cast(ctypes.c_char_p(it), ctypes.c_void_p).value or 0
-    return ctypes.addressof(ctypes.c_char.from_buffer(it))
 
 
 def test_kinds_of_bytes(tmp_path: pathlib.Path) -> None:
@@ -51,7 +45,7 @@ def test_kinds_of_bytes(tmp_path: pathlib.Path) -> None:
                 assert check_line(memoryview(mapped)) == LINE
 
 
-@pytest.mark.parametrize("empty", [b"", bytearray(), memoryview(b""), array.array("B"), memoryview(FAULTY)[:0]], ids=repr)
+@pytest.mark.parametrize("empty", [b"", bytearray(), memoryview(b""), array.array("B"), memoryview(FAULTY)[:0]], ids=lambda it: type(it).__name__)
 def test_no_bytes(empty: Any) -> None:
     assert mvtgate.check(empty) is None
     assert mvtgate.check(empty, not_empty=False) is None
@@ -60,9 +54,6 @@ def test_no_bytes(empty: Any) -> None:
             mvtgate.check(empty, profile, not_empty=True)
     assert mvtgate.faults(empty) == []
     assert mvtgate.dump(empty) == {"layers": []}
-    with _library.Borrowed(empty) as (address, length):
-        # (an object with no bytes may say that they are at null)
-        assert (address, length) == (b"", 0)
 
 
 def test_not_empty_changes_no_other_answer() -> None:
@@ -74,28 +65,13 @@ def test_not_empty_changes_no_other_answer() -> None:
         mvtgate.check("", not_empty=True)  # type: ignore[arg-type]
 
 
-def test_nothing_is_copied() -> None:
-    writable = bytearray(FAULTY)
-    for it, where in ((writable, address_of(writable)), (memoryview(writable)[3:], address_of(writable) + 3), (memoryview(FAULTY)[5:], address_of(FAULTY) + 5)):
-        with _library.Borrowed(it) as (address, length):
-            assert (address, length) == (where, len(it))
-    with _library.Borrowed(FAULTY) as (address, length):
-        assert address is FAULTY
-
-
-def test_bytes_are_pinned_and_released() -> None:
+def test_bytes_are_released() -> None:
     tile = bytearray(FAULTY)
-    with mmap.mmap(-1, 4096) as mapped:
-        with _library.Borrowed(tile), _library.Borrowed(mapped):
-            with pytest.raises(BufferError):
-                tile.append(0)
-            with pytest.raises(BufferError):
-                mapped.close()
-        tile.append(0)
     before = sys.getrefcount(tile)
     for _ in range(100):
         mvtgate.check(tile)
     assert sys.getrefcount(tile) == before
+    tile.append(0)
 
 
 def test_other_objects() -> None:
@@ -164,7 +140,12 @@ def test_threads() -> None:
     for it in threads:
         it.join()
     assert wrong == []
-    assert 1 <= len(_library._rooms.unused) <= 9
+
+
+def test_interpreters() -> None:
+    pytest.importorskip("_xxsubinterpreters")
+    run = subprocess.run([sys.executable, HERE / "interpreters.py", TOP / "tiles/crossing_edges.mvt", LINE], capture_output=True, text=True)
+    assert (run.returncode, run.stdout, run.stderr) == (0, "12 interpreters\n", "")
 
 
 @pytest.fixture(scope="module")
@@ -204,26 +185,7 @@ def test_refused_memory(large_tile: bytes) -> None:
     assert (run.returncode, run.stdout, run.stderr) == (0, b"mvtgate: out of memory None\n", b"")
 
 
-def test_statuses_of_no_answer(monkeypatch: pytest.MonkeyPatch) -> None:
-    calls: Dict[str, Callable[[], object]] = {
-        "check": lambda: mvtgate.check(FAULTY),
-        "check_quickly": lambda: mvtgate.check(FAULTY, quick=True),
-        "faults": lambda: mvtgate.faults(FAULTY),
-        "faults_quickly": lambda: mvtgate.faults(FAULTY, quick=True),
-        "confirm": lambda: mvtgate.confirm(FAULTY, LINE),
-        "dump": lambda: mvtgate.dump(FAULTY),
-        "advise": lambda: mvtgate.advise(FAULTY),
-    }
-    for name, call in calls.items():
-        for status, error in ((2, MemoryError), (9, RuntimeError)):
-            with monkeypatch.context() as patch:
-                patch.setattr(_library.calls, f"mvtgate_{name}", lambda *words, status=status: status)
-                with pytest.raises(error):
-                    call()
-
-
-def test_profiles_of_the_library() -> None:
-    assert _library.calls.mvtgate_check(2, b"", 0, *_library._Room(384).words) == _library.NO_PROFILE
+def test_profiles() -> None:
     assert [it.value for it in Profile] == [0, 1]
 
 

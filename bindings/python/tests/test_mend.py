@@ -8,8 +8,8 @@ from typing import Any, List
 import pytest
 
 import mvtgate
-from conftest import SAMPLES, YES, Sample
-from mvtgate import Change, Mended, Profile, Refused, _library
+from conftest import SAMPLES, YES, Sample, varint
+from mvtgate import Change, Mended, Profile, Refused, _by_ctypes, _library
 
 
 def layer(numbers: bytes) -> bytes:
@@ -97,19 +97,28 @@ def test_samples(sample: Sample, profile: Profile, drop: bool) -> None:
     assert mvtgate.mend(mended.tile, profile) == Mended(mended.tile)
 
 
-def test_rooms_that_are_too_small(monkeypatch: pytest.MonkeyPatch) -> None:
-    """The call is made again with the lengths that are wanted, also where it then refuses."""
-    monkeypatch.setattr(_library, "_MORE_BYTES", -len(BACKWARDS))
-    monkeypatch.setattr(_library, "_rooms_for_lists", _library._Rooms(1))
-    assert mvtgate.mend(BACKWARDS) == Mended(TURNED, (IS_TURNED,))
-    with pytest.raises(Refused):
-        monkeypatch.setattr(_library, "_MORE_BYTES", -len(NO_RING))
-        mvtgate.mend(NO_RING)
+# a bow tie, from (0, 0) by (30, 30), (30, 10) and (0, 10): two triangles that meet in (10, 10), which was no vertex
+CROSSED = bytes([0x18, 3, 0x22, 11, 9, 0, 0, 26, 60, 60, 0, 39, 59, 0, 15])
 
 
-def test_statuses_of_no_answer(monkeypatch: pytest.MonkeyPatch) -> None:
-    for status, error in ((2, MemoryError), (4, RuntimeError), (9, RuntimeError)):
-        with monkeypatch.context() as patch:
-            patch.setattr(_library.calls, "mvtgate_mend", lambda *words, status=status: status)
-            with pytest.raises(error):
-                mvtgate.mend(BACKWARDS)
+def test_many_features() -> None:
+    """The report is longer than the room of the first call, and the tile grows by more than that has."""
+    count = 1_000
+    features = b"".join(b"\x12" + bytes([len(CROSSED)]) + CROSSED for _ in range(count))
+    payload = b"\x78\x02\x0a\x01a" + features
+    tile = b"\x1a" + varint(len(payload)) + payload
+    mended = mvtgate.mend(tile)
+    assert mvtgate.check(mended.tile) is None and len(mended.tile) > len(tile) + 4_096
+    assert [(it.what, it.feature, it.vertices) for it in mended.changed] == [("mended", at, (4, 6)) for at in range(count)]
+
+
+@pytest.mark.parametrize("tile, mended, changed", [(BACKWARDS, TURNED, IS_TURNED), (NO_RING, NO_FEATURE, IS_DROPPED)])
+def test_rooms_that_are_too_small(monkeypatch: pytest.MonkeyPatch, tile: bytes, mended: bytes, changed: Change) -> None:
+    """By ctypes the call is made again with the lengths that are wanted, also where it then refuses."""
+    monkeypatch.setattr(_by_ctypes, "_MORE_BYTES", -len(tile))
+    monkeypatch.setattr(_by_ctypes, "_LIST_ROOM", 1)
+    monkeypatch.setattr(_library, "mend", _by_ctypes.Library(_library._candidates()[0]).mend)
+    assert mvtgate.mend(tile, drop=True) == Mended(mended, (changed,))
+    if changed is IS_DROPPED:
+        with pytest.raises(Refused):
+            mvtgate.mend(tile)

@@ -1,3 +1,4 @@
+pub mod CloseEnds
 pub mod DrawnSteps
 pub mod KeptPolygons
 pub mod NearRings

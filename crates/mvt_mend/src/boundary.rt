@@ -10,7 +10,7 @@ use crate::segment::HalfEdge;
 pub(crate) use links::{Links, Spoke, Touch, links_of};
 pub(crate) use merging::merged;
 use mvt_plane::{Point, sweep_key};
-pub(crate) use rings::{BoundaryRing, Traced, polygons_of, trace};
+pub(crate) use rings::{BoundaryRing, Traced, add_outlines, trace};
 
 /// The number of no edge, and of no ring.
 pub(crate) const NO_NUMBER: u32 = u32::MAX;

@@ -9,14 +9,15 @@ mod star;
 mod tests;
 mod wedge;
 
-use crate::boundary::{Links, Touch, Traced, links_of, order_of, polygons_of, trace};
+use crate::boundary::{Links, Touch, Traced, add_outlines, links_of, order_of, trace};
 use crate::corners::classes::classes_of;
 use crate::corners::cuts::Cuts;
 use crate::corners::star::Star;
+use crate::order::sorted_by_ends;
+use crate::outlines::Outlines;
 use crate::segment::{HalfEdge, Tally};
 use crate::work::Work;
 use mvt_fault::Profile;
-use mvt_plane::Point;
 use std::alloc::{AllocError, Global};
 
 /// After so many rounds only filled wedges are cut, so that what is filled has fewer positions of
@@ -29,49 +30,92 @@ const GREATEST_ROUNDS: u32 = 1000;
 /// So much work is a round for each edge: two sorts, and a sweep where there are holes.
 const WORK_OF_A_ROUND: u64 = 16;
 
-/// The polygons whose boundary the edges are, with what is filled on their left, after corners were
-/// cut where rings of one polygon, or by the profile `feature` of any, touch: of each polygon the
-/// rings, its exterior first. The edges meet in ends only. `witnesses` gets each edge of the rings
-/// with the old edge that it comes of, in the order of their ends, after those that it has. None
-/// where the work doesn't suffice. The only error is that memory was refused.
+/// What a round comes to.
+#[derive(Drop)]
+enum Round {
+    /// No rings touch any more that may not, and they are outlines now.
+    Apart,
+    /// Corners were cut, and these edges are left.
+    Cut(Vec<HalfEdge>),
+    /// The work doesn't suffice, or the edges are no boundary.
+    GaveUp,
+}
+
+/// Adds the rings of the polygons whose boundary the edges are, with what is filled on their left,
+/// after corners were cut where rings of one polygon, or by the profile `feature` of any, touch. The
+/// edges meet in ends only. Returns whether the work sufficed. The only error is that memory was refused.
 ///
 /// It takes the time of a sort, and of one more for each round of cuts.
-pub(crate) fn polygons_apart(
+pub(crate) fn add_polygons_apart(
     alloc: Global,
     profile: Profile,
-    mut edges: Vec<HalfEdge>,
+    edges: Vec<HalfEdge>,
     work: &mut Work,
     tally: &mut Tally,
-    witnesses: &mut Vec<HalfEdge>,
-) -> Result<Option<Vec<Vec<Vec<Point>>>>, AllocError>
+    outlines: &mut Outlines,
+) -> Result<bool, AllocError>
     ensures no_more { work.new ≤ work.old }
 {
-    edges.sort_unstable_by_key(|edge| order_of(edge));
+    let mut edges = in_order(alloc, edges)?;
     for round in 0..GREATEST_ROUNDS {
-        if !work.spend((edges.len() as u64).saturating_mul(WORK_OF_A_ROUND)) {
-            return Ok(None);
-        }
-        let Some(links) = links_of(alloc, &edges)? else {
-            return Ok(None);
-        };
-        let Some(traced) = trace(alloc, &edges, &links, work)? else {
-            return Ok(None);
-        };
         let shrinking = round >= MIXED_ROUNDS;
-        let Some(cuts) = cuts_of(alloc, profile, shrinking, &edges, &links, &traced, work)? else {
-            return Ok(None);
-        };
-        if cuts.count == 0 {
-            if profile == Profile::Feature && !links.touches.is_empty() {
-                return Ok(None);
-            }
-            witnesses.extend_from_slice(&edges)?;
-            return polygons_of(alloc, &edges, &links, &traced);
+        match cut_round(alloc, profile, shrinking, edges, work, tally, outlines)? {
+            Round::Apart => return Ok(true),
+            Round::Cut(left) => edges = left,
+            Round::GaveUp => return Ok(false),
         }
-        tally.cuts = tally.cuts.wrapping_add(cuts.count);
-        edges = cuts.applied(alloc, &edges)?;
     }
-    Ok(None)
+    Ok(false)
+}
+
+/// Adds the rings along these edges where none touch that may not, and else cuts corners.
+fn cut_round(
+    alloc: Global,
+    profile: Profile,
+    shrinking: bool,
+    edges: Vec<HalfEdge>,
+    work: &mut Work,
+    tally: &mut Tally,
+    outlines: &mut Outlines,
+) -> Result<Round, AllocError>
+    ensures no_more { work.new ≤ work.old }
+{
+    if !work.spend((edges.len() as u64).saturating_mul(WORK_OF_A_ROUND)) {
+        return Ok(Round::GaveUp);
+    }
+    let Some(links) = links_of(alloc, &edges)? else {
+        return Ok(Round::GaveUp);
+    };
+    let Some(traced) = trace(alloc, &edges, &links, work)? else {
+        return Ok(Round::GaveUp);
+    };
+    let Some(cuts) = cuts_of(alloc, profile, shrinking, &edges, &links, &traced, work)? else {
+        return Ok(Round::GaveUp);
+    };
+    if cuts.count > 0 {
+        tally.cuts = tally.cuts.wrapping_add(cuts.count);
+        drop(links);
+        drop(traced);
+        return Ok(Round::Cut(cuts.applied(alloc, edges)?));
+    }
+    if profile == Profile::Feature && !links.touches.is_empty() {
+        return Ok(Round::GaveUp);
+    }
+    add_outlines(alloc, &edges, &links, &traced, outlines)?;
+    Ok(Round::Apart)
+}
+
+/// The edges in their order, in which they mostly are.
+fn in_order(alloc: Global, edges: Vec<HalfEdge>) -> Result<Vec<HalfEdge>, AllocError> {
+    if edges.is_sorted_by_key(order_of) {
+        return Ok(edges);
+    }
+    sorted_by_ends(
+        alloc,
+        &edges,
+        &|edge: &HalfEdge| edge.from,
+        &|edge: &HalfEdge| edge.to,
+    )
 }
 
 /// The cuts of a round. None where the work doesn't suffice.

@@ -19,11 +19,12 @@ pub(crate) const NO_SEGMENT: u32 = u32::MAX;
 /// Of each segment the number of the one directly below it at its first end: of those that begin
 /// there too, the next one clockwise, or else the one that passes directly below that position.
 /// `NO_SEGMENT` where there is none. The segments stand in the order of their first ends by key, and
-/// meet in ends only. None where the work doesn't suffice, or where it showed that the segments
+/// meet in ends only; `ends` has their numbers in the order of their second ends. None where the work doesn't suffice, or where it showed that the segments
 /// aren't so. The only error is that memory was refused.
 pub(crate) fn directly_below(
     alloc: Global,
     segments: &[Segment],
+    ends: &[u32],
     work: &mut Work,
 ) -> Result<Option<Vec<u32>>, AllocError>
     ensures no_more { work.new ≤ work.old }
@@ -32,7 +33,7 @@ pub(crate) fn directly_below(
         below: vec![in alloc; NO_SEGMENT; segments.len()]?,
     };
     let mut left = *work;
-    let swept = sweep(alloc, segments, &mut below, &mut left);
+    let swept = sweep(alloc, segments, ends, &mut below, &mut left);
     spend_down(work, left);
     Ok(answered(swept)?.map(|_| below.below))
 }
@@ -41,6 +42,7 @@ pub(crate) fn directly_below(
 pub(crate) fn windings_below(
     alloc: Global,
     segments: &[Segment],
+    ends: &[u32],
     work: &mut Work,
 ) -> Result<Option<Vec<Winding>>, AllocError>
     ensures no_more { work.new ≤ work.old }
@@ -50,7 +52,7 @@ pub(crate) fn windings_below(
         below: vec![in alloc; Winding::none(); segments.len()]?,
     };
     let mut left = *work;
-    let swept = sweep(alloc, segments, &mut windings, &mut left);
+    let swept = sweep(alloc, segments, ends, &mut windings, &mut left);
     spend_down(work, left);
     Ok(answered(swept)?.map(|_| windings.below))
 }

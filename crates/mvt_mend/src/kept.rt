@@ -196,7 +196,7 @@ fn are_same_positions(one: &[Point], other: &[Point]) -> bool
 }
 
 /// Whether two positions are the same.
-fn is_same_position(one: Point, other: Point) -> bool
+pub(crate) fn is_same_position(one: Point, other: Point) -> bool
     ensures { IsTrue result ↔ (one ≡ other) }
 {
     one == other

@@ -11,6 +11,8 @@ mod loose;
 mod mending;
 mod near;
 mod noding;
+mod order;
+mod outlines;
 mod roles;
 mod segment;
 mod work;

@@ -75,14 +75,14 @@ pub fn mend_rings(
     let Some(proposal) = propose_within(alloc, profile, old, &judged, work)? else {
         return Ok(None);
     };
-    if proposal.rings.is_empty() {
+    let new = &proposal.outlines.rings;
+    if new.is_empty() {
         return Ok(None);
     }
-    let hints = proposal.hints(alloc)?;
-    if !are_near(rings, &edges, &hints, &proposal.rings, work) {
+    if !are_near(rings, &edges, &proposal.outlines.witnesses, new, work) {
         return Ok(None);
     }
-    if !keeps_right(alloc, profile, rings, &judged, &proposal.rings)? {
+    if !keeps_right(alloc, profile, rings, &judged, new)? {
         return Ok(None);
     }
     Ok(Some(proposal.mended()))

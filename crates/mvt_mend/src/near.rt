@@ -8,32 +8,32 @@ ghost use Rattle.mvt_polygon.specs.Rings.{rings_of};
 mod close;
 pub(crate) mod edges;
 
-use crate::near::edges::{Numbers, OldEdges};
+use crate::near::edges::OldEdges;
 use crate::work::Work;
 use close::is_close_to_edge;
 use mvt_plane::{Edge, Point};
 
-/// How many edges that are named for a position are tried before all are.
-const FEW_EDGES: usize = 8;
-
 /// Whether each vertex of the new rings is near the old ones: within two units, along each axis, of
-/// a point of an edge. `edges` are those of the old rings; `hints` names, for new positions, edges
-/// that they may come of, which are tried first. Else all edges are, as far as the work suffices;
-/// where it doesn't, the answer is no.
+/// a point of an edge. `edges` are those of the old rings; `witnesses` has, vertex by vertex of the
+/// new rings, the number of the old edge that the edge comes of that begins there. This one is tried
+/// first, then that of the vertex before. Else all edges are, as far as the work suffices; where it
+/// doesn't, the answer is no.
 pub(crate) fn are_near(
     old: &[Vec<Point>],
     edges: &OldEdges,
-    hints: &Numbers,
+    witnesses: &[u32],
     new: &[Vec<Point>],
     work: &mut Work,
 ) -> bool
     ensures near { IsTrue result → AreNear (rings_of old.now) (rings_of new.now) }
     ensures no_more { work.new ≤ work.old }
 {
+    let mut left = witnesses;
     for ring in 0..new.len() {
-        if !is_ring_near(old, edges, hints, &new[ring], work) {
+        if !is_ring_near(old, edges, left, &new[ring], work) {
             return false;
         }
+        left = left.get(new[ring].len()..).unwrap_or_default();
     }
     true
 }
@@ -42,7 +42,7 @@ pub(crate) fn are_near(
 fn is_ring_near(
     old: &[Vec<Point>],
     edges: &OldEdges,
-    hints: &Numbers,
+    witnesses: &[u32],
     vertices: &[Point],
     work: &mut Work,
 ) -> bool
@@ -51,50 +51,56 @@ fn is_ring_near(
     ensures no_more { work.new ≤ work.old }
 {
     for vertex in 0..vertices.len() {
-        if !is_near(old, edges, hints, vertices[vertex], work) {
+        let before = if vertex == 0 {
+            vertices.len() - 1
+        } else {
+            vertex - 1
+        };
+        let named = [witnesses.get(vertex), witnesses.get(before)];
+        if !is_near(old, edges, named, vertices[vertex], work) {
             return false;
         }
     }
     true
 }
 
-/// Whether a position is near the old rings.
+/// Whether a position is near the old rings, of which these edges are tried first.
 fn is_near(
     old: &[Vec<Point>],
     edges: &OldEdges,
-    hints: &Numbers,
+    named: [Option<&u32>; 2],
     position: Point,
     work: &mut Work,
 ) -> bool
     ensures near { IsTrue result → IsNear (rings_of old.now) position }
     ensures no_more { work.new ≤ work.old }
 {
-    if is_near_named(old, edges, edges.begins(), position) {
+    let [first, second] = named;
+    if is_near_named(old, edges, first, position) {
         return true;
     }
-    if is_near_named(old, edges, hints, position) {
+    if is_near_named(old, edges, second, position) {
         return true;
     }
     is_near_any(old, position, work)
 }
 
-/// Whether a position is near one of the first few edges that are named for it.
-fn is_near_named(old: &[Vec<Point>], edges: &OldEdges, numbers: &Numbers, position: Point) -> bool
+/// Whether a position is near the edge of this number, if there is one.
+fn is_near_named(
+    old: &[Vec<Point>],
+    edges: &OldEdges,
+    number: Option<&u32>,
+    position: Point,
+) -> bool
     ensures { IsTrue result → IsNear (rings_of old.now) position }
 {
-    let first = numbers.first_at(position);
-    for k in 0..FEW_EDGES {
-        let Some(number) = numbers.number_at(first, k, position) else {
-            return false;
-        };
-        let Some((ring, vertex)) = edges.place(number) else {
-            return false;
-        };
-        if is_near_edge(old, ring, vertex, position) {
-            return true;
-        }
-    }
-    false
+    let Some(number) = number else {
+        return false;
+    };
+    let Some((ring, vertex)) = edges.place(*number) else {
+        return false;
+    };
+    is_near_edge(old, ring, vertex, position)
 }
 
 /// Whether a position is near any edge of the old rings, as far as the work suffices.

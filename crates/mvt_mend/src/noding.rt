@@ -64,7 +64,7 @@ fn noded(
         All (λ segment. key_of segment.a <ℤ key_of segment.b) segments.items) }
     ensures no_more { work.new ≤ work.old }
 {
-    let mut pieces = Pieces::of(alloc, segments);
+    let mut pieces = Pieces::of(alloc, segments)?;
     for _ in 0..MOST_ROUNDS {
         let meetings = find_meetings(alloc, &pieces, work)?;
         tally.crossings = tally.crossings.saturating_add(meetings.crossings);

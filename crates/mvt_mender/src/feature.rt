@@ -47,6 +47,7 @@ pub(crate) fn mend_feature(
     let Some(old) = loose_rings(alloc, &numbers)? else {
         return Ok(None);
     };
+    drop(numbers);
     match mend_rings(alloc, profile, &old, work)? {
         Some(new) => new_geometry(alloc, profile, &old, new),
         None => Ok(None),

@@ -2,6 +2,7 @@
 #![tactic(auto)]
 
 mod not_empty;
+mod report_file;
 mod run;
 mod standard_error;
 

@@ -5,6 +5,7 @@ ghost use Rattle.mvt_engine.specs.Engine.{Answers, IsOfClaim};
 ghost use Rattle.mvtgate.specs.Status.{status_of};
 
 use crate::not_empty::NotEmpty;
+use crate::report_file::ReportFile;
 use crate::standard_error::StandardError;
 use clap::ArgMatches;
 use clap::error::ErrorKind;
@@ -16,6 +17,7 @@ use mvt_gate::{
 use mvt_mender::mend_stream;
 use mvtgate_words::command_line;
 use std::alloc::Global;
+use std::fs::OpenOptions;
 use std::io::{Read, Write};
 use std::rt::{Env, Files};
 use std::{env, fs, io};
@@ -336,7 +338,7 @@ fn run_on<R: Print + Eprint + AllocGlobal, I: Read + Drop>(
     end(rt, answer)
 }
 
-/// Runs `mend`. The tile's file is opened before that of the line is made.
+/// Runs `mend`. Both files are opened before a byte is read, the tile first.
 fn run_mend<R: Files + Input + Print + Eprint + AllocGlobal>(
     rt: &R,
     options: MendOptions,
@@ -367,11 +369,12 @@ fn mend_from<R: Files + Print + Eprint + AllocGlobal, I: Read + Drop>(
     let Some(path) = report else {
         return mend_to(rt, options, input, StandardError::new(rt));
     };
-    let Ok(created) = fs::create(rt, path) else {
+    // (it isn't emptied yet: the tile may be in the same file)
+    let Ok(opened) = OpenOptions::new().write(true).create(true).open(rt, path) else {
         let _ = eprintln!(rt; "mvtgate: cannot open the report file");
         return BAD_DEVICE;
     };
-    mend_to(rt, options, input, created)
+    mend_to(rt, options, input, ReportFile::new(opened))
 }
 
 /// Runs `mend` on an input, with a device for the line that tells what was changed. The line of a

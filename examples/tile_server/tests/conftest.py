@@ -30,11 +30,16 @@ OUT_OF_MEMORY = """
 import sys
 from mvtgate import _library
 from tile_server.__main__ import main
-_library.calls.mvtgate_check_quickly = lambda *words: _library.NO_MEMORY
+check = _library.check
+def refused(profile, tile, is_quick):
+    if is_quick:
+        raise MemoryError("mvtgate: out of memory")
+    return check(profile, tile, is_quick)
+_library.check = refused
 sys.exit(main())
 """
-EXACT_OUT_OF_MEMORY = OUT_OF_MEMORY.replace("mvtgate_check_quickly", "mvtgate_check")
-MEND_OUT_OF_MEMORY = OUT_OF_MEMORY.replace("mvtgate_check_quickly", "mvtgate_mend")
+EXACT_OUT_OF_MEMORY = OUT_OF_MEMORY.replace("if is_quick", "if not is_quick")
+MEND_OUT_OF_MEMORY = OUT_OF_MEMORY.replace("if is_quick", "if True").replace("_library.check", "_library.mend")
 
 # The first fault of each tile, as the comments of tables.sql reason: its code, where it is, and for edges that meet the point.
 Expected = Tuple[int, str, Optional[Tuple[int, int]]]

@@ -231,14 +231,14 @@ SLOW = """
 import os, sys, time
 from mvtgate import _library
 from tile_server.__main__ import main
-length, path, mend = int(sys.argv[1]), sys.argv[2], _library.calls.mvtgate_mend
-def slow(profile, drop, tile, tile_length, *words):
-    if tile_length == length:
+length, path, mend = int(sys.argv[1]), sys.argv[2], _library.mend
+def slow(profile, tile, is_dropping):
+    if len(tile) == length:
         os.remove(os.path.join(path, "waits"))
         while os.path.exists(path):
             time.sleep(0.02)
-    return mend(profile, drop, tile, tile_length, *words)
-_library.calls.mvtgate_mend = slow
+    return mend(profile, tile, is_dropping)
+_library.mend = slow
 sys.exit(main(sys.argv[3:]))
 """
 

@@ -6,6 +6,8 @@ import { RemoteGate } from '../../../bindings/js/src/gate/remote.js';
 import { explainFormat } from '../../../bindings/js/src/words/explain.js';
 import { isolated } from '../../../bindings/js/src/words/isolated.js';
 import { Answer } from './answer/answer.js';
+import { mayBeArchive, sorted } from './archives/open.js';
+import { ArchivePanel } from './archives/panel.js';
 import { Checks, newEntry, reasonOf } from './files/checks.js';
 import { FileList } from './files/list.js';
 import { totalsText, verdictText } from './files/words.js';
@@ -31,6 +33,11 @@ class Page {
   #isMendingAll = false;
   #status = new Status(() => this.#stop());
   #list = new FileList({ choose: (entry) => this.#chosenByUser(entry), enter: () => this.#answer.focus() });
+  #archive = new ArchivePanel({
+    add: (entries) => this.#add(entries, false),
+    choose: (entry) => this.#chosenByUser(entry),
+    tell: (sentence) => this.#tell(sentence),
+  });
 
   /**
    * @param {() => RemoteGate} newGate
@@ -95,14 +102,44 @@ class Page {
   }
 
   /** @param {Source[]} sources */
-  #take(sources) {
+  async #take(sources) {
     if (!sources.length) return this.#tell('No file there is named like a tile.');
-    const entries = sources.map(({ name, file }) => newEntry(name, file));
-    this.#awaited = entries.length === 1 ? entries[0] : null;
+    if (!sources.some(mayBeArchive)) return this.#addFiles(sources);
+    this.#status.say('working', 'Looking at the files ..');
+    const { archives, tiles } = await sorted(sources);
+    if (tiles.length) this.#addFiles(tiles);
+    if (archives.length) await this.#openArchive(archives[0], archives.length - 1);
+  }
+
+  /** @param {Source[]} sources */
+  #addFiles(sources) {
+    this.#add(sources.map(({ name, file }) => newEntry(name, file)), true);
+  }
+
+  /**
+   * @param {Entry[]} entries
+   * @param {boolean} isFocused whether the focus moves to them
+   */
+  #add(entries, isFocused) {
+    this.#awaited = isFocused && entries.length === 1 ? entries[0] : null;
     this.#list.add(entries);
     this.#choose(entries[0]);
-    if (entries.length > 1) this.#list.focus();
+    if (isFocused && entries.length > 1) this.#list.focus();
     this.#checks.add(entries);
+  }
+
+  /**
+   * @param {{source: Source, kind: import('./archives/open.js').Kind}} archive
+   * @param {number} others that came with it
+   */
+  async #openArchive({ source, kind }, others) {
+    const name = isolated(source.name), note = others ? `${counted(others, 'other archive')} came with it. One is open at a time.` : '';
+    try {
+      await this.#archive.open(kind, source, note);
+      this.#tell(`${name} is open: pick a tile in the grid.`);
+    } catch (error) {
+      this.#tell(`${name} couldn't be opened: ${reasonOf(error)}.`);
+    }
   }
 
   /** @param {Profile} profile */
@@ -129,6 +166,7 @@ class Page {
   /** @param {Entry} entry */
   #choose(entry) {
     this.#list.mark(entry);
+    this.#archive.mark(entry);
     this.#answer.show(entry);
     document.title = `${isolated(entry.name)}: ${verdictText(entry)} - mvtgate`;
   }
@@ -136,6 +174,7 @@ class Page {
   /** @param {Entry} entry whose state changed */
   #changed(entry) {
     this.#list.update(entry);
+    this.#archive.update(entry);
     this.#list.showTotals(this.#checks.counts);
     byId('mending-all', HTMLElement).hidden = this.#checks.counts.fault === 0;
     if (entry === this.#answer.entry) this.#choose(entry);
@@ -203,6 +242,7 @@ class Page {
   #clear() {
     this.#checks.clear();
     this.#list.clear();
+    this.#archive.forget();
     this.#answer.show(null);
     this.#status.say('ready', 'All files are removed.');
     byId('file', HTMLInputElement).focus();

@@ -3,7 +3,7 @@ import { test } from 'node:test';
 import { gunzipSync, gzipSync, deflateSync, inflateSync } from 'node:zlib';
 import { mendAll } from '../../site/app/mend/all.js';
 import { placeAfter } from '../../site/app/mend/features.js';
-import { mendedName, packedAs } from '../../site/app/mend/file.js';
+import { fileNameOf, mendedName, packedAs } from '../../site/app/mend/file.js';
 import { changeFacts, changeLine, halfText, isMendable, shareText, summaryOf } from '../../site/app/mend/words.js';
 
 /** @typedef {import('../../../bindings/js/src/types.js').Change} Change */
@@ -50,6 +50,11 @@ test('where a feature is after those before it were left out', () => {
 test('names of mended files', () => {
   assert.deepEqual(['a.mvt', 'a/b.mvt.gz', '14-5-3.pbf', 'tile', '', 'tile of the link', '.mvt'].map(mendedName),
     ['a.mended.mvt', 'b.mended.mvt.gz', '14-5-3.mended.pbf', 'tile.mended.mvt', 'tile.mended.mvt', 'tile of the link.mended.mvt', 'tile.mended.mvt']);
+});
+
+test('a tile of an archive as a file', () => {
+  assert.equal(fileNameOf({ name: 'a/b.mvt', place: null }), 'a/b.mvt');
+  assert.equal(fileNameOf({ name: 'swiss.mbtiles 14/8802/5373', place: { archive: 'swiss.mbtiles', zoom: 14, column: 8802, row: 5373 } }), 'swiss.mbtiles/14/8802/5373.mvt');
 });
 
 test('a mended tile is packed as it came', async () => {

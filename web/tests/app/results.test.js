@@ -110,6 +110,16 @@ test('results as lines of JSON', () => {
   assert.deepEqual(others, [{ file: 'b.mvt', valid: true }, { file: 'c', error: 'no' }]);
 });
 
+test('results of a tile of an archive name the archive and the tile, as mvtgate-check does', () => {
+  const name = 'swiss.mbtiles 14/8802/5373', place = { archive: 'swiss.mbtiles', zoom: 14, column: 8802, row: 5373 };
+  const entry = { ...entryOf(name, 'crossing_edges'), place };
+  assert.deepEqual(JSON.parse(jsonOf([{ ...entryOf(name), place }])), { file: 'swiss.mbtiles', tile: '14/8802/5373', valid: true });
+  assert.equal(JSON.parse(jsonOf([entry])).tile, '14/8802/5373');
+  const { tile, source } = JSON.parse(geojsonOf([entry]).text).features[0].properties;
+  assert.deepEqual([tile, source], ['14/8802/5373', 'swiss.mbtiles']);
+  assert.ok(csvOf([entry]).split('\r\n')[1].startsWith(`${name},fault,504,`));
+});
+
 test('faults as GeoJSON', () => {
   const { text, count } = geojsonOf([entryOf('0/0/0.mvt', 'crossing_edges'), entryOf('1/1/0.mvt', 'version_one'), entryOf('x.mvt', 'truncated'), entryOf('0/0/0.mvt')]);
   const { type, features: [point, box] } = JSON.parse(text);

@@ -10,7 +10,7 @@ PHONE = 360  # pixels
 LEAST_CONTRAST = 4.5  # of text (Web Content Accessibility Guidelines 2.2, 1.4.3)
 LEAST_TARGET = 24  # pixels (2.5.8)
 CONTROLS = {"button", "checkbox", "radio", "textbox", "searchbox", "listbox", "option", "link", "DisclosureTriangle"}
-NAMED_ROLES = CONTROLS | {"img", "region", "navigation"}
+NAMED_ROLES = CONTROLS | {"img", "region", "navigation", "grid", "gridcell", "tree", "treeitem"}
 
 _CONTRASTS = """
 const canvas = document.createElement('canvas').getContext('2d', { willReadFrequently: true });

@@ -11,6 +11,7 @@ from access import NAMED_ROLES, PHONE, low_contrasts, press_tab, roles_and_names
 from browsers import WIDTH, Chromium
 from page import Page
 from samples import faulty_layers, path_of
+from test_archives import archives, open_archive, use_zoom
 
 DOWN, UP, HOME, END, PAGE_DOWN, ENTER = "\ue015", "\ue013", "\ue011", "\ue010", "\ue00f", "\ue007"  # keys, in WebDriver
 
@@ -23,6 +24,7 @@ STATES: Dict[str, List[str]] = {
     "advice": ["empty"],
     "many": ["hole_in_hole", "point", "no_step"],
     "faults": [],
+    "archive": [],
 }
 
 
@@ -33,8 +35,16 @@ def state(request: pytest.FixtureRequest, page: Page, tmp_path: pathlib.Path) ->
     if request.param == "faults":
         paths = [tmp_path / "faulty.mvt"]
         paths[0].write_bytes(faulty_layers())
-    if paths:
+    if request.param == "archive":
+        archives.whole(tmp_path / "town.mbtiles", archives.town(), archives.TABLE + archives.INDEX)
+        open_archive(page, tmp_path / "town.mbtiles")
+        use_zoom(page, 10)
+        page.click("#archive-check")
+        page.until("return document.querySelectorAll('#list [role=option]').length > 1")
+        page.until_done()
+    elif paths:
         page.choose(*paths)
+    if request.param != "begin":
         page.script("document.querySelectorAll('details').forEach((it) => { it.open = true })")
         page.script("document.querySelector('#features [role=option]')?.click()")
     return page

@@ -12,8 +12,8 @@ bytes that may change hand over a copy, `bytes(it)`. All calls may be made by se
 let go while the library works. They raise TypeError for an object that isn't of the type that is asked, and MemoryError where
 memory was refused, after which they can be called again.
 
-In Python 3.12 an interpreter with a lock of its own (a subinterpreter that doesn't share the main one's) can't import ctypes, nor
-this package: that is an ImportError. Threads of one interpreter judge side by side all the same.
+Each interpreter of a process may have the package, also one with a lock of its own (a subinterpreter of Python 3.12 or later), unless
+it calls the library by ctypes, where nothing was compiled: then that is an ImportError in Python 3.12.
 """
 from __future__ import annotations
 
@@ -90,10 +90,12 @@ def check(tile: ReadableBuffer, profile: Profile = Profile.POLYGON, *, not_empty
     Profile.FEATURE the fault may then be any meeting of the same feature, where edges of that feature meet. It is true all the
     same, and the same tiles are valid.
     """
-    number = _number_of(profile)
+    # (a call of `_number_of` would take as long as to judge a small tile)
+    if not isinstance(profile, Profile):
+        _number_of(profile)
     if not_empty and _library.is_empty(tile):
         raise EmptyTile("the tile has no bytes")
-    text = _library.check(number, tile, quick)
+    text = _library.check(profile, tile, quick)
     return None if text is None else fault_of_library(text)
 
 

@@ -1,14 +1,12 @@
 """Other formats that are taken for tiles, by how their bytes begin. faults.json has their words."""
 from __future__ import annotations
 
-import ctypes
 import functools
 from dataclasses import dataclass
 from typing import TYPE_CHECKING, List, Optional, Tuple
 
-from . import _words
+from . import _library, _words
 from ._faults import Fault
-from ._library import Borrowed
 
 if TYPE_CHECKING:
     from _typeshed import ReadableBuffer
@@ -56,6 +54,5 @@ def format_of(fault: Fault, tile: ReadableBuffer) -> Optional[Format]:
     """The format that the bytes of a tile begin as, where its fault is one of the bytes (101 to 111); None for any other."""
     if fault.code > _LAST_WIRE_FAULT:
         return None
-    with Borrowed(tile) as (address, length):
-        head = ctypes.string_at(address, min(length, _HEAD))
+    head = _library.head(tile, _HEAD)
     return next((rule.format for rule in _rules() if rule.holds(head)), None)

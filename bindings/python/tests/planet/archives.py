@@ -8,13 +8,27 @@ import re
 import struct
 import threading
 from dataclasses import dataclass, field
-from typing import Any, Iterator, List, Optional, Sequence, Tuple
-
-from planet.runs import Tile
+from typing import Any, Iterator, List, Optional, Protocol, Sequence, Tuple
 
 # tile id, run, offset and length
 Written = Tuple[int, int, int, int]
 _HEADER = struct.Struct("<7sB11Q6BiiiiBii")
+
+
+class Tile(Protocol):
+    """A tile with its row from the north, and its bytes as they are stored."""
+
+    @property
+    def zoom(self) -> int: ...
+
+    @property
+    def column(self) -> int: ...
+
+    @property
+    def row(self) -> int: ...
+
+    @property
+    def stored(self) -> bytes: ...
 
 
 def tile_id(zoom: int, column: int, row: int) -> int:

@@ -1,12 +1,15 @@
 #!/usr/bin/env python3
 """Makes the pictures of the report in docs/, in Debian's Chromium, of a planet that is made up: screenshots.py [FOLDER].
 
-It needs what tools/library and tools/page make.
+It needs what tools/library and tools/page make, and the packages that mvtgate-planet does.
 """
 from __future__ import annotations
 
 import math
+import os
 import pathlib
+import sqlite3
+import subprocess
 import sys
 import tempfile
 from typing import Dict, Iterator, List, Optional, Tuple
@@ -20,6 +23,8 @@ from planet.report_samples import MemorySource, Sample, run_of
 from wire import POLYGON, feature, layer
 
 import mvtgate
+from mvtgate.planet.further import OneFault
+from mvtgate.planet.records import Place
 from mvtgate.planet.report import Report
 
 WIDTH, HEIGHT, MARGIN = 1200, 3000, 16  # (all that is in the window is drawn)
@@ -27,6 +32,13 @@ LAST_ZOOM = 9
 BOUNDS = """
 const [one, other] = [...arguments].map((it) => document.querySelector(it).getBoundingClientRect());
 return [one.top + scrollY, other.bottom + scrollY]"""
+# what is looked for in the list
+SEARCH = """
+const it = document.getElementById('tiles-search'), code = document.getElementById('tiles-code');
+[it.value, code.value] = ['water', '504'];
+it.dispatchEvent(new Event('input'))"""
+# a shore, and in it a lake that touches it
+LAKE = [9, 120, 120, 34, 280, 15, 28, 196, 47, 92, 235, 15, 15, 9, 11, 127, 34, 88, 72, 80, 39, 19, 79, 79, 15, 15]
 Point = Tuple[int, int]
 
 # draws the pictures that are open, so that nothing moves later
@@ -150,11 +162,30 @@ def places() -> Iterator[Tuple[int, int, int, float, float]]:
 def write(folder: pathlib.Path) -> str:
     """Writes the report of the planet, and returns its address."""
     source = MemorySource("/data/planet.mbtiles", planet())
-    report = Report(run_of(source), [source])
+    report = Report({**run_of(source), "version": mvtgate.version()}, [source])
     for judged in source.judged():
         report.add(judged)
+        for it in judged.faults:
+            assert it.fault is not None
+            report.add_fault(Place(0, judged.partition.zoom, it.column, it.row), OneFault(it.fault, it.layer, it.feature_id))
     report.write(folder / "report.html", seconds=41.3, workers=16)
     return (folder / "report.html").as_uri()
+
+
+def mend(folder: pathlib.Path) -> str:
+    """Has a run mend some lakes and islands, and returns the address of its report."""
+    path = folder / "lakes.mbtiles"
+    database = sqlite3.connect(path)
+    database.execute("CREATE TABLE tiles (zoom_level INTEGER, tile_column INTEGER, tile_row INTEGER, tile_data BLOB, UNIQUE (zoom_level, tile_column, tile_row))")
+    wrong = [it.data for _, it in wrong_tiles() if it.layer in ("water", "landuse", "landcover")]
+    shores = [layer("water", [polygon([looped(ring((2000, 2100), 1600, 70, 30 + at), 10 * at)])]) for at in (1, 4)] + [layer("water", [feature(POLYGON, LAKE, 7)])]
+    database.executemany("INSERT INTO tiles VALUES (6, ?, 30, ?)", list(enumerate([*wrong, *shores])))
+    database.commit()
+    database.close()
+    words = [str(path), "--mend", str(folder / "mended.mbtiles"), "--output", str(folder / "mended"), "--workers", "1"]
+    done = subprocess.run([sys.executable, "-m", "mvtgate.planet", *words], env={**os.environ, "PYTHONPATH": str(TOP / "bindings/python/src")})
+    assert done.returncode in (0, 1), done
+    return (folder / "mended/report.html").as_uri()
 
 
 def shoot(chromium: Chromium, path: pathlib.Path, scheme: str, script: str, first: str, last: Optional[str] = None) -> None:
@@ -182,6 +213,9 @@ def main() -> None:
             shoot(chromium, folder / "report_overview.png", "light", "", ".top", "#codes")
             shoot(chromium, folder / "report_map.png", "dark", f"{walk}; {jumps(160)}", "#map")
             shoot(chromium, folder / "report_fault.png", "light", "location.hash = 'code-504'", "#code-504", "#code-504 .found")
+            shoot(chromium, folder / "report_tiles.png", "light", SEARCH, "#tiles", "#tiles-body tr:nth-child(9)")
+            chromium.open(mend(pathlib.Path(room)))
+            shoot(chromium, folder / "report_mended.png", "light", "", "#changes")
         finally:
             chromium.quit()
 

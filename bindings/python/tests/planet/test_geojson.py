@@ -5,6 +5,8 @@ import csv
 import json
 import math
 import pathlib
+import random
+from fractions import Fraction
 from typing import Any, Dict, List, Tuple
 
 import pytest
@@ -94,6 +96,19 @@ def test_places_on_the_earth() -> None:
     # (in the buffer beyond the 180th degree, and of a tile far from the map)
     assert lon_lat(3, 7, 4, 4096 + 64, 0, 4096) == (-180 + 45 / 64, 0.0) and lon_lat(3, 0, 4, -64, 0, 4096) == (180 - 45 / 64, 0.0)
     assert lon_lat(1, 0, 2**40, 0, 0, 4096) == (-180.0, -90.0)
+
+
+def test_points_between_positions() -> None:
+    """The floats that are nearest to the exact degrees, by fractions: of points in tiles, on their sides and far outside."""
+    source = random.Random(1)
+    for _ in range(500):
+        zoom, extent = source.randrange(25), source.choice([1, 512, 4096, source.randrange(1, 10**6)])
+        column, row = source.randrange(1 << zoom), source.randrange(1 << zoom)
+        x, y = (Fraction(source.randrange(-(10**9), 10**9), source.randrange(1, 10**5)) for _ in range(2))
+        across, down = ((at + Fraction(it, extent)) / 2**zoom for at, it in ((column, x), (row, y)))
+        turned = across if 0 <= across <= 1 else across - math.floor(across)
+        latitude = math.degrees(math.atan(math.sinh(max(-50.0, min(50.0, math.pi * float(1 - 2 * down))))))
+        assert lon_lat(zoom, column, row, x, y, extent) == (round(float(360 * turned - 180), 9), round(latitude, 9))
 
 
 def test_numbers_that_readers_would_round() -> None:

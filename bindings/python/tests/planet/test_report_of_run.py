@@ -8,7 +8,7 @@ from browsers import Chromium
 from page import Page
 from planet.planets import Planet
 from planet.reports import chromium, draw_all, figures, opened, quiet, rows
-from planet.runs import expect_whole, run
+from planet.runs import INDEX, SAMPLE, TABLE, Tile, expect_whole, run, write_database
 
 __all__ = ["chromium", "quiet"]
 
@@ -39,3 +39,15 @@ def assert_pictures(page: Page, planet: Planet) -> None:
         for key in ("first", "second") if code == "504" else ():
             ring, edge = fault[key]["ring"], fault[key]["edge"]
             assert page.count(f"#{name} [data-role='{key}-edge'][data-ring='{ring}'][data-edge='{edge}']"), (name, key)
+
+
+def test_changes_in_pictures(tmp_path: pathlib.Path, scheduler: str, quiet: Chromium) -> None:
+    """What was mended is seen whole, with lines of one pixel, however few units of the grid a picture shows."""
+    tile = SAMPLE["hole_outside"].tile
+    path = write_database(tmp_path / "tiles.mbtiles", [Tile(3, 1, 1, tile), Tile(3, 2, 1, SAMPLE["crossing_edges"].tile)], TABLE, INDEX)
+    it = run(tmp_path / "out", path, "--mend", tmp_path / "made.mbtiles", "--scheduler", scheduler)
+    page = opened(quiet, (it.output / "report.html").as_uri())
+    page.script("document.getElementById('changes').scrollIntoView()")
+    assert {it["tile"] for it in page.elements("#changes .change")} == {"3/1/1", "3/2/1"}
+    assert page.script("return [...document.querySelectorAll('.change path')].map((it) => it.getAttribute('vector-effect'))") == ["non-scaling-stroke"] * 4
+    assert set(page.script("return [...document.querySelectorAll('.change use[class^=ring]')].map((it) => getComputedStyle(it).strokeWidth)")) == {"1px"}

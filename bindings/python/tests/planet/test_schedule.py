@@ -14,6 +14,7 @@ import mvtgate
 from mvtgate.planet import schedule
 from mvtgate.planet.journal import FORMAT, Journal
 from mvtgate.planet.records import Finding, Judged, Partition
+from mvtgate.planet.run import partition_of
 from mvtgate.planet.schedule import Schedule, Stopped
 from mvtgate.planet.sources import SourceChanged, open_source
 from mvtgate.planet.work import Task, UnfitWorker
@@ -342,3 +343,9 @@ def test_lines_of_the_journal(tmp_path: pathlib.Path) -> None:
     lines = [json.loads(line) for line in trial.path.read_text().splitlines()][1:]
     assert lines[0]["split"]["tiles"] == 64 and [it["tiles"] for it in lines[0]["into"]] == [4] * 16
     assert [it["split"]["tiles"] for it in lines if "split" in it] == [64, 4]
+
+
+@pytest.mark.parametrize("tiles, wanted", [(1, 4_000), (256_000, 4_000), (256_001, 4_001), (640_000, 10_000), (1_024_000, 16_000), (10**8, 16_000)])
+def test_tiles_that_a_worker_gets(tiles: int, wanted: int) -> None:
+    """Where the words don't say: a 64th of all, but not few, since each time costs something, nor very many."""
+    assert partition_of(tiles) == wanted

@@ -2,12 +2,12 @@
 ghost use Rattle.std.specs.Prelude.{◌≤◌};
 
 use crate::boundary::NO_NUMBER;
-use crate::boundary::links::Links;
 use crate::boundary::rings::BoundaryRing;
 use crate::faces::directly_below;
+use crate::order::{ends_of, numbers_by_ends};
 use crate::segment::{HalfEdge, Segment, Winding};
 use crate::work::Work;
-use mvt_plane::sweep_key;
+use mvt_plane::{Point, sweep_key};
 use std::alloc::{AllocError, Global};
 
 /// Of each ring the number of the exterior of its part: an exterior's own, and of a hole that of
@@ -16,39 +16,53 @@ use std::alloc::{AllocError, Global};
 pub(super) fn exteriors_of(
     alloc: Global,
     edges: &[HalfEdge],
-    links: &Links,
     rings: &[BoundaryRing],
     ring_of: &[u32],
     work: &mut Work,
 ) -> Result<Option<Vec<u32>>, AllocError>
     ensures no_more { work.new ≤ work.old }
 {
+    let mut exteriors = known_exteriors(alloc, rings)?;
+    if !exteriors.contains(&NO_NUMBER) {
+        return Ok(Some(exteriors));
+    }
+    let Some(under) = rings_under(alloc, edges, rings, ring_of, work)? else {
+        return Ok(None);
+    };
+    if add_those_of_holes(&under, &mut exteriors, work) {
+        Ok(Some(exteriors))
+    } else {
+        Ok(None)
+    }
+}
+
+/// Of each ring its own number if it is an exterior, or else `NO_NUMBER`.
+fn known_exteriors(alloc: Global, rings: &[BoundaryRing]) -> Result<Vec<u32>, AllocError> {
     let mut exteriors = Vec::with_capacity(alloc, rings.len())?;
-    let mut holes = false;
-    for number in 0..rings.len() {
-        let is_exterior = rings[number].area > 0;
-        holes |= !is_exterior;
-        exteriors.push(if is_exterior {
+    for (number, ring) in rings.iter().enumerate() {
+        exteriors.push(if ring.area > 0 {
             u32::try_from(number).unwrap_or(NO_NUMBER)
         } else {
             NO_NUMBER
         })?;
     }
-    if !holes {
-        return Ok(Some(exteriors));
-    }
-    let Some(under) = rings_under(alloc, edges, links, rings, ring_of, work)? else {
-        return Ok(None);
-    };
-    for number in 0..rings.len() {
-        let Some(exterior) = exterior_of(&under, &exteriors, number, work) else {
-            return Ok(None);
+    Ok(exteriors)
+}
+
+/// Adds the exteriors of the parts of holes. False where the work doesn't suffice, or where a hole
+/// has nothing below it.
+fn add_those_of_holes(under: &[u32], exteriors: &mut [u32], work: &mut Work) -> bool
+    ensures no_more { work.new ≤ work.old }
+{
+    for number in 0..exteriors.len() {
+        let Some(exterior) = exterior_of(under, exteriors, number, work) else {
+            return false;
         };
         if let Some(place) = exteriors.get_mut(number) {
             *place = exterior;
         }
     }
-    Ok(Some(exteriors))
+    true
 }
 
 /// The exterior of the part of a ring: the first that is known of those under it.
@@ -73,23 +87,21 @@ fn exterior_of(under: &[u32], exteriors: &[u32], number: usize, work: &mut Work)
 fn rings_under(
     alloc: Global,
     edges: &[HalfEdge],
-    links: &Links,
     rings: &[BoundaryRing],
     ring_of: &[u32],
     work: &mut Work,
 ) -> Result<Option<Vec<u32>>, AllocError>
     ensures no_more { work.new ≤ work.old }
 {
-    let order = upward_order(alloc, edges, links)?;
-    let segments = segments_of(alloc, edges, &order)?;
-    let Some(below) = directly_below(alloc, &segments, work)? else {
+    let segments = segments_of(alloc, edges)?;
+    let ends = ends_of(alloc, &segments)?;
+    let Some(below) = directly_below(alloc, &segments, &ends, work)? else {
         return Ok(None);
     };
     let mut ring_under_edge = vec![in alloc; NO_NUMBER; edges.len()]?;
-    for at in 0..order.len() {
-        let (_, _, edge) = order[at];
-        if let Some(place) = ring_under_edge.get_mut(edge as usize) {
-            *place = ring_below(&below, &order, ring_of, at).unwrap_or(NO_NUMBER);
+    for (segment, under) in segments.iter().zip(&below) {
+        if let Some(place) = ring_under_edge.get_mut(segment.witness as usize) {
+            *place = ring_of_segment(&segments, ring_of, *under).unwrap_or(NO_NUMBER);
         }
     }
     let mut under = Vec::with_capacity(alloc, rings.len())?;
@@ -100,53 +112,44 @@ fn rings_under(
     Ok(Some(under))
 }
 
-/// The ring of the segment directly below the one of this number.
-fn ring_below(below: &[u32], order: &[(i64, i64, u32)], ring_of: &[u32], at: usize) -> Option<u32> {
-    let (_, _, edge) = *order.get(*below.get(at)? as usize)?;
-    ring_of.get(edge as usize).copied()
+/// The ring of the edge that the segment of this number is.
+fn ring_of_segment(segments: &[Segment], ring_of: &[u32], number: u32) -> Option<u32> {
+    let segment = segments.get(number as usize)?;
+    ring_of.get(segment.witness as usize).copied()
 }
 
-/// The edges by the keys of their ends, the lesser one first, in the order of these.
-fn upward_order(
-    alloc: Global,
-    edges: &[HalfEdge],
-    links: &Links,
-) -> Result<Vec<(i64, i64, u32)>, AllocError> {
-    let mut order = Vec::with_capacity(alloc, edges.len())?;
-    for number in 0..edges.len() {
-        let from = sweep_key(edges[number].from);
-        let to = sweep_key(edges[number].to);
-        if from < to {
-            order.push((from, to, u32::try_from(number).unwrap_or(NO_NUMBER)))?;
-        }
-    }
-    for at in 0..links.arrivals.len() {
-        let (to, number) = links.arrivals[at];
-        if let Some(edge) = edges.get(number as usize) {
-            let from = sweep_key(edge.from);
-            if to < from {
-                order.push((to, from, number))?;
-            }
-        }
-    }
-    // (a stable sort merges these two parts, each of which is in its order)
-    order.sort_by_key(|it| (it.0, it.1))?;
-    Ok(order)
-}
-
-/// The edges as segments, in this order.
-fn segments_of(
-    alloc: Global,
-    edges: &[HalfEdge],
-    order: &[(i64, i64, u32)],
-) -> Result<Vec<Segment>, AllocError> {
-    let mut segments = Vec::with_capacity(alloc, order.len())?;
-    for &(_, _, number) in order {
-        if let Some(edge) = edges.get(number as usize) {
-            segments.push(segment_of(edge))?;
+/// The edges as segments, in the order of their ends. The `witness` of each is its edge's number.
+fn segments_of(alloc: Global, edges: &[HalfEdge]) -> Result<Vec<Segment>, AllocError> {
+    let numbers = numbers_by_ends(alloc, edges, &lesser_end, &greater_end)?;
+    let mut segments = Vec::with_capacity(alloc, edges.len())?;
+    for number in &numbers {
+        if let Some(edge) = edges.get(*number as usize) {
+            let witness = *number;
+            segments.push(Segment {
+                witness,
+                ..segment_of(edge)
+            })?;
         }
     }
     Ok(segments)
+}
+
+/// The end of an edge that has the lesser key.
+fn lesser_end(edge: &HalfEdge) -> Point {
+    if sweep_key(edge.from) < sweep_key(edge.to) {
+        edge.from
+    } else {
+        edge.to
+    }
+}
+
+/// The other one.
+fn greater_end(edge: &HalfEdge) -> Point {
+    if sweep_key(edge.from) < sweep_key(edge.to) {
+        edge.to
+    } else {
+        edge.from
+    }
 }
 
 /// An edge as a segment, which has what is filled above it or below it.

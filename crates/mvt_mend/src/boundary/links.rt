@@ -1,9 +1,10 @@
 //! Which edge of a boundary follows which.
-ghost use Rattle.std.specs.Prelude.{◌<◌, ◌^◌, length};
+ghost use Rattle.std.specs.Prelude.{◌<◌, length};
 
 use crate::boundary::NO_NUMBER;
+use crate::order::numbers_by_key;
 use crate::segment::HalfEdge;
-use mvt_plane::{Point, side, sweep_key};
+use mvt_plane::{Point, side};
 use std::alloc::{AllocError, Global};
 use std::cmp::Ordering;
 
@@ -35,8 +36,8 @@ pub(crate) struct Touch {
 pub(crate) struct Links {
     /// Of each edge the number of the next one of its ring.
     pub(crate) next: Vec<u32>,
-    /// Where each edge ends, by its key, with the edge's number, in the order of these.
-    pub(crate) arrivals: Vec<(i64, u32)>,
+    /// The numbers of the edges, in the order of the keys of the positions where they end.
+    pub(crate) arrivals: Vec<u32>,
     /// The positions where more than one edge begins, in the order of their keys.
     pub(crate) touches: Vec<Touch>,
     /// The spokes of each of these, counterclockwise, from one on that leaves.
@@ -54,14 +55,13 @@ pub(crate) fn links_of(alloc: Global, edges: &[HalfEdge]) -> Result<Option<Links
     let (touches, at_touches) = count_touches(edges);
     let mut links = Links {
         next: vec![in alloc; NO_NUMBER; edges.len()]?,
-        arrivals: arrivals_of(alloc, edges)?,
+        arrivals: numbers_by_key(alloc, edges, &|edge: &HalfEdge| edge.to)?,
         touches: Vec::with_capacity(alloc, touches)?,
         spokes: Vec::with_capacity(alloc, at_touches.wrapping_mul(2))?,
     };
     let mut first = 0;
     for at in 0..edges.len() {
-        let key = sweep_key(edges[at].from);
-        if links.arrivals.get(at).map(|arrival| arrival.0) != Some(key) {
+        if links.arrives_at(edges, at) != Some(edges[at].from) {
             return Ok(None);
         }
         if !is_last_from(edges, at) {
@@ -95,18 +95,6 @@ fn count_touches(edges: &[HalfEdge]) -> (usize, usize) {
     (touches, at_touches)
 }
 
-/// The keys of the positions where edges end, with the edges' numbers, in their order.
-fn arrivals_of(alloc: Global, edges: &[HalfEdge]) -> Result<Vec<(i64, u32)>, AllocError>
-    requires { length edges.now < 2 ^ 32 }
-{
-    let mut arrivals = Vec::with_capacity(alloc, edges.len())?;
-    for number in 0..edges.len() {
-        arrivals.push((sweep_key(edges[number].to), number as u32))?;
-    }
-    arrivals.sort_unstable_by_key(|it| (it.0, it.1));
-    Ok(arrivals)
-}
-
 /// Whether no edge after this one begins at the same position.
 fn is_last_from(edges: &[HalfEdge], at: usize) -> bool
     requires { at < length edges.now }
@@ -120,11 +108,18 @@ fn is_last_from(edges: &[HalfEdge], at: usize) -> bool
 impl Links {
     ghost use Rattle.std.specs.Prelude.{◌<◌, length};
 
+    /// The position where the edge at this place of the order of ends arrives.
+    #[inline]
+    fn arrives_at(&self, edges: &[HalfEdge], at: usize) -> Option<Point> {
+        let edge = edges.get(*self.arrivals.get(at)? as usize)?;
+        Some(edge.to)
+    }
+
     /// Links the only edge that ends at a position to the only one that begins there, both at this
     /// place of their orders.
     fn link_alone(&mut self, at: usize) {
         if let (Some(arrival), Ok(following)) = (self.arrivals.get(at), u32::try_from(at)) {
-            let (_, edge) = *arrival;
+            let edge = *arrival;
             self.link(edge, following);
         }
     }
@@ -183,7 +178,7 @@ impl Links {
                 leaves: true,
             })?;
             if let Some(arrival) = self.arrivals.get(at) {
-                let (_, edge) = *arrival;
+                let edge = *arrival;
                 if let Some(arriving) = edges.get(edge as usize) {
                     round.push(Spoke {
                         edge,

@@ -1,6 +1,7 @@
 //! A boundary after edges were taken away and others put in their place.
 
 use crate::boundary::{number_of, order_of};
+use crate::order::merge_into;
 use crate::segment::HalfEdge;
 use mvt_plane::sweep_key;
 use std::alloc::{AllocError, Global};
@@ -10,28 +11,22 @@ use std::alloc::{AllocError, Global};
 /// error is that memory was refused.
 pub(crate) fn merged(
     alloc: Global,
-    edges: &[HalfEdge],
+    mut edges: Vec<HalfEdge>,
     mut removed: Vec<bool>,
     added: Vec<HalfEdge>,
 ) -> Result<Vec<HalfEdge>, AllocError> {
     let added = without_opposites(alloc, added)?;
-    let mut all = Vec::with_capacity(alloc, edges.len())?;
     let mut fresh = Vec::with_capacity(alloc, added.len())?;
     for edge in &added {
-        if !cancel(edges, &mut removed, edge) {
+        if !cancel(&edges, &mut removed, edge) {
             fresh.push(*edge)?;
         }
     }
-    for number in 0..edges.len() {
-        if removed.get(number) != Some(&true) {
-            all.push(edges[number])?;
-        }
-    }
+    let mut marks = removed.iter();
+    edges.retain(|_| marks.next() != Some(&true));
     fresh.sort_unstable_by_key(|edge| order_of(edge));
-    all.extend_from_slice(&fresh)?;
-    // (a stable sort merges these two parts, each of which is in its order)
-    all.sort_by_key(|edge| order_of(edge))?;
-    Ok(all)
+    merge_into(&mut edges, &fresh, &|edge: &HalfEdge| order_of(edge))?;
+    Ok(edges)
 }
 
 /// Removes the edge of the opposite direction, if it is still there, and returns whether it was.

@@ -4,6 +4,7 @@ ghost use Rattle.std.specs.Prelude.{◌≤◌};
 use crate::boundary::NO_NUMBER;
 use crate::boundary::exteriors::exteriors_of;
 use crate::boundary::links::Links;
+use crate::outlines::Outlines;
 use crate::segment::HalfEdge;
 use crate::work::Work;
 use mvt_plane::{Point, area_part, side};
@@ -54,7 +55,7 @@ pub(crate) fn trace(
         };
         rings.push(ring)?;
     }
-    let Some(exteriors) = exteriors_of(alloc, edges, links, &rings, &ring_of, work)? else {
+    let Some(exteriors) = exteriors_of(alloc, edges, &rings, &ring_of, work)? else {
         return Ok(None);
     };
     Ok(Some(Traced {
@@ -139,58 +140,37 @@ impl Lowest {
     }
 }
 
-/// The polygons of the rings: of each the exterior and then its holes, in the order of the rings.
-/// None where the numbers of rings and edges aren't those of a boundary.
-pub(crate) fn polygons_of(
+/// Adds the rings: of each polygon the exterior, and then its holes. The polygons, and the holes of
+/// each, keep the order of the rings. The only error is that memory was refused.
+pub(crate) fn add_outlines(
     alloc: Global,
     edges: &[HalfEdge],
     links: &Links,
     traced: &Traced,
-) -> Result<Option<Vec<Vec<Vec<Point>>>>, AllocError> {
-    let mut polygons = Vec::new(alloc);
-    let mut places = vec![in alloc; NO_NUMBER; traced.rings.len()]?;
-    for number in 0..traced.rings.len() {
-        let ring = traced.rings[number];
-        if ring.area > 0 {
-            let vertices = vertices_of(alloc, edges, &links.next, &ring)?;
-            if let Some(place) = places.get_mut(number) {
-                *place = u32::try_from(polygons.len()).unwrap_or(NO_NUMBER);
-            }
-            polygons.push(vec![in alloc; vertices]?)?;
+    outlines: &mut Outlines,
+) -> Result<(), AllocError> {
+    let mut order = Vec::with_capacity(alloc, traced.rings.len())?;
+    for (number, exterior) in traced.exteriors.iter().enumerate() {
+        // (a hole has its exterior's ring before it)
+        order.push((*exterior, number))?;
+    }
+    order.sort_unstable_by_key(|pair| (pair.0, pair.1));
+    for (_, number) in &order {
+        if let Some(ring) = traced.rings.get(*number) {
+            add_outline(alloc, edges, &links.next, ring, outlines)?;
         }
     }
-    for number in 0..traced.rings.len() {
-        let ring = traced.rings[number];
-        if ring.area <= 0 {
-            let vertices = vertices_of(alloc, edges, &links.next, &ring)?;
-            let Some(polygon) = polygon_of(&mut polygons, &places, traced, number) else {
-                return Ok(None);
-            };
-            polygon.push(vertices)?;
-        }
-    }
-    Ok(Some(polygons))
+    Ok(())
 }
 
-/// The polygon whose hole the ring of this number is.
-fn polygon_of<'a>(
-    polygons: &'a mut Vec<Vec<Vec<Point>>>,
-    places: &[u32],
-    traced: &Traced,
-    number: usize,
-) -> Option<&'a mut Vec<Vec<Point>>> {
-    let exterior = *traced.exteriors.get(number)?;
-    let place = *places.get(exterior as usize)?;
-    polygons.get_mut(place as usize)
-}
-
-/// The vertices of a ring, from its vertex of least key on.
-fn vertices_of(
+/// Adds the vertices of a ring, from its vertex of least key on.
+fn add_outline(
     alloc: Global,
     edges: &[HalfEdge],
     next: &[u32],
     ring: &BoundaryRing,
-) -> Result<Vec<Point>, AllocError> {
+    outlines: &mut Outlines,
+) -> Result<(), AllocError> {
     let mut vertices = Vec::with_capacity(alloc, ring.count)?;
     let mut at = ring.first as usize;
     for _ in 0..ring.count {
@@ -198,7 +178,9 @@ fn vertices_of(
             break;
         };
         vertices.push(edge.from)?;
+        outlines.witnesses.push(edge.witness)?;
         at = *following as usize;
     }
-    Ok(vertices)
+    outlines.rings.push(vertices)?;
+    Ok(())
 }

@@ -78,7 +78,7 @@ impl Cuts {
     pub(crate) fn applied(
         self,
         alloc: Global,
-        edges: &[HalfEdge],
+        edges: Vec<HalfEdge>,
     ) -> Result<Vec<HalfEdge>, AllocError> {
         let Cuts { removed, added, .. } = self;
         merged(alloc, edges, removed, added)

@@ -2,12 +2,13 @@
 
 mod generated;
 
-use super::{cuts_of, polygons_apart};
-use crate::boundary::{links_of, order_of, polygons_of, trace};
+use super::{add_polygons_apart, cuts_of};
+use crate::boundary::{add_outlines, links_of, order_of, trace};
+use crate::outlines::Outlines;
 use crate::segment::{HalfEdge, Tally};
 use crate::work::Work;
 use mvt_fault::Profile;
-use mvt_plane::Point;
+use mvt_plane::{Point, twice_area};
 use std::alloc::Global;
 use std::process::Abort;
 
@@ -241,7 +242,54 @@ fn assert_polygons(rt: &impl Abort, found: &[Vec<Vec<Point>>], wanted: Polygons)
     }
 }
 
-/// Asserts what an example becomes by a profile, and that each edge of it has a witness.
+/// The rings of polygons, each of which begins with a ring of positive area.
+fn polygons_of(rt: &impl Abort, alloc: Global, outlines: Outlines) -> Vec<Vec<Vec<Point>>> {
+    let mut polygons: Vec<Vec<Vec<Point>>> = Vec::new(alloc);
+    for ring in outlines.rings {
+        match polygons.last_mut() {
+            Some(polygon) if twice_area(&ring) < 0 => polygon.push(ring).expect(rt, "memory"),
+            _ => {
+                let mut polygon = Vec::new(alloc);
+                polygon.push(ring).expect(rt, "memory");
+                polygons.push(polygon).expect(rt, "memory");
+            }
+        }
+    }
+    polygons
+}
+
+/// No rings.
+fn no_outlines(alloc: Global) -> Outlines {
+    Outlines {
+        rings: Vec::new(alloc),
+        witnesses: Vec::new(alloc),
+    }
+}
+
+/// The polygons that are left of edges, and after how many cuts.
+fn polygons_apart(
+    rt: &impl Abort,
+    alloc: Global,
+    profile: Profile,
+    edges: Vec<HalfEdge>,
+) -> (Vec<Vec<Vec<Point>>>, u64) {
+    let mut work = Work::new(100_000);
+    let mut tally = Tally {
+        crossings: 0,
+        cuts: 0,
+    };
+    let mut outlines = no_outlines(alloc);
+    let done = add_polygons_apart(alloc, profile, edges, &mut work, &mut tally, &mut outlines);
+    assert!(rt; done.expect(rt, "memory"));
+    let mut vertices: usize = 0;
+    for ring in &outlines.rings {
+        vertices = vertices.wrapping_add(ring.len());
+    }
+    assert!(rt; outlines.witnesses.len() == vertices);
+    (polygons_of(rt, alloc, outlines), tally.cuts)
+}
+
+/// Asserts what an example becomes, and that each edge of it has a witness.
 fn assert_apart(
     rt: &impl Abort,
     alloc: Global,
@@ -249,28 +297,10 @@ fn assert_apart(
     rings: &[(u32, Coordinates)],
     wanted: (Polygons, u64),
 ) {
-    let mut work = Work::new(10_000);
-    let mut tally = Tally {
-        crossings: 0,
-        cuts: 0,
-    };
-    let mut witnesses = Vec::new(alloc);
     let edges = edges_of(rt, alloc, rings);
-    let found = polygons_apart(alloc, profile, edges, &mut work, &mut tally, &mut witnesses)
-        .expect(rt, "memory")
-        .expect(rt, "polygons");
+    let (found, cuts) = polygons_apart(rt, alloc, profile, edges);
     assert_polygons(rt, &found, wanted.0);
-    assert!(rt; tally.cuts == wanted.1);
-    let mut vertices: usize = 0;
-    for polygon in &found {
-        for ring in polygon {
-            vertices = vertices.wrapping_add(ring.len());
-        }
-    }
-    assert!(rt; witnesses.len() == vertices);
-    for number in 1..witnesses.len() {
-        assert!(rt; order_of(&witnesses[number - 1]) < order_of(&witnesses[number]));
-    }
+    assert!(rt; cuts == wanted.1);
 }
 
 #[test]
@@ -307,33 +337,21 @@ fn witnesses_of_a_cut(rt: HostRuntime) {
         crossings: 0,
         cuts: 0,
     };
-    let mut witnesses = Vec::new(rt.alloc());
+    let mut outlines = no_outlines(rt.alloc());
     let edges = edges_of(&rt, rt.alloc(), TWO_TRIANGLES.rings);
-    let found = polygons_apart(
+    let done = add_polygons_apart(
         rt.alloc(),
         Profile::Feature,
         edges,
         &mut work,
         &mut tally,
-        &mut witnesses,
+        &mut outlines,
     );
-    assert!(rt; found.expect(&rt, "memory").is_some());
-    let wanted = [
-        ((0, 0), (20, 0), 0),
-        ((0, 20), (10, 10), 3),
-        ((9, 9), (0, 0), 2),
-        ((10, 10), (20, 20), 4),
-        ((11, 9), (9, 9), 2),
-        ((20, 0), (11, 9), 1),
-        ((20, 20), (0, 20), 5),
-    ];
-    assert!(rt; witnesses.len() == wanted.len());
-    for number in 0..wanted.len() {
-        let (from, to, witness) = wanted[number];
-        let edge = witnesses[number];
-        assert!(rt; edge.from == at(&rt, from) && edge.to == at(&rt, to));
-        assert!(rt; edge.witness == witness);
-    }
+    assert!(rt; done.expect(&rt, "memory"));
+    // (the rings are those of the example)
+    assert!(rt; outlines.rings.len() == 2);
+    assert!(rt; outlines.rings[0].len() == 4 && outlines.rings[1].len() == 3);
+    assert!(rt; outlines.witnesses.as_slice() == [0, 1, 2, 2, 3, 4, 5].as_slice());
 }
 
 /// The polygons that are left where only filled wedges are cut, and after how many cuts.
@@ -357,13 +375,12 @@ fn polygons_shrunk(
             .expect(rt, "memory")
             .expect(rt, "work");
         if cuts.count == 0 {
-            let polygons = polygons_of(alloc, &edges, &links, &traced)
-                .expect(rt, "memory")
-                .expect(rt, "polygons");
-            return (polygons, count);
+            let mut outlines = no_outlines(alloc);
+            add_outlines(alloc, &edges, &links, &traced, &mut outlines).expect(rt, "memory");
+            return (polygons_of(rt, alloc, outlines), count);
         }
         count = count.wrapping_add(cuts.count);
-        edges = cuts.applied(alloc, &edges).expect(rt, "memory");
+        edges = cuts.applied(alloc, edges).expect(rt, "memory");
     }
     assert!(rt; false, "it has no end");
     (Vec::new(alloc), count)
@@ -403,18 +420,18 @@ fn no_work(rt: HostRuntime) {
         crossings: 0,
         cuts: 0,
     };
-    let mut witnesses = Vec::new(rt.alloc());
+    let mut outlines = no_outlines(rt.alloc());
     let edges = edges_of(&rt, rt.alloc(), LAKE_AT_THE_SHORE.rings);
-    let found = polygons_apart(
+    let done = add_polygons_apart(
         rt.alloc(),
         Profile::Polygon,
         edges,
         &mut work,
         &mut tally,
-        &mut witnesses,
+        &mut outlines,
     );
-    assert!(rt; found.expect(&rt, "memory").is_none());
-    assert!(rt; work.left() == 0 && witnesses.is_empty());
+    assert!(rt; !done.expect(&rt, "memory"));
+    assert!(rt; work.left() == 0 && outlines.rings.is_empty() && outlines.witnesses.is_empty());
 }
 
 // Edges that don't come back bound nothing.
@@ -425,16 +442,16 @@ fn no_boundary(rt: HostRuntime) {
         crossings: 0,
         cuts: 0,
     };
-    let mut witnesses = Vec::new(rt.alloc());
+    let mut outlines = no_outlines(rt.alloc());
     let mut edges = edges_of(&rt, rt.alloc(), &[(0, BELOW)]);
     let _ = edges.pop();
-    let found = polygons_apart(
+    let done = add_polygons_apart(
         rt.alloc(),
         Profile::Polygon,
         edges,
         &mut work,
         &mut tally,
-        &mut witnesses,
+        &mut outlines,
     );
-    assert!(rt; found.expect(&rt, "memory").is_none());
+    assert!(rt; !done.expect(&rt, "memory"));
 }

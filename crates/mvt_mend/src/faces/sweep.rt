@@ -17,25 +17,26 @@ pub(crate) trait Notes {
 }
 
 /// Goes over segments, which stand in the order of the keys of their first ends, with notes of each.
+/// `ends` has their numbers in the order of the keys of their second ends.
 /// Gives up where the work doesn't suffice, and where segments that end at one position aren't
 /// neighbours there, which can't be if segments meet in ends only.
 pub(crate) fn sweep<N: Notes>(
     alloc: Global,
     segments: &[Segment],
+    ends: &[u32],
     notes: &mut N,
     work: &mut Work,
 ) -> Result<(), Stop> {
-    let ends = ends_of(alloc, segments)?;
     let mut line = Line::new(alloc, segments)?;
     let mut begin = 0;
     let mut end = 0;
     // at each position that is gone over a segment begins or ends
     for _ in 0..segments.len().saturating_mul(2) {
-        let Some(key) = next_key(segments, &ends, begin, end) else {
+        let Some(key) = next_key(segments, ends, begin, end) else {
             break;
         };
         let after_begun = after_begun(segments, begin, key);
-        let after_ended = after_ended(&ends, end, key);
+        let after_ended = after_ended(segments, ends, end, key);
         let ended = ends.get(end..after_ended).ok_or(Stop::GaveUp)?;
         line.list_begun(begin, after_begun)?;
         line.pass(key, ended, notes, work)?;
@@ -45,24 +46,11 @@ pub(crate) fn sweep<N: Notes>(
     Ok(())
 }
 
-/// The keys of the second ends with the numbers of their segments, in the order of the keys.
-fn ends_of(alloc: Global, segments: &[Segment]) -> Result<Vec<(i64, u32)>, Stop> {
-    let mut ends = Vec::with_capacity(alloc, segments.len())?;
-    for (number, segment) in segments.iter().enumerate() {
-        let Ok(number) = u32::try_from(number) else {
-            return Err(Stop::GaveUp);
-        };
-        ends.push((sweep_key(segment.b), number))?;
-    }
-    ends.sort_unstable_by_key(|end| end.0);
-    Ok(ends)
-}
-
 /// The key of the next position at which a segment begins or ends, if there is one.
 #[inline]
-fn next_key(segments: &[Segment], ends: &[(i64, u32)], begin: usize, end: usize) -> Option<i64> {
+fn next_key(segments: &[Segment], ends: &[u32], begin: usize, end: usize) -> Option<i64> {
     let begun = segments.get(begin).map(|segment| sweep_key(segment.a));
-    let ended = ends.get(end).map(|end| end.0);
+    let ended = end_key(segments, ends, end);
     match (begun, ended) {
         (Some(begun), Some(ended)) => Some(begun.min(ended)),
         (Some(key), None) | (None, Some(key)) => Some(key),
@@ -84,13 +72,20 @@ fn after_begun(segments: &[Segment], from: usize, key: i64) -> usize {
 
 /// The place after those of the ends at the position of this key, from this place on.
 #[inline]
-fn after_ended(ends: &[(i64, u32)], from: usize, key: i64) -> usize {
+fn after_ended(segments: &[Segment], ends: &[u32], from: usize, key: i64) -> usize {
     for place in from..ends.len() {
-        if ends[place].0 != key {
+        if end_key(segments, ends, place) != Some(key) {
             return place;
         }
     }
     ends.len()
+}
+
+/// The key of the second end of the segment whose number has this place.
+#[inline]
+fn end_key(segments: &[Segment], ends: &[u32], place: usize) -> Option<i64> {
+    let segment = segments.get(*ends.get(place)? as usize)?;
+    Some(sweep_key(segment.b))
 }
 
 /// The line, with the chains that it meets.
@@ -123,7 +118,7 @@ impl<'a> Line<'a> {
     fn pass<N: Notes>(
         &mut self,
         key: i64,
-        ended: &[(i64, u32)],
+        ended: &[u32],
         notes: &mut N,
         work: &mut Work,
     ) -> Result<(), Stop> {
@@ -144,7 +139,7 @@ impl<'a> Line<'a> {
 
     /// The chain directly below those that end at the position of a key, or where none ends, below
     /// those that begin there.
-    fn chain_below(&self, key: i64, ended: &[(i64, u32)], work: &mut Work) -> Result<u32, Stop> {
+    fn chain_below(&self, key: i64, ended: &[u32], work: &mut Work) -> Result<u32, Stop> {
         if !ended.is_empty() {
             return self.chain_below_ended(key, ended);
         }
@@ -157,8 +152,8 @@ impl<'a> Line<'a> {
     }
 
     /// The chain directly below those that end at the position of a key.
-    fn chain_below_ended(&self, key: i64, ended: &[(i64, u32)]) -> Result<u32, Stop> {
-        for (_, number) in ended {
+    fn chain_below_ended(&self, key: i64, ended: &[u32]) -> Result<u32, Stop> {
+        for number in ended {
             let chain = *self.chain_of.get(*number as usize).ok_or(Stop::GaveUp)?;
             if chain == OUTSIDE {
                 return Err(Stop::GaveUp);

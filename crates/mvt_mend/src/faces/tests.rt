@@ -1,4 +1,5 @@
 use super::{NO_SEGMENT, directly_below, windings_below};
+use crate::order::ends_of;
 use crate::segment::{Segment, Winding};
 use crate::work::Work;
 use mvt_plane::{Point, orient, sweep_key};
@@ -51,9 +52,21 @@ fn enough() -> Work {
 fn triangle(rt: HostRuntime) -> Result<(), Fail> {
     let edges = [((2, 3), (0, 0)), ((0, 0), (4, 0)), ((4, 0), (2, 3))];
     let segments = segments(&rt, rt.alloc(), &edges);
-    let below = directly_below(rt.alloc(), &segments, &mut enough())?.ok_or("gave up")?;
+    let below = directly_below(
+        rt.alloc(),
+        &segments,
+        &ends_of(rt.alloc(), &segments)?,
+        &mut enough(),
+    )?
+    .ok_or("gave up")?;
     assert_eq!(rt; below.as_slice(), [1, NO_SEGMENT, 1].as_slice());
-    let windings = windings_below(rt.alloc(), &segments, &mut enough())?.ok_or("gave up")?;
+    let windings = windings_below(
+        rt.alloc(),
+        &segments,
+        &ends_of(rt.alloc(), &segments)?,
+        &mut enough(),
+    )?
+    .ok_or("gave up")?;
     let exteriors: Vec<i32> = windings.iter().map(|it| it.exterior).collect(rt.alloc())?;
     assert_eq!(rt; exteriors.as_slice(), [1, 0, 1].as_slice());
     Ok(())
@@ -73,13 +86,27 @@ fn star(rt: HostRuntime) -> Result<(), Fail> {
         ((0, 0), (5, 5)),
     ];
     let segments = segments(&rt, rt.alloc(), &edges);
-    let below = directly_below(rt.alloc(), &segments, &mut enough())?.ok_or("gave up")?;
+    let below = directly_below(
+        rt.alloc(),
+        &segments,
+        &ends_of(rt.alloc(), &segments)?,
+        &mut enough(),
+    )?
+    .ok_or("gave up")?;
     assert_eq!(rt;
         below.as_slice(),
         [NO_SEGMENT, 0, 0, 4, 7, 0, 5, 6].as_slice()
     );
     // each search but the first one takes a step at least
-    assert!(rt; directly_below(rt.alloc(), &segments, &mut Work::new(1))?.is_none());
+    assert!(rt;
+        directly_below(
+            rt.alloc(),
+            &segments,
+            &ends_of(rt.alloc(), &segments)?,
+            &mut Work::new(1)
+        )?
+        .is_none()
+    );
     Ok(())
 }
 
@@ -88,7 +115,15 @@ fn star(rt: HostRuntime) -> Result<(), Fail> {
 fn not_noded(rt: HostRuntime) -> Result<(), Fail> {
     let edges = [((0, 0), (10, 0)), ((0, 2), (10, 0)), ((1, 1), (12, 1))];
     let segments = segments(&rt, rt.alloc(), &edges);
-    assert!(rt; directly_below(rt.alloc(), &segments, &mut enough())?.is_none());
+    assert!(rt;
+        directly_below(
+            rt.alloc(),
+            &segments,
+            &ends_of(rt.alloc(), &segments)?,
+            &mut enough()
+        )?
+        .is_none()
+    );
     Ok(())
 }
 
@@ -191,7 +226,13 @@ fn grids(rt: HostRuntime) -> Result<(), Fail> {
     let mut dice = Dice { state: 1 };
     for _ in 0..20 {
         let segments = thrown_segments(&rt, rt.alloc(), &mut dice);
-        let below = directly_below(rt.alloc(), &segments, &mut enough())?.ok_or("gave up")?;
+        let below = directly_below(
+            rt.alloc(),
+            &segments,
+            &ends_of(rt.alloc(), &segments)?,
+            &mut enough(),
+        )?
+        .ok_or("gave up")?;
         let mut wanted = Vec::new(rt.alloc());
         for segment in &segments {
             wanted.push(plainly_below(&segments, segment))?;

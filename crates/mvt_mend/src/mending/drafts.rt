@@ -28,9 +28,9 @@ impl Drafts {
             right: Vec::new(alloc),
         };
         for (number, polygon) in meant.into_iter().enumerate() {
-            if was_right(old, judged, number, &polygon) {
+            if let Some(right) = mark_of(old, judged, number, &polygon) {
                 drafts.polygons.push(polygon)?;
-                drafts.right.push(true)?;
+                drafts.right.push(right)?;
             } else {
                 drafts.add(alloc, polygon)?;
             }
@@ -68,15 +68,21 @@ impl Drafts {
     }
 }
 
-/// Whether the polygon of this number among the old rings has these rings, and is right.
-fn was_right(old: &[Vec<Point>], judged: &Judged, number: usize, polygon: &[Vec<Point>]) -> bool {
-    if judged.right.get(number) != Some(&true) {
-        return false;
+/// Whether the polygon of this number among the old rings is right, if it has these rings. (Their
+/// areas have the signs that they should have.)
+fn mark_of(
+    old: &[Vec<Point>],
+    judged: &Judged,
+    number: usize,
+    polygon: &[Vec<Point>],
+) -> Option<bool> {
+    let right = *judged.right.get(number)?;
+    let (exterior, after) = *judged.polygons.get(number)?;
+    if exterior <= after && after <= old.len() && are_same(&old[exterior..after], polygon) {
+        Some(right)
+    } else {
+        None
     }
-    let Some((exterior, after)) = judged.polygons.get(number).copied() else {
-        return false;
-    };
-    exterior <= after && after <= old.len() && are_same(&old[exterior..after], polygon)
 }
 
 /// Turns the exterior so that its area isn't negative, and the holes so that theirs isn't positive.

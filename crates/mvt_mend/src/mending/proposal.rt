@@ -1,6 +1,6 @@
 //! Rings that may stand for those of a feature.
 
-use crate::corners::polygons_apart;
+use crate::corners::add_polygons_apart;
 use crate::kept::{Judged, are_feature_right};
 use crate::mending::MendedRings;
 use crate::mending::arranged::{Arranged, Fill};
@@ -8,8 +8,8 @@ use crate::mending::drafts::Drafts;
 use crate::mending::filled::fill_all;
 use crate::mending::old::Old;
 use crate::mending::segments::{segments_of_drafts, segments_of_right};
-use crate::mending::starts::Starts;
-use crate::near::edges::Numbers;
+use crate::mending::starts::restore_starts;
+use crate::outlines::Outlines;
 use crate::roles::polygons_meant;
 use crate::segment::{HalfEdge, Segment, Tally};
 use crate::work::Work;
@@ -20,12 +20,10 @@ use std::alloc::{AllocError, Global};
 /// Rings that may stand for those of a feature.
 #[derive(Drop)]
 pub(super) struct Proposal {
-    /// The rings, of each polygon the exterior first.
-    pub(super) rings: Vec<Vec<Point>>,
-    /// The edges that were found, with the old edges that they come of.
-    witnesses: Vec<HalfEdge>,
+    /// The rings, with the old edges that their edges come of.
+    pub(super) outlines: Outlines,
     /// What was done.
-    pub(super) tally: Tally,
+    tally: Tally,
 }
 
 /// Rings that may stand for the old ones, by the profile. None where the work doesn't suffice. The
@@ -42,8 +40,10 @@ pub(super) fn propose(
     };
     let mut drafts = Drafts::of(alloc, old.rings, judged, meant)?;
     let mut proposal = Proposal {
-        rings: Vec::new(alloc),
-        witnesses: Vec::new(alloc),
+        outlines: Outlines {
+            rings: Vec::new(alloc),
+            witnesses: Vec::new(alloc),
+        },
         tally: Tally {
             crossings: 0,
             cuts: 0,
@@ -53,11 +53,9 @@ pub(super) fn propose(
     let Some(filled) = fill_all(alloc, profile, &mut drafts, old, work, tally)? else {
         return Ok(None);
     };
-    // (once for all polygons: they may be as many as the rings)
-    let starts = Starts::of(alloc, old.rings)?;
     let is_done = match profile {
-        Profile::Polygon => proposal.add_each(alloc, profile, drafts, filled, &starts, work)?,
-        Profile::Feature => proposal.add_all(alloc, drafts, filled, old, &starts, work)?,
+        Profile::Polygon => proposal.add_each(alloc, profile, drafts, filled, old, work)?,
+        Profile::Feature => proposal.add_all(alloc, drafts, filled, old, work)?,
     };
     if is_done {
         Ok(Some(proposal))
@@ -69,25 +67,16 @@ pub(super) fn propose(
 impl Proposal {
     ghost use Rattle.std.specs.Prelude.{◌≡◌};
 
-    /// The old edges that may be near new positions.
-    pub(super) fn hints(&self, alloc: Global) -> Result<Numbers, AllocError> {
-        let mut hints = Numbers::new(alloc);
-        for edge in &self.witnesses {
-            hints.add(edge.from, edge.witness)?;
-            hints.add(edge.to, edge.witness)?;
-        }
-        hints.sort();
-        Ok(hints)
-    }
-
     /// What the caller of the crate gets.
     pub(super) fn mended(self) -> MendedRings
-        ensures { result.rings ≡ self.rings }
+        ensures { result.rings ≡ self.outlines.rings }
     {
+        let Proposal { outlines, tally } = self;
+        let Outlines { rings, .. } = outlines;
         MendedRings {
-            rings: self.rings,
-            crossings: self.tally.crossings,
-            cuts: self.tally.cuts,
+            rings,
+            crossings: tally.crossings,
+            cuts: tally.cuts,
         }
     }
 
@@ -99,22 +88,31 @@ impl Proposal {
         profile: Profile,
         drafts: Drafts,
         filled: Vec<Vec<HalfEdge>>,
-        starts: &Starts<'_>,
+        old: Old,
         work: &mut Work,
     ) -> Result<bool, AllocError> {
         let Drafts { polygons, right } = drafts;
-        for ((mut polygon, right), edges) in polygons.into_iter().zip(right).zip(filled) {
+        for ((polygon, right), edges) in polygons.into_iter().zip(right).zip(filled) {
             if right {
-                self.rings.append(&mut polygon)?;
+                self.add_right(polygon, old)?;
                 continue;
             }
             // (it isn't needed any more, and may be large)
             drop(polygon);
-            if !self.add_filled(alloc, profile, edges, starts, work)? {
+            if !self.add_filled(alloc, profile, edges, old, work)? {
                 return Ok(false);
             }
         }
         Ok(true)
+    }
+
+    /// Adds rings as they are.
+    fn add_right(&mut self, mut rings: Vec<Vec<Point>>, old: Old) -> Result<(), AllocError> {
+        for ring in &rings {
+            old.edges
+                .add_numbers(old.rings, ring, &mut self.outlines.witnesses)?;
+        }
+        self.outlines.rings.append(&mut rings)
     }
 
     /// Adds polygons around what is filled on the left of edges, whose rings don't touch. False
@@ -124,24 +122,15 @@ impl Proposal {
         alloc: Global,
         profile: Profile,
         edges: Vec<HalfEdge>,
-        starts: &Starts<'_>,
+        old: Old,
         work: &mut Work,
     ) -> Result<bool, AllocError> {
-        let Some(polygons) = polygons_apart(
-            alloc,
-            profile,
-            edges,
-            work,
-            &mut self.tally,
-            &mut self.witnesses,
-        )?
-        else {
+        let outlines = &mut self.outlines;
+        let (rings, vertices) = (outlines.rings.len(), outlines.witnesses.len());
+        if !add_polygons_apart(alloc, profile, edges, work, &mut self.tally, outlines)? {
             return Ok(false);
-        };
-        for mut polygon in polygons {
-            starts.restore_all(&mut polygon);
-            self.rings.append(&mut polygon)?;
         }
+        restore_starts(&mut self.outlines, old, rings, vertices);
         Ok(true)
     }
 
@@ -152,24 +141,26 @@ impl Proposal {
         drafts: Drafts,
         filled: Vec<Vec<HalfEdge>>,
         old: Old,
-        starts: &Starts<'_>,
         work: &mut Work,
     ) -> Result<bool, AllocError> {
         if drafts.polygons.len() <= 1 {
-            return self.add_each(alloc, Profile::Feature, drafts, filled, starts, work);
+            return self.add_each(alloc, Profile::Feature, drafts, filled, old, work);
         }
         let all_right = !drafts.right.contains(&false);
         if all_right {
             let rings = joined(alloc, drafts.polygons)?;
             if are_feature_right(alloc, &rings)? {
-                self.rings = rings;
+                self.add_right(rings, old)?;
                 return Ok(true);
             }
             let segments = segments_of_right(alloc, &rings, old)?;
-            return self.add_together(alloc, segments, starts, work);
+            drop(rings);
+            return self.add_together(alloc, segments, old, work);
         }
         let segments = segments_of_drafts(alloc, &drafts, &filled, old)?;
-        self.add_together(alloc, segments, starts, work)
+        drop(drafts);
+        drop(filled);
+        self.add_together(alloc, segments, old, work)
     }
 
     /// Adds polygons around what all of these segments fill together, none of whose rings touch.
@@ -177,14 +168,15 @@ impl Proposal {
         &mut self,
         alloc: Global,
         segments: Vec<Segment>,
-        starts: &Starts<'_>,
+        old: Old,
         work: &mut Work,
     ) -> Result<bool, AllocError> {
         let Some(arranged) = Arranged::of(alloc, segments, work, &mut self.tally)? else {
             return Ok(false);
         };
         let edges = arranged.boundary(alloc, Fill::Polygons, None)?;
-        self.add_filled(alloc, Profile::Feature, edges, starts, work)
+        drop(arranged);
+        self.add_filled(alloc, Profile::Feature, edges, old, work)
     }
 }
 

@@ -2,9 +2,10 @@
 
 use crate::mending::drafts::Drafts;
 use crate::mending::old::Old;
-use crate::near::edges::{NO_EDGE, short};
+use crate::near::edge_at;
+use crate::near::edges::{NO_EDGE, count_of, short};
 use crate::segment::{HalfEdge, Segment, Winding};
-use mvt_plane::{Point, sweep_key, twice_area};
+use mvt_plane::{Edge, Point, sweep_key, twice_area};
 use std::alloc::{AllocError, Global};
 
 /// What the winding gains from the right to the left of an edge with something filled on its left.
@@ -21,7 +22,7 @@ pub(super) fn segments_of_polygon(
     polygon: &[Vec<Point>],
     old: Old,
 ) -> Result<Vec<Segment>, AllocError> {
-    let mut segments = Vec::new(alloc);
+    let mut segments = Vec::with_capacity(alloc, count_of(polygon))?;
     for (number, ring) in polygon.iter().enumerate() {
         let gain = gain_of_ring(number == 0, ring);
         add_ring(&mut segments, ring, gain, short(number), old)?;
@@ -53,7 +54,7 @@ pub(super) fn segments_of_right(
     rings: &[Vec<Point>],
     old: Old,
 ) -> Result<Vec<Segment>, AllocError> {
-    let mut segments = Vec::new(alloc);
+    let mut segments = Vec::with_capacity(alloc, count_of(rings))?;
     let mut exteriors = 0u32;
     for ring in rings {
         if twice_area(ring) > 0 {
@@ -72,7 +73,7 @@ pub(super) fn segments_of_drafts(
     filled: &[Vec<HalfEdge>],
     old: Old,
 ) -> Result<Vec<Segment>, AllocError> {
-    let mut segments = Vec::new(alloc);
+    let mut segments = Vec::with_capacity(alloc, count_of_drafts(drafts, filled))?;
     for (number, polygon) in drafts.polygons.iter().enumerate() {
         if drafts.is_right(number) {
             add_rings(&mut segments, polygon, short(number), old)?;
@@ -81,6 +82,20 @@ pub(super) fn segments_of_drafts(
         }
     }
     Ok(segments)
+}
+
+/// How many segments there are around what drafts fill.
+fn count_of_drafts(drafts: &Drafts, filled: &[Vec<HalfEdge>]) -> usize {
+    let mut count = 0usize;
+    for (number, polygon) in drafts.polygons.iter().enumerate() {
+        let its = if drafts.is_right(number) {
+            count_of(polygon)
+        } else {
+            filled.get(number).map_or(0, |edges| edges.len())
+        };
+        count = count.saturating_add(its);
+    }
+    count
 }
 
 /// Adds the edges of the rings of a polygon that keeps all rules.
@@ -120,17 +135,13 @@ fn add_ring(
     source: u32,
     old: Old,
 ) -> Result<(), AllocError> {
-    let Some(last) = ring.last() else {
-        return Ok(());
-    };
-    let mut from = *last;
     let mut witness = NO_EDGE;
-    for to in ring {
-        witness = old.edges.number_of(old.rings, from, *to, witness);
-        if let Some(segment) = segment_along(from, *to, gain, source, witness) {
+    for vertex in 0..ring.len() {
+        let Edge { a, b } = edge_at(ring, vertex);
+        witness = old.edges.number_of(old.rings, a, b, witness);
+        if let Some(segment) = segment_along(a, b, gain, source, witness) {
             segments.push(segment)?;
         }
-        from = *to;
     }
     Ok(())
 }

@@ -5,6 +5,7 @@ ghost use Rattle.mvt_mend.specs.Near.{IsCloseTo};
 ghost use Rattle.mvt_plane.specs.Bound.{IsWithin};
 ghost use Rattle.mvt_plane.specs.Position.{IsCoordinate};
 
+use crate::kept::is_same_position;
 use mvt_plane::{Edge, Hpoint, Point, on_edge};
 
 /// How far a new position may be from the old edges along each axis, in units of the tile's grid:
@@ -16,6 +17,10 @@ const FARTHEST: i128 = 2;
 pub(super) fn is_close_to_edge(position: Point, edge: &Edge) -> bool
     ensures { IsTrue result → IsCloseToEdge position edge.now }
 {
+    // (most new positions are old ones)
+    if is_begin(position, edge) || is_end(position, edge) {
+        return true;
+    }
     if is_witness(position, edge, at(position)) {
         return true;
     }
@@ -26,6 +31,20 @@ pub(super) fn is_close_to_edge(position: Point, edge: &Edge) -> bool
         return true;
     }
     crosses_sides(position, edge)
+}
+
+/// Whether the edge begins at the position.
+fn is_begin(position: Point, edge: &Edge) -> bool
+    ensures { IsTrue result → IsCloseToEdge position edge.now }
+{
+    is_same_position(position, edge.a)
+}
+
+/// Whether the edge ends at the position.
+fn is_end(position: Point, edge: &Edge) -> bool
+    ensures { IsTrue result → IsCloseToEdge position edge.now }
+{
+    is_same_position(position, edge.b)
 }
 
 /// Whether the edge crosses a side of the square around the position.

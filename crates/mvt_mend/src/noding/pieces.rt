@@ -3,6 +3,7 @@ ghost use Rattle.std.specs.Prelude.{◌<ℤ◌, All, IfOk, IsTrue};
 ghost use Rattle.mvt_plane.specs.Geometry.Measure.{key_of};
 
 use crate::noding::stop::Stop;
+use crate::order::{merge_into, sorted_by_ends};
 use crate::segment::{Segment, Winding};
 use mvt_plane::{Point, sweep_key};
 use std::alloc::{AllocError, Global};
@@ -20,16 +21,15 @@ pub(super) struct Pieces {
 
 impl Pieces {
     /// All of these, and all of them are fresh.
-    pub(super) fn of(alloc: Global, segments: Vec<Segment>) -> Pieces {
+    pub(super) fn of(alloc: Global, segments: Vec<Segment>) -> Result<Pieces, AllocError> {
         let mut fresh = segments;
         for segment in fresh.iter_mut() {
             *segment = between(segment, segment.a, segment.b);
         }
-        merge(&mut fresh);
-        Pieces {
-            fresh,
+        Ok(Pieces {
+            fresh: merged(alloc, fresh)?,
             settled: Vec::new(alloc),
-        }
+        })
     }
 
     /// Those whose meetings are still to be found. They are numbered from 0 on.
@@ -63,9 +63,12 @@ impl Pieces {
 
     /// Settles all that have a gain left, and adds these parts, which are fresh but where they are
     /// equal to another.
-    pub(super) fn go_on_with(&mut self, parts: Vec<Segment>) -> Result<(), AllocError> {
-        let mut parts = parts;
-        merge(&mut parts);
+    pub(super) fn go_on_with(
+        &mut self,
+        alloc: Global,
+        parts: Vec<Segment>,
+    ) -> Result<(), AllocError> {
+        let mut parts = merged(alloc, parts)?;
         self.settle()?;
         parts.retain(|part| !absorbs(&mut self.settled, part));
         self.settled.retain(has_gain);
@@ -80,9 +83,9 @@ impl Pieces {
         if self.settled.is_empty() {
             mem::swap(&mut self.settled, &mut self.fresh);
         }
-        self.settled.append(&mut self.fresh)?;
-        // (two sorted runs take the time of a merge)
-        self.settled.sort_by_key(keys)
+        merge_into(&mut self.settled, &self.fresh, &keys)?;
+        self.fresh.clear();
+        Ok(())
     }
 
     /// All of them, sorted.
@@ -130,12 +133,19 @@ fn has_gain(segment: &Segment) -> bool {
     !segment.gain.is_none()
 }
 
-/// Sorts segments by their ends, adds up the gains of those that are equal, and leaves out those of
-/// no gain, or of no length.
-fn merge(segments: &mut Vec<Segment>) {
-    segments.sort_unstable_by_key(keys);
-    segments.dedup_by(|segment, before| absorb(before, segment));
-    segments.retain(|segment| has_gain(segment) && segment.a != segment.b);
+/// Segments sorted by their ends, with the gains of those that are equal added up, and without those
+/// of no gain, or of no length.
+fn merged(alloc: Global, segments: Vec<Segment>) -> Result<Vec<Segment>, AllocError> {
+    let mut sorted = sorted_by_ends(
+        alloc,
+        &segments,
+        &|segment: &Segment| segment.a,
+        &|segment: &Segment| segment.b,
+    )?;
+    drop(segments);
+    sorted.dedup_by(|segment, before| absorb(before, segment));
+    sorted.retain(|segment| has_gain(segment) && segment.a != segment.b);
+    Ok(sorted)
 }
 
 /// Adds the gain of another segment to one if they have the same ends, and returns whether they do.

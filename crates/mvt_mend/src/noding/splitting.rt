@@ -17,7 +17,8 @@ pub(super) fn split(
     for cuts in splits.chunk_by(|one, other| one.number == other.number) {
         take_apart(pieces, cuts, &mut parts)?;
     }
-    pieces.go_on_with(parts)
+    drop(splits);
+    pieces.go_on_with(alloc, parts)
 }
 
 /// Adds the parts that come of one piece, which is cut in order and loses its gain.

@@ -2,6 +2,7 @@
 
 use crate::faces::stop::Stop;
 use crate::faces::sweep::sweep;
+use crate::order::{ends_of, sorted_by_ends};
 use crate::roles::around::RingsAround;
 use crate::roles::tested::parents_by_tests;
 use crate::segment::{Segment, Winding};
@@ -112,7 +113,8 @@ fn parents_by_sweep(
 ) -> Result<Vec<u32>, Stop> {
     let segments = segments_of(alloc, rings, order)?;
     let mut around = RingsAround::new(alloc, &segments, rings.len())?;
-    sweep(alloc, &segments, &mut around, work)?;
+    let ends = ends_of(alloc, &segments)?;
+    sweep(alloc, &segments, &ends, &mut around, work)?;
     let places = places_in(alloc, order, rings.len())?;
     let mut parents = vec![in alloc; NO_RING; rings.len()]?;
     for (at, ring) in order.iter().enumerate() {
@@ -142,8 +144,13 @@ fn segments_of(alloc: Global, rings: &[&[Point]], order: &[u32]) -> Result<Vec<S
         let ring = rings.get(*number as usize).ok_or(Stop::GaveUp)?;
         list_edges(ring, *number, &mut segments)?;
     }
-    segments.sort_unstable_by_key(|segment| sweep_key(segment.a));
-    Ok(segments)
+    let sorted = sorted_by_ends(
+        alloc,
+        &segments,
+        &|segment: &Segment| segment.a,
+        &|segment: &Segment| segment.b,
+    )?;
+    Ok(sorted)
 }
 
 /// Lists the edges of a ring.

@@ -3,6 +3,7 @@
 import { readRecord } from '../../../../bindings/js/src/tile/record.js';
 import { Contents } from '../contents/contents.js';
 import { excerptOf, recordAt } from '../contents/excerpt.js';
+import { FieldPanel } from '../fields/panel.js';
 import { reasonOf } from '../files/checks.js';
 import { RECORD_LIMIT } from '../files/limits.js';
 import { writeLink } from '../files/link.js';
@@ -34,7 +35,8 @@ export class Answer {
   #details = byId('details', HTMLElement);
   #fault = new FaultPanel();
   #faults = new FaultList((text) => this.#choose(text));
-  #contents = new Contents();
+  #fields = new FieldPanel();
+  #contents = new Contents((place) => this.#fields.goToFeature(place));
   #confirm;
   #mend;
   #turns = 0; // what is shown, and each fault that is chosen, has its own
@@ -107,6 +109,7 @@ export class Answer {
     this.#fault.clear();
     this.#faults.clear();
     this.#contents.clear();
+    this.#fields.clear();
     this.#showLink(null);
   }
 
@@ -125,7 +128,9 @@ export class Answer {
     try {
       const tile = await this.#checks.tileOf(entry);
       const link = await writeLink(tile, this.#checks.profile);
-      if (isCurrent()) this.#showLink(link);
+      if (!isCurrent()) return;
+      this.#showLink(link);
+      this.#fields.show(tile, entry.fault);
       const record = await this.#recordOf(tile);
       if (isCurrent()) this.#showContents(entry, tile, record);
       if (entry.fault) await this.#draw(entry.fault, tile, isCurrent);
@@ -171,6 +176,7 @@ export class Answer {
     const fault = JSON.parse(text);
     this.#details.setAttribute('aria-busy', 'true');
     this.#fault.show(text, fault, '');
+    this.#fields.goToFault(fault);
     if (this.#record) this.#contents.select(featureOf(fault));
     this.#chosen = this.#chosen.then(async () => {
       if (isCurrent()) await this.#ask(text, fault, isCurrent);

@@ -35,13 +35,17 @@ export class Contents {
   };
   #layers = new LayerList(byId('layers', HTMLElement), () => this.#look());
   #features = new Listbox(byId('features', HTMLElement), {
-    choose: (index) => this.select(this.#places[index]),
+    choose: (index) => this.#chosenByUser(this.#places[index]),
     enter: () => this.#chosen.focus(),
   });
-  #map = new PicturePanel(byId('map', HTMLElement), (place) => this.select(place));
+  #map = new PicturePanel(byId('map', HTMLElement), (place) => this.#chosenByUser(place));
   #drawing = new PicturePanel(byId('record-picture', HTMLElement));
 
-  constructor() {
+  #chose;
+
+  /** @param {(place: FeaturePlace) => void} chosen is called where the user chose a feature */
+  constructor(chosen) {
+    this.#chose = chosen;
     this.#search.addEventListener('input', () => this.#list());
   }
 
@@ -106,6 +110,12 @@ export class Contents {
   /** @param {FeaturePlace|null} place */
   #indexOf(place) {
     return this.#places.findIndex((it) => it.layer === place?.layer && it.feature === place.feature);
+  }
+
+  /** @param {FeaturePlace} place */
+  #chosenByUser(place) {
+    this.select(place);
+    this.#chose(place);
   }
 
   /**

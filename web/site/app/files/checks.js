@@ -11,12 +11,14 @@ import { readFile, Unreadable } from './read.js';
 /** @typedef {'waiting'|'checking'|'valid'|'fault'|'unreadable'|'stopped'} State */
 /** @typedef {import('../../../../bindings/js/src/picture/types.js').Fault} Fault the members of a fault's text */
 /** @typedef {import('../../../../bindings/js/src/words/formats.js').Format} Format */
+/** @typedef {{archive: string} & import('../archives/open.js').Place} PlaceInArchive */
 
 /**
  * What is known of a file. `said` is the text of the fault; `reason` says why there is no verdict.
  * @typedef {object} Entry
  * @property {string} name
  * @property {Blob} file
+ * @property {PlaceInArchive|null} place of a tile of an archive
  * @property {State} state
  * @property {boolean} isPacked
  * @property {number} size of the tile, unpacked
@@ -41,11 +43,12 @@ const LEAST_TIME = 10000;
 /**
  * @param {string} name
  * @param {Blob} file
+ * @param {PlaceInArchive|null} [place]
  * @returns {Entry}
  */
-export function newEntry(name, file) {
+export function newEntry(name, file, place = null) {
   return {
-    name, file, state: 'waiting', isPacked: false, size: 0, said: '', fault: null, format: null, about: null, isLeast: true,
+    name, file, place, state: 'waiting', isPacked: false, size: 0, said: '', fault: null, format: null, about: null, isLeast: true,
     isConfirmed: false, milliseconds: 0, memory: 0, reason: '',
   };
 }

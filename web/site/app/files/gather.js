@@ -2,7 +2,8 @@
 
 /** @typedef {{name: string, file: Blob}} Source */
 
-const TILE_NAME = /\.(mvt|pbf)(\.gz)?$/i;
+/** Names of files with a tile. */
+export const TILE_NAME = /\.(mvt|pbf)(\.gz)?$/i;
 
 /**
  * The order of names, in which numbers count as such: 9 before 10.

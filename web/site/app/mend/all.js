@@ -1,7 +1,7 @@
 // Mends all files that can be mended, into an archive.
 
 import { zip } from '../files/zip.js';
-import { packedAs } from './file.js';
+import { fileNameOf, packedAs } from './file.js';
 import { counted, digits } from '../tools/text.js';
 
 /** @typedef {import('../files/checks.js').Entry} Entry */
@@ -23,7 +23,7 @@ export async function mendAll(checks, gate, drop, say) {
   for (const [at, entry] of faulty.entries()) {
     say(`Mending ${digits(at + 1)} of ${counted(faulty.length, 'file')} ..`);
     const { tile } = await gate.mend(await checks.tileOf(entry), checks.profile, drop);
-    if (tile) members.push({ name: nameAmong(names, entry.name), bytes: await packedAs(entry.file, tile) });
+    if (tile) members.push({ name: nameAmong(names, fileNameOf(entry)), bytes: await packedAs(entry.file, tile) });
   }
   const rest = faulty.length - members.length;
   const left = rest ? ` ${counted(rest, 'file')} can't be mended.` : '';

@@ -2,6 +2,16 @@
 
 import { pack, packingOf } from '../files/packing.js';
 
+/** @typedef {import('../files/checks.js').Entry} Entry */
+
+/**
+ * The name of a file, or of a tile of an archive as a file.
+ * @param {Pick<Entry, 'name'|'place'>} entry
+ */
+export function fileNameOf({ name, place }) {
+  return place ? `${place.archive}/${place.zoom}/${place.column}/${place.row}.mvt` : name;
+}
+
 /**
  * 'tile.mvt.gz' becomes 'tile.mended.mvt.gz'.
  * @param {string} name of a file, with its folders or without

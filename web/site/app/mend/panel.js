@@ -9,7 +9,7 @@ import { saveFile } from '../tools/hand_over.js';
 import { Listbox } from '../tools/listbox.js';
 import { digits } from '../tools/text.js';
 import { featureAt, placeAfter } from './features.js';
-import { mendedName, packedAs } from './file.js';
+import { fileNameOf, mendedName, packedAs } from './file.js';
 import { changeFacts, changeLine, isMendable, summaryOf } from './words.js';
 
 /** @typedef {import('../files/checks.js').Entry} Entry */
@@ -154,8 +154,8 @@ export class MendPanel {
 
   async #save() {
     if (!this.#entry || !this.#result) return;
-    const { name, file } = this.#entry;
-    saveFile(mendedName(name), 'application/vnd.mapbox-vector-tile', await packedAs(file, this.#result.mended));
+    const { place, file } = this.#entry, name = fileNameOf(this.#entry);
+    saveFile(mendedName(place ? name.split('/').slice(-3).join('-') : name), 'application/vnd.mapbox-vector-tile', await packedAs(file, this.#result.mended));
   }
 }
 

@@ -55,10 +55,19 @@ function cellOf(content) {
  * @param {Entry[]} entries
  */
 export function jsonOf(entries) {
-  return judged(entries).map(({ name, state, reason, fault }) => {
-    if (state === 'valid') return { file: name, valid: true };
-    return fault && state === 'fault' ? { file: name, fault, sentence: explainFault(fault).sentence } : { file: name, error: reason };
+  return judged(entries).map((entry) => {
+    const { state, reason, fault } = entry, tile = whereOf(entry);
+    if (state === 'valid') return { ...tile, valid: true };
+    return fault && state === 'fault' ? { ...tile, fault, sentence: explainFault(fault).sentence } : { ...tile, error: reason };
   }).map((line) => `${JSON.stringify(line)}\n`).join('');
+}
+
+/**
+ * The file in which a tile is, and in an archive its place.
+ * @param {Entry} entry
+ */
+function whereOf({ name, place }) {
+  return place ? { file: place.archive, tile: addressText(place) } : { file: name };
 }
 
 /**
@@ -78,12 +87,13 @@ export function geojsonOf(entries) {
  * @param {Entry} entry
  * @param {Address} address
  */
-function featureOf({ name, fault, about }, address) {
+function featureOf(entry, address) {
+  const { fault, about } = entry, { file } = whereOf(entry);
   const found = /** @type {import('../files/checks.js').Fault} */ (fault), { featureId, layer } = about ?? { featureId: null, layer: null };
   const id = featureId !== null && Number.isSafeInteger(Number(featureId)) ? Number(featureId) : featureId;
   return {
     type: 'Feature', geometry: geometryOf(address, about && pointOf(found, about)),
-    properties: { tile: addressText(address), ...address, layer, feature_id: id, code: found.code, sentence: explainFault(found).sentence, source: name },
+    properties: { tile: addressText(address), ...address, layer, feature_id: id, code: found.code, sentence: explainFault(found).sentence, source: file },
   };
 }
 

@@ -28,7 +28,6 @@ from .outputs import REPORT, Counts
 from .settings import Settings
 from .window import LAST_ZOOM, Box, Window, box_of, zooms_of
 
-_PARTITION = 4000
 # what the module alone doesn't need, and Debian's packages of it
 _NEEDED = {"distributed": "python3-distributed", "jinja2": "python3-jinja2", "tqdm": "python3-tqdm"}
 
@@ -105,7 +104,7 @@ def arguments() -> argparse.ArgumentParser:
     reader.add_argument("--junit", metavar="REPORT", help="write a report for CI servers: JUnit's XML with a case for each zoom")
     reader.add_argument("--workers", type=positive, metavar="N", help="workers on this machine (one for each processor)")
     reader.add_argument("--scheduler", metavar="ADDRESS", help="use the workers of this Dask scheduler, such as tcp://host:8786")
-    reader.add_argument("--partition", type=positive, metavar="N", default=_PARTITION, help=f"tiles that a worker gets at a time ({_PARTITION})")
+    reader.add_argument("--partition", type=positive, metavar="N", help="tiles that a worker gets at a time (a 64th of all, from 4000 to 16000)")
     reader.add_argument("--anew", action="store_true", help="forget what an earlier run into this folder found")
     return reader
 

@@ -33,6 +33,10 @@ _SETTINGS = {
     "distributed.worker.memory.pause": False,
     "distributed.worker.memory.spill": False,
     "distributed.worker.memory.target": False,
+    # (what looks for mistakes of Dask's own: at which line of its program a worker is, a hundred times a second, and whether its loop
+    # is late, fifty times. A run needs neither.)
+    "distributed.worker.profile.interval": "1 day",
+    "distributed.admin.tick.interval": "1s",
 }
 
 _INTERRUPTS = (signal.SIGINT, signal.SIGTERM)

@@ -16,17 +16,20 @@ def lon_lat(zoom: int, column: int, row: int, x: Number, y: Number, extent: int)
 
     A longitude beyond the 180th degree is that from the other side (RFC 7946 section 3.1.9), and a latitude is at most 90.
     """
-    across = (column + Fraction(x, extent)) / (1 << zoom)
-    down = (row + Fraction(y, extent)) / (1 << zoom)
-    # (exact up to here; on the 180th degree both signs are right, and a tile's east side stays in the east)
-    turned = across if 0 <= across <= 1 else across % 1
-    longitude = round(float(360 * turned - 180), _DIGITS)
-    return longitude, round(_latitude(down), _DIGITS)
+    # (whole numbers, of which one division makes the float that is nearest: fractions of Python's take ten times as long, and this is
+    # asked for each fault of a planet)
+    across, width = column * extent * x.denominator + x.numerator, extent * x.denominator << zoom
+    down, height = row * extent * y.denominator + y.numerator, extent * y.denominator << zoom
+    # (on the 180th degree both signs are right, and a tile's east side stays in the east)
+    turned = across if 0 <= across <= width else across % width
+    longitude = round((360 * turned - 180 * width) / width, _DIGITS)
+    return longitude, round(_latitude((height - 2 * down) / height), _DIGITS)
 
 
-def _latitude(down: Fraction) -> float:
+def _latitude(above: float) -> float:
+    """That of a height above the equator, where the map has 2 from one pole to the other."""
     # (beyond the fifth power of e to the tenth there is nothing but the poles)
-    height = max(-50.0, min(50.0, math.pi * float(1 - 2 * down)))
+    height = max(-50.0, min(50.0, math.pi * above))
     return math.degrees(math.atan(math.sinh(height)))
 
 

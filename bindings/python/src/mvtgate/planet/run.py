@@ -32,6 +32,16 @@ from .whole_file import WholeFile
 from .work import Task
 
 
+# the least and the most tiles that a worker gets at a time, and how many parts a run has between them
+_LEAST, _MOST, _PARTS = 4_000, 16_000, 64
+
+
+def partition_of(tiles: int) -> int:
+    """How many tiles a worker gets at a time of so many. Each time costs as much as to judge some hundred small ones, and where there
+    are few, all workers are to have some. It is the same for each call of a run, whatever workers there are."""
+    return min(_MOST, max(_LEAST, -(-tiles // _PARTS)))
+
+
 class Run:
     """Surveys the sources, which takes a walk over their index, and then judges what an earlier run into the folder left."""
 
@@ -44,6 +54,7 @@ class Run:
         surveys = [source.survey() for source in self._sources]
         self._extents = {(number, it.zoom): it for number, survey in enumerate(surveys) for it in survey}
         self._tiles = sum(it.tiles for it in self._extents.values())
+        self._partition = settings.partition or partition_of(self._tiles)
         for source, survey in zip(self._sources, surveys):
             if not survey:
                 raise NotASource(f"{source.path}: there is no tile in it")
@@ -62,7 +73,7 @@ class Run:
             "profile": self.settings.profile,
             "advice": self.settings.has_advice,
             "all": self.settings.has_all,
-            "partition": self.settings.partition,
+            "partition": self._partition,
             "mend": None if self._copy is None else os.path.abspath(self._copy.path),
             "drop": self.settings.is_dropping,
             "since": None if self.settings.since is None else os.path.abspath(self.settings.since),
@@ -104,7 +115,7 @@ class Run:
     def _left(self, journal: Journal) -> Iterator[Partition]:
         """What is to be done."""
         for number, source in enumerate(self._sources):
-            for partition in source.partitions(number, self.settings.partition):
+            for partition in source.partitions(number, self._partition):
                 yield from journal.left(partition)
 
     def go(self) -> Counts:

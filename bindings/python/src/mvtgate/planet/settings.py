@@ -9,8 +9,8 @@ from .window import Window
 
 @dataclass(frozen=True)
 class Settings:
-    """What is judged, how, and by whom. `mend` is where the copy goes in which refused tiles are mended, and `since` the
-    folder of an earlier run."""
+    """What is judged, how, and by whom. `partition` is how many tiles a worker gets at a time, where the words say so, `mend` where the
+    copy goes in which refused tiles are mended, and `since` the folder of an earlier run."""
 
     paths: List[str]
     output: str
@@ -19,7 +19,7 @@ class Settings:
     has_all: bool
     workers: int
     scheduler: Optional[str]
-    partition: int
+    partition: Optional[int]
     is_anew: bool
     mend: Optional[str] = None
     is_dropping: bool = False

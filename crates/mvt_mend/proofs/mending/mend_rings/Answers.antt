@@ -7,4 +7,4 @@ use Rattle.mvt_mend.proofs.mending.mend_rings.Goals as goal
 
 pub returns-clause-near : goal.returns-clause-near
 returns-clause-near c =
-    subst (λ (rings : List (Vec Position Global)). AreNear (rings_of c.args.rings.now) (rings_of rings)) (c.deref.ensures.value ∙ ap (λ (rings : Vec (Vec Position Global) Global). rings.items) (sym c.mended.ensures)) (c.are_near.ensures.near c.if-not-are_near.false)
+    subst (λ (rings : List (Vec Position Global)). AreNear (rings_of c.args.rings.now) (rings_of rings)) (c.deref-2.ensures.value ∙ ap (λ (rings : Vec (Vec Position Global) Global). rings.items) (sym c.mended.ensures)) (c.are_near.ensures.near c.if-not-are_near.false)

@@ -1,9 +1,7 @@
 //! Cells of a grid filled at random: whatever touches there, what is left of it is apart.
 
-use super::polygons_shrunk;
-use crate::corners::polygons_apart;
-use crate::segment::{HalfEdge, Tally};
-use crate::work::Work;
+use super::{polygons_apart, polygons_shrunk};
+use crate::segment::HalfEdge;
 use mvt_fault::Profile;
 use mvt_plane::{Count, Edge, Point, common, sweep_key};
 use std::alloc::Global;
@@ -175,20 +173,12 @@ fn assert_polygons_apart(
     }
 }
 
-/// Asserts that what is left of filled cells is apart by a profile, also where only filled wedges
+/// Asserts that what is left of filled cells is apart, also where only filled wedges
 /// are cut.
 fn assert_cells_apart(rt: &impl Abort, alloc: Global, profile: Profile, edges: &[HalfEdge]) {
-    let mut work = Work::new(100_000);
-    let mut tally = Tally {
-        crossings: 0,
-        cuts: 0,
-    };
-    let mut witnesses = Vec::new(alloc);
     let again = Vec::from_slice(alloc, edges).expect(rt, "memory");
     let edges = Vec::from_slice(alloc, edges).expect(rt, "memory");
-    let found = polygons_apart(alloc, profile, edges, &mut work, &mut tally, &mut witnesses)
-        .expect(rt, "memory")
-        .expect(rt, "polygons");
+    let (found, _) = polygons_apart(rt, alloc, profile, edges);
     assert_polygons_apart(rt, alloc, profile, &found);
     let (found, _) = polygons_shrunk(rt, alloc, profile, again);
     assert_polygons_apart(rt, alloc, profile, &found);
