@@ -153,7 +153,7 @@ run_planet() {
         at=$((at + 1))
     done
     mount -t proc proc "$root/proc"
-    ends_with 1 inside timeout 100 mvtgate-planet --output /tmp/judged /tmp/planet
+    ends_with 1 inside timeout 600 mvtgate-planet --output /tmp/judged /tmp/planet
     umount "$root/proc"
     [ "$(grep -c '"confirmed": true}$' "$root/tmp/judged/faults.jsonl")" = "$(grep -LxF '{"ok":true}' tiles/expected/*.check | wc -l)" ]
     [ -s "$root/tmp/judged/report.html" ] && cmp "$root/tmp/judged/page.html" web/out/index.html
