@@ -91,8 +91,8 @@ has_documents() {
 }
 
 # what are_samples_right calls
-by_package() { inside mvtgate check "/tmp/tiles/$1.mvt"; }
-by_tar() { inside "/opt/a folder/$tar_name/bin/mvtgate" check "/tmp/tiles/$1.mvt"; }
+by_package() { inside mvtgate check "/srv/tiles/$1.mvt"; }
+by_tar() { inside "/opt/a folder/$tar_name/bin/mvtgate" check "/srv/tiles/$1.mvt"; }
 by_program() { by_example "$1" inside /opt/judge; }
 by_module() {
     local line
@@ -114,16 +114,16 @@ run_module() {
     local valid faulty all it
     # shellcheck disable=SC2016
     inside python3 -c 'import pathlib, mvtgate
-for it in pathlib.Path("/tmp/tiles").iterdir():
+for it in pathlib.Path("/srv/tiles").iterdir():
     fault = mvtgate.check(it.read_bytes())
     print(it.name, fault.text if fault else "{\"ok\":true}")' >"$room/by_module"
     valid=$(cat tiles/expected/*.check | grep -cxF '{"ok":true}')
     faulty=$(($(find tiles/expected -name '*.check' | wc -l) - valid))
     all="$((valid + faulty)) tiles: $valid valid, $faulty with a fault"
-    ends_with 1 inside mvtgate-check --confirm --allow-empty --jobs 2 /tmp/tiles >"$room/command" 2>"$room/summary"
+    ends_with 1 inside mvtgate-check --confirm --allow-empty --jobs 2 /srv/tiles >"$room/command" 2>"$room/summary"
     [ "$(tail -n 1 "$room/summary")" = "$all" ]
     [ "$(grep -c '(confirmed)$' "$room/command")" = "$faulty" ]
-    ends_with 1 inside python3 -m mvtgate check --confirm --allow-empty /tmp/tiles 2>"$room/summary" | cmp - "$room/command"
+    ends_with 1 inside python3 -m mvtgate check --confirm --allow-empty /srv/tiles 2>"$room/summary" | cmp - "$room/command"
     [ "$(tail -n 1 "$room/summary")" = "$all" ]
     [ "$(inside mvtgate-check --version)" = "mvtgate-check $version" ]
     for it in mvtgate-check mvtgate-planet; do
@@ -139,7 +139,7 @@ by_apt() {
     # (without the packages that the module's programs recommend, of which mvtgate-planet says that they are missing)
     inside sh -ec 'cd /tmp && apt-get install -y --no-install-recommends ./python3-mvtgate_*.deb ./libmvtgate-dev_*.deb ./mvtgate_*.deb'
     [ "$(inside mvtgate --version)" = "mvtgate $version" ]
-    ends_with 3 inside mvtgate-planet /tmp/tiles 2>"$room/planet"
+    ends_with 3 inside mvtgate-planet /srv/tiles 2>"$room/planet"
     [[ $(cat "$room/planet") == *"not installed: distributed, jinja2, tqdm "* ]]
 }
 
@@ -148,7 +148,7 @@ run_planet() {
     local at=0 tile
     inside apt-get install -y --no-install-recommends python3-distributed python3-jinja2 python3-tqdm
     mkdir -p "$root/tmp/planet/8/0"
-    for tile in "$root"/tmp/tiles/*.mvt; do
+    for tile in "$root"/srv/tiles/*.mvt; do
         cp "$tile" "$root/tmp/planet/8/0/$at.mvt"
         at=$((at + 1))
     done
@@ -271,9 +271,10 @@ test_fresh_root() {
         echo "the packages are tried in a folder with the C library alone"
         make_clean_folder
     fi
-    mkdir "$root/tmp/tiles"
+    # (not in /tmp, which systemd empties)
+    mkdir -p "$root/srv/tiles"
     for expected in tiles/expected/*.check; do
-        cp "tiles/$(basename "$expected" .check).mvt" "$root/tmp/tiles/"
+        cp "tiles/$(basename "$expected" .check).mvt" "$root/srv/tiles/"
     done
     test_packages
     [ -z "$is_debian" ] || test_checkout
