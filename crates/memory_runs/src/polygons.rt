@@ -1,6 +1,6 @@
 //! Calls on the rings that the numbers of a geometry draw.
-ghost use Rattle.mvt_plane.specs.Geometry.Ring.{ArePolygonRings};
-ghost use Rattle.mvt_polygon.specs.Rings.{rings_of, AreProperRings};
+ghost use Rattle.mvt_sweep.specs.Rings.{rings_of, AreProperRings};
+ghost use Rattle.mvt_rules.specs.Ring.{ArePolygonRings};
 
 use crate::input::numbers;
 use crate::stop::Stop;

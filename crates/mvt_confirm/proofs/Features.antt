@@ -3,7 +3,7 @@ pub mod DrawnFeatures
 pub mod FeatureNumbers
 pub mod LayerTexts
 pub mod RuleWalks
+pub mod ShownByCases
 pub mod TagRules
 pub mod TagWalks
-pub mod TileFeatures
 pub mod TileScopes

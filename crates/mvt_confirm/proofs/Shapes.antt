@@ -9,5 +9,4 @@ pub mod PolygonVertices
 pub mod PolygonWalks
 pub mod RingCounts
 pub mod RingPlaces
-pub mod RingsApart
 pub mod SoundRings

@@ -5,13 +5,13 @@ ghost use Rattle.std.specs.Prelude.{◌↔◌, IsTrue, ℕ, suc, ◌∷◌, List
 ghost use Rattle.mvt_confirm.specs.Calls.Apart.{StandAtPolygon};
 ghost use Rattle.mvt_confirm.specs.Calls.Vertices.{RingsLeft};
 ghost use Rattle.mvt_confirm.specs.Calls.FeatureBytes.{DrawsRings};
-ghost use Rattle.mvt_confirm.specs.PolygonFault.{IsVertexInPolygonBy};
+ghost use Rattle.mvt_rules.specs.PolygonFault.{IsVertexInPolygonBy};
 ghost use Rattle.mvt_fault.specs.declared.profile.Profile.TheVariants.{Feature};
 ghost use Rattle.mvt_plane.specs.Geometry.Inside.{IsInside};
-ghost use Rattle.mvt_plane.specs.Geometry.Nesting.{IsVertexOf, IsInHoles, IsInsidePolygon};
-ghost use Rattle.mvt_plane.specs.Geometry.Polygon.{PolygonRings, IsPolygon};
+ghost use Rattle.mvt_rules.specs.Nesting.{IsVertexOf, IsInHoles, IsInsidePolygon};
+ghost use Rattle.mvt_rules.specs.Polygon.{PolygonRings, IsPolygon};
 ghost use Rattle.mvt_plane.specs.Position.{Position};
-ghost use Rattle.mvt_plane.specs.Geometry.Ring.{ArePolygonRings};
+ghost use Rattle.mvt_rules.specs.Ring.{ArePolygonRings};
 
 use crate::crossings::Crossings;
 use crate::feature_bytes::FeatureBytes;

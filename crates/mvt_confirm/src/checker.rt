@@ -3,11 +3,11 @@
 
 ghost use Rattle.std.specs.Prelude.{◌↔◌, IsTrue};
 ghost use Rattle.mvt_confirm.specs.Calls.HoleFault.{IsOfHole};
-ghost use Rattle.mvt_confirm.specs.Shows.{Shows, ShowsBy};
-ghost use Rattle.mvt_confirm.specs.Valid.{Valid, ValidBy};
+ghost use Rattle.mvt_rules.specs.Shows.{Shows, ShowsBy};
+ghost use Rattle.mvt_rules.specs.Valid.{Valid, ValidBy};
 ghost use Rattle.mvt_fault.specs.Calls.Place.{IsOfPolygon};
 ghost use Rattle.mvt_fault.specs.declared.profile.Profile.{Profile};
-ghost use Rattle.mvt_wire.specs.Tile.{TileRecord, IsTile};
+ghost use Rattle.mvt_rules.specs.Tile.{TileRecord, IsTile};
 
 #[cfg(test)]
 mod tests;

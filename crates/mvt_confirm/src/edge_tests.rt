@@ -3,9 +3,9 @@
 
 ghost use Rattle.std.specs.Prelude.{◌≡◌, ◌↔◌, IsTrue, List, ◌*ℤ◌};
 ghost use Rattle.mvt_confirm.specs.Calls.EdgeTests.{AreEdgesOf, IsApartAfter};
-ghost use Rattle.mvt_confirm.specs.PolygonFault.{number_of};
+ghost use Rattle.mvt_rules.specs.PolygonFault.{number_of};
 ghost use Rattle.mvt_plane.specs.Geometry.Inside.{PassesOver};
-ghost use Rattle.mvt_plane.specs.Geometry.Meeting.{ComesBefore, MeetsWrongly};
+ghost use Rattle.mvt_rules.specs.Meeting.{ComesBefore, MeetsWrongly};
 ghost use Rattle.mvt_plane.specs.Position.{Position, IsCoordinate};
 ghost use Rattle.mvt_plane.specs.Geometry.RationalPoint.{IsAt, IsBounded, LiesOn};
 ghost use Rattle.mvt_plane.specs.Geometry.Ring.{next_round};

@@ -8,8 +8,8 @@ ghost use Rattle.mvt_fault.specs.Code.{command_code};
 ghost use Rattle.mvt_plane.specs.FeatureGeometry.{BreaksCommands, HasRings};
 ghost use Rattle.mvt_plane.specs.Position.{Position};
 ghost use Rattle.mvt_wire.specs.Numbers.{NumbersLeft};
-ghost use Rattle.mvt_wire.specs.Rules.{IsFeatureOf};
-ghost use Rattle.mvt_wire.specs.Tile.{FeatureRecord, LayerRecord, TileRecord, IsTile};
+ghost use Rattle.mvt_rules.specs.Rules.{IsFeatureOf};
+ghost use Rattle.mvt_rules.specs.Tile.{FeatureRecord, LayerRecord, TileRecord, IsTile};
 
 use crate::commands::{breaks_commands, draws_rings};
 use crate::message_bytes::MessageBytes;

@@ -2,16 +2,15 @@
 //! (Mapbox Vector Tile Specification 2.1, section 4.3).
 
 ghost use Rattle.std.specs.Prelude.{◌↔◌, IsTrue, List, IfNone, IfSome};
-ghost use Rattle.mvt_confirm.specs.Feature.{OfRings};
+ghost use Rattle.mvt_rules.specs.Shows.{OfRings, OfFeature};
 ghost use Rattle.mvt_confirm.specs.Calls.FeatureBytes.{DrawsRings};
-ghost use Rattle.mvt_confirm.specs.PolygonFault.{IsMeetingBy, IsVertexInHole, IsVertexInPolygonBy, IsVertexOutside};
-ghost use Rattle.mvt_confirm.specs.Shows.{OfFeature};
+ghost use Rattle.mvt_rules.specs.PolygonFault.{IsMeetingBy, IsVertexInHole, IsVertexInPolygonBy, IsVertexOutside};
 ghost use Rattle.mvt_fault.specs.Code.{command_code, ring_code};
 ghost use Rattle.mvt_plane.specs.FeatureGeometry.{BreaksCommands, HasRings};
 ghost use Rattle.mvt_plane.specs.Position.{Position};
-ghost use Rattle.mvt_plane.specs.Geometry.Ring.{BreaksRings};
-ghost use Rattle.mvt_wire.specs.Rules.{IsFeatureOf};
-ghost use Rattle.mvt_wire.specs.Tile.{FeatureRecord, LayerRecord, TileRecord, IsTile};
+ghost use Rattle.mvt_rules.specs.Ring.{BreaksRings};
+ghost use Rattle.mvt_rules.specs.Rules.{IsFeatureOf};
+ghost use Rattle.mvt_rules.specs.Tile.{FeatureRecord, LayerRecord, TileRecord, IsTile};
 
 use crate::apart::is_vertex_in_polygon;
 use crate::feature_bytes::{FeatureBytes, feature_of};

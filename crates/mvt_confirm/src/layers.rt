@@ -1,7 +1,7 @@
 //! The versions and names of a tile's layers (Mapbox Vector Tile Specification 2.1, section 4.1).
 ghost use Rattle.std.specs.Prelude.{◌≡◌, ◌↔◌, IsTrue, slice_get, IfSome, IfNone};
-ghost use Rattle.mvt_wire.specs.Rules.{OtherVersion, SameName};
-ghost use Rattle.mvt_wire.specs.Tile.{LayerRecord, TileRecord, IsTile};
+ghost use Rattle.mvt_rules.specs.Rules.{OtherVersion, SameName};
+ghost use Rattle.mvt_rules.specs.Tile.{LayerRecord, TileRecord, IsTile};
 
 use crate::message_bytes::MessageBytes;
 use crate::numbers::number_of;

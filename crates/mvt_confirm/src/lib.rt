@@ -1,5 +1,4 @@
-//! What a valid tile is, and which faults are true of a tile's bytes: definitions, their laws, and
-//! a separate checker of faults, which takes no memory.
+//! A separate checker of faults: whether a fault is true of a tile's bytes. It takes no memory.
 #![tactic(auto)]
 
 mod apart;
@@ -9,7 +8,6 @@ mod crossings;
 mod edge_tests;
 mod feature_bytes;
 mod geometry;
-pub mod laws;
 mod layers;
 mod meeting;
 mod message_bytes;

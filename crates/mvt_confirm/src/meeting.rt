@@ -3,13 +3,13 @@
 
 ghost use Rattle.std.specs.Prelude.{◌≡◌, ◌↔◌, ◌≤◌, ℕ, IsTrue, List, length, slice_get, Some, IfNone, IfSome};
 ghost use Rattle.mvt_confirm.specs.Calls.FeatureBytes.{DrawsRings};
-ghost use Rattle.mvt_confirm.specs.PolygonFault.{IsMeetingBy, number_of};
-ghost use Rattle.mvt_confirm.specs.Profiles.{IsKeptApart};
-ghost use Rattle.mvt_plane.specs.Geometry.Meeting.{ComesBefore, IsEdgeOf, MeetsWrongly};
-ghost use Rattle.mvt_plane.specs.Geometry.Polygon.{PolygonRings, IsPolygon, IsRingOf};
+ghost use Rattle.mvt_rules.specs.PolygonFault.{IsMeetingBy, number_of};
+ghost use Rattle.mvt_rules.specs.Profiles.{IsKeptApart};
+ghost use Rattle.mvt_rules.specs.Meeting.{ComesBefore, IsEdgeOf, MeetsWrongly};
+ghost use Rattle.mvt_rules.specs.Polygon.{PolygonRings, IsPolygon, IsRingOf};
 ghost use Rattle.mvt_plane.specs.Position.{Position};
 ghost use Rattle.mvt_plane.specs.Geometry.RationalPoint.{IsBounded};
-ghost use Rattle.mvt_plane.specs.Geometry.Ring.{ArePolygonRings};
+ghost use Rattle.mvt_rules.specs.Ring.{ArePolygonRings};
 ghost use Rattle.mvt_plane.specs.declared.geometry.edge.Edge.{Edge};
 
 use crate::edge_tests::{NumberedEdge, meets_in_order};

@@ -2,12 +2,12 @@
 
 ghost use Rattle.std.specs.Prelude.{◌≡◌, ◌↔◌, IsTrue, List, slice_get, Some, IfNone, IfSome};
 ghost use Rattle.mvt_confirm.specs.Calls.FeatureBytes.{DrawsRings};
-ghost use Rattle.mvt_confirm.specs.PolygonFault.{IsVertexInHole, IsVertexOutside};
+ghost use Rattle.mvt_rules.specs.PolygonFault.{IsVertexInHole, IsVertexOutside};
 ghost use Rattle.mvt_plane.specs.Geometry.Inside.{IsInside};
-ghost use Rattle.mvt_plane.specs.Geometry.Nesting.{IsVertexOf};
-ghost use Rattle.mvt_plane.specs.Geometry.Polygon.{PolygonRings, IsHoleOf, IsPolygon};
+ghost use Rattle.mvt_rules.specs.Nesting.{IsVertexOf};
+ghost use Rattle.mvt_rules.specs.Polygon.{PolygonRings, IsHoleOf, IsPolygon};
 ghost use Rattle.mvt_plane.specs.Position.{Position};
-ghost use Rattle.mvt_plane.specs.Geometry.Ring.{ArePolygonRings};
+ghost use Rattle.mvt_rules.specs.Ring.{ArePolygonRings};
 
 use crate::feature_bytes::FeatureBytes;
 use crate::polygons::{are_polygon_rings, place_of_ring};

@@ -5,7 +5,7 @@ ghost use Rattle.std.specs.Prelude.{◌↔◌, ◌≤◌, IsTrue, List, length, 
 ghost use Rattle.mvt_confirm.specs.Calls.Vertices.{RingsLeft};
 ghost use Rattle.mvt_confirm.specs.Calls.Polygons.{IsPlaceOf};
 ghost use Rattle.mvt_plane.specs.Position.{Position};
-ghost use Rattle.mvt_plane.specs.Geometry.Ring.{ArePolygonRings};
+ghost use Rattle.mvt_rules.specs.Ring.{ArePolygonRings};
 
 use crate::rings::{Measure, next_ring};
 use crate::vertices::Vertices;

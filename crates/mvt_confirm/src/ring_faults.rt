@@ -6,7 +6,7 @@ ghost use Rattle.mvt_confirm.specs.Calls.Vertices.{RingsLeft};
 ghost use Rattle.mvt_confirm.specs.Calls.Rings.{IsMeasured};
 ghost use Rattle.mvt_fault.specs.Code.{ring_code};
 ghost use Rattle.mvt_plane.specs.Position.{Position};
-ghost use Rattle.mvt_plane.specs.Geometry.Ring.{BreaksRings};
+ghost use Rattle.mvt_rules.specs.Ring.{BreaksRings};
 
 use crate::rings::{Measure, next_ring};
 use crate::vertices::Vertices;

@@ -1,7 +1,8 @@
 //! Where the messages of a tile lie in its bytes (Mapbox Vector Tile Specification 2.1, section 4).
 ghost use Rattle.std.specs.Prelude.{◌≡◌, ◌<◌, ◌≤◌, ◌^◌, length, Some, None, IfSome, IfNone};
 ghost use Rattle.mvt_wire.specs.Field.{content_of};
-ghost use Rattle.mvt_wire.specs.Scope.{Span, span_of, IsPart, IsScope};
+ghost use Rattle.mvt_wire.specs.Payload.{Span, span_of};
+ghost use Rattle.mvt_rules.specs.Scope.{IsPart, IsScope};
 ghost use Rattle.mvt_wire.specs.declared.scope.Scope.TheVariants.{Layer};
 ghost use Rattle.mvt_confirm.specs.Calls.ByteSpan.{as_span};
 

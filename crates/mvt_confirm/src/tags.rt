@@ -1,14 +1,14 @@
 //! The tags of a feature (Mapbox Vector Tile Specification 2.1, sections 4.2 and 4.4).
 ghost use Rattle.std.specs.Prelude.{◌≡◌, ◌↔◌, ℕ, IsTrue, List, ◌*◌, ◌<◌, ◌≤◌, length, slice_get, Some, IfSome, IfNone};
-ghost use Rattle.mvt_fault.specs.TrueFaults.{TagsBreak};
+ghost use Rattle.mvt_rules.specs.Rules.{TagsBreak, OddTags, IsKeyAt, IsValueAt, KeyAgain};
 ghost use Rattle.mvt_wire.specs.Field.{Entry};
-ghost use Rattle.mvt_wire.specs.Rules.{OddTags, IsKeyAt, IsValueAt, KeyAgain};
-ghost use Rattle.mvt_wire.specs.Scope.{Span, IsMessageAt, IsScope, spans_of};
-ghost use Rattle.mvt_wire.specs.Tile.{FeatureRecord, TileRecord, IsTile};
+ghost use Rattle.mvt_wire.specs.Payload.{Span, spans_of};
+ghost use Rattle.mvt_rules.specs.Scope.{IsMessageAt, IsScope};
+ghost use Rattle.mvt_rules.specs.Tile.{FeatureRecord, TileRecord, IsTile};
 ghost use Rattle.mvt_wire.specs.declared.scope.Scope.TheVariants.{Layer};
 ghost use Rattle.mvt_confirm.specs.Calls.FeatureBytes.{IsFeatureAt};
 ghost use Rattle.mvt_confirm.specs.Calls.Tags.{HasPassed};
-ghost use Rattle.mvt_confirm.specs.Shows.{OfFeature};
+ghost use Rattle.mvt_rules.specs.Shows.{OfFeature};
 
 use crate::feature_bytes::{FeatureBytes, feature_of};
 use crate::numbers::next_number;

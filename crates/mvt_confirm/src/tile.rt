@@ -1,7 +1,7 @@
 //! Whether bytes are a tile (Mapbox Vector Tile Specification 2.1, section 4). Each message is
 //! walked once for each field that it knows, and once for each kind of message in it.
 ghost use Rattle.std.specs.Prelude.{◌↔◌, IsTrue};
-ghost use Rattle.mvt_wire.specs.Tile.{TileRecord, IsTile};
+ghost use Rattle.mvt_rules.specs.Tile.{TileRecord, IsTile};
 
 mod parts;
 mod payload;

@@ -1,8 +1,8 @@
 //! Whether a wire fault is true of bytes (Mapbox Vector Tile Specification 2.1, section 4).
 ghost use Rattle.std.specs.Prelude.{◌≡◌, ◌↔◌, IsTrue};
 ghost use Rattle.mvt_wire.specs.Field.{cause_at};
-ghost use Rattle.mvt_wire.specs.Scope.{message_of};
-ghost use Rattle.mvt_wire.specs.WireFault.{WireFault, MessageFault};
+ghost use Rattle.mvt_rules.specs.Scope.{message_of};
+ghost use Rattle.mvt_rules.specs.WireFault.{WireFault, MessageFault};
 ghost use Rattle.mvt_confirm.specs.Calls.MessageBytes.{front};
 
 mod defect;

@@ -1,6 +1,6 @@
 -- No tile and claim have two answers of `confirm`, since a text is one fault's at most; and why a text is none.
 use Rattle.std.proofs.Common.{◌≡◌, ◌≢◌, ◌↔◌, ℕ, List, Result, Err, refl, sym, ◌∙◌, subst}
-use Rattle.mvt_confirm.specs.Shows.{ShowsBy}
+use Rattle.mvt_rules.specs.Shows.{ShowsBy}
 use Rattle.mvt_fault.proofs.Decoding.{Reads-unique}
 use Rattle.mvt_fault.specs.Reading.{IsNoJson, HasOtherShape, HasOtherRange}
 use Rattle.mvt_fault.specs.Text.{Reads}

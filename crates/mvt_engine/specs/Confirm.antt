@@ -1,6 +1,6 @@
 -- The answer of the program's `confirm`.
 use Rattle.std.specs.Prelude.{◌≡◌, ℕ, List, codes}
-use Rattle.mvt_confirm.specs.Shows.{ShowsBy}
+use Rattle.mvt_rules.specs.Shows.{ShowsBy}
 use Rattle.mvt_fault.specs.Reading.{IsNoJson, HasOtherShape, HasOtherRange}
 use Rattle.mvt_fault.specs.Text.{Reads}
 use Rattle.mvt_fault.specs.declared.fault.Fault.{Fault}

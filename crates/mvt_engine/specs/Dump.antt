@@ -6,9 +6,9 @@ use Rattle.serde_json.specs.View.{items_of}
 use Rattle.serde_json.specs.Written.{compact_text}
 use Rattle.mvt_fault.specs.Place.{IsLeast}
 use Rattle.mvt_fault.specs.Text.{whole}
-use Rattle.mvt_fault.specs.TrueFaults.{IsWireFault}
+use Rattle.mvt_rules.specs.Parts.TrueFaults.{IsWireFault}
 use Rattle.mvt_fault.specs.declared.fault.Fault.{Fault}
-use Rattle.mvt_wire.specs.Tile.{FeatureRecord, ValueRecord, text, float, double, int, uint, sint, truth, LayerRecord, TileRecord, IsTile}
+use Rattle.mvt_rules.specs.Tile.{FeatureRecord, ValueRecord, text, float, double, int, uint, sint, truth, LayerRecord, TileRecord, IsTile}
 use Rattle.mvt_engine.specs.FaultLine.{fault_line}
 use Rattle.mvt_engine.specs.declared.engine.Outcome.{Outcome}
 use Rattle.mvt_engine.specs.declared.engine.Outcome.TheVariants.{Yes, No}

@@ -1,6 +1,6 @@
 -- The answer of the program's `fields`.
 use Rattle.std.specs.Prelude.{◌≡◌, ℕ, List}
-use Rattle.mvt_fault.specs.TrueFaults.{wire_fault_in}
+use Rattle.mvt_fault.specs.Cause.{wire_fault_in}
 use Rattle.mvt_wire.specs.declared.scope.Scope.TheVariants.{Tile}
 use Rattle.mvt_wire.specs.Field.{Entry}
 use Rattle.mvt_wire.specs.Message.{HasDefect, IsMessage}

@@ -2,8 +2,8 @@ pub use Rattle.serde_json.specs.Data
 pub use Rattle.serde_json.specs.Read
 pub use Rattle.serde_json.specs.Written
 pub mod Calls
+pub mod Cause
 pub mod Code
 pub mod Place
 pub mod Reading
 pub mod Text
-pub mod TrueFaults

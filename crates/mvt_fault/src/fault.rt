@@ -2,7 +2,7 @@ ghost use Rattle.std.specs.Prelude.{◌≡◌, ◌∷◌, []};
 ghost use Rattle.mvt_fault.specs.Code.{fault_code};
 ghost use Rattle.mvt_fault.specs.Calls.Place.{IsOfPolygon};
 ghost use Rattle.mvt_fault.specs.Place.{place_of, scope_place};
-ghost use Rattle.mvt_fault.specs.TrueFaults.{wire_fault_in};
+ghost use Rattle.mvt_fault.specs.Cause.{wire_fault_in};
 
 use crate::command::CommandCode;
 use crate::order::Place;

@@ -8,8 +8,8 @@ use Rattle.mvt_fault.specs.declared.profile.Profile.{Profile}
 use Rattle.mvt_tile.proofs.RuleFaults.OneAdvice.{one_advice}
 use Rattle.mvt_tile.specs.Advice.{IsAdvice}
 use Rattle.mvt_tile.specs.declared.advice.Advice.{Advice}
-use Rattle.mvt_wire.proofs.Parts.Tiles.{one_tile}
-use Rattle.mvt_wire.specs.Tile.{TileRecord}
+use Rattle.mvt_rules.proofs.Tiles.Tiles.{one_tile}
+use Rattle.mvt_rules.specs.Tile.{TileRecord}
 use Rattle.mvt_gate.proofs.Verdicts as verdicts
 use Rattle.mvt_engine.specs.AdviceText.{advice_line}
 use Rattle.mvt_gate.specs.Advice.{AddsAdvice, IsAdviseAnswerBy}

@@ -1,8 +1,8 @@
 -- Where there is no advice.
 use Rattle.std.proofs.Common.{List, ℕ, ◌≡◌, inr, refl, subst}
-use Rattle.mvt_confirm.proofs.Validity.TrueFaults.{no_fault_of_tile}
+use Rattle.mvt_rules.proofs.Validity.TrueFaults.{no_fault_of_tile}
 use Rattle.mvt_fault.specs.Place.{IsLeast}
-use Rattle.mvt_fault.specs.TrueFaults.{IsWireFault}
+use Rattle.mvt_rules.specs.Parts.TrueFaults.{IsWireFault}
 use Rattle.mvt_fault.specs.declared.fault.Fault.{Fault}
 use Rattle.mvt_tile.specs.ReadFault.{IsReadFault}
 use Rattle.mvt_tile.specs.declared.read.ReadFault.{ReadFault}

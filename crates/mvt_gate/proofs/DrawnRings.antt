@@ -4,8 +4,8 @@ use Rattle.std.proofs.lemmas.Bool.{cases_eq}
 use Rattle.mvt_plane.specs.Commands.Figure.{cursor, AreApart, IsPath, ArePaths}
 use Rattle.mvt_plane.specs.FeatureGeometry.{HasRings}
 use Rattle.mvt_plane.specs.Position.{Position, origin}
-use Rattle.mvt_plane.specs.Geometry.Ring.{ArePolygonRings}
-use Rattle.mvt_polygon.specs.Rings.{AreProperRings}
+use Rattle.mvt_sweep.specs.Rings.{AreProperRings}
+use Rattle.mvt_rules.specs.Ring.{ArePolygonRings}
 use Rattle.mvt_plane.proofs.Rings.RingEdges.{round_last, round_next}
 
 -- no position is that of the next one

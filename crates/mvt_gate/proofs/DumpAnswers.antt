@@ -1,16 +1,16 @@
 -- No input has two answers of `dump`, or two lines.
 use Rattle.std.proofs.Common.{◌≡◌, ℕ, List, ◌++◌, codes, inl, inr, refl, sym, ◌∙◌, ap}
 use Rattle.mvt_fault.specs.Place.{IsLeast, IsMeetingIn}
-use Rattle.mvt_fault.specs.TrueFaults.{IsWireFault, wire}
+use Rattle.mvt_rules.specs.Parts.TrueFaults.{IsWireFault, wire}
 use Rattle.mvt_fault.specs.declared.fault.Fault.{Fault}
 use Rattle.mvt_fault.specs.declared.profile.Profile.TheVariants.{Polygon}
-use Rattle.mvt_wire.proofs.Parts.Tiles.{one_tile}
-use Rattle.mvt_wire.specs.Tile.{TileRecord}
+use Rattle.mvt_rules.proofs.Tiles.Tiles.{one_tile}
+use Rattle.mvt_rules.specs.Tile.{TileRecord}
 use Rattle.mvt_engine.specs.Dump.{IsDumpAnswer, dump_text}
 use Rattle.mvt_engine.specs.FaultLine.{fault_line}
 use Rattle.mvt_engine.specs.declared.engine.Outcome.{Outcome}
 use Rattle.mvt_engine.specs.declared.engine.Outcome.TheVariants.{Yes, No}
-use Rattle.mvt_confirm.proofs.Validity.TrueFaults.{no_fault_of_tile}
+use Rattle.mvt_rules.proofs.Validity.TrueFaults.{no_fault_of_tile}
 use Rattle.mvt_gate.proofs.Verdicts.{least_of_wire, one_least}
 
 -- a wire fault is no meeting of edges

@@ -2,19 +2,19 @@
 use Rattle.std.proofs.Common.{◌≡◌, ◌↔◌, ◌⊎◌, ◌<◌, inl, inr, ℕ, zero, suc, List, [], ◌∷◌, take, Some, None, slice_get, refl, sym, ◌∙◌, ap, ap₂, subst, arith}
 use Rattle.std.proofs.lemmas.Bool.{cases_order}
 use Rattle.std.proofs.lemmas.Option.{same_Some, none-some}
-use Rattle.mvt_confirm.proofs.Validity.ShownParts.{shown_by_parts}
-use Rattle.mvt_confirm.proofs.Validity.TrueFaults.{no_fault_of_tile, shown_is_invalid}
-use Rattle.mvt_confirm.proofs.Validity.ValidWithoutFaults.{unshown_is_valid}
-use Rattle.mvt_confirm.specs.Shows.{ShowsBy}
-use Rattle.mvt_confirm.specs.Valid.{IsValidGeometryBy, ValidBy}
+use Rattle.mvt_rules.proofs.Validity.ShownParts.{shown_by_parts}
+use Rattle.mvt_rules.proofs.Validity.TrueFaults.{no_fault_of_tile, shown_is_invalid}
+use Rattle.mvt_rules.proofs.Validity.ValidWithoutFaults.{unshown_is_valid}
+use Rattle.mvt_rules.specs.Shows.{ShowsBy}
+use Rattle.mvt_rules.specs.Valid.{IsValidGeometryBy, ValidBy}
 use Rattle.mvt_fault.proofs.Places.{ComesFirst-reflexive, ComesFirst-transitive, ComesFirst-antisymmetric}
 use Rattle.mvt_fault.specs.Place.{ComesFirst, IsLeast, place_of}
-use Rattle.mvt_fault.specs.TrueFaults.{IsWireFault}
+use Rattle.mvt_rules.specs.Parts.TrueFaults.{IsWireFault}
 use Rattle.mvt_fault.specs.declared.fault.Fault.{Fault}
 use Rattle.mvt_fault.specs.declared.fault.Fault.TheVariants.{Wire, Version, Name, Tag, Command, Ring, Meeting, Outside, HoleInHole, InPolygon}
 use Rattle.mvt_fault.specs.declared.profile.Profile.{Profile}
 use Rattle.mvt_fault.specs.declared.profile.Profile.TheVariants.{Polygon, Feature}
-use Rattle.mvt_confirm.specs.Geometry.{IsFaultOfGeometryBy}
+use Rattle.mvt_rules.specs.Parts.Geometry.{IsFaultOfGeometryBy}
 use Rattle.mvt_gate.proofs.FaultLists.{list_found}
 use Rattle.mvt_gate.proofs.FaultSubjects.{subject_of_wire}
 use Rattle.mvt_gate.specs.Calls.Faults.{AreFoundBy}

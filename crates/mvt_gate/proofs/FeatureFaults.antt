@@ -1,23 +1,23 @@
 -- What is found wrong with the first polygon of a feature that has a fault, where polygons are kept apart.
 use Rattle.std.proofs.Common.{◌≡◌, ℕ, ◌<◌, ◌≤◌, ◌⊎◌, inl, inr, List, [], ◌∷◌, refl, arith}
 use Rattle.std.proofs.lemmas.Bool.{cases_lt}
-use Rattle.mvt_confirm.specs.PolygonFault.{IsPolygonOf, IsVertexInPolygonBy}
-use Rattle.mvt_confirm.specs.Valid.{AreApartBy, AreValidRingsBy, IsValidPolygonBy}
+use Rattle.mvt_rules.specs.PolygonFault.{IsPolygonOf, IsVertexInPolygonBy}
+use Rattle.mvt_rules.specs.Valid.{AreApartBy, AreValidRingsBy, IsValidPolygonBy}
 use Rattle.mvt_fault.specs.declared.profile.Profile.TheVariants.{Feature}
 use Rattle.mvt_fault.specs.Place.{ComesFirst}
-use Rattle.mvt_plane.specs.Geometry.Part.{part_of}
-use Rattle.mvt_plane.specs.Geometry.Polygon.{PolygonRings, IsPolygon}
+use Rattle.mvt_rules.specs.Parts.Rings.{part_of}
+use Rattle.mvt_rules.specs.Polygon.{PolygonRings, IsPolygon}
 use Rattle.mvt_plane.specs.Position.{Position}
-use Rattle.mvt_plane.specs.Geometry.Ring.{ArePolygonRings}
-use Rattle.mvt_polygon.proofs.Holes.ApartFaults.{ends_within}
+use Rattle.mvt_polygon.proofs.ApartFaults.{ends_within}
+use Rattle.mvt_rules.specs.Ring.{ArePolygonRings}
 use Rattle.mvt_polygon.specs.Apart.{IsApartFault, IsFirstApartFault}
-use Rattle.mvt_polygon.specs.Feature.{IsCause, IsClear, IsFirstFault, front_of}
-use Rattle.mvt_polygon.specs.Meeting.{IsMeetingOf, NoMeeting}
+use Rattle.mvt_feature.specs.Feature.{IsCause, IsClear, IsFirstFault, front_of}
+use Rattle.mvt_sweep.specs.Meeting.{IsMeetingOf, NoMeeting}
 use Rattle.mvt_polygon.specs.declared.apart.ApartFault.{ApartFault}
-use Rattle.mvt_polygon.specs.declared.feature.FeatureCause.{FeatureCause}
-use Rattle.mvt_polygon.specs.declared.feature.FeatureCause.TheVariants.{Meeting, Nesting, Apart}
-use Rattle.mvt_polygon.specs.declared.feature.FeatureFault.{FeatureFault}
-use Rattle.mvt_polygon.specs.declared.meeting.Meeting.{Meeting as MeetingOf}
+use Rattle.mvt_feature.specs.declared.feature.FeatureCause.{FeatureCause}
+use Rattle.mvt_feature.specs.declared.feature.FeatureCause.TheVariants.{Meeting, Nesting, Apart}
+use Rattle.mvt_feature.specs.declared.feature.FeatureFault.{FeatureFault}
+use Rattle.mvt_sweep.specs.declared.meeting.Meeting.{Meeting as MeetingOf}
 use Rattle.mvt_gate.proofs.PolygonFaults.{HasGoodHoles, in_polygon_is_least, meeting_is_least}
 use Rattle.mvt_gate.proofs.PolygonParts.{apart_in_whole, apart_of_front, edge_in_whole, enclosed_in_whole, first_hole_is_least, hole_within, meeting_of_front, meeting_within}
 use Rattle.mvt_gate.specs.Calls.Polygons.{AreValidBefore, IsFirstOfRings, IsReportable, fault_of_apart, fault_of_cause, fault_of_meeting, front_place, rings_at}

@@ -2,8 +2,8 @@
 use Rattle.std.proofs.Common.{◌≡◌, ◌≢◌, ℕ, List, Option, Result, IfOk, IfNone, IfSome, refl, sym, ◌∙◌, subst, arith}
 use Rattle.std.proofs.lemmas.Option.{IfSome_then}
 use Rattle.std.proofs.lemmas.Result.{IfOk-weaker}
-use Rattle.mvt_confirm.specs.Geometry.{IsFaultOfGeometryBy}
-use Rattle.mvt_confirm.specs.Valid.{AreValidRingsBy, IsValidGeometryBy}
+use Rattle.mvt_rules.specs.Parts.Geometry.{IsFaultOfGeometryBy}
+use Rattle.mvt_rules.specs.Valid.{AreValidRingsBy, IsValidGeometryBy}
 use Rattle.mvt_draw.specs.Geometry.{IsCommandFault}
 use Rattle.mvt_fault.specs.declared.command.CommandCode.{CommandCode}
 use Rattle.mvt_fault.specs.declared.fault.Fault.{Fault}
@@ -17,7 +17,7 @@ use Rattle.mvt_tile.specs.View.{kind_number}
 use Rattle.mvt_tile.specs.declared.record.Kind.{Kind}
 use Rattle.mvt_tile.specs.declared.record.Kind.TheVariants.{Unknown, Point, LineString, Polygon}
 use Rattle.mvt_wire.proofs.NothingFound.{IfNone_then}
-use Rattle.mvt_wire.specs.Tile.{FeatureRecord}
+use Rattle.mvt_rules.specs.Tile.{FeatureRecord}
 use Rattle.mvt_gate.proofs.FirstFaults.{command_is_least}
 use Rattle.mvt_gate.proofs.ValidGeometries.{valid_of_rings}
 use Rattle.mvt_gate.specs.Calls.Polygons.{IsFirstOfRingsFor}

@@ -1,24 +1,24 @@
 -- What either search finds in a feature whose polygons are kept apart.
 use Rattle.std.proofs.Common.{ℕ, inl, inr, List, [], ◌∷◌, take, Some, None}
-use Rattle.mvt_confirm.specs.Geometry.{IsFaultOfGeometryBy, command, ring, meeting, outside, hole_in_hole, in_polygon}
-use Rattle.mvt_confirm.specs.PolygonFault.{IsPolygonOf}
-use Rattle.mvt_confirm.specs.Valid.{AreValidRingsBy}
+use Rattle.mvt_rules.specs.Parts.Geometry.{IsFaultOfGeometryBy, command, ring, meeting, outside, hole_in_hole, in_polygon}
+use Rattle.mvt_rules.specs.PolygonFault.{IsPolygonOf}
+use Rattle.mvt_rules.specs.Valid.{AreValidRingsBy}
 use Rattle.mvt_fault.proofs.Places.{ComesFirst-reflexive}
 use Rattle.mvt_fault.specs.Place.{ComesFirst, place_of}
 use Rattle.mvt_fault.specs.declared.fault.Fault.{Fault}
 use Rattle.mvt_fault.specs.declared.profile.Profile.{Profile}
 use Rattle.mvt_fault.specs.declared.profile.Profile.TheVariants.{Feature}
-use Rattle.mvt_plane.specs.Geometry.Polygon.{IsPolygon}
-use Rattle.mvt_plane.specs.Geometry.Ring.{ArePolygonRings}
+use Rattle.mvt_rules.specs.Polygon.{IsPolygon}
+use Rattle.mvt_rules.specs.Ring.{ArePolygonRings}
 use Rattle.mvt_plane.specs.Position.{Position}
-use Rattle.mvt_polygon.proofs.Features.FeatureShares.{HasFault, found_is_there}
-use Rattle.mvt_polygon.proofs.Holes.ApartFaults.{ends_within}
-use Rattle.mvt_polygon.specs.QuickFeature.{IsAnyMeeting, IsMeetingCause}
-use Rattle.mvt_polygon.specs.declared.feature.FeatureCause.{FeatureCause}
-use Rattle.mvt_polygon.specs.declared.feature.FeatureCause.TheVariants.{Meeting, Nesting, Apart}
-use Rattle.mvt_polygon.specs.declared.feature.FeatureFault.{FeatureFault}
+use Rattle.mvt_feature.proofs.Features.FeatureShares.{HasFault, found_is_there}
+use Rattle.mvt_polygon.proofs.ApartFaults.{ends_within}
+use Rattle.mvt_feature.specs.QuickFeature.{IsAnyMeeting, IsMeetingCause}
+use Rattle.mvt_feature.specs.declared.feature.FeatureCause.{FeatureCause}
+use Rattle.mvt_feature.specs.declared.feature.FeatureCause.TheVariants.{Meeting, Nesting, Apart}
+use Rattle.mvt_feature.specs.declared.feature.FeatureFault.{FeatureFault}
 use Rattle.mvt_tile.specs.FreeFaults.{of_least, of_free}
-use Rattle.mvt_wire.specs.Tile.{FeatureRecord}
+use Rattle.mvt_rules.specs.Tile.{FeatureRecord}
 use Rattle.mvt_gate.proofs.FeatureFaults.{least_of_found, place_in, reportable_of_cause, valid_of_none}
 use Rattle.mvt_gate.proofs.PolygonParts.{edge_in_whole, meeting_of_its_edge}
 use Rattle.mvt_gate.specs.Calls.Polygons.{IsFeatureAnswerFor, IsFirstOfRingsFor, IsReportable, fault_of_cause, rings_at}

@@ -3,7 +3,7 @@ use Rattle.std.proofs.Common.{◌≡◌, ℕ, List, inl, inr, refl, sym, ◌∙�
 use Rattle.mvt_wire.proofs.Encoding.Messages.{one_list, whole_or_defect, one_defect, message_or_defect}
 use Rattle.mvt_wire.specs.declared.cause.WireCause.{WireCause}
 use Rattle.mvt_wire.specs.declared.scope.Scope.TheVariants.{Tile}
-use Rattle.mvt_fault.specs.TrueFaults.{wire_fault_in}
+use Rattle.mvt_fault.specs.Cause.{wire_fault_in}
 use Rattle.mvt_engine.specs.FaultLine.{fault_line}
 use Rattle.mvt_engine.specs.Fields.{IsFieldsAnswer}
 use Rattle.mvt_engine.specs.FieldsLine.{fields_line}

@@ -1,9 +1,9 @@
 -- Of the faults of one feature's geometry, the first: a fault of its commands, or of its rings.
 use Rattle.std.proofs.Common.{◌≡◌, ℕ, ◌<◌, ◌≤◌, ◌⊎◌, inl, inr, List, [], ◌∷◌, refl, sym, ◌∙◌, subst, arith}
 use Rattle.std.proofs.lemmas.Bool.{cases_lt}
-use Rattle.mvt_confirm.proofs.Features.TileFeatures.{one_list_of_rings}
-use Rattle.mvt_confirm.specs.Feature.{OfRings}
-use Rattle.mvt_confirm.specs.Geometry.{IsFaultOfGeometryBy, command, ring, meeting, outside, hole_in_hole, in_polygon}
+use Rattle.mvt_rules.proofs.Validity.TileFeatures.{one_list_of_rings}
+use Rattle.mvt_rules.specs.Shows.{OfRings}
+use Rattle.mvt_rules.specs.Parts.Geometry.{IsFaultOfGeometryBy, command, ring, meeting, outside, hole_in_hole, in_polygon}
 use Rattle.mvt_fault.proofs.Places.{ComesFirst-reflexive}
 use Rattle.mvt_fault.specs.Code.{command_code, ring_code}
 use Rattle.mvt_fault.specs.Place.{place_of, ComesFirst, IsLeast}
@@ -16,10 +16,10 @@ use Rattle.mvt_plane.specs.Commands.CommandFault.{HasCommandFault}
 use Rattle.mvt_plane.specs.Commands.Figure.{GeometryType, polygon, rings}
 use Rattle.mvt_plane.specs.FeatureGeometry.{BreaksCommands, HasRings}
 use Rattle.mvt_plane.specs.Position.{Position}
-use Rattle.mvt_plane.specs.Geometry.Ring.{BreaksRings}
-use Rattle.mvt_polygon.specs.Rings.{IsFirstRingFault}
+use Rattle.mvt_polygon.specs.RingFault.{IsFirstRingFault}
+use Rattle.mvt_rules.specs.Ring.{BreaksRings}
 use Rattle.mvt_polygon.specs.declared.rings.RingFault.{RingFault}
-use Rattle.mvt_wire.specs.Tile.{FeatureRecord}
+use Rattle.mvt_rules.specs.Tile.{FeatureRecord}
 use Rattle.mvt_plane.proofs.Spelling.Geometries.{one_type}
 
 -- A feature and its rings

@@ -1,11 +1,11 @@
 -- Of the faults of one feature's polygons, the first.
 use Rattle.std.proofs.Common.{◌≡◌, ℕ, ◌<◌, ◌≤◌, inl, inr, List, [], ◌∷◌, ℤ, refl, sym, subst, arith}
 use Rattle.std.proofs.lemmas.Bool.{cases_lt}
-use Rattle.mvt_confirm.proofs.Validity.InvalidRings.{not_sound}
-use Rattle.mvt_confirm.specs.Geometry.{IsFaultOfGeometryBy, command, ring, meeting, outside, hole_in_hole, in_polygon}
-use Rattle.mvt_confirm.specs.PolygonFault.{number_of, IsPolygonOf, IsMeetingBy, IsVertexOutside, IsVertexInHole, IsVertexInPolygonBy}
-use Rattle.mvt_confirm.specs.Profiles.{IsKeptApart}
-use Rattle.mvt_confirm.specs.Valid.{AreApartBy}
+use Rattle.mvt_rules.proofs.Validity.InvalidRings.{not_sound}
+use Rattle.mvt_rules.specs.Parts.Geometry.{IsFaultOfGeometryBy, command, ring, meeting, outside, hole_in_hole, in_polygon}
+use Rattle.mvt_rules.specs.PolygonFault.{number_of, IsPolygonOf, IsMeetingBy, IsVertexOutside, IsVertexInHole, IsVertexInPolygonBy}
+use Rattle.mvt_rules.specs.Profiles.{IsKeptApart}
+use Rattle.mvt_rules.specs.Valid.{AreApartBy}
 use Rattle.mvt_fault.proofs.Places.{ComesFirst-reflexive}
 use Rattle.mvt_fault.specs.Code.{command_code, ring_code}
 use Rattle.mvt_fault.specs.Place.{place_of, ComesFirst}
@@ -13,14 +13,14 @@ use Rattle.mvt_fault.specs.declared.fault.Fault.{Fault}
 use Rattle.mvt_fault.specs.declared.fault.Fault.TheVariants.{Meeting, Outside, HoleInHole, InPolygon}
 use Rattle.mvt_fault.specs.declared.profile.Profile.{Profile}
 use Rattle.mvt_fault.specs.declared.ring.RingEdge.{RingEdge}
-use Rattle.mvt_plane.proofs.Rings.SamePolygons.{same_polygon}
+use Rattle.mvt_rules.proofs.Rings.SamePolygons.{same_polygon}
 use Rattle.mvt_plane.specs.FeatureGeometry.{HasRings}
-use Rattle.mvt_plane.specs.Geometry.Nesting.{IsOutside, IsInHole}
-use Rattle.mvt_plane.specs.Geometry.Polygon.{PolygonRings, IsPolygon, IsRingOf}
+use Rattle.mvt_rules.specs.Nesting.{IsOutside, IsInHole}
+use Rattle.mvt_rules.specs.Polygon.{PolygonRings, IsPolygon, IsRingOf}
 use Rattle.mvt_plane.specs.Position.{Position}
 use Rattle.mvt_plane.specs.Geometry.RationalPoint.{RationalPoint}
-use Rattle.mvt_plane.specs.Geometry.Ring.{BreaksRings, ArePolygonRings}
-use Rattle.mvt_wire.specs.Tile.{FeatureRecord}
+use Rattle.mvt_rules.specs.Ring.{BreaksRings, ArePolygonRings}
+use Rattle.mvt_rules.specs.Tile.{FeatureRecord}
 use Rattle.mvt_gate.proofs.FirstFaults.{of_these, no_command_fault}
 use Rattle.mvt_gate.specs.Calls.Polygons.{IsFirstOfRings, AreValidBefore}
 

@@ -2,28 +2,28 @@
 use Rattle.std.proofs.Common.{◌≡◌, ℕ, ◌+◌, ◌-◌, ◌<◌, ◌≤◌, inl, inr, List, [], ◌∷◌, length, sym, ap, subst, arith}
 use Rattle.std.proofs.lemmas.Bool.{cases_lt}
 use Rattle.std.proofs.lemmas.Option.{slice_get_within}
-use Rattle.mvt_confirm.specs.PolygonFault.{IsPolygonOf, IsMeetingBy}
-use Rattle.mvt_confirm.specs.Profiles.{IsKeptApart}
-use Rattle.mvt_confirm.specs.Valid.{AreApartBy}
+use Rattle.mvt_rules.specs.PolygonFault.{IsPolygonOf, IsMeetingBy}
+use Rattle.mvt_rules.specs.Profiles.{IsKeptApart}
+use Rattle.mvt_rules.specs.Valid.{AreApartBy}
 use Rattle.mvt_fault.specs.declared.profile.Profile.{Profile}
 use Rattle.mvt_fault.specs.declared.profile.Profile.TheVariants.{Polygon, Feature}
 use Rattle.mvt_fault.specs.Place.{ComesFirst}
 use Rattle.mvt_fault.specs.declared.ring.RingEdge.{RingEdge}
-use Rattle.mvt_plane.proofs.Rings.PolygonNumbers.{polygon_of_ring}
-use Rattle.mvt_plane.proofs.Rings.PartsOfRings.{number_in_part, meeting_in_part, outside_in_part, in_hole_in_part}
-use Rattle.mvt_plane.specs.Geometry.Meeting.{EdgeNumber, ComesBefore, MeetsWrongly}
-use Rattle.mvt_plane.specs.Geometry.Nesting.{IsOutside, IsInHole}
-use Rattle.mvt_plane.specs.Geometry.Part.{part_of, in_whole}
-use Rattle.mvt_plane.specs.Geometry.Polygon.{PolygonRings, IsRingOf, IsHoleOf}
+use Rattle.mvt_rules.proofs.Rings.PolygonNumbers.{polygon_of_ring}
+use Rattle.mvt_rules.proofs.Rings.PartsOfRings.{number_in_part, meeting_in_part, outside_in_part, in_hole_in_part}
+use Rattle.mvt_rules.specs.Meeting.{EdgeNumber, ComesBefore, MeetsWrongly}
+use Rattle.mvt_rules.specs.Nesting.{IsOutside, IsInHole}
+use Rattle.mvt_rules.specs.Parts.Rings.{part_of, in_whole}
+use Rattle.mvt_rules.specs.Polygon.{PolygonRings, IsRingOf, IsHoleOf}
 use Rattle.mvt_plane.specs.Position.{Position}
 use Rattle.mvt_plane.specs.Geometry.RationalPoint.{RationalPoint, IsBounded}
-use Rattle.mvt_polygon.proofs.Features.FirstMeetings.{rings_in_order}
-use Rattle.mvt_polygon.proofs.Holes.FaultsByRings.{whole_part}
-use Rattle.mvt_polygon.proofs.Placed.OwnPassings.{ring_of_whole}
-use Rattle.mvt_polygon.specs.Feature.{front_of}
-use Rattle.mvt_polygon.specs.Meeting.{first_of, second_of, IsMeetingOf}
+use Rattle.mvt_feature.proofs.Features.FirstMeetings.{rings_in_order}
+use Rattle.mvt_feature.proofs.Features.FaultsByRings.{whole_part}
+use Rattle.mvt_feature.proofs.Placed.OwnPassings.{ring_of_whole}
+use Rattle.mvt_feature.specs.Feature.{front_of}
+use Rattle.mvt_sweep.specs.Meeting.{first_of, second_of, IsMeetingOf}
 use Rattle.mvt_polygon.specs.Nesting.{IsNestFault, outside, in_hole, IsFirstNestFault}
-use Rattle.mvt_polygon.specs.declared.meeting.Meeting.{Meeting}
+use Rattle.mvt_sweep.specs.declared.meeting.Meeting.{Meeting}
 use Rattle.mvt_polygon.specs.declared.nesting.NestFault.{NestFault}
 use Rattle.mvt_polygon.specs.declared.nesting.NestFault.TheVariants.{Outside, InHole}
 use Rattle.mvt_gate.proofs.PolygonFaults.{HasGoodHoles, IsFirstHole, in_hole_is_least, outside_is_least}

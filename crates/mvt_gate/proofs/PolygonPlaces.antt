@@ -2,21 +2,22 @@
 use Rattle.std.proofs.Common.{◌≡◌, ℕ, suc, ◌+◌, ◌-◌, ◌<◌, ◌≤◌, ◌⊎◌, inl, inr, List, length, take, drop, sym, subst, Vec, arith}
 use Rattle.std.proofs.lemmas.List.{take-map, drop-map, length-map}
 use Rattle.std.specs.declared.alloc.Global.{Global}
-use Rattle.mvt_confirm.specs.PolygonFault.{IsPolygonOf}
-use Rattle.mvt_confirm.specs.Valid.{AreApartBy, IsValidPolygon, AreValidRings}
+use Rattle.mvt_rules.specs.PolygonFault.{IsPolygonOf}
+use Rattle.mvt_rules.specs.Valid.{AreApartBy}
+use Rattle.mvt_rules.specs.Parts.ByPolygon.{IsValidPolygon, AreValidRings}
 use Rattle.mvt_fault.specs.declared.profile.Profile.{Profile}
 use Rattle.mvt_fault.specs.declared.profile.Profile.TheVariants.{Polygon}
-use Rattle.mvt_plane.specs.Geometry.Meeting.{EdgeNumber, MeetsWrongly}
-use Rattle.mvt_plane.specs.Geometry.Part.{part_of}
-use Rattle.mvt_plane.specs.Geometry.Polygon.{IsExterior, NoExterior}
+use Rattle.mvt_rules.specs.Meeting.{EdgeNumber, MeetsWrongly}
+use Rattle.mvt_rules.specs.Parts.Rings.{part_of}
+use Rattle.mvt_rules.specs.Polygon.{IsExterior, NoExterior}
 use Rattle.mvt_plane.specs.Position.{Position}
 use Rattle.mvt_plane.specs.Geometry.RationalPoint.{RationalPoint}
-use Rattle.mvt_plane.specs.Geometry.Ring.{ArePolygonRings}
-use Rattle.mvt_polygon.proofs.Placed.OwnPassings.{proper_part}
-use Rattle.mvt_polygon.specs.Meeting.{IsMeetingOf}
+use Rattle.mvt_feature.proofs.Placed.OwnPassings.{proper_part}
+use Rattle.mvt_sweep.specs.Meeting.{IsMeetingOf}
+use Rattle.mvt_rules.specs.Ring.{ArePolygonRings}
 use Rattle.mvt_polygon.specs.Nesting.{IsNestFault, IsFirstNestFault}
-use Rattle.mvt_polygon.specs.Rings.{rings_of, AreProperRings}
-use Rattle.mvt_polygon.specs.declared.meeting.Meeting.{Meeting}
+use Rattle.mvt_sweep.specs.Rings.{rings_of, AreProperRings}
+use Rattle.mvt_sweep.specs.declared.meeting.Meeting.{Meeting}
 use Rattle.mvt_polygon.specs.declared.nesting.NestFault.{NestFault}
 use Rattle.mvt_gate.proofs.PolygonFaults.{HasGoodHoles, meeting_is_least}
 use Rattle.mvt_gate.proofs.PolygonParts.{meeting_within, apart_in_whole, enclosed_in_whole, edge_in_whole, meeting_in_whole, hole_within, first_hole_is_least}

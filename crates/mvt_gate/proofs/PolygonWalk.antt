@@ -2,14 +2,14 @@
 use Rattle.std.proofs.Common.{◌≡◌, ℕ, suc, ◌<◌, ◌≤◌, ◌⊎◌, inl, inr, List, length, sym, subst, arith}
 use Rattle.std.proofs.lemmas.Bool.{cases_lt}
 use Rattle.std.proofs.lemmas.Option.{slice_get_within}
-use Rattle.mvt_confirm.specs.PolygonFault.{IsPolygonOf}
-use Rattle.mvt_confirm.specs.Valid.{IsValidPolygon, AreValidRings}
+use Rattle.mvt_rules.specs.PolygonFault.{IsPolygonOf}
+use Rattle.mvt_rules.specs.Parts.ByPolygon.{IsValidPolygon, AreValidRings}
 use Rattle.mvt_fault.specs.declared.profile.Profile.TheVariants.{Polygon}
-use Rattle.mvt_plane.proofs.Rings.SamePolygons.{exterior_of_polygon, first_begins, same_polygon, one_polygon}
-use Rattle.mvt_plane.specs.Geometry.Polygon.{IsExterior, NoExterior, IsExteriorOf, first, next, PolygonRings, IsPolygon}
+use Rattle.mvt_rules.proofs.Rings.SamePolygons.{exterior_of_polygon, first_begins, same_polygon, one_polygon}
+use Rattle.mvt_rules.specs.Polygon.{IsExterior, NoExterior, IsExteriorOf, first, next, PolygonRings, IsPolygon}
 use Rattle.mvt_plane.specs.Position.{Position}
-use Rattle.mvt_plane.specs.Geometry.Ring.{ArePolygonRings}
-use Rattle.mvt_polygon.proofs.Features.FirstPolygons.{numbers_up_to}
+use Rattle.mvt_feature.proofs.Features.FirstPolygons.{numbers_up_to}
+use Rattle.mvt_rules.specs.Ring.{ArePolygonRings}
 use Rattle.mvt_gate.specs.Calls.Polygons.{AreValidBefore}
 
 -- The order of polygons is that of their exteriors

@@ -1,9 +1,9 @@
 -- What a quick verdict says of all faults that are true of bytes: it is the judge's own, but where edges of its feature meet.
 use Rattle.std.proofs.Common.{◌≡◌, ◌↔◌, ℕ, List, take, refl}
-use Rattle.mvt_confirm.proofs.Validity.TrueFaults.{shown_is_invalid}
-use Rattle.mvt_confirm.specs.PolygonFault.{number_of}
-use Rattle.mvt_confirm.specs.Shows.{ShowsBy}
-use Rattle.mvt_confirm.specs.Valid.{ValidBy}
+use Rattle.mvt_rules.proofs.Validity.TrueFaults.{shown_is_invalid}
+use Rattle.mvt_rules.specs.PolygonFault.{number_of}
+use Rattle.mvt_rules.specs.Shows.{ShowsBy}
+use Rattle.mvt_rules.specs.Valid.{ValidBy}
 use Rattle.mvt_fault.specs.Place.{IsLeast}
 use Rattle.mvt_fault.specs.declared.fault.Fault.{Fault}
 use Rattle.mvt_fault.specs.declared.fault.Fault.TheVariants.{Wire, Version, Name, Tag, Command, Ring, Meeting, Outside, HoleInHole, InPolygon}

@@ -1,8 +1,8 @@
 -- Features with a valid geometry, by their rings; and the places of the faults of a geometry.
 use Rattle.std.proofs.Common.{◌≡◌, ℕ, List, [], ◌∷◌, refl, sym, ◌∙◌, subst, arith}
-use Rattle.mvt_confirm.proofs.Features.TileFeatures.{one_list_of_rings}
-use Rattle.mvt_confirm.specs.Geometry.{IsFaultOfGeometryBy, command, ring, meeting, outside, hole_in_hole, in_polygon}
-use Rattle.mvt_confirm.specs.Valid.{AreValidRingsBy, IsValidGeometryBy}
+use Rattle.mvt_rules.proofs.Validity.TileFeatures.{one_list_of_rings}
+use Rattle.mvt_rules.specs.Parts.Geometry.{IsFaultOfGeometryBy, command, ring, meeting, outside, hole_in_hole, in_polygon}
+use Rattle.mvt_rules.specs.Valid.{AreValidRingsBy, IsValidGeometryBy}
 use Rattle.mvt_fault.specs.Code.{command_code, ring_code}
 use Rattle.mvt_fault.specs.Place.{place_of}
 use Rattle.mvt_fault.specs.declared.fault.Fault.{Fault}
@@ -12,7 +12,7 @@ use Rattle.mvt_plane.specs.Commands.Figure.{GeometryType, polygon, rings, Spells
 use Rattle.mvt_plane.specs.FeatureGeometry.{HasRings}
 use Rattle.mvt_plane.specs.Position.{Position}
 use Rattle.mvt_tile.specs.RuleFaults.{IsAfterTags}
-use Rattle.mvt_wire.specs.Tile.{FeatureRecord}
+use Rattle.mvt_rules.specs.Tile.{FeatureRecord}
 
 -- the rings of valid polygons
 pub valid_of_rings : (profile : Profile) (it : FeatureRecord) (parts : List (List Position)) → HasRings it.kind it.geometry parts → AreValidRingsBy profile parts → IsValidGeometryBy profile it

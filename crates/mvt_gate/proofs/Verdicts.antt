@@ -1,24 +1,24 @@
 -- Verdicts by the parts of a tile. No bytes have two, and no input has two answers of `check`, but for two meetings in one
 -- polygon.
 use Rattle.std.proofs.Common.{◌≡◌, ◌↔◌, ℕ, List, ◌⊎◌, inl, inr, refl, sym, ◌∙◌, ap, subst}
-use Rattle.mvt_confirm.proofs.Validity.ShownParts.{shown_by_parts}
-use Rattle.mvt_confirm.proofs.Validity.TrueFaults.{no_fault_of_tile, shown_is_invalid}
-use Rattle.mvt_confirm.proofs.Validity.ValidParts.{valid_by_parts}
-use Rattle.mvt_confirm.specs.Geometry.{IsFaultOfGeometryBy}
-use Rattle.mvt_confirm.specs.Shows.{OfTile, ShowsBy}
-use Rattle.mvt_confirm.specs.Valid.{IsValidGeometryBy, ValidBy}
+use Rattle.mvt_rules.proofs.Validity.ShownParts.{shown_by_parts}
+use Rattle.mvt_rules.proofs.Validity.TrueFaults.{no_fault_of_tile, shown_is_invalid}
+use Rattle.mvt_rules.proofs.Validity.ValidParts.{valid_by_parts}
+use Rattle.mvt_rules.specs.Parts.Geometry.{IsFaultOfGeometryBy}
+use Rattle.mvt_rules.specs.Shows.{OfTile, ShowsBy}
+use Rattle.mvt_rules.specs.Valid.{IsValidGeometryBy, ValidBy}
 use Rattle.mvt_fault.proofs.Places.{ComesFirst-antisymmetric, same_place_or_meetings}
 use Rattle.mvt_fault.specs.Place.{AreMeetingsInOne, IsLeast, place_of}
-use Rattle.mvt_fault.specs.TrueFaults.{IsWireFault}
+use Rattle.mvt_rules.specs.Parts.TrueFaults.{IsWireFault}
 use Rattle.mvt_fault.specs.declared.fault.Fault.{Fault}
 use Rattle.mvt_fault.specs.declared.profile.Profile.{Profile}
 use Rattle.mvt_tile.proofs.WireFaults.Tiles.{is_tile}
 use Rattle.mvt_tile.proofs.RuleFaults.FreeFaults.{lifted}
 use Rattle.mvt_tile.specs.FreeFaults.{IsLeastOr}
 use Rattle.mvt_tile.specs.RuleFaults.{Breaks, BreaksAnyRule, Frees, KeepsRules}
-use Rattle.mvt_wire.proofs.Parts.Tiles.{one_tile}
-use Rattle.mvt_wire.specs.Tile.{IsTile, TileRecord}
-use Rattle.mvt_wire.specs.WireFault.{WireFault}
+use Rattle.mvt_rules.proofs.Tiles.Tiles.{one_tile}
+use Rattle.mvt_rules.specs.Tile.{IsTile, TileRecord}
+use Rattle.mvt_rules.specs.WireFault.{WireFault}
 use Rattle.mvt_wire.specs.declared.cause.WireCause.{WireCause}
 use Rattle.mvt_wire.specs.declared.scope.Scope.{Scope}
 use Rattle.mvt_gate.specs.Check.{IsCheckAnswerBy}

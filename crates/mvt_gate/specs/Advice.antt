@@ -3,7 +3,7 @@ use Rattle.std.specs.Prelude.{◌≡◌, ◌⊎◌, ℕ, List, ◌++◌}
 use Rattle.mvt_fault.specs.declared.profile.Profile.{Profile}
 use Rattle.mvt_tile.specs.Advice.{IsAdvice}
 use Rattle.mvt_tile.specs.declared.advice.Advice.{Advice}
-use Rattle.mvt_wire.specs.Tile.{IsTile, TileRecord}
+use Rattle.mvt_rules.specs.Tile.{IsTile, TileRecord}
 use Rattle.mvt_engine.specs.AdviceText.{advice_line}
 use Rattle.mvt_engine.specs.declared.engine.Outcome.{Outcome}
 use Rattle.mvt_gate.specs.Check.{IsCheckAnswerBy}

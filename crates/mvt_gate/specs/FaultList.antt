@@ -1,13 +1,12 @@
 -- The list of a tile's faults: one of each layer and of each feature that has any, its first, or one that is found quickly.
 use Rattle.std.specs.Prelude.{◌≡◌, ◌⊎◌, ℕ, List, Some, slice_get}
-use Rattle.mvt_confirm.specs.Feature.{IsFeatureIn}
-use Rattle.mvt_confirm.specs.Shows.{ShowsBy}
+use Rattle.mvt_rules.specs.Shows.{IsFeatureIn, ShowsBy}
 use Rattle.mvt_fault.specs.Place.{ComesFirst, place_of}
 use Rattle.mvt_fault.specs.declared.fault.Fault.{Fault}
 use Rattle.mvt_fault.specs.declared.fault.Fault.TheVariants.{Wire, Version, Name, Tag, Command, Ring, Meeting, Outside, HoleInHole, InPolygon}
 use Rattle.mvt_fault.specs.declared.profile.Profile.{Profile}
 use Rattle.mvt_tile.specs.FirstFaults.{AreInOrder, OneOf}
-use Rattle.mvt_wire.specs.Tile.{FeatureRecord, LayerRecord}
+use Rattle.mvt_rules.specs.Tile.{FeatureRecord, LayerRecord}
 use Rattle.mvt_gate.specs.Quick.{HasNoMeeting, IsFreeBy}
 use Rattle.mvt_gate.specs.declared.quick.Search.{Search}
 use Rattle.mvt_gate.specs.declared.quick.Search.TheVariants.{Least, Quick}

@@ -11,7 +11,7 @@ pub use Rattle.mvt_fault.specs.Place
 pub use Rattle.mvt_fault.specs.Text
 pub use Rattle.mvt_wire.specs.Field
 pub use Rattle.mvt_wire.specs.Message
-pub use Rattle.mvt_wire.specs.Tile
+pub use Rattle.mvt_rules.specs.Tile
 pub mod Advice
 pub mod Calls
 pub mod Check

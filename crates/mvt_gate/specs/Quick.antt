@@ -1,8 +1,8 @@
 -- The faults that can be found quickly, whatever the tile: the first one; or, where polygons are kept apart and edges of a
 -- feature meet wrongly, any meeting of them.
 use Rattle.std.specs.Prelude.{ℕ, List}
-use Rattle.mvt_confirm.specs.Shows.{ShowsBy}
-use Rattle.mvt_confirm.specs.Valid.{AreAllApart}
+use Rattle.mvt_rules.specs.Shows.{ShowsBy}
+use Rattle.mvt_rules.specs.Parts.Rings.{AreAllApart}
 use Rattle.mvt_fault.specs.declared.fault.Fault.{Fault}
 use Rattle.mvt_fault.specs.declared.fault.Fault.TheVariants.{Meeting}
 use Rattle.mvt_fault.specs.declared.profile.Profile.{Profile}
@@ -10,7 +10,7 @@ use Rattle.mvt_fault.specs.declared.profile.Profile.TheVariants as profiles
 use Rattle.mvt_plane.specs.FeatureGeometry.{HasRings}
 use Rattle.mvt_plane.specs.Position.{Position}
 use Rattle.mvt_tile.specs.FreeFaults.{IsLeastOr}
-use Rattle.mvt_wire.specs.Tile.{FeatureRecord}
+use Rattle.mvt_rules.specs.Tile.{FeatureRecord}
 use Rattle.mvt_gate.specs.declared.quick.Search.{Search}
 use Rattle.mvt_gate.specs.declared.quick.Search.TheVariants.{Least, Quick}
 

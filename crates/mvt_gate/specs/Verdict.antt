@@ -1,7 +1,7 @@
 -- What the gate says of a tile's bytes.
 use Rattle.std.specs.Prelude.{ℕ, List}
-use Rattle.mvt_confirm.specs.Shows.{ShowsBy}
-use Rattle.mvt_confirm.specs.Valid.{ValidBy}
+use Rattle.mvt_rules.specs.Shows.{ShowsBy}
+use Rattle.mvt_rules.specs.Valid.{ValidBy}
 use Rattle.mvt_fault.specs.Place.{IsLeast}
 use Rattle.mvt_fault.specs.declared.profile.Profile.{Profile}
 use Rattle.mvt_fault.specs.declared.profile.Profile.TheVariants.{Polygon}

@@ -1,8 +1,8 @@
 //! The promise of the gate as one contract: what the judge and the separate checker say of the same
 //! bytes.
 ghost use Rattle.std.specs.Prelude.{◌≡◌, ◌↔◌, IfOk, IsTrue};
-ghost use Rattle.mvt_confirm.specs.Shows.{Shows, ShowsBy};
-ghost use Rattle.mvt_confirm.specs.Valid.{Valid, ValidBy};
+ghost use Rattle.mvt_rules.specs.Shows.{Shows, ShowsBy};
+ghost use Rattle.mvt_rules.specs.Valid.{Valid, ValidBy};
 ghost use Rattle.mvt_fault.specs.Place.{IsLeast};
 ghost use Rattle.mvt_fault.specs.declared.fault.Fault.{Fault};
 

@@ -1,12 +1,12 @@
 //! All faults of a tile: the first one of each layer and of each feature that has any.
 ghost use Rattle.std.specs.Prelude.{◌≡◌, ◌↔◌, ℕ, [], ◌∷◌, IfOk, Some, slice_get};
-ghost use Rattle.mvt_confirm.specs.Shows.{ShowsBy};
-ghost use Rattle.mvt_confirm.specs.Valid.{ValidBy};
+ghost use Rattle.mvt_rules.specs.Shows.{ShowsBy};
+ghost use Rattle.mvt_rules.specs.Valid.{ValidBy};
 ghost use Rattle.mvt_fault.specs.Place.{IsLeast, place_of};
-ghost use Rattle.mvt_fault.specs.TrueFaults.{IsWireFault};
+ghost use Rattle.mvt_rules.specs.Parts.TrueFaults.{IsWireFault};
 ghost use Rattle.mvt_fault.specs.declared.fault.Fault.{Fault};
 ghost use Rattle.mvt_tile.specs.RuleFaults.{IsAfterTags};
-ghost use Rattle.mvt_wire.specs.Tile.{FeatureRecord};
+ghost use Rattle.mvt_rules.specs.Tile.{FeatureRecord};
 ghost use Rattle.mvt_gate.specs.Calls.Faults.{AreFoundBy};
 ghost use Rattle.mvt_gate.specs.FaultList.{AreFaultsFor};
 ghost use Rattle.mvt_gate.specs.Verdict.{IsQuickVerdictBy, IsVerdictFor};

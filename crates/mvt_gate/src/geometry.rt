@@ -1,7 +1,7 @@
 //! The rule on the geometry of features.
 ghost use Rattle.std.specs.Prelude.{◌≡◌, None, IfOk, IfNone, IfSome};
-ghost use Rattle.mvt_confirm.specs.Geometry.{IsFaultOfGeometryBy};
-ghost use Rattle.mvt_confirm.specs.Valid.{IsValidGeometryBy};
+ghost use Rattle.mvt_rules.specs.Parts.Geometry.{IsFaultOfGeometryBy};
+ghost use Rattle.mvt_rules.specs.Valid.{IsValidGeometryBy};
 ghost use Rattle.mvt_fault.specs.declared.fault.Fault.{Fault};
 ghost use Rattle.mvt_fault.specs.declared.profile.Profile.{Profile};
 ghost use Rattle.mvt_fault.specs.declared.profile.Profile.TheVariants as profiles;
@@ -10,7 +10,7 @@ ghost use Rattle.mvt_plane.specs.FeatureGeometry.{HasFigure, type_number};
 ghost use Rattle.mvt_tile.specs.FeatureBytes.{Shows};
 ghost use Rattle.mvt_tile.specs.FreeFaults.{IsLeastOr};
 ghost use Rattle.mvt_tile.specs.View.{kind_number};
-ghost use Rattle.mvt_wire.specs.Tile.{FeatureRecord};
+ghost use Rattle.mvt_rules.specs.Tile.{FeatureRecord};
 ghost use Rattle.mvt_gate.specs.Quick.{IsFreeFor};
 ghost use Rattle.mvt_gate.specs.declared.quick.Search.TheVariants as searches;
 

@@ -2,8 +2,8 @@
 //! `check`, with advice or without, of `dump` and of `confirm`; but of the meetings of edges in one
 //! polygon `check` may name any. And what a quick verdict and a list say of all faults.
 ghost use Rattle.std.specs.Prelude.{◌≡◌, ◌↔◌, ◌⊎◌, ◌++◌, ℕ, List, Some, slice_get, take};
-ghost use Rattle.mvt_confirm.specs.Shows.{ShowsBy};
-ghost use Rattle.mvt_confirm.specs.Valid.{ValidBy};
+ghost use Rattle.mvt_rules.specs.Shows.{ShowsBy};
+ghost use Rattle.mvt_rules.specs.Valid.{ValidBy};
 ghost use Rattle.mvt_fault.specs.Place.{AreMeetingsInOne, ComesFirst, IsLeast, place_of};
 ghost use Rattle.mvt_fault.specs.declared.fault.Fault.{Fault};
 ghost use Rattle.mvt_fault.specs.declared.profile.Profile.{Profile};

@@ -1,13 +1,14 @@
 //! The first fault of the rings of one feature, and of its polygons one after another (Mapbox
 //! Vector Tile Specification 2.1, section 4.3.4.4).
 ghost use Rattle.std.specs.Prelude.{◌≡◌, ℕ, ◌≤◌, List, length, IfOk, IfNone, IfSome};
-ghost use Rattle.mvt_confirm.specs.PolygonFault.{IsPolygonOf};
-ghost use Rattle.mvt_confirm.specs.Valid.{AreValidRings, AreValidRingsBy, IsValidPolygon};
+ghost use Rattle.mvt_rules.specs.PolygonFault.{IsPolygonOf};
+ghost use Rattle.mvt_rules.specs.Parts.ByPolygon.{AreValidRings, IsValidPolygon};
+ghost use Rattle.mvt_rules.specs.Valid.{AreValidRingsBy};
 ghost use Rattle.mvt_fault.specs.declared.profile.Profile.TheVariants.{Polygon};
 ghost use Rattle.mvt_plane.specs.Commands.Figure.{polygon};
 ghost use Rattle.mvt_plane.specs.FeatureGeometry.{HasRings, type_number};
-ghost use Rattle.mvt_plane.specs.Geometry.Ring.{ArePolygonRings};
-ghost use Rattle.mvt_polygon.specs.Rings.{rings_of, AreProperRings};
+ghost use Rattle.mvt_sweep.specs.Rings.{rings_of, AreProperRings};
+ghost use Rattle.mvt_rules.specs.Ring.{ArePolygonRings};
 ghost use Rattle.mvt_gate.specs.Calls.Polygons.{IsFirstOfRings, IsFirstOfRingsFor, AreValidBefore, AreWithin, IsRingWithin, fault_of_hole, fault_of_meeting, rings_at};
 
 mod apart;

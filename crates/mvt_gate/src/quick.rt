@@ -1,13 +1,13 @@
 //! The verdict whose work is bounded also where polygons of a feature cross.
 ghost use Rattle.std.specs.Prelude.{◌≡◌, ◌↔◌, IfNone, IfOk, IfSome};
-ghost use Rattle.mvt_confirm.specs.Geometry.{IsFaultOfGeometryBy};
-ghost use Rattle.mvt_confirm.specs.Shows.{ShowsBy};
-ghost use Rattle.mvt_confirm.specs.Valid.{IsValidGeometryBy, ValidBy};
+ghost use Rattle.mvt_rules.specs.Parts.Geometry.{IsFaultOfGeometryBy};
+ghost use Rattle.mvt_rules.specs.Shows.{ShowsBy};
+ghost use Rattle.mvt_rules.specs.Valid.{IsValidGeometryBy, ValidBy};
 ghost use Rattle.mvt_fault.specs.declared.fault.Fault.{Fault};
 ghost use Rattle.mvt_fault.specs.declared.profile.Profile.TheVariants as profiles;
 ghost use Rattle.mvt_tile.specs.FreeFaults.{IsLeastOr};
 ghost use Rattle.mvt_tile.specs.RuleFaults.{BreaksAnyRule, KeepsRules};
-ghost use Rattle.mvt_wire.specs.Tile.{IsTile, TileRecord};
+ghost use Rattle.mvt_rules.specs.Tile.{IsTile, TileRecord};
 ghost use Rattle.mvt_gate.specs.Quick.{IsFreeBy};
 ghost use Rattle.mvt_gate.specs.Verdict.{IsQuickVerdictBy, IsVerdictFor};
 ghost use Rattle.mvt_gate.specs.declared.verdict.Verdict.{Verdict};

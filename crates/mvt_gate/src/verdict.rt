@@ -1,12 +1,12 @@
 //! The verdict on bytes: they are a valid tile, or this is their first fault.
 ghost use Rattle.std.specs.Prelude.{◌≡◌, IfNone, IfOk, IfSome};
-ghost use Rattle.mvt_confirm.specs.Geometry.{IsFaultOfGeometryBy};
-ghost use Rattle.mvt_confirm.specs.Shows.{Shows, ShowsBy};
-ghost use Rattle.mvt_confirm.specs.Valid.{IsValidGeometryBy, Valid, ValidBy};
+ghost use Rattle.mvt_rules.specs.Parts.Geometry.{IsFaultOfGeometryBy};
+ghost use Rattle.mvt_rules.specs.Shows.{Shows, ShowsBy};
+ghost use Rattle.mvt_rules.specs.Valid.{IsValidGeometryBy, Valid, ValidBy};
 ghost use Rattle.mvt_fault.specs.Place.{IsLeast};
 ghost use Rattle.mvt_fault.specs.declared.fault.Fault.{Fault};
 ghost use Rattle.mvt_tile.specs.RuleFaults.{BreaksAnyRule, KeepsRules};
-ghost use Rattle.mvt_wire.specs.Tile.{IsTile, TileRecord};
+ghost use Rattle.mvt_rules.specs.Tile.{IsTile, TileRecord};
 ghost use Rattle.mvt_gate.specs.Verdict.{IsVerdict, IsVerdictBy};
 ghost use Rattle.mvt_gate.specs.declared.verdict.Verdict.{Verdict};
 

@@ -3,7 +3,7 @@ use Rattle.std.proofs.Common.{◌≡◌, ℕ, zero, suc, ◌+◌, ◌≤◌, inl
 use Rattle.std.proofs.lemmas.List.{length_push, append-nil, drop_all, drop_more}
 use Rattle.mvt_plane.specs.Commands.Figure.{close_path, line_to, move_to, command_integer, cursor, path, paths, steps, zigzag}
 use Rattle.mvt_plane.specs.Position.{Position, IsPosition, origin}
-use Rattle.mvt_polygon.proofs.Chains.ChainParts.{in_longer}
+use Rattle.mvt_sweep.proofs.Chains.ChainParts.{in_longer}
 use Rattle.mvt_mend.specs.Calls.Pen.{AreWithin, IsCommandAt, IsStepAt, AreStepsDrawn, IsRingDrawn}
 use Rattle.mvt_mend.specs.Loose.{DrawLoosely}
 use Rattle.mvt_mend.specs.declared.loose.pen.Pen.{Pen}

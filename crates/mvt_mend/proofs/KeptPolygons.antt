@@ -5,12 +5,13 @@ use Rattle.std.proofs.lemmas.Int.{ints}
 use Rattle.std.proofs.lemmas.List.{take_more, take_all}
 use Rattle.std.proofs.lemmas.Option.{same_Some, get_or_from_slice_get, slice_get_within, slice_get-get_or}
 use Rattle.std.specs.declared.alloc.Global.{Global}
-use Rattle.mvt_plane.specs.Geometry.Polygon.{IsExterior, PolygonRings, IsPolygon}
-use Rattle.mvt_plane.specs.Geometry.Ring.{HasNoArea, doubled_area}
+use Rattle.mvt_rules.specs.Polygon.{IsExterior, PolygonRings, IsPolygon}
+use Rattle.mvt_rules.specs.Ring.{HasNoArea}
+use Rattle.mvt_plane.specs.Geometry.Ring.{doubled_area}
 use Rattle.mvt_plane.specs.Position.{Position}
-use Rattle.mvt_polygon.specs.Rings.{rings_of}
-use Rattle.mvt_polygon.proofs.Placed.AddedPassings.{part_read}
-use Rattle.mvt_polygon.proofs.Placed.PolygonList.{is_exterior}
+use Rattle.mvt_sweep.specs.Rings.{rings_of}
+use Rattle.mvt_feature.proofs.Placed.AddedPassings.{part_read}
+use Rattle.mvt_polygon.proofs.PolygonList.{is_exterior}
 use Rattle.mvt_mend.specs.Calls.Judged.{AreJudged, IsFoundFrom}
 use Rattle.mvt_mend.specs.Kept.{AreKept, BeginWithExterior, IsRightPolygon, IsSamePolygon}
 

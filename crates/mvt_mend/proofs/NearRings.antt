@@ -1,7 +1,7 @@
 -- Vertices that are near other rings.
 use Rattle.std.proofs.Common.{◌≡◌, ℕ, List, slice_get, Some, sym, ◌∙◌, subst}
 use Rattle.std.proofs.lemmas.Option.{same_Some}
-use Rattle.mvt_plane.specs.Geometry.Nesting.{IsVertexOf}
+use Rattle.mvt_rules.specs.Nesting.{IsVertexOf}
 use Rattle.mvt_plane.specs.Geometry.Ring.{edges}
 use Rattle.mvt_plane.specs.Position.{Position}
 use Rattle.mvt_plane.specs.declared.geometry.edge.Edge.{Edge}

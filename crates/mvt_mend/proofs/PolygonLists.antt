@@ -3,11 +3,11 @@ use Rattle.std.proofs.Common.{◌≡◌, ℕ, suc, ◌<◌, ◌≤◌, ◌⊎◌
 use Rattle.std.proofs.lemmas.Bool.{cases_lt}
 use Rattle.std.proofs.lemmas.List.{length_push}
 use Rattle.mvt_plane.specs.Position.{Position}
-use Rattle.mvt_plane.specs.Geometry.Polygon.{IsExterior, NoExterior, IsExteriorOf, first, next, PolygonRings, IsPolygon}
-use Rattle.mvt_plane.proofs.Rings.SamePolygons.{exterior_of_polygon, one_polygon, polygon_begins_within}
+use Rattle.mvt_rules.specs.Polygon.{IsExterior, NoExterior, IsExteriorOf, first, next, PolygonRings, IsPolygon}
+use Rattle.mvt_rules.proofs.Rings.SamePolygons.{exterior_of_polygon, one_polygon, polygon_begins_within}
 use Rattle.mvt_polygon.specs.Polygons.{ArePolygons}
-use Rattle.mvt_polygon.proofs.Chains.ChainParts.{in_longer}
-use Rattle.mvt_polygon.proofs.Placed.PolygonList.{stays, is_last, IsListed}
+use Rattle.mvt_sweep.proofs.Chains.ChainParts.{in_longer}
+use Rattle.mvt_polygon.proofs.PolygonList.{stays, is_last, IsListed}
 
 -- The polygons of the rings before one are listed, and that one begins the next polygon, if there is one. The first
 -- begins at a ring before which there is no exterior.

@@ -1,32 +1,31 @@
 -- Polygons that keep all rules by themselves, and what shows that one doesn't.
-use Rattle.std.proofs.Common.{◌≡◌, ◌≢◌, ℕ, ◌+◌, ◌-◌, ◌<◌, inl, inr, Bool, true, false, IsTrue, List, [], ◌∷◌, ◌++◌, length, slice_get, slice_range, Some, Vec, refl, sym, ◌∙◌, ap, subst, arith}
+use Rattle.std.proofs.Common.{◌≡◌, ℕ, ◌+◌, ◌-◌, ◌<◌, inl, inr, Bool, true, false, List, [], ◌∷◌, ◌++◌, length, slice_get, slice_range, Some, Vec, refl, sym, ◌∙◌, ap, subst, arith}
 use Rattle.std.proofs.lemmas.List.{length_push}
-use Rattle.std.proofs.lemmas.Option.{same_Some, slice_get_within}
+use Rattle.std.proofs.lemmas.Option.{slice_get_within}
 use Rattle.std.specs.declared.alloc.Global.{Global}
-use Rattle.mvt_confirm.specs.Valid.{AreValidRings, IsValidPolygon}
-use Rattle.mvt_plane.specs.Geometry.Part.{part_of}
-use Rattle.mvt_plane.specs.Geometry.Polygon.{IsExterior, first, PolygonRings, IsPolygon, IsRingOf}
-use Rattle.mvt_plane.specs.Geometry.Ring.{edges, next_round, ArePolygonRings, ends_at_its_beginning, no_area, begins_with_hole}
+use Rattle.mvt_rules.specs.Parts.ByPolygon.{AreValidRings, IsValidPolygon}
+use Rattle.mvt_rules.specs.Parts.Rings.{part_of}
+use Rattle.mvt_rules.specs.Polygon.{IsExterior, first, PolygonRings, IsPolygon, IsRingOf}
+use Rattle.mvt_rules.specs.Ring.{ArePolygonRings, ends_at_its_beginning, no_area, begins_with_hole}
 use Rattle.mvt_plane.specs.Position.{Position}
-use Rattle.mvt_plane.specs.declared.geometry.edge.Edge.{Edge}
-use Rattle.mvt_plane.proofs.Rings.RingEdges.{ends_of_edge}
-use Rattle.mvt_plane.proofs.Rings.PartsOfRings.{count_of_part, ring_of_part}
-use Rattle.mvt_plane.proofs.Rings.PolygonNumbers.{none_in_nothing}
-use Rattle.mvt_plane.proofs.Rings.SamePolygons.{exterior_of_polygon, same_polygon}
-use Rattle.mvt_polygon.specs.Meeting.{first_of, second_of}
+use Rattle.mvt_sweep.specs.Meeting.{first_of, second_of}
+use Rattle.mvt_rules.proofs.Rings.PartsOfRings.{count_of_part, ring_of_part}
+use Rattle.mvt_rules.proofs.Rings.PolygonNumbers.{none_in_nothing}
+use Rattle.mvt_rules.proofs.Rings.SamePolygons.{exterior_of_polygon, same_polygon}
 use Rattle.mvt_polygon.specs.Nesting.{one_polygon, IsNestFault, outside, in_hole}
 use Rattle.mvt_polygon.specs.PolygonFault.{IsPolygonAnswer}
 use Rattle.mvt_polygon.specs.Polygons.{ArePolygons}
-use Rattle.mvt_polygon.specs.Rings.{rings_of, AreProperRings, IsFirstRingFault}
+use Rattle.mvt_sweep.specs.Rings.{rings_of, AreProperRings}
+use Rattle.mvt_polygon.specs.RingFault.{IsFirstRingFault}
 use Rattle.mvt_polygon.specs.declared.nesting.NestFault.{NestFault}
 use Rattle.mvt_polygon.specs.declared.polygon.PolygonFault.{PolygonFault}
 use Rattle.mvt_polygon.specs.declared.polygon.PolygonFault.TheVariants.{Meeting, Nesting}
 use Rattle.mvt_polygon.specs.declared.rings.RingFault.{RingFault}
-use Rattle.mvt_polygon.proofs.Chains.ChainParts.{in_longer}
-use Rattle.mvt_polygon.proofs.Holes.ApartFaults.{ends_within}
-use Rattle.mvt_polygon.proofs.Placed.AddedPassings.{part_read}
-use Rattle.mvt_polygon.proofs.Vertices.RingReads.{count_of_rings}
-use Rattle.mvt_mend.specs.Calls.Judged.{AreJudged, AreRightRings, IsProperRing, IsRightMark}
+use Rattle.mvt_sweep.proofs.Chains.ChainParts.{in_longer}
+use Rattle.mvt_polygon.proofs.ApartFaults.{ends_within}
+use Rattle.mvt_feature.proofs.Placed.AddedPassings.{part_read}
+use Rattle.mvt_sweep.proofs.Vertices.RingReads.{count_of_rings}
+use Rattle.mvt_mend.specs.Calls.Judged.{AreJudged, AreRightRings, IsRightMark}
 use Rattle.mvt_mend.specs.Kept.{IsRightPolygon}
 
 -- Faults
@@ -122,41 +121,6 @@ one_more_marked rings polygons right longer polygon it mark marked is_it shows i
         let true_mark : mark ≡ true = shows (slice_is_polygon rings polygon it is_it) right_rings in
         let both : true ≡ false = sym true_mark ∙ false_mark in
         cc both
-
--- Proper rings
-
--- an edge between two positions keeps its vertices apart
-pub apart_at : (ring : List Position) (vertex : ℕ) (edge : Edge) → slice_get (edges ring) vertex ≡ Some edge → ¬ (edge.a ≡ edge.b) → (position next : Position) → slice_get ring vertex ≡ Some position
-    → slice_get ring (next_round (length ring) vertex) ≡ Some next → position ≢ next
-apart_at ring vertex edge there apart position next here following same =
-    let ends = ends_of_edge ring vertex edge there in
-    let first : edge.a ≡ position = same_Some edge.a position (sym ends.0 ∙ here) in
-    let second : edge.b ≡ next = same_Some edge.b next (sym ends.1 ∙ following) in
-    apart (first ∙ same ∙ sym second)
-
--- one of no length doesn't
-pub not_proper_at : (ring : List Position) (vertex : ℕ) (edge : Edge) → slice_get (edges ring) vertex ≡ Some edge → edge.a ≡ edge.b → ¬ IsProperRing ring
-not_proper_at ring vertex edge there same proper =
-    let ends = ends_of_edge ring vertex edge there in
-    proper.apart vertex edge.a edge.b ends.0 ends.1 same
-
--- each of proper rings is proper
-pub ring_of_proper : (rings : List (List Position)) (number : ℕ) (ring : List Position) → AreProperRings rings → slice_get rings number ≡ Some ring → IsProperRing ring
-ring_of_proper rings number ring proper there = record {
-  several = proper.several number ring there;
-  apart = λ vertex position next here following. proper.apart number vertex ring position next there here following;
-}
-
--- and the other way round
-pub all_proper : (rings : List (List Position)) → ((number : ℕ) (ring : List Position) → slice_get rings number ≡ Some ring → IsProperRing ring) → AreProperRings rings
-all_proper rings each = record {
-  several = λ number ring there. (each number ring there).several;
-  apart = λ number vertex ring position next there here following. (each number ring there).apart vertex position next here following;
-}
-
--- what is false shows anything
-pub never : {Holds : Type 0} → IsTrue false → Holds
-never isnt = let both : false ≡ true = isnt in absurd (cc both)
 
 -- at the end all are marked
 pub all_marked : (rings : List (List Position)) (polygons : List (ℕ × ℕ)) (right : List Bool) (many : ℕ) → ArePolygons rings polygons → AreMarkedUpTo rings right many → many ≡ length polygons → AreJudged rings polygons right

@@ -1,12 +1,12 @@
 -- Polygons of rings that keep all rules by themselves, and which of them are still there among other rings (Mapbox
 -- Vector Tile Specification 2.1, section 4.3.4.4).
 use Rattle.std.specs.Prelude.{◌≡◌, ◌<◌, ℕ, List}
-use Rattle.mvt_confirm.specs.Valid.{AreValidRings}
-use Rattle.mvt_plane.specs.Geometry.Part.{part_of}
-use Rattle.mvt_plane.specs.Geometry.Polygon.{IsExterior, PolygonRings, IsPolygon}
-use Rattle.mvt_plane.specs.Geometry.Ring.{HasNoArea}
+use Rattle.mvt_rules.specs.Parts.ByPolygon.{AreValidRings}
+use Rattle.mvt_rules.specs.Parts.Rings.{part_of}
+use Rattle.mvt_rules.specs.Polygon.{IsExterior, PolygonRings, IsPolygon}
+use Rattle.mvt_rules.specs.Ring.{HasNoArea}
 use Rattle.mvt_plane.specs.Position.{Position}
-use Rattle.mvt_polygon.specs.Rings.{AreProperRings}
+use Rattle.mvt_sweep.specs.Rings.{AreProperRings}
 
 -- The first ring that has an area is an exterior. Where it is a hole, the rings may all go round the wrong way, and
 -- their areas don't tell which of them are exteriors.

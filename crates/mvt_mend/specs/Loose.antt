@@ -2,7 +2,7 @@
 -- section 4.3), but a ring may have one position or two, and a step may have no length.
 use Rattle.std.specs.Prelude.{◌≡◌, ◌≤◌, ℕ, List, length, slice_get, Some}
 use Rattle.mvt_plane.specs.Commands.Figure.{rings, spelling}
-use Rattle.mvt_plane.specs.Geometry.Nesting.{IsVertexOf}
+use Rattle.mvt_rules.specs.Nesting.{IsVertexOf}
 use Rattle.mvt_plane.specs.Position.{Position, IsPosition}
 
 -- the numbers draw these rings

@@ -1,7 +1,7 @@
 -- Positions near the edges of rings.
 use Rattle.std.specs.Prelude.{ℕ, List, ℤ, pos, neg_ℤ, ◌-ℤ◌, ◌*ℤ◌, ◌≤ℤ◌}
-use Rattle.mvt_plane.specs.Geometry.Meeting.{EdgeNumber, IsEdgeOf}
-use Rattle.mvt_plane.specs.Geometry.Nesting.{IsVertexOf}
+use Rattle.mvt_rules.specs.Meeting.{EdgeNumber, IsEdgeOf}
+use Rattle.mvt_rules.specs.Nesting.{IsVertexOf}
 use Rattle.mvt_plane.specs.Geometry.RationalPoint.{RationalPoint, LiesOn}
 use Rattle.mvt_plane.specs.Position.{Position}
 use Rattle.mvt_plane.specs.declared.geometry.edge.Edge.{Edge}

@@ -2,10 +2,10 @@
 ghost use Rattle.std.specs.Prelude.{◌≡◌, ◌<◌, ◌≤◌, ◌⊎◌, ◌↔◌, pos, ◌<ℤ◌, IfOk, IfSome, IsTrue, length, slice_range};
 ghost use Rattle.mvt_mend.specs.Calls.Judged.{AreJudged, IsFoundFrom};
 ghost use Rattle.mvt_mend.specs.Kept.{AreKept, BeginWithExterior};
-ghost use Rattle.mvt_plane.specs.Geometry.Polygon.{IsExterior, NoExterior};
+ghost use Rattle.mvt_rules.specs.Polygon.{IsExterior, NoExterior};
 ghost use Rattle.mvt_plane.specs.Geometry.Ring.{doubled_area};
 ghost use Rattle.mvt_polygon.specs.Polygons.{ArePolygons};
-ghost use Rattle.mvt_polygon.specs.Rings.{rings_of};
+ghost use Rattle.mvt_sweep.specs.Rings.{rings_of};
 
 mod right;
 

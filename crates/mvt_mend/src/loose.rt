@@ -1,7 +1,7 @@
 //! The rings that numbers draw, where a ring may have few positions and a step no length.
 ghost use Rattle.std.specs.Prelude.{IfOk, IfSome};
 ghost use Rattle.mvt_mend.specs.Loose.{DrawLoosely};
-ghost use Rattle.mvt_polygon.specs.Rings.{rings_of};
+ghost use Rattle.mvt_sweep.specs.Rings.{rings_of};
 
 mod pen;
 

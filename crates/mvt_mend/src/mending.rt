@@ -4,7 +4,7 @@ ghost use Rattle.mvt_fault.specs.declared.profile.Profile.TheVariants.{Polygon};
 ghost use Rattle.mvt_mend.specs.Calls.Judged.{AreJudged};
 ghost use Rattle.mvt_mend.specs.Kept.{AreKept, BeginWithExterior};
 ghost use Rattle.mvt_mend.specs.Near.{AreNear};
-ghost use Rattle.mvt_polygon.specs.Rings.{rings_of};
+ghost use Rattle.mvt_sweep.specs.Rings.{rings_of};
 
 mod arranged;
 mod drafts;

@@ -3,7 +3,7 @@ ghost use Rattle.std.specs.Prelude.{◌≡◌, ◌<◌, ◌≤◌, ℕ, IsTrue, 
 ghost use Rattle.mvt_mend.specs.Near.{AreNear, IsNear};
 ghost use Rattle.mvt_plane.specs.Geometry.Ring.{edges};
 ghost use Rattle.mvt_plane.specs.Position.{Position};
-ghost use Rattle.mvt_polygon.specs.Rings.{rings_of};
+ghost use Rattle.mvt_sweep.specs.Rings.{rings_of};
 
 mod close;
 pub(crate) mod edges;

@@ -7,7 +7,7 @@ use Rattle.mvt_gate.proofs.FaultListLaws.{one_of_each}
 use Rattle.mvt_gate.specs.FaultList.{of_feature, subject_of, AreFaultsFor}
 use Rattle.mvt_gate.specs.declared.quick.Search.TheVariants.{Least}
 use Rattle.mvt_tile.proofs.RuleFaults.FreeFaults.{first_by_taken}
-use Rattle.mvt_wire.specs.Tile.{TileRecord, IsTile}
+use Rattle.mvt_rules.specs.Tile.{TileRecord, IsTile}
 use Rattle.mvt_mender.proofs.MendableFaults.{later_than_tags, of_one}
 use Rattle.mvt_mender.specs.Calls.Features.{ArePlacesOf, AreInTurn, HaveFeatures, IsAt, IsInFront, MayBeMended}
 use Rattle.mvt_mender.specs.declared.place.FeaturePlace.{FeaturePlace}

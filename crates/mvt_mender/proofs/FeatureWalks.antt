@@ -2,11 +2,11 @@
 use Rattle.std.proofs.Common.{◌≡◌, ℕ, List, take, length, slice_get, Some, ◌∙◌, ap}
 use Rattle.mvt_tile.proofs.WireFaults.CleanWalk.{CleanWalk, CleanWalk-next}
 use Rattle.mvt_tile.specs.declared.feature_bytes.FeatureBytes.{FeatureBytes}
-use Rattle.mvt_wire.proofs.Parts.PairedLists.{each_there, same_length}
+use Rattle.mvt_rules.proofs.Tiles.PairedLists.{each_there, same_length}
 use Rattle.mvt_wire.proofs.Walking.{IsWalking-over}
 use Rattle.mvt_wire.specs.Field.{Entry}
-use Rattle.mvt_wire.specs.Scope.{Span, span_of, spans_of}
-use Rattle.mvt_wire.specs.Tile.{FeatureRecord, IsFeature, LayerRecord, IsLayer, TileRecord, IsTile}
+use Rattle.mvt_wire.specs.Payload.{Span, span_of, spans_of}
+use Rattle.mvt_rules.specs.Tile.{FeatureRecord, IsFeature, LayerRecord, IsLayer, TileRecord, IsTile}
 use Rattle.mvt_wire.specs.Walk.{Walk, IsOver, GivesField}
 use Rattle.mvt_mender.specs.Calls.Features.{AreFoundTo}
 use Rattle.mvt_mender.specs.declared.place.FeaturePlace.{FeaturePlace}

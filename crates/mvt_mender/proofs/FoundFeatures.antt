@@ -2,10 +2,10 @@
 use Rattle.std.proofs.Common.{◌≡◌, ◌≢◌, ℕ, ◌+◌, ◌<◌, ◌≤◌, inl, inr, List, [], ◌∷◌, ◌++◌, length, slice_get, Some, sym, ◌∙◌, ap, subst, arith, length-append}
 use Rattle.std.proofs.lemmas.Bool.{cases_order}
 use Rattle.std.proofs.lemmas.Option.{none-some, slice_get_within}
-use Rattle.mvt_confirm.proofs.Features.TileFeatures.{feature_of_this_tile}
+use Rattle.mvt_rules.proofs.Validity.TileFeatures.{feature_of_this_tile}
 use Rattle.mvt_tile.specs.declared.feature_bytes.FeatureBytes.{FeatureBytes}
 use Rattle.mvt_wire.proofs.Parts.EmbeddedSpans.{slice_get-push}
-use Rattle.mvt_wire.specs.Tile.{LayerRecord, TileRecord, IsTile}
+use Rattle.mvt_rules.specs.Tile.{LayerRecord, TileRecord, IsTile}
 use Rattle.mvt_mender.proofs.Lists.{present}
 use Rattle.mvt_mender.specs.Calls.Features.{AreAllFound, AreFoundTo, AreInTurn, HaveFeatures, IsInFront, StandsAt}
 use Rattle.mvt_mender.specs.declared.place.FeaturePlace.{FeaturePlace}

@@ -4,8 +4,8 @@ use Rattle.mvt_tile.proofs.WireFaults.CleanWalk.{CleanWalk-more, CleanWalk-other
 use Rattle.mvt_tile.specs.FeatureBytes.{Shows}
 use Rattle.mvt_tile.specs.declared.feature_bytes.FeatureBytes.{FeatureBytes}
 use Rattle.mvt_wire.specs.Field.{Entry}
-use Rattle.mvt_wire.specs.Scope.{Span, span_of}
-use Rattle.mvt_wire.specs.Tile.{FeatureRecord, IsFeature, LayerRecord, IsLayer, TileRecord, IsTile}
+use Rattle.mvt_wire.specs.Payload.{Span, span_of}
+use Rattle.mvt_rules.specs.Tile.{FeatureRecord, IsFeature, LayerRecord, IsLayer, TileRecord, IsTile}
 use Rattle.mvt_wire.specs.Walk.{Walk, IsOver, GivesField}
 use Rattle.mvt_mender.proofs.FeatureWalks.{IsLayerWalk, IsTileWalk, all_features, all_layers, next_feature, next_layer}
 use Rattle.mvt_mender.proofs.FoundFeatures.{found_all, found_kept, found_layer, found_pushed}

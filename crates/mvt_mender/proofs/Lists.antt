@@ -1,7 +1,7 @@
 -- Members of lists, by their numbers.
 use Rattle.std.proofs.Common.{◌≡◌, ℕ, suc, ◌<◌, ◌≤◌, ◌⊎◌, inl, inr, List, [], ◌∷◌, length, slice_get, Some, refl, arith}
 use Rattle.std.proofs.lemmas.Option.{slice_get_cases}
-use Rattle.mvt_wire.specs.Tile.{Each}
+use Rattle.mvt_rules.specs.Tile.{Each}
 
 -- within a list is a member
 pub present : {A : Type 0} (all : List A) (at : ℕ) → at < length all → (it : A) × (slice_get all at ≡ Some it)

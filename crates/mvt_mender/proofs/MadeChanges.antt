@@ -3,7 +3,7 @@ use Rattle.std.proofs.Common.{◌≡◌, ℕ, ◌+◌, ◌<◌, inl, inr, Bool, 
 use Rattle.std.proofs.lemmas.Bool.{cases_lt}
 use Rattle.std.proofs.lemmas.Option.{same_Some, slice_get-get_or, slice_get_within}
 use Rattle.std.specs.declared.alloc.Global.{Global}
-use Rattle.mvt_confirm.specs.Feature.{IsFeatureIn}
+use Rattle.mvt_rules.specs.Shows.{IsFeatureIn}
 use Rattle.mvt_fault.specs.declared.fault.Fault.{Fault}
 use Rattle.mvt_fault.specs.declared.profile.Profile.{Profile}
 use Rattle.mvt_gate.specs.FaultList.{AreFaultsFor, of_feature}
@@ -16,7 +16,7 @@ use Rattle.mvt_tile.specs.FeatureBytes.{Shows}
 use Rattle.mvt_tile.specs.declared.feature_bytes.FeatureBytes.{FeatureBytes}
 use Rattle.mvt_wire.proofs.Encoding.Payloads.{slice_get-last}
 use Rattle.mvt_wire.proofs.Parts.EmbeddedSpans.{slice_get-some}
-use Rattle.mvt_wire.specs.Tile.{Each, FeatureRecord}
+use Rattle.mvt_rules.specs.Tile.{Each, FeatureRecord}
 use Rattle.mvt_mender.proofs.Lists.{each_by_number, present}
 use Rattle.mvt_mender.specs.Calls.Features.{AreAllFound, AreInTurn, AreOfPolygons, ArePlacesOf, IsInFront, StandsAt}
 use Rattle.mvt_mender.specs.Calls.Steps.{AreMade, IsMadeAt, IsMadeOf}

@@ -1,13 +1,12 @@
 -- Of one feature either all faults are mended, or its first one isn't.
 use Rattle.std.proofs.Common.{◌≡◌, ℕ, ◌≤◌, ◌⊎◌, inl, inr, List, [], ◌∷◌, refl, sym, ◌∙◌, subst, arith}
-use Rattle.mvt_confirm.proofs.Features.TileFeatures.{one_feature}
-use Rattle.mvt_confirm.proofs.Validity.ShownParts.{shown_by_parts}
-use Rattle.mvt_confirm.specs.Feature.{IsFeatureIn}
-use Rattle.mvt_confirm.specs.Geometry.{IsFaultOfGeometryBy, command, ring, meeting, outside, hole_in_hole, in_polygon}
-use Rattle.mvt_confirm.specs.Shows.{ShowsBy}
+use Rattle.mvt_rules.proofs.Validity.TileFeatures.{one_feature}
+use Rattle.mvt_rules.proofs.Validity.ShownParts.{shown_by_parts}
+use Rattle.mvt_rules.specs.Shows.{IsFeatureIn, ShowsBy}
+use Rattle.mvt_rules.specs.Parts.Geometry.{IsFaultOfGeometryBy, command, ring, meeting, outside, hole_in_hole, in_polygon}
 use Rattle.mvt_fault.specs.Code.{command_code, ring_code, tag_code}
 use Rattle.mvt_fault.specs.Place.{ComesFirst, place_of}
-use Rattle.mvt_fault.specs.TrueFaults.{IsFaultOfTags, tag}
+use Rattle.mvt_rules.specs.Parts.TrueFaults.{IsFaultOfTags, tag}
 use Rattle.mvt_fault.specs.declared.command.CommandCode.{CommandCode}
 use Rattle.mvt_fault.specs.declared.fault.Fault.{Fault}
 use Rattle.mvt_fault.specs.declared.fault.Fault.TheVariants.{Wire, Version, Name, Tag, Command, Ring, Meeting, Outside, HoleInHole, InPolygon}
@@ -21,8 +20,8 @@ use Rattle.mvt_plane.specs.Commands.Figure.{GeometryType, polygon, rings, Spells
 use Rattle.mvt_plane.specs.FeatureGeometry.{type_number, BreaksCommands, HasRings}
 use Rattle.mvt_plane.specs.Position.{Position}
 use Rattle.mvt_tile.specs.RuleFaults.{IsAfterTags}
-use Rattle.mvt_wire.specs.Rules.{IsFeatureOf}
-use Rattle.mvt_wire.specs.Tile.{FeatureRecord, LayerRecord}
+use Rattle.mvt_rules.specs.Rules.{IsFeatureOf}
+use Rattle.mvt_rules.specs.Tile.{FeatureRecord, LayerRecord}
 use Rattle.mvt_mender.specs.Calls.Features.{MayBeMended}
 use Rattle.mvt_mender.specs.Mendable.{MayDrawRings, IsOfPolygons, IsMendable}
 

@@ -1,8 +1,8 @@
 -- The answers of mending.
 use Rattle.std.proofs.Common.{◌≡◌, ◌≢◌, ℕ, ◌<◌, Bool, false, List, [], ◌∷◌, length, slice_get, Some, refl, sym, subst, arith}
 use Rattle.std.proofs.lemmas.Option.{slice_get_within}
-use Rattle.mvt_confirm.proofs.Validity.TrueFaults.{shown_is_invalid}
-use Rattle.mvt_confirm.specs.Valid.{ValidBy}
+use Rattle.mvt_rules.proofs.Validity.TrueFaults.{shown_is_invalid}
+use Rattle.mvt_rules.specs.Valid.{ValidBy}
 use Rattle.mvt_fault.specs.declared.fault.Fault.{Fault}
 use Rattle.mvt_fault.specs.declared.profile.Profile.{Profile}
 use Rattle.mvt_gate.specs.FaultList.{AreFaultsFor}
@@ -11,7 +11,7 @@ use Rattle.mvt_splice.proofs.SplicedTiles.ValidSplices.{spliced_is_valid}
 use Rattle.mvt_splice.specs.Splice.{AreInOrder, IsSpliced}
 use Rattle.mvt_splice.specs.declared.change.Change.{Change}
 use Rattle.mvt_tile.specs.declared.feature_bytes.FeatureBytes.{FeatureBytes}
-use Rattle.mvt_wire.specs.Tile.{Each, TileRecord, IsTile}
+use Rattle.mvt_rules.specs.Tile.{Each, TileRecord, IsTile}
 use Rattle.mvt_mender.proofs.FaultPlaces.{in_turn, is_tile}
 use Rattle.mvt_mender.proofs.Lists.{present}
 use Rattle.mvt_mender.proofs.MadeChanges.{each_told, made_in_order}

@@ -1,7 +1,7 @@
 -- What follows of an answer of mending.
 use Rattle.std.proofs.Common.{◌≡◌, ℕ, inl, inr, Bool, true, List, refl}
-use Rattle.mvt_confirm.proofs.Validity.TrueFaults.{shown_is_invalid}
-use Rattle.mvt_confirm.specs.Valid.{ValidBy}
+use Rattle.mvt_rules.proofs.Validity.TrueFaults.{shown_is_invalid}
+use Rattle.mvt_rules.specs.Valid.{ValidBy}
 use Rattle.mvt_fault.specs.declared.fault.Fault.{Fault}
 use Rattle.mvt_fault.specs.declared.profile.Profile.{Profile}
 use Rattle.mvt_mender.specs.Mendable.{AreAllMendable}

@@ -8,7 +8,7 @@ use Rattle.mvt_mend.specs.Kept.{AreKept, BeginWithExterior}
 use Rattle.mvt_mend.specs.Loose.{DrawLoosely}
 use Rattle.mvt_mend.specs.Near.{AreNear}
 use Rattle.mvt_plane.specs.Position.{Position}
-use Rattle.mvt_wire.specs.Tile.{FeatureRecord}
+use Rattle.mvt_rules.specs.Tile.{FeatureRecord}
 use Rattle.mvt_mender.specs.Calls.Steps.{IsNewGeometry}
 use Rattle.mvt_mender.specs.Changed.{IsMendedGeometry}
 use Rattle.mvt_mender.specs.declared.feature.NewGeometry.{NewGeometry}

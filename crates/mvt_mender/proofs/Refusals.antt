@@ -13,7 +13,7 @@ use Rattle.mvt_plane.specs.FeatureGeometry.{type_number}
 use Rattle.mvt_tile.proofs.RuleFaults.FreeFaults.{first_by_taken}
 use Rattle.mvt_tile.specs.FeatureBytes.{Shows}
 use Rattle.mvt_tile.specs.declared.feature_bytes.FeatureBytes.{FeatureBytes}
-use Rattle.mvt_wire.specs.Tile.{FeatureRecord}
+use Rattle.mvt_rules.specs.Tile.{FeatureRecord}
 use Rattle.mvt_mender.proofs.Lists.{present, within_or_end}
 use Rattle.mvt_mender.proofs.MendableFaults.{all_of_feature, is_mendable, kind_is_polygon, may_be}
 use Rattle.mvt_mender.specs.Calls.Features.{AreAllFound, AreOfPolygons, ArePlacesOf, IsFirstOther}

@@ -2,9 +2,8 @@
 use Rattle.std.proofs.Common.{◌≡◌, ℕ, ◌<◌, Bool, inl, inr, List, length, Option, Vec, sym, ◌∙◌, ap, subst, arith}
 use Rattle.std.proofs.lemmas.Option.{same_Some, slice_get_within}
 use Rattle.std.specs.declared.alloc.Global.{Global}
-use Rattle.mvt_confirm.proofs.Features.TileFeatures.{one_feature}
-use Rattle.mvt_confirm.specs.Feature.{IsFeatureIn}
-use Rattle.mvt_confirm.specs.Shows.{ShowsBy}
+use Rattle.mvt_rules.proofs.Validity.TileFeatures.{one_feature}
+use Rattle.mvt_rules.specs.Shows.{IsFeatureIn, ShowsBy}
 use Rattle.mvt_fault.specs.declared.fault.Fault.{Fault}
 use Rattle.mvt_fault.specs.declared.fault.Fault.TheVariants.{Wire, Version, Name, Tag, Command, Ring, Meeting, Outside, HoleInHole, InPolygon}
 use Rattle.mvt_fault.specs.declared.profile.Profile.{Profile}
@@ -19,8 +18,8 @@ use Rattle.mvt_splice.specs.SplicedTile.{IsValidAfter, IsValidOnceSpliced}
 use Rattle.mvt_splice.specs.declared.change.Change.{Change}
 use Rattle.mvt_tile.specs.FeatureBytes.{Shows}
 use Rattle.mvt_tile.specs.declared.feature_bytes.FeatureBytes.{FeatureBytes}
-use Rattle.mvt_wire.specs.Rules.{IsFeatureOf}
-use Rattle.mvt_wire.specs.Tile.{FeatureRecord, LayerRecord, TileRecord, IsTile}
+use Rattle.mvt_rules.specs.Rules.{IsFeatureOf}
+use Rattle.mvt_rules.specs.Tile.{FeatureRecord, LayerRecord, TileRecord, IsTile}
 use Rattle.mvt_mender.proofs.Fates.{HasChange, HasNone, change_or_none}
 use Rattle.mvt_mender.proofs.Lists.{present}
 use Rattle.mvt_mender.proofs.MadeChanges.{made_here}

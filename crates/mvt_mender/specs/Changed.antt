@@ -1,9 +1,8 @@
 -- What became of a feature that had a fault.
 use Rattle.std.specs.Prelude.{◌≡◌, ℕ, Bool, true, List, Option, Some, None, Vec}
 use Rattle.std.specs.declared.alloc.Global.{Global}
-use Rattle.mvt_confirm.specs.Feature.{IsFeatureIn}
-use Rattle.mvt_confirm.specs.Shows.{ShowsBy}
-use Rattle.mvt_confirm.specs.Valid.{AreValidRingsBy}
+use Rattle.mvt_rules.specs.Shows.{IsFeatureIn, ShowsBy}
+use Rattle.mvt_rules.specs.Valid.{AreValidRingsBy}
 use Rattle.mvt_fault.specs.declared.fault.Fault.{Fault}
 use Rattle.mvt_fault.specs.declared.profile.Profile.{Profile}
 use Rattle.mvt_fault.specs.declared.profile.Profile.TheVariants.{Polygon}
@@ -15,7 +14,7 @@ use Rattle.mvt_plane.specs.Commands.Figure.{polygon}
 use Rattle.mvt_plane.specs.FeatureGeometry.{HasRings, type_number}
 use Rattle.mvt_plane.specs.Position.{Position}
 use Rattle.mvt_splice.specs.declared.change.Change.{Change}
-use Rattle.mvt_wire.specs.Tile.{FeatureRecord, LayerRecord}
+use Rattle.mvt_rules.specs.Tile.{FeatureRecord, LayerRecord}
 use Rattle.mvt_mender.specs.Measures.{AreMeasuresOf}
 use Rattle.mvt_mender.specs.declared.mending.FeatureChange.{FeatureChange}
 use Rattle.mvt_mender.specs.declared.mending.MendedFeature.{MendedFeature}

@@ -1,6 +1,6 @@
 -- The faults that mending is for (Mapbox Vector Tile Specification 2.1, sections 4.3 and 4.3.4.4).
 use Rattle.std.specs.Prelude.{◌≡◌, ◌⊎◌, ℕ, List}
-use Rattle.mvt_confirm.specs.Shows.{OfFeature, ShowsBy}
+use Rattle.mvt_rules.specs.Shows.{OfFeature, ShowsBy}
 use Rattle.mvt_fault.specs.Code.{command_code}
 use Rattle.mvt_fault.specs.declared.command.CommandCode.{CommandCode}
 use Rattle.mvt_fault.specs.declared.fault.Fault.{Fault}

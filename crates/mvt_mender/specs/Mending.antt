@@ -1,14 +1,14 @@
 -- The answer of mending.
 use Rattle.std.specs.Prelude.{◌≡◌, ◌⊎◌, ℕ, Bool, false, List}
-use Rattle.mvt_confirm.specs.Shows.{ShowsBy}
-use Rattle.mvt_confirm.specs.Valid.{ValidBy}
+use Rattle.mvt_rules.specs.Shows.{ShowsBy}
+use Rattle.mvt_rules.specs.Valid.{ValidBy}
 use Rattle.mvt_fault.specs.Place.{IsLeast}
 use Rattle.mvt_fault.specs.declared.fault.Fault.{Fault}
 use Rattle.mvt_fault.specs.declared.profile.Profile.{Profile}
 use Rattle.mvt_gate.specs.FaultList.{IsFirstOfItsSubject}
 use Rattle.mvt_splice.specs.Splice.{AreInOrder, IsSpliced}
 use Rattle.mvt_splice.specs.declared.change.Change.{Change}
-use Rattle.mvt_wire.specs.Tile.{Each, TileRecord, IsTile}
+use Rattle.mvt_rules.specs.Tile.{Each, TileRecord, IsTile}
 use Rattle.mvt_mender.specs.Changed.{IsChangeOf}
 use Rattle.mvt_mender.specs.Mendable.{AreAllMendable, IsOther}
 use Rattle.mvt_mender.specs.declared.mending.MendedTile.{MendedTile}

@@ -1,13 +1,13 @@
 //! One feature with other rings.
 ghost use Rattle.std.specs.Prelude.{◌≡◌, Some, List, IfOk, IfSome};
-ghost use Rattle.mvt_confirm.specs.Valid.{AreValidRingsBy};
+ghost use Rattle.mvt_rules.specs.Valid.{AreValidRingsBy};
 ghost use Rattle.mvt_draw.specs.Geometry.{figure_of};
 ghost use Rattle.mvt_plane.specs.Commands.Figure.{polygon, rings};
 ghost use Rattle.mvt_plane.specs.FeatureGeometry.{HasRings, type_number};
 ghost use Rattle.mvt_plane.specs.Position.{Position};
 ghost use Rattle.mvt_tile.specs.FeatureBytes.{Shows};
-ghost use Rattle.mvt_wire.specs.Tile.{FeatureRecord};
-ghost use Rattle.mvt_polygon.specs.Rings.{rings_of};
+ghost use Rattle.mvt_sweep.specs.Rings.{rings_of};
+ghost use Rattle.mvt_rules.specs.Tile.{FeatureRecord};
 ghost use Rattle.mvt_mender.specs.Calls.Steps.{IsNewGeometry};
 ghost use Rattle.mvt_mender.specs.Changed.{IsMendedGeometry};
 

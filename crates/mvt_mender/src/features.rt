@@ -1,7 +1,7 @@
 //! The features with faults, as they stand in a tile's bytes.
 ghost use Rattle.std.specs.Prelude.{◌≡◌, ◌≢◌, ◌+◌, Some, slice_get, IfOk, IsFalse, IsTrue, OnOk};
 ghost use Rattle.mvt_wire.specs.Embedded.{Holds};
-ghost use Rattle.mvt_wire.specs.Tile.{LayerRecord, IsLayer, TileRecord, IsTile};
+ghost use Rattle.mvt_rules.specs.Tile.{LayerRecord, IsLayer, TileRecord, IsTile};
 ghost use Rattle.mvt_mender.specs.Calls.Features.{AreAllFound, AreFoundTo, AreInTurn, HaveFeatures};
 ghost use Rattle.mvt_mender.specs.declared.place.FeaturePlace.{FeaturePlace};
 

@@ -1,6 +1,6 @@
 //! What rings measure together.
 ghost use Rattle.std.specs.Prelude.{IfSome};
-ghost use Rattle.mvt_polygon.specs.Rings.{rings_of};
+ghost use Rattle.mvt_sweep.specs.Rings.{rings_of};
 ghost use Rattle.mvt_mender.specs.Measures.{AreMeasuresOf};
 
 use mvt_plane::{Point, twice_area};

@@ -6,7 +6,7 @@ ghost use Rattle.mvt_gate.specs.declared.quick.Search.TheVariants.{Least};
 ghost use Rattle.mvt_plane.specs.Commands.Figure.{polygon};
 ghost use Rattle.mvt_plane.specs.FeatureGeometry.{type_number};
 ghost use Rattle.mvt_tile.specs.FeatureBytes.{Shows};
-ghost use Rattle.mvt_wire.specs.Tile.{FeatureRecord};
+ghost use Rattle.mvt_rules.specs.Tile.{FeatureRecord};
 ghost use Rattle.mvt_mender.specs.Calls.Features.{AreAllFound, ArePlacesOf, AreOfPolygons, IsFirstOther};
 ghost use Rattle.mvt_mender.specs.Mending.{IsMendingBy};
 

@@ -1,6 +1,3 @@
--- Rings by their numbers: their edges, their areas, and the polygons that they belong to.
+-- The edges of a ring, and their areas.
 pub mod Areas
-pub mod PartsOfRings
-pub mod PolygonNumbers
 pub mod RingEdges
-pub mod SamePolygons

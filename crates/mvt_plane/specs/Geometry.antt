@@ -1,4 +1,4 @@
--- Points, edges, rings and polygons (Mapbox Vector Tile Specification 2.1, section 4.3.4).
+-- Points, edges and rings (Mapbox Vector Tile Specification 2.1, section 4.3.4).
 pub mod Apart
 pub mod Below
 pub mod CommonPoint
@@ -6,9 +6,5 @@ pub mod EdgeOrder
 pub mod Examples
 pub mod Inside
 pub mod Measure
-pub mod Meeting
-pub mod Nesting
-pub mod Part
-pub mod Polygon
 pub mod RationalPoint
 pub mod Ring

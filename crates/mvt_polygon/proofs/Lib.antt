@@ -1,8 +1,6 @@
-pub mod Cells
-pub mod Chains
-pub mod Features
-pub mod Holes
-pub mod Notes
-pub mod Placed
-pub mod Sweeps
-pub mod Vertices
+pub mod ApartFaults
+pub mod NestFaults
+pub mod NestOnce
+pub mod NotedHoles
+pub mod PolygonList
+pub mod RingFaults

@@ -1,11 +1,6 @@
 pub mod Apart
 pub mod Calls
-pub mod Feature
-pub mod Meeting
 pub mod Nesting
 pub mod PolygonFault
 pub mod Polygons
-pub mod QuickFeature
-pub mod Rings
-pub mod TurnVertices
-pub mod Work
+pub mod RingFault

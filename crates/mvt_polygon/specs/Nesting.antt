@@ -1,9 +1,9 @@
 -- Which fault is returned where holes aren't where they should be (Mapbox Vector Tile Specification 2.1, section
 -- 4.3.4.4).
-use Rattle.std.specs.Prelude.{ℕ, List, [], ◌∷◌, length}
+use Rattle.std.specs.Prelude.{ℕ, List, [], ◌∷◌, length, ◌≡◌}
 use Rattle.mvt_fault.specs.Place.{ComesFirst}
-use Rattle.mvt_plane.specs.Geometry.Nesting.{IsOutside, IsInHole}
-use Rattle.mvt_plane.specs.Geometry.Polygon.{PolygonRings}
+use Rattle.mvt_rules.specs.Nesting.{IsOutside, IsInHole}
+use Rattle.mvt_rules.specs.Polygon.{PolygonRings}
 use Rattle.mvt_plane.specs.Position.{Position}
 use Rattle.mvt_polygon.specs.declared.nesting.NestFault.{NestFault}
 use Rattle.mvt_polygon.specs.declared.nesting.NestFault.TheVariants.{Outside, InHole}
@@ -26,3 +26,14 @@ nest_place (InHole ring vertex other) = ring ∷ vertex ∷ 506 ∷ other ∷ []
 pub record IsFirstNestFault (rings : List (List Position)) (fault : NestFault) : Type 0 where
   pub holds : IsNestFault rings fault
   pub first : (other : NestFault) → IsNestFault rings other → ComesFirst (nest_place fault) (nest_place other)
+
+-- the fault is one of this vertex of a hole
+abbrev pub IsOfVertex : ℕ → ℕ → NestFault → Type 0
+IsOfVertex hole number (Outside ring vertex) = (ring ≡ hole) × (vertex ≡ number)
+IsOfVertex hole number (InHole ring vertex other) = (ring ≡ hole) × (vertex ≡ number)
+
+-- the first of the polygon's faults of a kind
+pub record IsFirstOf (rings : List (List Position)) (Is : NestFault → Type 0) (fault : NestFault) : Type 0 where
+  pub is : Is fault
+  pub holds : IsNestFault rings fault
+  pub first : (other : NestFault) → Is other → IsNestFault rings other → ComesFirst (nest_place fault) (nest_place other)

@@ -1,9 +1,9 @@
 -- The first fault of a polygon (Mapbox Vector Tile Specification 2.1, section 4.3.4.4).
 use Rattle.std.specs.Prelude.{List, Option, Some, None}
 use Rattle.mvt_plane.specs.Position.{Position}
-use Rattle.mvt_polygon.specs.Meeting.{IsMeetingOf, NoMeeting}
+use Rattle.mvt_sweep.specs.Meeting.{IsMeetingOf, NoMeeting}
 use Rattle.mvt_polygon.specs.Nesting.{IsFirstNestFault, IsNestFault}
-use Rattle.mvt_polygon.specs.declared.meeting.Meeting.{Meeting as MeetingOf}
+use Rattle.mvt_sweep.specs.declared.meeting.Meeting.{Meeting as MeetingOf}
 use Rattle.mvt_polygon.specs.declared.nesting.NestFault.{NestFault}
 use Rattle.mvt_polygon.specs.declared.polygon.PolygonFault.{PolygonFault}
 use Rattle.mvt_polygon.specs.declared.polygon.PolygonFault.TheVariants.{Meeting, Nesting}

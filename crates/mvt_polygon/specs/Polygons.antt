@@ -1,6 +1,6 @@
 -- The polygons of a feature, as a list (Mapbox Vector Tile Specification 2.1, section 4.3.4.4).
 use Rattle.std.specs.Prelude.{◌≡◌, ℕ, List, slice_get, Some}
-use Rattle.mvt_plane.specs.Geometry.Polygon.{PolygonRings, IsPolygon}
+use Rattle.mvt_rules.specs.Polygon.{PolygonRings, IsPolygon}
 use Rattle.mvt_plane.specs.Position.{Position}
 
 -- the polygon of each number, and no other, has its rings in the list: its first ring and the ring after its last one

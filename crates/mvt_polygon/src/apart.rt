@@ -1,11 +1,10 @@
 //! Vertices of a polygon's exterior that are inside another polygon of the feature.
 ghost use Rattle.std.specs.Prelude.{ℕ, ◌<◌, ◌≤◌, ◌↔◌, length, IsTrue, IfNone, IfSome};
-ghost use Rattle.mvt_plane.specs.Geometry.Nesting.{IsInsidePolygon};
-ghost use Rattle.mvt_plane.specs.Geometry.Ring.{ArePolygonRings};
-ghost use Rattle.mvt_polygon.specs.Apart.{IsApartFault, IsFirstApartFault};
-ghost use Rattle.mvt_polygon.specs.Calls.Apart.{IsPolygonAround, IsFirstPolygonAround};
+ghost use Rattle.mvt_polygon.specs.Apart.{IsApartFault, IsFirstApartFault, IsPolygonAround, IsFirstPolygonAround};
+ghost use Rattle.mvt_rules.specs.Nesting.{IsInsidePolygon};
+ghost use Rattle.mvt_rules.specs.Ring.{ArePolygonRings};
 ghost use Rattle.mvt_polygon.specs.Polygons.{ArePolygons};
-ghost use Rattle.mvt_polygon.specs.Rings.{rings_of};
+ghost use Rattle.mvt_sweep.specs.Rings.{rings_of};
 
 #[cfg(test)]
 mod tests;
@@ -50,8 +49,8 @@ pub fn check_apart(
 }
 
 /// The first of the other polygons that the position is inside. Of two polygons of a feature each
-/// has an exterior of its own, so they are told apart by their ordinals.
-pub(crate) fn polygon_around(
+/// has an exterior of its own, so they are told apart by their ordinals. It takes no memory.
+pub fn polygon_around(
     rings: &[Vec<Point>],
     groups: &[(usize, usize)],
     polygon: usize,
@@ -72,13 +71,8 @@ pub(crate) fn polygon_around(
 }
 
 /// Whether the position is inside the polygon of these rings: inside its exterior, and inside none
-/// of its holes.
-pub(crate) fn is_in_polygon(
-    rings: &[Vec<Point>],
-    exterior: usize,
-    after: usize,
-    position: Point,
-) -> bool
+/// of its holes. It takes no memory.
+pub fn is_in_polygon(rings: &[Vec<Point>], exterior: usize, after: usize, position: Point) -> bool
     requires further { exterior < after }
     requires within { after ≤ length rings.now }
     ensures { IsTrue result ↔ IsInsidePolygon (rings_of rings.now)

@@ -1,18 +1,18 @@
 //! Holes that aren't where they should be.
 ghost use Rattle.std.specs.Prelude.{ℕ, ◌<◌, length, IfNone, IfSome};
-ghost use Rattle.mvt_plane.specs.Geometry.Nesting.{IsVertexOf};
-ghost use Rattle.mvt_polygon.specs.Nesting.{IsNestFault, IsFirstNestFault};
-ghost use Rattle.mvt_polygon.specs.Calls.Nesting.{IsFirstOf, IsOfHole, IsOfVertex, IsHoleAround, IsFirstHoleAround};
-ghost use Rattle.mvt_polygon.specs.Rings.{rings_of};
+ghost use Rattle.mvt_polygon.specs.Nesting.{IsNestFault, IsFirstNestFault, IsFirstOf, IsOfVertex};
+ghost use Rattle.mvt_polygon.specs.Calls.Nesting.{IsOfHole, IsHoleAround, IsFirstHoleAround};
+ghost use Rattle.mvt_sweep.specs.Rings.{rings_of};
+ghost use Rattle.mvt_rules.specs.Nesting.{IsVertexOf};
 ghost use Rattle.mvt_polygon.specs.declared.nesting.NestFault.{NestFault};
 
 pub(crate) mod noted;
-pub(crate) mod once;
+mod once;
 #[cfg(test)]
 pub(crate) mod tests;
 
 use mvt_plane::{Point, inside};
-pub use once::check_nesting_once;
+pub use once::{check_nesting_once, fault_of_first_vertex};
 
 /// A vertex of a hole that isn't where it should be.
 #[derive(Clone, Copy, Debug, PartialEq, Eq)]

@@ -1,21 +1,17 @@
 //! The first fault of a polygon: edges that meet wrongly, or else a hole that isn't where it should
 //! be.
-ghost use Rattle.std.specs.Prelude.{◌≡◌, ◌+◌, ◌*◌, IfNone, IfOk, IfSome, length, option_map};
-ghost use Rattle.mvt_polygon.specs.Work.{AddsWork, IsCounted};
-ghost use Rattle.mvt_polygon.specs.Work.{vertex_count};
-ghost use Rattle.mvt_polygon.specs.Meeting.{IsMeetingOf, NoMeeting};
+ghost use Rattle.std.specs.Prelude.{◌≡◌, ◌+◌, ◌*◌, IfOk, option_map};
+ghost use Rattle.mvt_sweep.specs.Work.{AddsWork, IsCounted, vertex_count};
 ghost use Rattle.mvt_polygon.specs.PolygonFault.{IsPolygonAnswer, meeting_in};
-ghost use Rattle.mvt_polygon.specs.Rings.{rings_of, AreProperRings};
-ghost use Rattle.mvt_polygon.specs.TurnVertices.{turn_count};
+ghost use Rattle.mvt_sweep.specs.Rings.{rings_of, AreProperRings};
+ghost use Rattle.mvt_sweep.specs.TurnVertices.{turn_count};
 ghost use Rattle.mvt_polygon.specs.declared.polygon.PolygonFault.TheVariants as faults;
 ghost use Rattle.mvt_status.specs.Counts.{bits};
 
-use crate::meeting::{Meeting, find_meeting, named_meeting};
 use crate::nesting::NestFault;
 use crate::nesting::noted::fault_of_holes;
-use crate::pairs::{Pairs, find_pairs, meeting_among};
-use crate::sweep::{FEW_VERTICES, FewVertices, SweepVertices, Swept, list_few, sweep_rings};
 use mvt_plane::{Count, Point};
+use mvt_sweep::{Meeting, Swept, meeting_in_ring, sweep_rings};
 use std::alloc::{AllocError, Global};
 
 #[cfg(test)]
@@ -63,37 +59,6 @@ pub fn check_polygon(
         return Ok(fault_of_meeting(meeting_in_ring(alloc, rings, count)?));
     }
     check_with_holes(alloc, rings, count)
-}
-
-/// The meeting of two edges of the only ring, as `find_meeting` answers. Of few edges all pairs are
-/// looked at, with no memory and no sweep unless too many of them need a test.
-fn meeting_in_ring(
-    alloc: Global,
-    rings: &[Vec<Point>],
-    count: &mut Count,
-) -> Result<Option<Meeting>, AllocError>
-    requires proper { AreProperRings (rings_of rings.now) }
-    requires one { length rings.now ≡ 1 }
-    ensures none { IfOk result (λ found. IfNone found (NoMeeting (rings_of rings.now))) }
-    ensures some { IfOk result (λ found. IfSome found (IsMeetingOf (rings_of rings.now))) }
-    ensures counted { let n = vertex_count (rings_of rings.now) in
-        let turns = turn_count (rings_of rings.now) in
-        AddsWork (3 * n) (9 * n + turns * (2 * bits n)) (turns * (12 * bits n)) count.old
-        count.new }
-    ensures least { IfOk result (IsCounted (vertex_count (rings_of rings.now)) count.old
-        count.new) }
-{
-    if rings[0].len() > FEW_VERTICES {
-        return find_meeting(alloc, rings, count);
-    }
-    let mut list = FewVertices::new();
-    list_few(rings, &mut list);
-    let vertices = SweepVertices::new(&list);
-    let mut pairs = Pairs::new();
-    if find_pairs(&vertices, &mut pairs, count) {
-        return Ok(named_meeting(rings, meeting_among(&vertices, &pairs, count)));
-    }
-    find_meeting(alloc, rings, count)
 }
 
 /// What `check_polygon` answers, by notes of the rings.

@@ -1,9 +1,10 @@
 //! Which rings of a feature make up which polygon.
 ghost use Rattle.std.specs.Prelude.{◌≡◌, ◌<◌, ◌≤◌, ◌⊎◌, ◌↔◌, suc, length, pos, ◌<ℤ◌, IfOk, IsTrue};
-ghost use Rattle.mvt_plane.specs.Geometry.Polygon.{IsExterior, NoExterior};
-ghost use Rattle.mvt_plane.specs.Geometry.Ring.{doubled_area, ArePolygonRings};
+ghost use Rattle.mvt_rules.specs.Polygon.{IsExterior, NoExterior};
+ghost use Rattle.mvt_plane.specs.Geometry.Ring.{doubled_area};
+ghost use Rattle.mvt_rules.specs.Ring.{ArePolygonRings};
 ghost use Rattle.mvt_polygon.specs.Polygons.{ArePolygons};
-ghost use Rattle.mvt_polygon.specs.Rings.{rings_of};
+ghost use Rattle.mvt_sweep.specs.Rings.{rings_of};
 
 #[cfg(test)]
 mod tests;

@@ -1,8 +1,9 @@
 //! Faults that rings have of their own.
 ghost use Rattle.std.specs.Prelude.{ℕ, ◌<◌, ◌↔◌, length, IfNone, IfSome, IsTrue};
 ghost use Rattle.mvt_plane.specs.Calls.Rings.{IsClosed};
-ghost use Rattle.mvt_plane.specs.Geometry.Ring.{ArePolygonRings, BreaksRings};
-ghost use Rattle.mvt_polygon.specs.Rings.{rings_of, IsFirstRingFault};
+ghost use Rattle.mvt_sweep.specs.Rings.{rings_of};
+ghost use Rattle.mvt_polygon.specs.RingFault.{IsFirstRingFault};
+ghost use Rattle.mvt_rules.specs.Ring.{ArePolygonRings, BreaksRings};
 ghost use Rattle.mvt_polygon.specs.Calls.Rings.{IsLeastCode};
 
 #[cfg(test)]

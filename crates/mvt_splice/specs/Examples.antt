@@ -2,7 +2,7 @@
 use Rattle.std.specs.Prelude.{ℕ, List, [], ◌∷◌, Some, None, Vec}
 use Rattle.std.specs.declared.alloc.Global.{Global}
 use Rattle.mvt_splice.specs.declared.change.Change.{Change}
-use Rattle.mvt_wire.specs.Tile.{FeatureRecord, TileRecord}
+use Rattle.mvt_rules.specs.Tile.{FeatureRecord, TileRecord}
 
 -- the numbers of the example of a polygon (Mapbox Vector Tile Specification 2.1, section 4.3.5.5)
 abbrev pub right_way : List ℕ

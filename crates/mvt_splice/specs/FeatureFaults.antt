@@ -1,10 +1,10 @@
 -- Which faults name a feature.
 use Rattle.std.specs.Prelude.{◌≡◌, ℕ, length}
-use Rattle.mvt_fault.specs.TrueFaults.{TagsBreak}
+use Rattle.mvt_rules.specs.Rules.{TagsBreak}
 use Rattle.mvt_fault.specs.declared.fault.Fault.{Fault}
 use Rattle.mvt_fault.specs.declared.fault.Fault.TheVariants.{Wire, Version, Name, Tag, Command, Ring, Meeting, Outside, HoleInHole, InPolygon}
 use Rattle.mvt_fault.specs.declared.tag.TagCode.{TagCode}
-use Rattle.mvt_wire.specs.Tile.{FeatureRecord, LayerRecord}
+use Rattle.mvt_rules.specs.Tile.{FeatureRecord, LayerRecord}
 
 -- the fault is one of the feature with these ordinals
 abbrev pub IsOfFeature : ℕ → ℕ → Fault → Type 0

@@ -5,7 +5,7 @@ use Rattle.std.specs.Prelude.{◌≡◌, ℕ, suc, ◌<◌, ◌⊎◌, ◌==◌,
 use Rattle.std.specs.declared.alloc.Global.{Global}
 use Rattle.mvt_wire.specs.Field.{delimited, Entry, IsFieldSpelling}
 use Rattle.mvt_wire.specs.Number.{States}
-use Rattle.mvt_wire.specs.Tile.{bytes_in}
+use Rattle.mvt_wire.specs.Payload.{bytes_in}
 use Rattle.mvt_splice.specs.declared.change.Change.{Change}
 
 -- what becomes of a feature

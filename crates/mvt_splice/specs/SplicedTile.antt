@@ -1,11 +1,11 @@
 -- The record of a tile whose features had fates (Mapbox Vector Tile Specification 2.1, section 4).
 use Rattle.std.specs.Prelude.{◌≡◌, ℕ, suc, List, [], ◌∷◌, ◌++◌}
-use Rattle.mvt_confirm.specs.Valid.{IsValidFeatureBy}
+use Rattle.mvt_rules.specs.Valid.{IsValidFeatureBy}
 use Rattle.mvt_fault.specs.declared.profile.Profile.{Profile}
 use Rattle.mvt_splice.specs.Splice.{Fate, stays, redrawn, dropped}
 use Rattle.mvt_wire.specs.Number.{AreSmall}
-use Rattle.mvt_wire.specs.Rules.{OtherVersion, SameName, IsFeatureOf}
-use Rattle.mvt_wire.specs.Tile.{FeatureRecord, LayerRecord, TileRecord}
+use Rattle.mvt_rules.specs.Rules.{OtherVersion, SameName, IsFeatureOf}
+use Rattle.mvt_rules.specs.Tile.{FeatureRecord, LayerRecord, TileRecord}
 
 -- a feature with other numbers of its geometry; its id, its tags and its type stay
 abbrev pub redrawn_feature : List ℕ → FeatureRecord → FeatureRecord

@@ -1,9 +1,8 @@
 //! The laws of spliced tiles, as contracts of functions that do nothing.
 
 ghost use Rattle.std.specs.Prelude.{◌≡◌, ◌≤◌, ℕ, List, [], ◌∷◌};
-ghost use Rattle.mvt_confirm.specs.Feature.{IsFeatureIn};
-ghost use Rattle.mvt_confirm.specs.Shows.{ShowsBy};
-ghost use Rattle.mvt_confirm.specs.Valid.{AreValidRingsBy, IsValidFeatureBy, ValidBy};
+ghost use Rattle.mvt_rules.specs.Shows.{IsFeatureIn, ShowsBy};
+ghost use Rattle.mvt_rules.specs.Valid.{AreValidRingsBy, IsValidFeatureBy, ValidBy};
 ghost use Rattle.mvt_fault.specs.declared.fault.Fault.{Fault};
 ghost use Rattle.mvt_fault.specs.declared.profile.Profile.{Profile};
 ghost use Rattle.mvt_plane.specs.Commands.Figure.{polygon};
@@ -13,8 +12,8 @@ ghost use Rattle.mvt_splice.specs.FeatureFaults.{IsOfFeature, AreRightTags};
 ghost use Rattle.mvt_splice.specs.Splice.{Fate, redrawn, fate_in, IsSpliced};
 ghost use Rattle.mvt_splice.specs.SplicedTile.{feature_after, layer_after, spliced_tile, DrawsSmall, IsValidAfter, IsValidOnceSpliced};
 ghost use Rattle.mvt_splice.specs.declared.change.Change.{Change};
-ghost use Rattle.mvt_wire.specs.Rules.{IsFeatureOf};
-ghost use Rattle.mvt_wire.specs.Tile.{FeatureRecord, LayerRecord, TileRecord, IsTile};
+ghost use Rattle.mvt_rules.specs.Rules.{IsFeatureOf};
+ghost use Rattle.mvt_rules.specs.Tile.{FeatureRecord, LayerRecord, TileRecord, IsTile};
 
 pub mod examples;
 

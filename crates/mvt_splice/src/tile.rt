@@ -1,6 +1,6 @@
 //! A tile's bytes with changes to its features.
 ghost use Rattle.std.specs.Prelude.{◌≡◌, Some, ◌∷◌, [], IfOk, OnOk};
-ghost use Rattle.mvt_wire.specs.Tile.{TileRecord, IsTile};
+ghost use Rattle.mvt_rules.specs.Tile.{TileRecord, IsTile};
 ghost use Rattle.mvt_splice.specs.Splice.{Piece, fate_in, message_in, AreInOrder, BecomesInTile, IsSpliced};
 ghost use Rattle.mvt_splice.specs.Calls.Fates.{BeginFrom};
 ghost use Rattle.mvt_splice.specs.Calls.Messages.{IsLayerMessage};

@@ -1,6 +1,6 @@
 -- What may be a mistake in a tile, though no rule forbids it (Mapbox Vector Tile Specification 2.1, sections 4.1 and 4.2).
 use Rattle.std.specs.Prelude.{◌≡◌, ℕ, suc, ◌<◌, ◌≤◌, Some, List, [], ◌∷◌, ◌++◌, map, slice_get}
-use Rattle.mvt_wire.specs.Tile.{FeatureRecord, LayerRecord, TileRecord}
+use Rattle.mvt_rules.specs.Tile.{FeatureRecord, LayerRecord, TileRecord}
 use Rattle.mvt_tile.specs.declared.advice.Advice.{Advice}
 use Rattle.mvt_tile.specs.declared.advice.Advice.TheVariants.{NoLayer, NoFeature, EqualKey, EqualId}
 

@@ -1,7 +1,7 @@
 -- A feature that is read from the bytes of a tile (Mapbox Vector Tile Specification 2.1, section 4.2).
 use Rattle.std.specs.Prelude.{◌≡◌, None}
 use Rattle.mvt_wire.specs.Numbers.{NumbersLeft, walk_at}
-use Rattle.mvt_wire.specs.Tile.{FeatureRecord}
+use Rattle.mvt_rules.specs.Tile.{FeatureRecord}
 use Rattle.mvt_tile.specs.View.{kind_number}
 use Rattle.mvt_tile.specs.declared.feature_bytes.FeatureBytes.{FeatureBytes}
 

@@ -1,8 +1,8 @@
 -- Why a tile isn't read.
 use Rattle.std.specs.Prelude.{ℕ, List}
 use Rattle.mvt_fault.specs.Place.{IsLeast}
-use Rattle.mvt_fault.specs.TrueFaults.{IsWireFault}
-use Rattle.mvt_wire.specs.Tile.{TileRecord, IsTile}
+use Rattle.mvt_rules.specs.Parts.TrueFaults.{IsWireFault}
+use Rattle.mvt_rules.specs.Tile.{TileRecord, IsTile}
 use Rattle.mvt_tile.specs.declared.read.ReadFault.{ReadFault}
 use Rattle.mvt_tile.specs.declared.read.ReadFault.TheVariants.{Wire, Memory}
 

@@ -1,9 +1,9 @@
 -- The rules between a tile's parts, and a further one on its features.
 use Rattle.std.specs.Prelude.{◌≡◌, ℕ, ◌≤◌, ◌⊎◌, List, ◌∷◌}
-use Rattle.mvt_fault.specs.TrueFaults.{BreaksRule, FeatureFault, IsFaultOfTags, OneFeatureHas}
+use Rattle.mvt_rules.specs.Parts.TrueFaults.{BreaksRule, FeatureFault, IsFaultOfTags, OneFeatureHas}
 use Rattle.mvt_fault.specs.declared.fault.Fault.{Fault}
-use Rattle.mvt_wire.specs.Rules.{IsFeatureOf}
-use Rattle.mvt_wire.specs.Tile.{FeatureRecord, LayerRecord, TileRecord}
+use Rattle.mvt_rules.specs.Rules.{IsFeatureOf}
+use Rattle.mvt_rules.specs.Tile.{FeatureRecord, LayerRecord, TileRecord}
 
 -- what a further rule says of a feature, of the ordinals of its layer and of its own, and of a fault that it has
 abbrev pub Breaks : Type 1

@@ -1,6 +1,6 @@
 -- What a reader's records show: the records of the definitions.
 use Rattle.std.specs.Prelude.{ℕ, map}
-use Rattle.mvt_wire.specs.Tile.{FeatureRecord, ValueRecord, text, float, double, int, uint, sint, truth, LayerRecord, TileRecord}
+use Rattle.mvt_rules.specs.Tile.{FeatureRecord, ValueRecord, text, float, double, int, uint, sint, truth, LayerRecord, TileRecord}
 use Rattle.mvt_tile.specs.declared.record.Tile.{Tile}
 use Rattle.mvt_tile.specs.declared.record.Layer.{Layer}
 use Rattle.mvt_tile.specs.declared.record.Feature.{Feature}

@@ -1,8 +1,8 @@
 //! A feature as it stands in the bytes of a tile.
 ghost use Rattle.std.specs.Prelude.{◌≡◌, ◌<◌, ◌^◌, ℕ, true, List, [], ◌∷◌, ◌++◌};
 ghost use Rattle.mvt_wire.specs.Field.{Entry, IsField, entry_of};
-ghost use Rattle.mvt_wire.specs.Tile.{FeatureRecord, IsFeature};
-ghost use Rattle.mvt_wire.specs.Calls.Tile.{FitsRule};
+ghost use Rattle.mvt_rules.specs.Tile.{FeatureRecord, IsFeature};
+ghost use Rattle.mvt_rules.specs.Parts.Fields.{FitsRule};
 ghost use Rattle.mvt_wire.specs.declared.schema.Message.TheVariants as messages;
 ghost use Rattle.mvt_wire.specs.NumberSources.{AreLeft, most_bytes, StandIn};
 ghost use Rattle.mvt_wire.specs.Embedded.{Holds};

@@ -2,8 +2,8 @@
 ghost use Rattle.std.specs.Prelude.{◌≡◌, ◌≤◌, ℕ, List, ◌∷◌, [], ◌++◌, length, map, IfOk, IfErr, OnOk};
 ghost use Rattle.mvt_wire.specs.Embedded.{LiesIn};
 ghost use Rattle.mvt_wire.specs.Field.{Entry, entry_of};
-ghost use Rattle.mvt_wire.specs.Tile.{TileRecord, IsTile, LayerRecord, IsLayer};
-ghost use Rattle.mvt_wire.specs.Calls.Tile.{FitsRule};
+ghost use Rattle.mvt_rules.specs.Tile.{TileRecord, IsTile, LayerRecord, IsLayer};
+ghost use Rattle.mvt_rules.specs.Parts.Fields.{FitsRule};
 ghost use Rattle.mvt_wire.specs.declared.schema.Message.TheVariants as messages;
 ghost use Rattle.mvt_tile.specs.ReadFault.{IsReadFault};
 ghost use Rattle.mvt_wire.specs.Calls.Scope.{Embeds};

@@ -4,7 +4,7 @@
 ghost use Rattle.std.specs.Prelude.{◌≡◌, ℕ, length, None, IfOk, IfNone, IfSome, OnOk};
 ghost use Rattle.mvt_fault.specs.Place.{IsLeast, place_of};
 ghost use Rattle.mvt_fault.specs.declared.fault.Fault.{Fault};
-ghost use Rattle.mvt_wire.specs.Tile.{FeatureRecord, TileRecord, IsTile};
+ghost use Rattle.mvt_rules.specs.Tile.{FeatureRecord, TileRecord, IsTile};
 ghost use Rattle.mvt_tile.specs.Calls.FeatureRules.{FindsInTile};
 ghost use Rattle.mvt_tile.specs.Calls.PassedLayers.{EndsLayers, passed, PassesLayers};
 ghost use Rattle.mvt_tile.specs.Calls.RuleFaults.{AreAfterTags};

@@ -1,10 +1,10 @@
 //! The first wire fault of a tile.
 ghost use Rattle.std.specs.Prelude.{◌<◌, IfNone, IfSome};
-ghost use Rattle.mvt_wire.specs.WireFault.{WireFault};
+ghost use Rattle.mvt_rules.specs.WireFault.{WireFault};
 ghost use Rattle.mvt_wire.specs.declared.cause.WireCause.{WireCause};
 ghost use Rattle.mvt_wire.specs.declared.scope.Scope.{Scope};
 ghost use Rattle.mvt_fault.specs.Place.{IsLeast};
-ghost use Rattle.mvt_fault.specs.TrueFaults.{IsWireFault};
+ghost use Rattle.mvt_rules.specs.Parts.TrueFaults.{IsWireFault};
 
 mod field;
 mod layer;

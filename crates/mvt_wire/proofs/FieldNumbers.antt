@@ -11,5 +11,4 @@ pub mod NumberWalks
 pub mod NumbersLeft
 pub mod PackedNumbers
 pub mod ShortNumbers
-pub mod SmallNumbers
 pub mod Sources

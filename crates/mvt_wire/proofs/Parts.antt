@@ -1,10 +1,3 @@
--- Tiles, layers, features and values, as their messages state them.
+-- The payloads of the fields of one number, and where they lie.
 pub mod Contents
 pub mod EmbeddedSpans
-pub mod Judgements
-pub mod LastFields
-pub mod PairedLists
-pub mod Records
-pub mod Schemas
-pub mod Spans
-pub mod Tiles

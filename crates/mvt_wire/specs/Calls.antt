@@ -4,4 +4,3 @@ pub mod Key
 pub mod Numbers
 pub mod Packed
 pub mod Scope
-pub mod Tile

@@ -2,7 +2,7 @@
 -- encoding, "Submessages").
 use Rattle.std.specs.Prelude.{◌≡◌, ℕ, ◌<◌, ◌≤◌, List, length, Option, Some, MatchOption, slice_get}
 use Rattle.mvt_wire.specs.Field.{Entry}
-use Rattle.mvt_wire.specs.Scope.{Span, span_of}
+use Rattle.mvt_wire.specs.Payload.{Span, span_of}
 use Rattle.mvt_wire.specs.declared.part.Part.{Part}
 
 -- where a part of the bytes lies

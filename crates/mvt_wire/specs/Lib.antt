@@ -6,10 +6,7 @@ pub mod Message
 pub mod Number
 pub mod NumberSources
 pub mod Numbers
-pub mod Rules
+pub mod Payload
 pub mod Schema
-pub mod Scope
-pub mod Tile
 pub mod Varint
 pub mod Walk
-pub mod WireFault

@@ -7,7 +7,7 @@ use Rattle.mvt_wire.specs.Field.{Content, varint, eight_bytes, delimited, four_b
 use Rattle.mvt_wire.specs.Message.{FieldList, IsMessage}
 use Rattle.mvt_wire.specs.Number.{VarintList, StateTogether, AreSmall, PackedFault}
 use Rattle.mvt_wire.specs.Schema.{is_own}
-use Rattle.mvt_wire.specs.Scope.{contents_of}
+use Rattle.mvt_wire.specs.Payload.{contents_of}
 use Rattle.mvt_wire.specs.declared.cause.WireCode.{WireCode}
 use Rattle.mvt_wire.specs.declared.cause.WireCode.TheVariants.{OtherType, OutOfRange}
 use Rattle.mvt_wire.specs.declared.cause.WireCause.{WireCause}

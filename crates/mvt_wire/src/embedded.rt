@@ -3,7 +3,7 @@
 ghost use Rattle.std.specs.Prelude.{◌≡◌, ℕ, ◌+◌, ◌<◌, ◌≤◌, List, [], ◌∷◌, ◌++◌, length, MatchOption};
 ghost use Rattle.mvt_wire.specs.Embedded.{FindsFirst, LiesIn, span_in};
 ghost use Rattle.mvt_wire.specs.Field.{Entry, entry_of};
-ghost use Rattle.mvt_wire.specs.Scope.{Span, spans_of};
+ghost use Rattle.mvt_wire.specs.Payload.{Span, spans_of};
 
 use crate::field::{Body, Field};
 use crate::part::Part;

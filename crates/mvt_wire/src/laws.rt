@@ -1,22 +1,15 @@
-//! The laws of the wire encoding and of the messages of a tile, as contracts of functions that do
-//! nothing. They speak of the definitions alone, so a reader of messages can use them.
+//! The laws of the wire encoding, as contracts of functions that do nothing. They speak of the
+//! definitions alone, so a reader of messages can use them.
 
 ghost use Rattle.std.specs.Prelude.{◌≡◌, ℕ, ◌+◌, ◌-◌, ◌^◌, ◌<◌, ◌≤◌, ◌⊎◌, List, [], ◌∷◌, ◌++◌, length, take, drop, slice_index, Option, Some, None};
 ghost use Rattle.std.specs.List.{concat};
 ghost use Rattle.mvt_wire.specs.Varint.{sum_of_groups, IsVarint, SpellsVarint, VarintDefect};
 ghost use Rattle.mvt_wire.specs.Field.{Entry, IsField, IsFieldSpelling};
 ghost use Rattle.mvt_wire.specs.Message.{FieldList, IsMessage, AreSpellings, HasDefect};
-ghost use Rattle.mvt_wire.specs.WireFault.{WireFault};
-ghost use Rattle.mvt_wire.specs.Scope.{Span};
-ghost use Rattle.mvt_wire.specs.Tile.{FeatureRecord, IsFeature, TileRecord, IsTile};
 ghost use Rattle.mvt_wire.specs.Number.{VarintList, AreSmall, PackedFault};
 ghost use Rattle.mvt_wire.specs.Numbers.{IsNumbersFault, NumbersEnd, IsNumberAt, StandBetween, place_of_end};
 ghost use Rattle.mvt_wire.specs.declared.cause.WireCause.{WireCause};
 ghost use Rattle.mvt_wire.specs.declared.cause.WireCode.{WireCode};
-ghost use Rattle.mvt_wire.specs.declared.scope.Scope.{Scope};
-
-pub mod geometry;
-pub mod messages;
 
 /// No spelling of a varint is a proper front of another one (Protocol Buffers encoding, "Base 128
 /// Varints").
@@ -174,30 +167,10 @@ pub fn numbers_stand_before_end()
         (place_of_end bytes ending) }
 {}
 
-/// The tags and the geometry of a feature are the numbers of its fields 2 and 4, which end with the
-/// whole message: a walk over these fields has just these numbers left (Mapbox Vector Tile
-/// Specification 2.1, section 4.2).
-pub fn feature_numbers_end()
-    ensures tags { (bytes : List ℕ) (span : Span) (feature : FeatureRecord) →
-        IsFeature bytes span feature → NumbersEnd (take span.to bytes) span.from 2 feature.tags
-        None }
-    ensures geometry { (bytes : List ℕ) (span : Span) (feature : FeatureRecord) →
-        IsFeature bytes span feature → NumbersEnd (take span.to bytes) span.from 4 feature.geometry
-        None }
-{}
-
-/// Bytes are a tile, or have a wire fault, and not both (Mapbox Vector Tile Specification 2.1,
-/// section 4).
-pub fn tile_or_wire_fault()
-    ensures some { (bytes : List ℕ) →
-        ((tile : TileRecord) × IsTile bytes tile) ⊎ ((scope : Scope) × (cause : WireCause)
-        × WireFault bytes scope cause) }
-    ensures not_both { (bytes : List ℕ) (tile : TileRecord) (scope : Scope) (cause : WireCause) →
-        IsTile bytes tile → ¬ WireFault bytes scope cause }
-{}
-
-/// Bytes are at most one tile (Mapbox Vector Tile Specification 2.1, section 4).
-pub fn one_tile()
-    ensures { (bytes : List ℕ) (first second : TileRecord) → IsTile bytes first
-        → IsTile bytes second → first ≡ second }
+/// At a place begins at most one field, which ends at one place (Protocol Buffers encoding,
+/// "Message Structure").
+pub fn one_field_a_place()
+    ensures { (bytes : List ℕ) (to end : ℕ) (entry other : Entry) → entry.at ≡ other.at
+        → IsField bytes to entry → IsField bytes end other →
+        (to ≡ end) × (entry ≡ other) }
 {}

@@ -3,8 +3,7 @@ ghost use Rattle.std.specs.Prelude.{◌≡◌, ℕ, ◌<◌, ◌^◌, List, ◌=
 ghost use Rattle.std.specs.Int.{cast_signed, w64};
 ghost use Rattle.mvt_wire.specs.Field.{content_of, delimited, eight_bytes, four_bytes, wire_type_of};
 ghost use Rattle.mvt_wire.specs.Number.{zigzag};
-ghost use Rattle.mvt_wire.specs.Scope.{Span, span_of};
-ghost use Rattle.mvt_wire.specs.Tile.{bytes_in, number_in};
+ghost use Rattle.mvt_wire.specs.Payload.{Span, span_of, bytes_in, number_in};
 
 use crate::field::Body;
 use crate::utf8::text;

@@ -2,7 +2,7 @@
 use Rattle.std.specs.Prelude.{◌≡◌, ◌≢◌, ◌<◌, ◌++◌, ℕ, List, [], length, drop}
 use Rattle.mvt_fault.specs.Place.{IsLeast}
 use Rattle.mvt_fault.specs.Text.{text_of}
-use Rattle.mvt_fault.specs.TrueFaults.{IsWireFault}
+use Rattle.mvt_rules.specs.Parts.TrueFaults.{IsWireFault}
 use Rattle.mvt_fault.specs.declared.fault.Fault.{Fault}
 use Rattle.mvt_fault.specs.declared.profile.Profile.{Profile}
 use Rattle.mvt_engine.specs.AdviceText.{advice_text}
@@ -14,7 +14,7 @@ use Rattle.mvt_gate.specs.declared.quick.Search.{Search}
 use Rattle.mvt_gate.specs.declared.verdict.Verdict.TheVariants.{No}
 use Rattle.mvt_tile.specs.Advice.{IsAdvice}
 use Rattle.mvt_tile.specs.declared.advice.Advice.{Advice}
-use Rattle.mvt_wire.specs.Tile.{IsTile, TileRecord}
+use Rattle.mvt_rules.specs.Tile.{IsTile, TileRecord}
 
 -- the text of the fault that the verdict on the bytes names, by the profile
 abbrev pub IsFaultText : Profile → List ℕ → List ℕ → Type 0

@@ -1,6 +1,6 @@
 //! The judge, for C.
 ghost use Rattle.std.specs.Prelude.{◌≡◌, ◌≢◌, ◌≤◌, ◌≤ℤ◌, ◌⊎◌, pos, length};
-ghost use Rattle.mvt_confirm.specs.Valid.{ValidBy};
+ghost use Rattle.mvt_rules.specs.Valid.{ValidBy};
 ghost use Rattle.mvt_fault.specs.declared.profile.Profile.{Profile};
 ghost use Rattle.mvtgate_c.specs.ProfileNumber.{profile_number};
 ghost use Rattle.mvtgate_c.specs.TextRoom.{longest_text};

@@ -1,6 +1,6 @@
 //! The separate checker, for C.
 ghost use Rattle.std.specs.Prelude.{◌≡◌, ◌≢◌, ◌≤ℤ◌, ◌⊎◌, pos};
-ghost use Rattle.mvt_confirm.specs.Shows.{ShowsBy};
+ghost use Rattle.mvt_rules.specs.Shows.{ShowsBy};
 ghost use Rattle.mvt_fault.specs.Reading.{IsNoJson, HasOtherShape, HasOtherRange};
 ghost use Rattle.mvt_fault.specs.Text.{Reads};
 ghost use Rattle.mvt_fault.specs.declared.fault.Fault.{Fault};

@@ -1,6 +1,6 @@
 //! Mending, for C.
 ghost use Rattle.std.specs.Prelude.{◌≡◌, ◌≢◌, ◌≤◌, ◌<◌, ◌≤ℤ◌, ◌⊎◌, ◌++◌, pos, length, drop, IsTrue, IsFalse};
-ghost use Rattle.mvt_confirm.specs.Valid.{ValidBy};
+ghost use Rattle.mvt_rules.specs.Valid.{ValidBy};
 ghost use Rattle.mvt_fault.specs.declared.profile.Profile.{Profile};
 ghost use Rattle.mvtgate_c.specs.Mended.{AreMendedAndReport, AreOfMended, HandsBoth, IsRefusalText, WantsBoth, WantsMore, asks_to_drop};
 ghost use Rattle.mvtgate_c.specs.ProfileNumber.{profile_number};

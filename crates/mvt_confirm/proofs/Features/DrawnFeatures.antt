@@ -2,13 +2,12 @@
 use Rattle.std.proofs.Common.{◌≡◌, ◌↔◌, ℕ, Bool, IsTrue, false, List, subst}
 use Rattle.mvt_plane.specs.FeatureGeometry.{HasRings}
 use Rattle.mvt_plane.specs.Position.{Position}
-use Rattle.mvt_wire.specs.Rules.{IsFeatureOf}
-use Rattle.mvt_wire.specs.Tile.{FeatureRecord, LayerRecord, TileRecord, IsTile}
-use Rattle.mvt_confirm.specs.Feature.{OfRings}
+use Rattle.mvt_rules.specs.Rules.{IsFeatureOf}
+use Rattle.mvt_rules.specs.Tile.{FeatureRecord, LayerRecord, TileRecord, IsTile}
+use Rattle.mvt_rules.specs.Shows.{OfRings, OfFeature}
 use Rattle.mvt_confirm.specs.Calls.FeatureBytes.{DrawsRings, IsFeatureAt}
 use Rattle.mvt_confirm.specs.declared.message_bytes.MessageBytes.{MessageBytes}
-use Rattle.mvt_confirm.specs.Shows.{OfFeature}
-use Rattle.mvt_confirm.proofs.Features.TileFeatures.{feature_of_this_tile, one_feature_of, one_list_of_rings}
+use Rattle.mvt_rules.proofs.Validity.TileFeatures.{feature_of_this_tile, one_feature_of, one_list_of_rings}
 
 module _ (bytes : List ℕ) (layer feature : ℕ) where
   -- the feature with these ordinals stands at a place

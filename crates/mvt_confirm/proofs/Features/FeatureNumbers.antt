@@ -6,8 +6,8 @@ use Rattle.mvt_plane.specs.FeatureGeometry.{HasRings}
 use Rattle.mvt_plane.specs.Position.{Position}
 use Rattle.mvt_wire.specs.Numbers.{NumbersEnd}
 use Rattle.mvt_wire.specs.Schema.{field_rule}
-use Rattle.mvt_wire.specs.Scope.{Span}
-use Rattle.mvt_wire.specs.Tile.{FeatureRecord, IsFeature}
+use Rattle.mvt_wire.specs.Payload.{Span}
+use Rattle.mvt_rules.specs.Tile.{FeatureRecord, IsFeature}
 use Rattle.mvt_wire.specs.declared.schema.FieldRule.{FieldRule}
 use Rattle.mvt_wire.specs.declared.schema.Message.TheVariants.{Feature}
 use Rattle.mvt_wire.specs.declared.schema.Occurrence.TheVariants.{Once}

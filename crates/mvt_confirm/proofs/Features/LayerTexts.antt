@@ -5,13 +5,14 @@ use Rattle.std.proofs.lemmas.List.Edits.{length-between}
 use Rattle.std.proofs.lemmas.Option.{slice_get_within, slice_get_cases}
 use Rattle.mvt_wire.specs.Field.{Content, varint, eight_bytes, delimited, four_bytes, Entry, IsPayload}
 use Rattle.mvt_wire.specs.Message.{FieldList}
-use Rattle.mvt_wire.specs.Scope.{contents_of, Span, span_of, spans_of, whole_span, IsMessageAt, IsPart, IsScope}
-use Rattle.mvt_wire.specs.Tile.{Each, bytes_in, texts_of, LayerRecord, IsLayer, IsValue, TileRecord, IsTile}
+use Rattle.mvt_wire.specs.Payload.{contents_of, Span, span_of, spans_of, bytes_in, texts_of}
+use Rattle.mvt_rules.specs.Scope.{whole_span, IsMessageAt, IsPart, IsScope}
+use Rattle.mvt_rules.specs.Tile.{Each, LayerRecord, IsLayer, IsValue, TileRecord, IsTile}
 use Rattle.mvt_wire.specs.declared.scope.Scope.TheVariants.{Layer}
 use Rattle.mvt_wire.proofs.Parts.Contents.{contents_of-own, contents_of-other}
 use Rattle.mvt_wire.proofs.Encoding.Entries.{slice_range-append}
-use Rattle.mvt_wire.proofs.Parts.PairedLists.{each_there, each_here, same_length}
-use Rattle.mvt_wire.proofs.Parts.Tiles.{part_here}
+use Rattle.mvt_rules.proofs.Tiles.PairedLists.{each_there, each_here, same_length}
+use Rattle.mvt_rules.proofs.Tiles.Tiles.{part_here}
 use Rattle.mvt_confirm.specs.Calls.ByteSpan.{as_span}
 use Rattle.mvt_confirm.specs.declared.span.ByteSpan.{ByteSpan}
 use Rattle.mvt_confirm.proofs.Features.TileScopes.{scope_of_layer}

@@ -4,9 +4,8 @@ use Rattle.std.proofs.lemmas.Bool.{eq-eqb, ne_eqb, cond-true, cond-false}
 use Rattle.std.proofs.lemmas.List.Elements.{All-nil, All-cons, All-head, All-tail}
 use Rattle.mvt_wire.specs.Field.{Entry}
 use Rattle.mvt_wire.specs.Schema.{is_singular, is_required}
-use Rattle.mvt_wire.specs.Scope.{fields_of}
-use Rattle.mvt_wire.specs.Tile.{Fits}
-use Rattle.mvt_wire.specs.WireFault.{count_of}
+use Rattle.mvt_wire.specs.Payload.{fields_of, count_of}
+use Rattle.mvt_rules.specs.Tile.{Fits}
 use Rattle.mvt_wire.specs.declared.schema.FieldRule.{FieldRule}
 use Rattle.mvt_confirm.specs.Calls.Walking.{KeepsRule, KeepsRuleAfter, count_before}
 

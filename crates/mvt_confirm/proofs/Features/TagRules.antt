@@ -2,7 +2,7 @@
 use Rattle.std.proofs.Common.{◌≡◌, ◌↔◌, ℕ, ◌+◌, ◌*◌, ◌/◌, ◌%◌, ◌<◌, Bool, IsTrue, List, length, slice_get, Option, Some, inl, inr, refl, sym, ◌∙◌, ap, arith}
 use Rattle.std.proofs.lemmas.Bool.{cases_eq}
 use Rattle.mvt_confirm.proofs.Features.LayerTexts.{IsBeyond}
-use Rattle.mvt_wire.specs.Rules.{OddTags, IsKeyAt, IsValueAt, NoSuchKey, NoSuchValue, KeyAgain}
+use Rattle.mvt_rules.specs.Rules.{OddTags, IsKeyAt, IsValueAt, NoSuchKey, NoSuchValue, KeyAgain}
 
 -- so many are pairs
 abbrev pub IsEven : ℕ → Type 0

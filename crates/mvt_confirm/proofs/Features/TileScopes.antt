@@ -1,11 +1,12 @@
 -- The records of a tile's layers and features are those of the messages of their scopes.
 use Rattle.std.proofs.Common.{◌≡◌, ℕ, List, slice_get, Some}
-use Rattle.mvt_wire.specs.Rules.{IsFeatureOf}
-use Rattle.mvt_wire.specs.Scope.{Span, spans_of, whole_span, IsScope}
-use Rattle.mvt_wire.specs.Tile.{FeatureRecord, IsFeature, LayerRecord, IsLayer, TileRecord, IsTile}
+use Rattle.mvt_rules.specs.Rules.{IsFeatureOf}
+use Rattle.mvt_wire.specs.Payload.{Span, spans_of}
+use Rattle.mvt_rules.specs.Scope.{whole_span, IsScope}
+use Rattle.mvt_rules.specs.Tile.{FeatureRecord, IsFeature, LayerRecord, IsLayer, TileRecord, IsTile}
 use Rattle.mvt_wire.specs.declared.scope.Scope.TheVariants.{Layer, Feature}
-use Rattle.mvt_wire.proofs.Parts.PairedLists.{each_there, each_here}
-use Rattle.mvt_wire.proofs.Parts.Tiles.{part_here}
+use Rattle.mvt_rules.proofs.Tiles.PairedLists.{each_there, each_here}
+use Rattle.mvt_rules.proofs.Tiles.Tiles.{part_here}
 
 -- the layer of a scope
 pub layer_of_scope : (bytes : List ℕ) (tile : TileRecord) (layer : ℕ) (span : Span) → IsTile bytes tile → IsScope bytes (Layer layer) span

@@ -3,14 +3,15 @@ use Rattle.std.proofs.Common.{◌≡◌, ◌≢◌, ◌↔◌, ℕ, Bool, IsTrue
 use Rattle.std.proofs.lemmas.Bool.Decides.{nat_tests}
 use Rattle.std.proofs.lemmas.Option.{same_Some}
 use Rattle.mvt_fault.specs.declared.ring.RingEdge.{RingEdge}
-use Rattle.mvt_plane.specs.Geometry.Meeting.{EdgeNumber, IsEdgeOf, IsShared, Follows, forward, backward, MeetsWrongly}
+use Rattle.mvt_rules.specs.Meeting.{EdgeNumber, IsEdgeOf, IsShared, Follows, forward, backward, MeetsWrongly}
 use Rattle.mvt_plane.specs.Position.{Position}
 use Rattle.mvt_plane.specs.Geometry.RationalPoint.{RationalPoint, LiesOn, IsAt, IsBounded}
 use Rattle.mvt_plane.specs.Geometry.Ring.{next_round}
 use Rattle.mvt_plane.specs.declared.geometry.edge.Edge.{Edge}
-use Rattle.mvt_plane.proofs.Rings.RingEdges.{ends_of_edge, one_edge}
+use Rattle.mvt_plane.proofs.Rings.RingEdges.{ends_of_edge}
+use Rattle.mvt_rules.proofs.Rings.EdgePairs.{one_edge}
 use Rattle.mvt_confirm.specs.Calls.EdgeTests.{AreEdgesOf, IsApartAfter}
-use Rattle.mvt_confirm.specs.PolygonFault.{number_of}
+use Rattle.mvt_rules.specs.PolygonFault.{number_of}
 use Rattle.mvt_confirm.specs.declared.edge_tests.NumberedEdge.{NumberedEdge}
 
 -- what is tested of two edges

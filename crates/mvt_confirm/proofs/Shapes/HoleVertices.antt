@@ -3,13 +3,13 @@ use Rattle.std.proofs.Common.{◌≡◌, ◌≢◌, ◌↔◌, ℕ, Bool, not, I
 use Rattle.std.proofs.lemmas.Bool.Decides.{Decides-not}
 use Rattle.std.proofs.lemmas.Option.{same_Some}
 use Rattle.mvt_plane.specs.Geometry.Inside.{IsInside}
-use Rattle.mvt_plane.specs.Geometry.Nesting.{IsVertexOf}
-use Rattle.mvt_plane.specs.Geometry.Polygon.{PolygonRings, IsPolygon, IsHoleOf}
+use Rattle.mvt_rules.specs.Nesting.{IsVertexOf}
+use Rattle.mvt_rules.specs.Polygon.{PolygonRings, IsPolygon, IsHoleOf}
 use Rattle.mvt_plane.specs.Position.{Position}
-use Rattle.mvt_plane.specs.Geometry.Ring.{ArePolygonRings}
-use Rattle.mvt_plane.proofs.Rings.RingEdges.{one_position}
-use Rattle.mvt_plane.proofs.Rings.SamePolygons.{same_polygon}
-use Rattle.mvt_confirm.specs.PolygonFault.{IsVertexOutside, IsVertexInHole}
+use Rattle.mvt_rules.specs.Ring.{ArePolygonRings}
+use Rattle.mvt_rules.proofs.Rings.EdgePairs.{one_position}
+use Rattle.mvt_rules.proofs.Rings.SamePolygons.{same_polygon}
+use Rattle.mvt_rules.specs.PolygonFault.{IsVertexOutside, IsVertexInHole}
 use Rattle.mvt_confirm.proofs.Shapes.PolygonMembers.{IsHole, exterior_in, hole_in, vertices_there}
 
 -- what tests decide of the position of a vertex

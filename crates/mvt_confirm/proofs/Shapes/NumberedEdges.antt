@@ -2,15 +2,15 @@
 use Rattle.std.proofs.Common.{◌≡◌, ◌↔◌, ◌≤◌, ℕ, List, length, slice_get, Some, sym, ◌∙◌, ap, subst, arith}
 use Rattle.std.proofs.lemmas.Option.{same_Some, slice_get_within}
 use Rattle.mvt_fault.specs.declared.ring.RingEdge.{RingEdge}
-use Rattle.mvt_plane.specs.Geometry.Meeting.{EdgeNumber, ComesBefore, IsEdgeOf, MeetsWrongly}
-use Rattle.mvt_plane.specs.Geometry.Nesting.{IsVertexOf}
+use Rattle.mvt_rules.specs.Meeting.{EdgeNumber, ComesBefore, IsEdgeOf, MeetsWrongly}
+use Rattle.mvt_rules.specs.Nesting.{IsVertexOf}
 use Rattle.mvt_plane.specs.Position.{Position}
 use Rattle.mvt_plane.specs.Geometry.RationalPoint.{RationalPoint, IsBounded}
 use Rattle.mvt_plane.specs.Geometry.Ring.{edges}
 use Rattle.mvt_plane.specs.declared.geometry.edge.Edge.{Edge}
 use Rattle.mvt_plane.proofs.Rings.RingEdges.{count_of_edges, ends_of_edge}
 use Rattle.mvt_confirm.specs.Calls.EdgeTests.{AreEdgesOf}
-use Rattle.mvt_confirm.specs.PolygonFault.{number_of}
+use Rattle.mvt_rules.specs.PolygonFault.{number_of}
 use Rattle.mvt_confirm.specs.declared.edge_tests.NumberedEdge.{NumberedEdge}
 
 -- ---- where there is none

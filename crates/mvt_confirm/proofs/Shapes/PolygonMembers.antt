@@ -4,15 +4,15 @@ use Rattle.std.proofs.lemmas.Bool.Decides.{Decides-eqb}
 use Rattle.std.proofs.lemmas.Option.{slice_get-get_or}
 use Rattle.mvt_fault.specs.declared.profile.Profile.{Profile}
 use Rattle.mvt_fault.specs.declared.ring.RingEdge.{RingEdge}
-use Rattle.mvt_plane.specs.Geometry.Meeting.{ComesBefore, MeetsWrongly}
-use Rattle.mvt_plane.specs.Geometry.Polygon.{PolygonRings, IsPolygon, IsRingOf, IsHoleOf}
+use Rattle.mvt_rules.specs.Meeting.{ComesBefore, MeetsWrongly}
+use Rattle.mvt_rules.specs.Polygon.{PolygonRings, IsPolygon, IsRingOf, IsHoleOf}
 use Rattle.mvt_plane.specs.Position.{Position}
 use Rattle.mvt_plane.specs.Geometry.RationalPoint.{RationalPoint, IsBounded}
-use Rattle.mvt_plane.specs.Geometry.Ring.{ArePolygonRings}
-use Rattle.mvt_plane.proofs.Rings.PolygonNumbers.{exterior_within}
-use Rattle.mvt_plane.proofs.Rings.SamePolygons.{one_polygon, same_polygon}
-use Rattle.mvt_confirm.specs.PolygonFault.{number_of, IsMeetingBy}
-use Rattle.mvt_confirm.specs.Profiles.{IsKeptApart}
+use Rattle.mvt_rules.specs.Ring.{ArePolygonRings}
+use Rattle.mvt_rules.proofs.Rings.PolygonNumbers.{exterior_within}
+use Rattle.mvt_rules.proofs.Rings.SamePolygons.{one_polygon, same_polygon}
+use Rattle.mvt_rules.specs.PolygonFault.{number_of, IsMeetingBy}
+use Rattle.mvt_rules.specs.Profiles.{IsKeptApart}
 use Rattle.mvt_confirm.specs.Calls.Polygons.{IsPlaceOf}
 use Rattle.mvt_confirm.specs.declared.polygons.RingPlace.{RingPlace}
 

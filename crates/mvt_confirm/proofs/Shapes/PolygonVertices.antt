@@ -4,16 +4,16 @@ use Rattle.std.proofs.lemmas.Bool.Decides.{Decides-not}
 use Rattle.mvt_fault.specs.declared.profile.Profile.TheVariants.{Feature}
 use Rattle.mvt_confirm.specs.Calls.Apart.{StandAtPolygon}
 use Rattle.mvt_confirm.specs.Calls.Vertices.{VertexWalk, RingsLeft}
-use Rattle.mvt_confirm.specs.PolygonFault.{IsVertexInPolygonBy}
+use Rattle.mvt_rules.specs.PolygonFault.{IsVertexInPolygonBy}
 use Rattle.mvt_confirm.proofs.Shapes.PolygonMembers.{exterior_in}
 use Rattle.mvt_confirm.proofs.Shapes.PolygonWalks.{rest_from}
-use Rattle.mvt_plane.proofs.Rings.RingEdges.{one_position}
-use Rattle.mvt_plane.proofs.Rings.SamePolygons.{exterior_of_polygon, one_polygon, same_polygon}
+use Rattle.mvt_rules.proofs.Rings.EdgePairs.{one_position}
+use Rattle.mvt_rules.proofs.Rings.SamePolygons.{exterior_of_polygon, one_polygon, same_polygon}
 use Rattle.mvt_plane.specs.Geometry.Inside.{IsInside}
-use Rattle.mvt_plane.specs.Geometry.Nesting.{IsVertexOf, IsInHoles, IsInsidePolygon}
-use Rattle.mvt_plane.specs.Geometry.Polygon.{IsExterior, PolygonRings, IsPolygon}
+use Rattle.mvt_rules.specs.Nesting.{IsVertexOf, IsInHoles, IsInsidePolygon}
+use Rattle.mvt_rules.specs.Polygon.{IsExterior, PolygonRings, IsPolygon}
 use Rattle.mvt_plane.specs.Position.{Position}
-use Rattle.mvt_plane.specs.Geometry.Ring.{ArePolygonRings}
+use Rattle.mvt_rules.specs.Ring.{ArePolygonRings}
 
 -- the position is inside the polygon of this number
 abbrev pub IsInsideNumbered : List (List Position) → ℕ → Position → Type 0

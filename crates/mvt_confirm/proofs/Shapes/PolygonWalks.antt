@@ -8,12 +8,12 @@ use Rattle.mvt_confirm.specs.Calls.Rings.{GivesRing}
 use Rattle.mvt_confirm.specs.declared.rings.Measure.{Measure}
 use Rattle.mvt_confirm.proofs.Shapes.RingCounts.{HavePassed, all_passed, IsMeasureOf, next_passed, none_passed}
 use Rattle.mvt_confirm.proofs.Shapes.RingPlaces.{IsCounted, none_yet, some_passed, exterior_counted, exterior_place, given_within, hole_counted, none_counted}
-use Rattle.mvt_plane.proofs.Rings.SamePolygons.{exterior_of_polygon, polygon_begins_within}
+use Rattle.mvt_rules.proofs.Rings.SamePolygons.{exterior_of_polygon, polygon_begins_within}
 use Rattle.mvt_plane.specs.Geometry.Inside.{IsInside}
-use Rattle.mvt_plane.specs.Geometry.Nesting.{IsInHoles}
-use Rattle.mvt_plane.specs.Geometry.Polygon.{IsExterior, NoExterior, IsExteriorOf, first, next, PolygonRings, IsPolygon}
+use Rattle.mvt_rules.specs.Nesting.{IsInHoles}
+use Rattle.mvt_rules.specs.Polygon.{IsExterior, NoExterior, IsExteriorOf, first, next, PolygonRings, IsPolygon}
 use Rattle.mvt_plane.specs.Position.{Position}
-use Rattle.mvt_plane.specs.Geometry.Ring.{ArePolygonRings}
+use Rattle.mvt_rules.specs.Ring.{ArePolygonRings}
 
 -- Places of a list
 

@@ -10,7 +10,8 @@ use Rattle.mvt_plane.specs.Calls.Rings.{IsClosed}
 use Rattle.mvt_confirm.specs.Calls.Rings.{GivesRing, IsMeasured}
 use Rattle.mvt_confirm.specs.declared.rings.Measure.{Measure}
 use Rattle.mvt_plane.specs.Position.{Position}
-use Rattle.mvt_plane.specs.Geometry.Ring.{doubled_area, EndsAtItsBeginning, HasNoArea, BeginsWithHole, BreaksRings, ends_at_its_beginning, no_area, begins_with_hole}
+use Rattle.mvt_plane.specs.Geometry.Ring.{doubled_area}
+use Rattle.mvt_rules.specs.Ring.{EndsAtItsBeginning, HasNoArea, BeginsWithHole, BreaksRings, ends_at_its_beginning, no_area, begins_with_hole}
 
 -- Steps
 

@@ -10,11 +10,12 @@ use Rattle.mvt_confirm.specs.Calls.Rings.{GivesRing}
 use Rattle.mvt_confirm.specs.declared.rings.Measure.{Measure}
 use Rattle.mvt_confirm.proofs.Shapes.RingCounts.{HavePassed, IsMeasureOf, next_passed, same_ring, positive_by_bits}
 use Rattle.mvt_confirm.proofs.Wire.FieldWalks.{one_with}
-use Rattle.mvt_plane.specs.Geometry.Polygon.{IsExterior, NoExterior, IsExteriorOf, first, next}
+use Rattle.mvt_rules.specs.Polygon.{IsExterior, NoExterior, IsExteriorOf, first, next}
 use Rattle.mvt_plane.specs.Position.{Position}
-use Rattle.mvt_plane.specs.Geometry.Ring.{doubled_area, ArePolygonRings}
-use Rattle.mvt_plane.proofs.Rings.PolygonNumbers.{none_to_next, none_in_nothing, one_more_hole, polygon_of_ring}
-use Rattle.mvt_plane.proofs.Rings.SamePolygons.{exterior_of_polygon}
+use Rattle.mvt_plane.specs.Geometry.Ring.{doubled_area}
+use Rattle.mvt_rules.specs.Ring.{ArePolygonRings}
+use Rattle.mvt_rules.proofs.Rings.PolygonNumbers.{none_to_next, none_in_nothing, one_more_hole, polygon_of_ring}
+use Rattle.mvt_rules.proofs.Rings.SamePolygons.{exterior_of_polygon}
 
 -- Exteriors that were passed
 

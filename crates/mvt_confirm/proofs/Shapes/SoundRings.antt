@@ -8,7 +8,7 @@ use Rattle.mvt_confirm.specs.Calls.Rings.{GivesRing}
 use Rattle.mvt_confirm.specs.declared.rings.Measure.{Measure}
 use Rattle.mvt_confirm.proofs.Shapes.RingCounts.{HavePassed, IsMeasureOf, none_passed, next_passed, all_passed, ends_decided, area_decided, hole_decided, flat_by_bits, negative_by_bits}
 use Rattle.mvt_plane.specs.Position.{Position}
-use Rattle.mvt_plane.specs.Geometry.Ring.{BreaksRings, ends_at_its_beginning, no_area, begins_with_hole, ArePolygonRings}
+use Rattle.mvt_rules.specs.Ring.{BreaksRings, ends_at_its_beginning, no_area, begins_with_hole, ArePolygonRings}
 
 -- so many were passed, perhaps none, and none of them has a fault
 pub record AreSound (rings : List (List Position)) (walk : VertexWalk) (is_first : Bool) (passed : ℕ) : Type 0 where

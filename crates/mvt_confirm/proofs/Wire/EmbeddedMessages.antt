@@ -4,7 +4,7 @@ use Rattle.std.specs.List.{cons_option}
 use Rattle.std.proofs.lemmas.Bool.{cases_eq, eq-eqb, ne_eqb, cond-true, cond-false}
 use Rattle.std.proofs.lemmas.List.Elements.{All-cons, All-head, All-tail}
 use Rattle.mvt_wire.specs.Field.{Entry}
-use Rattle.mvt_wire.specs.Scope.{fields_of, Span, span_of, spans_of}
+use Rattle.mvt_wire.specs.Payload.{fields_of, Span, span_of, spans_of}
 use Rattle.mvt_wire.specs.Calls.Scope.{Embeds}
 use Rattle.mvt_wire.specs.Walk.{Walk, GivesField}
 use Rattle.mvt_wire.proofs.Encoding.Payloads.{payload_within}

@@ -6,7 +6,8 @@ use Rattle.mvt_wire.specs.Field.{Entry}
 use Rattle.mvt_wire.specs.Message.{IsMessage}
 use Rattle.mvt_wire.specs.Schema.{rule_of}
 use Rattle.mvt_wire.specs.Walk.{Walk, GivesField, FindsDefect}
-use Rattle.mvt_wire.specs.WireFault.{count_of, count_known}
+use Rattle.mvt_wire.specs.Payload.{count_of}
+use Rattle.mvt_rules.specs.WireFault.{count_known}
 use Rattle.mvt_wire.specs.declared.cause.WireCause.{WireCause}
 use Rattle.mvt_wire.specs.declared.schema.Message.{Message}
 use Rattle.mvt_wire.proofs.Encoding.Messages.{whole_or_defect}

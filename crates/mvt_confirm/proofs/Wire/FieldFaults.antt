@@ -4,15 +4,15 @@ use Rattle.mvt_wire.specs.Field.{Entry}
 use Rattle.mvt_wire.specs.Message.{IsMessage}
 use Rattle.mvt_wire.specs.Schema.{rule_of}
 use Rattle.mvt_wire.specs.Walk.{Walk, IsOver, GivesField, FindsDefect}
-use Rattle.mvt_wire.specs.WireFault.{stands_in, EntryFault, other_type, again, no_text, out_of_range, packed, FieldFault}
+use Rattle.mvt_rules.specs.WireFault.{stands_in, EntryFault, other_type, again, no_text, out_of_range, packed, FieldFault}
 use Rattle.mvt_wire.specs.declared.cause.WireCause.{WireCause}
 use Rattle.mvt_wire.specs.declared.schema.FieldRule.{FieldRule}
 use Rattle.mvt_wire.specs.declared.schema.Message.{Message}
 use Rattle.mvt_wire.proofs.Encoding.Messages.{one_list, whole_or_defect}
 use Rattle.mvt_confirm.proofs.Wire.PackedWalk.{fault_ahead}
 use Rattle.mvt_wire.proofs.Walking.{IsWalking, IsWalking-more, IsWalking-defect, IsWalking-whole}
-use Rattle.mvt_wire.proofs.Parts.Schemas.{stands_in-own, stands_in-other}
-use Rattle.mvt_wire.proofs.Parts.LastFields.{LastFault, FieldFault-last, FieldFault-earlier}
+use Rattle.mvt_rules.proofs.Tiles.Schemas.{stands_in-own, stands_in-other}
+use Rattle.mvt_rules.proofs.Tiles.LastFields.{LastFault, FieldFault-last, FieldFault-earlier}
 
 -- a fault of a field names its number
 pub names_field : (rule : FieldRule) (occurred : Bool) (entry : Entry) (cause : WireCause) → EntryFault rule occurred entry cause → cause.field ≡ entry.number

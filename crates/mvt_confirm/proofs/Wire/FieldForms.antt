@@ -3,7 +3,7 @@ use Rattle.std.proofs.Common.{◌≡◌, ℕ, ◌↔◌, IsTrue, Bool, true, fal
 use Rattle.mvt_wire.specs.Field.{varint, delimited, Entry, wire_type_of, cause_at}
 use Rattle.mvt_wire.specs.Number.{PackedFault}
 use Rattle.mvt_wire.specs.Schema.{is_own, is_out_of_range, is_singular}
-use Rattle.mvt_wire.specs.WireFault.{EntryFault, other_type, again, no_text, out_of_range, packed}
+use Rattle.mvt_rules.specs.WireFault.{EntryFault, other_type, again, no_text, out_of_range, packed}
 use Rattle.mvt_wire.specs.declared.cause.WireCause.{WireCause}
 use Rattle.mvt_wire.specs.declared.cause.WireCode.TheVariants.{OtherType, Again, NotUtf8, OutOfRange}
 use Rattle.mvt_wire.specs.declared.schema.FieldRule.{FieldRule}

@@ -3,8 +3,9 @@ use Rattle.std.proofs.Common.{◌≡◌, ℕ, ◌↔◌, IsTrue, nat_lt, Bool, t
 use Rattle.mvt_wire.specs.Field.{Entry}
 use Rattle.mvt_wire.specs.Message.{IsMessage, HasDefect}
 use Rattle.mvt_wire.specs.Schema.{rule_of, is_required}
-use Rattle.mvt_wire.specs.Scope.{Span, whole_span, IsPart, IsScope, message_of}
-use Rattle.mvt_wire.specs.WireFault.{count_of, FieldFault, EndFault, missing, not_one, MessageFault, WireFault}
+use Rattle.mvt_wire.specs.Payload.{Span, count_of}
+use Rattle.mvt_rules.specs.Scope.{whole_span, IsPart, IsScope, message_of}
+use Rattle.mvt_rules.specs.WireFault.{FieldFault, EndFault, missing, not_one, MessageFault, WireFault}
 use Rattle.mvt_wire.specs.declared.cause.WireCause.{WireCause}
 use Rattle.mvt_wire.specs.declared.cause.WireCode.TheVariants.{Missing, OneField}
 use Rattle.mvt_wire.specs.declared.schema.FieldRule.{FieldRule}

@@ -1,13 +1,14 @@
 -- A search for the payload with an ordinal, among those of the fields of a number.
 use Rattle.std.proofs.Common.{◌≡◌, ◌≢◌, ℕ, ◌+◌, ◌≤◌, List, [], ◌∷◌, ◌++◌, length, take, slice_get, Option, Some, None, IfNone, option_map, sym, ◌∙◌, ap, subst, arith, length-append}
 use Rattle.mvt_wire.specs.Field.{Entry}
-use Rattle.mvt_wire.specs.Scope.{Span, span_of, spans_of, whole_span, IsPart}
+use Rattle.mvt_wire.specs.Payload.{Span, span_of, spans_of}
+use Rattle.mvt_rules.specs.Scope.{whole_span, IsPart}
 use Rattle.mvt_wire.specs.Walk.{Walk, IsOver, GivesField, FindsDefect}
 use Rattle.mvt_wire.specs.declared.cause.WireCause.{WireCause}
 use Rattle.mvt_wire.proofs.Encoding.Messages.{one_list, whole_or_defect}
 use Rattle.mvt_confirm.specs.Calls.ByteSpan.{as_span}
 use Rattle.mvt_confirm.specs.declared.span.ByteSpan.{ByteSpan}
-use Rattle.mvt_wire.proofs.Parts.Spans.{Within}
+use Rattle.mvt_rules.proofs.Tiles.Spans.{Within}
 use Rattle.mvt_confirm.proofs.Wire.Payloads.{Within-given, one_part, slice_get-other, spans_of-push, spans_of-same}
 use Rattle.mvt_wire.proofs.Walking.{IsWalking, IsWalking-more, IsWalking-defect, IsWalking-whole}
 use Rattle.mvt_wire.proofs.Encoding.Payloads.{slice_get-last}

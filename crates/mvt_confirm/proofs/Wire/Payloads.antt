@@ -2,11 +2,12 @@
 use Rattle.std.proofs.Common.{◌≡◌, ◌≢◌, ℕ, suc, zero, ◌==◌, List, [], ◌∷◌, ◌++◌, length, take, map, filter_map, slice_get, Some, None, inl, inr, refl, sym, ◌∙◌, ap, subst, arith, append-nil, length-take}
 use Rattle.std.proofs.lemmas.Bool.{cases_eq, eq-eqb, ne_eqb, cond-true, cond-false}
 use Rattle.mvt_wire.specs.Field.{Entry, IsField}
-use Rattle.mvt_wire.specs.Scope.{Span, span_of, spans_of, IsPart}
+use Rattle.mvt_wire.specs.Payload.{Span, span_of, spans_of}
+use Rattle.mvt_rules.specs.Scope.{IsPart}
 use Rattle.mvt_wire.specs.Walk.{Walk, GivesField}
 use Rattle.mvt_wire.proofs.Encoding.Messages.{one_list}
 use Rattle.mvt_wire.proofs.Walking.{IsWalking}
-use Rattle.mvt_wire.proofs.Parts.Spans.{Within}
+use Rattle.mvt_rules.proofs.Tiles.Spans.{Within}
 use Rattle.mvt_wire.proofs.Encoding.Payloads.{spans_of-append, payload_within}
 
 -- a field of the number is added, with a payload of wire type 2

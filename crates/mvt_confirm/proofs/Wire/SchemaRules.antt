@@ -4,8 +4,9 @@ use Rattle.std.proofs.lemmas.Bool.{cases_eq, eq-eqb, ne_eqb, cond-true, cond-fal
 use Rattle.std.proofs.lemmas.List.Elements.{All-nil, All-cons, All-head, All-tail, All-weaker}
 use Rattle.mvt_wire.specs.Field.{Entry}
 use Rattle.mvt_wire.specs.Schema.{find_rule, rules_of, rule_of}
-use Rattle.mvt_wire.specs.Tile.{KeepsSchema}
-use Rattle.mvt_wire.specs.WireFault.{count_of, count_known}
+use Rattle.mvt_rules.specs.Tile.{KeepsSchema}
+use Rattle.mvt_wire.specs.Payload.{count_of}
+use Rattle.mvt_rules.specs.WireFault.{count_known}
 use Rattle.mvt_wire.specs.declared.schema.FieldRule.{FieldRule}
 use Rattle.mvt_wire.specs.declared.schema.Message.{Message}
 use Rattle.mvt_wire.specs.declared.schema.Message.TheVariants.{Tile, Layer, Value, Feature}

@@ -7,12 +7,12 @@ use Rattle.mvt_wire.specs.Message.{IsMessage}
 use Rattle.mvt_wire.specs.Number.{StateTogether, AreSmall}
 use Rattle.mvt_wire.specs.Numbers.{NumberWalk, NumbersEnd, NumbersLeft}
 use Rattle.mvt_wire.specs.Schema.{rule_of, is_out_of_range, is_singular}
-use Rattle.mvt_wire.specs.Scope.{contents_of, fields_of}
-use Rattle.mvt_wire.specs.Tile.{Fits, KeepsSchema, number_in, numbers_of}
+use Rattle.mvt_wire.specs.Payload.{contents_of, fields_of, number_in, numbers_of}
+use Rattle.mvt_rules.specs.Tile.{Fits, KeepsSchema}
 use Rattle.mvt_wire.specs.declared.schema.FieldRule.{FieldRule}
 use Rattle.mvt_wire.specs.declared.schema.Message.{Message}
 use Rattle.mvt_confirm.specs.Calls.Numbers.{TakesNumber}
-use Rattle.mvt_wire.proofs.Parts.Contents.{contents_fit}
+use Rattle.mvt_rules.proofs.Tiles.Contents.{contents_fit}
 
 -- the rule takes numbers of 32 bits alone
 abbrev pub TakesSmall : FieldRule → Type 0

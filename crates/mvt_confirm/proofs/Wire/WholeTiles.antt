@@ -2,17 +2,18 @@
 use Rattle.std.proofs.Common.{◌≡◌, ℕ, zero, suc, inl, inr, List, [], ◌∷◌, take, slice_get, All, Some, sym, ◌∙◌, ap, subst}
 use Rattle.std.proofs.lemmas.List.Elements.{All-nil, All-cons, All-head, All-tail}
 use Rattle.mvt_wire.specs.Field.{Entry}
-use Rattle.mvt_wire.specs.Scope.{Span, spans_of, whole_span, IsPart, IsScope, message_of}
-use Rattle.mvt_wire.specs.Tile.{IsFeature, IsValue, LayerRecord, IsLayer, TileRecord, IsTile, Each}
-use Rattle.mvt_wire.specs.WireFault.{MessageFault}
+use Rattle.mvt_wire.specs.Payload.{Span, spans_of}
+use Rattle.mvt_rules.specs.Scope.{whole_span, IsPart, IsScope, message_of}
+use Rattle.mvt_rules.specs.Tile.{IsFeature, IsValue, LayerRecord, IsLayer, TileRecord, IsTile, Each}
+use Rattle.mvt_rules.specs.WireFault.{MessageFault}
 use Rattle.mvt_wire.specs.declared.cause.WireCause.{WireCause}
 use Rattle.mvt_wire.specs.declared.schema.Message.{Message}
 use Rattle.mvt_wire.specs.declared.schema.Message.TheVariants as messages
 use Rattle.mvt_wire.specs.declared.scope.Scope.{Scope}
 use Rattle.mvt_wire.specs.declared.scope.Scope.TheVariants.{Tile, Layer, Value, Feature}
-use Rattle.mvt_wire.proofs.Parts.Judgements.{message_or_fault}
+use Rattle.mvt_rules.proofs.Tiles.Judgements.{message_or_fault}
 use Rattle.mvt_wire.proofs.Encoding.Messages.{one_list}
-use Rattle.mvt_wire.proofs.Parts.Tiles.{tile_or_fault}
+use Rattle.mvt_rules.proofs.Tiles.Tiles.{tile_or_fault}
 use Rattle.mvt_confirm.specs.Calls.Walking.{HoldsMessage, HoldsParts, HoldsLayer}
 
 -- a member of a list

@@ -1,7 +1,7 @@
 -- Walks over the rings of a feature that stand at one of its polygons (Mapbox Vector Tile Specification 2.1, section 4.3.4.4).
 use Rattle.std.specs.Prelude.{ℕ, suc, List, drop}
 use Rattle.mvt_confirm.specs.Calls.Vertices.{VertexWalk, RingsLeft}
-use Rattle.mvt_plane.specs.Geometry.Polygon.{PolygonRings, IsPolygon}
+use Rattle.mvt_rules.specs.Polygon.{PolygonRings, IsPolygon}
 use Rattle.mvt_plane.specs.Position.{Position}
 
 -- one walk is after the exterior of the polygon of this number, and the other in front of it

@@ -1,5 +1,5 @@
 -- Spans of bytes, as the program has them.
-use Rattle.mvt_wire.specs.Scope.{Span}
+use Rattle.mvt_wire.specs.Payload.{Span}
 use Rattle.mvt_confirm.specs.declared.span.ByteSpan.{ByteSpan}
 
 -- the span that the program names

@@ -1,11 +1,11 @@
 -- Edges with their numbers, and tests of edges that come one after another (Mapbox Vector Tile Specification 2.1,
 -- section 4.3.4.4).
 use Rattle.std.specs.Prelude.{◌≡◌, ◌↔◌, ℕ, IsTrue, List, length, slice_get, Some}
-use Rattle.mvt_confirm.specs.PolygonFault.{number_of}
+use Rattle.mvt_rules.specs.PolygonFault.{number_of}
 use Rattle.mvt_confirm.specs.declared.crossings.Crossings.{Crossings}
 use Rattle.mvt_confirm.specs.declared.edge_tests.NumberedEdge.{NumberedEdge}
 use Rattle.mvt_plane.specs.Geometry.Inside.{PassesOver, HoldsOfOdd}
-use Rattle.mvt_plane.specs.Geometry.Meeting.{IsEdgeOf}
+use Rattle.mvt_rules.specs.Meeting.{IsEdgeOf}
 use Rattle.mvt_plane.specs.Position.{Position}
 use Rattle.mvt_plane.specs.Geometry.RationalPoint.{RationalPoint, IsAt}
 use Rattle.mvt_plane.specs.Geometry.Ring.{next_round}

@@ -4,7 +4,7 @@ use Rattle.mvt_confirm.specs.Calls.ByteSpan.{as_span}
 use Rattle.mvt_confirm.specs.declared.message_bytes.MessageBytes.{MessageBytes}
 use Rattle.mvt_plane.specs.FeatureGeometry.{HasRings}
 use Rattle.mvt_plane.specs.Position.{Position}
-use Rattle.mvt_wire.specs.Tile.{FeatureRecord, IsFeature}
+use Rattle.mvt_rules.specs.Tile.{FeatureRecord, IsFeature}
 
 -- the feature that is there
 abbrev pub IsFeatureAt : MessageBytes → FeatureRecord → Type 0

@@ -1,7 +1,7 @@
 -- Which polygon a ring belongs to, by a walk over the rings (Mapbox Vector Tile Specification 2.1, section 4.3.4.4).
 use Rattle.std.specs.Prelude.{◌≡◌, ℕ, List}
 use Rattle.mvt_confirm.specs.declared.polygons.RingPlace.{RingPlace}
-use Rattle.mvt_plane.specs.Geometry.Polygon.{PolygonRings, IsPolygon, IsRingOf}
+use Rattle.mvt_rules.specs.Polygon.{PolygonRings, IsPolygon, IsRingOf}
 use Rattle.mvt_plane.specs.Position.{Position}
 
 -- the ring belongs to the polygon of this number, whose exterior is this one

@@ -4,9 +4,9 @@ use Rattle.mvt_wire.specs.Field.{Content, varint, eight_bytes, delimited, four_b
 use Rattle.mvt_wire.specs.Message.{IsMessage}
 use Rattle.mvt_wire.specs.Number.{VarintList, AreSmall}
 use Rattle.mvt_wire.specs.Schema.{is_out_of_range, is_singular, is_required}
-use Rattle.mvt_wire.specs.Scope.{Span, spans_of}
-use Rattle.mvt_wire.specs.Tile.{Fits, KeepsSchema}
-use Rattle.mvt_wire.specs.WireFault.{count_of, count_known}
+use Rattle.mvt_wire.specs.Payload.{Span, spans_of, count_of}
+use Rattle.mvt_rules.specs.Tile.{Fits, KeepsSchema}
+use Rattle.mvt_rules.specs.WireFault.{count_known}
 use Rattle.mvt_wire.specs.declared.schema.FieldRule.{FieldRule}
 use Rattle.mvt_wire.specs.declared.schema.Message.{Message}
 use Rattle.mvt_wire.specs.declared.schema.Message.TheVariants.{Layer, Value, Feature}

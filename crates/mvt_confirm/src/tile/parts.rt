@@ -2,7 +2,8 @@
 //! 2.1, sections 4 and 4.1).
 ghost use Rattle.std.specs.Prelude.{◌≡◌, ◌↔◌, ◌≤◌, length, IsTrue, Some};
 ghost use Rattle.mvt_wire.specs.Field.{entry_of};
-ghost use Rattle.mvt_wire.specs.Scope.{Span, span_of, whole_span};
+ghost use Rattle.mvt_wire.specs.Payload.{Span, span_of};
+ghost use Rattle.mvt_rules.specs.Scope.{whole_span};
 ghost use Rattle.mvt_wire.specs.Calls.Scope.{Embeds};
 ghost use Rattle.mvt_confirm.specs.Calls.ByteSpan.{as_span};
 ghost use Rattle.mvt_confirm.specs.Calls.Walking.{HoldsMessage, HoldsParts, HoldsLayer};

@@ -2,7 +2,7 @@
 ghost use Rattle.std.specs.Prelude.{◌≡◌, ◌↔◌, List, ◌∷◌, true, false, IsTrue, IfSome, IfNone};
 ghost use Rattle.mvt_wire.specs.Field.{Entry, entry_of, content_of};
 ghost use Rattle.mvt_wire.specs.Schema.{is_singular, is_required};
-ghost use Rattle.mvt_wire.specs.Tile.{Fits};
+ghost use Rattle.mvt_rules.specs.Tile.{Fits};
 ghost use Rattle.mvt_confirm.specs.Calls.MessageBytes.{Holds};
 ghost use Rattle.mvt_confirm.specs.Calls.Walking.{KeepsRule, KeepsRuleAfter};
 

@@ -2,8 +2,8 @@
 ghost use Rattle.std.specs.Prelude.{◌≡◌, ◌↔◌, List, ◌∷◌, All, IsTrue, IfSome, IfNone};
 ghost use Rattle.mvt_wire.specs.Field.{Entry, entry_of};
 ghost use Rattle.mvt_wire.specs.Schema.{rules_of};
-ghost use Rattle.mvt_wire.specs.Tile.{KeepsSchema};
-ghost use Rattle.mvt_wire.specs.WireFault.{count_known};
+ghost use Rattle.mvt_rules.specs.Tile.{KeepsSchema};
+ghost use Rattle.mvt_rules.specs.WireFault.{count_known};
 ghost use Rattle.mvt_wire.specs.declared.schema.Message.TheVariants as messages;
 ghost use Rattle.mvt_confirm.specs.Calls.MessageBytes.{Holds};
 ghost use Rattle.mvt_confirm.specs.Calls.Walking.{KeepsRule, HasOneKnownAfter};

@@ -2,7 +2,8 @@
 ghost use Rattle.std.specs.Prelude.{◌≡◌, ◌↔◌, List, true, Some, IfNone, IfSome, IsTrue};
 ghost use Rattle.mvt_wire.specs.Field.{Entry};
 ghost use Rattle.mvt_wire.specs.Schema.{rule_of, is_required};
-ghost use Rattle.mvt_wire.specs.WireFault.{EndFault, count_of, count_known};
+ghost use Rattle.mvt_rules.specs.WireFault.{EndFault, count_known};
+ghost use Rattle.mvt_wire.specs.Payload.{count_of};
 ghost use Rattle.mvt_wire.specs.declared.schema.FieldRule.{FieldRule};
 ghost use Rattle.mvt_confirm.specs.Calls.MessageBytes.{HasFields};
 

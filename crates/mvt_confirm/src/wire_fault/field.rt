@@ -3,7 +3,7 @@ ghost use Rattle.std.specs.Prelude.{◌≡◌, ◌↔◌, ℕ, List, true, false
 ghost use Rattle.mvt_wire.specs.Field.{Entry, varint, delimited, content_of, entry_of, wire_type_of, cause_at};
 ghost use Rattle.mvt_wire.specs.Number.{PackedFault};
 ghost use Rattle.mvt_wire.specs.Schema.{is_own, is_out_of_range, is_singular};
-ghost use Rattle.mvt_wire.specs.WireFault.{EntryFault, FieldFault};
+ghost use Rattle.mvt_rules.specs.WireFault.{EntryFault, FieldFault};
 ghost use Rattle.mvt_wire.specs.declared.cause.WireCode.TheVariants.{OtherType, Again, NotUtf8, OutOfRange};
 ghost use Rattle.mvt_wire.specs.declared.schema.Shape.TheVariants.{Text, Numbers};
 ghost use Rattle.mvt_confirm.specs.Calls.MessageBytes.{HasFields};

@@ -1,26 +1,26 @@
 -- What is known of the rings of one feature while its polygons are checked one after another (Mapbox Vector Tile
 -- Specification 2.1, section 4.3.4.4).
 use Rattle.std.specs.Prelude.{ℕ, ◌+◌, ◌<◌, List, Option}
-use Rattle.mvt_confirm.specs.Geometry.{IsFaultOfGeometryBy}
-use Rattle.mvt_confirm.specs.Valid.{IsValidPolygonBy}
+use Rattle.mvt_rules.specs.Parts.Geometry.{IsFaultOfGeometryBy}
+use Rattle.mvt_rules.specs.Valid.{IsValidPolygonBy}
 use Rattle.mvt_fault.specs.Place.{IsLeast}
 use Rattle.mvt_fault.specs.declared.fault.Fault.{Fault}
 use Rattle.mvt_fault.specs.declared.fault.Fault.TheVariants as faults
 use Rattle.mvt_fault.specs.declared.profile.Profile.{Profile}
 use Rattle.mvt_plane.specs.FeatureGeometry.{HasRings}
-use Rattle.mvt_plane.specs.Geometry.Polygon.{PolygonRings, IsPolygon}
+use Rattle.mvt_rules.specs.Polygon.{PolygonRings, IsPolygon}
 use Rattle.mvt_plane.specs.Position.{Position}
-use Rattle.mvt_polygon.specs.Feature.{IsFeatureAnswer}
-use Rattle.mvt_polygon.specs.QuickFeature.{IsQuickAnswer}
+use Rattle.mvt_feature.specs.Feature.{IsFeatureAnswer}
+use Rattle.mvt_feature.specs.QuickFeature.{IsQuickAnswer}
 use Rattle.mvt_polygon.specs.declared.apart.ApartFault.{ApartFault}
-use Rattle.mvt_polygon.specs.declared.feature.FeatureCause.{FeatureCause}
-use Rattle.mvt_polygon.specs.declared.feature.FeatureCause.TheVariants as causes
-use Rattle.mvt_polygon.specs.declared.feature.FeatureFault.{FeatureFault}
-use Rattle.mvt_polygon.specs.declared.meeting.Meeting.{Meeting}
+use Rattle.mvt_feature.specs.declared.feature.FeatureCause.{FeatureCause}
+use Rattle.mvt_feature.specs.declared.feature.FeatureCause.TheVariants as causes
+use Rattle.mvt_feature.specs.declared.feature.FeatureFault.{FeatureFault}
+use Rattle.mvt_sweep.specs.declared.meeting.Meeting.{Meeting}
 use Rattle.mvt_polygon.specs.declared.nesting.NestFault.{NestFault}
 use Rattle.mvt_polygon.specs.declared.nesting.NestFault.TheVariants as nest_faults
 use Rattle.mvt_tile.specs.FreeFaults.{IsLeastOr}
-use Rattle.mvt_wire.specs.Tile.{FeatureRecord}
+use Rattle.mvt_rules.specs.Tile.{FeatureRecord}
 use Rattle.mvt_gate.specs.Quick.{IsFreeFor}
 use Rattle.mvt_gate.specs.declared.polygons.PolygonPlace.{PolygonPlace}
 use Rattle.mvt_gate.specs.declared.quick.Search.{Search}

@@ -1,16 +1,16 @@
 //! The first fault of the polygons of a feature where they are kept apart.
 ghost use Rattle.std.specs.Prelude.{◌≡◌, IfNone, IfOk, IfSome};
-ghost use Rattle.mvt_confirm.specs.Valid.{AreValidRingsBy};
+ghost use Rattle.mvt_rules.specs.Valid.{AreValidRingsBy};
 ghost use Rattle.mvt_fault.specs.declared.profile.Profile.TheVariants.{Feature};
-ghost use Rattle.mvt_plane.specs.Geometry.Ring.{ArePolygonRings};
-ghost use Rattle.mvt_polygon.specs.Rings.{rings_of, AreProperRings};
+ghost use Rattle.mvt_sweep.specs.Rings.{rings_of, AreProperRings};
+ghost use Rattle.mvt_rules.specs.Ring.{ArePolygonRings};
 ghost use Rattle.mvt_gate.specs.Calls.Polygons.{IsFeatureAnswerFor, IsFirstOfRingsFor, IsReportable, fault_of_cause};
 
 use super::{PolygonPlace, hole_fault, meeting_fault};
 use crate::quick::Search;
 use mvt_fault::Fault;
+use mvt_feature::{FeatureCause, FeatureFault, check_feature, check_feature_quickly};
 use mvt_plane::{Count, Point};
-use mvt_polygon::{FeatureCause, FeatureFault, check_feature, check_feature_quickly};
 use std::alloc::{AllocError, Global};
 
 /// The first fault of the polygons of a feature, one after another, or quickly any meeting of their

@@ -1,20 +1,13 @@
 -- Polygons that were judged one by one.
-use Rattle.std.specs.Prelude.{◌≡◌, ◌≢◌, ◌<◌, ◌≤◌, ℕ, Bool, false, IsTrue, List, length, slice_get, Some, Vec}
+use Rattle.std.specs.Prelude.{◌≡◌, ◌<◌, ◌≤◌, ℕ, Bool, false, IsTrue, List, length, slice_get, Some, Vec}
 use Rattle.std.specs.declared.alloc.Global.{Global}
-use Rattle.mvt_confirm.specs.Valid.{AreValidRings}
+use Rattle.mvt_rules.specs.Parts.ByPolygon.{AreValidRings}
 use Rattle.mvt_mend.specs.Kept.{IsRightPolygon}
-use Rattle.mvt_plane.specs.Geometry.Part.{part_of}
-use Rattle.mvt_plane.specs.Geometry.Polygon.{PolygonRings, IsPolygon}
-use Rattle.mvt_plane.specs.Geometry.Ring.{next_round}
+use Rattle.mvt_rules.specs.Parts.Rings.{part_of}
+use Rattle.mvt_rules.specs.Polygon.{PolygonRings, IsPolygon}
 use Rattle.mvt_plane.specs.Position.{Position}
 use Rattle.mvt_polygon.specs.Polygons.{ArePolygons}
-use Rattle.mvt_polygon.specs.Rings.{rings_of, AreProperRings}
-
--- the ring has three vertices or more, and none is at the position of the next one
-pub record IsProperRing (ring : List Position) : Type 0 where
-  pub several : 3 ≤ length ring
-  pub apart : (vertex : ℕ) (position next : Position) → slice_get ring vertex ≡ Some position
-      → slice_get ring (next_round (length ring) vertex) ≡ Some next → position ≢ next
+use Rattle.mvt_sweep.specs.Rings.{rings_of, AreProperRings}
 
 -- the rings can be spelled, and are those of valid polygons
 pub record AreRightRings (rings : List (List Position)) : Type 0 where

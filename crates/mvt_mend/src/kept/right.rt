@@ -1,13 +1,13 @@
 //! Which polygons keep all rules by themselves.
-ghost use Rattle.std.specs.Prelude.{◌<◌, ◌≤◌, ◌↔◌, IfOk, IsTrue, length, slice_range};
-ghost use Rattle.mvt_mend.specs.Calls.Judged.{AreJudged, IsProperRing, IsRightMark};
+ghost use Rattle.std.specs.Prelude.{◌<◌, ◌≤◌, IfOk, length, slice_range};
+ghost use Rattle.mvt_mend.specs.Calls.Judged.{AreJudged, IsRightMark};
 ghost use Rattle.mvt_polygon.specs.Polygons.{ArePolygons};
-ghost use Rattle.mvt_polygon.specs.Rings.{rings_of, AreProperRings};
+ghost use Rattle.mvt_sweep.specs.Rings.{rings_of};
 
-use crate::kept::is_same_position;
-use crate::near::edge_at;
+use mvt_feature::{FeatureCause, check_feature};
 use mvt_plane::{Count, Point};
-use mvt_polygon::{FeatureCause, check_feature, check_polygon, check_rings};
+use mvt_polygon::{check_polygon, check_rings};
+use mvt_sweep::are_proper;
 use std::alloc::{AllocError, Global};
 
 /// Of each polygon whether it keeps all rules by itself.
@@ -79,32 +79,4 @@ fn is_cause(cause: FeatureCause) -> bool {
     match cause {
         FeatureCause::Meeting(_) | FeatureCause::Nesting(_) | FeatureCause::Apart(_) => true,
     }
-}
-
-/// Whether each ring has three vertices or more, and none is at the position of the next one.
-fn are_proper(rings: &[Vec<Point>]) -> bool
-    ensures { IsTrue result ↔ AreProperRings (rings_of rings.now) }
-{
-    for ring in 0..rings.len() {
-        if !is_proper(&rings[ring]) {
-            return false;
-        }
-    }
-    true
-}
-
-/// The same of one ring.
-fn is_proper(ring: &[Point]) -> bool
-    ensures { IsTrue result ↔ IsProperRing ring.now }
-{
-    if ring.len() < 3 {
-        return false;
-    }
-    for vertex in 0..ring.len() {
-        let edge = edge_at(ring, vertex);
-        if is_same_position(edge.a, edge.b) {
-            return false;
-        }
-    }
-    true
 }

@@ -1,6 +1,6 @@
 -- Features that have faults, as they stand in the bytes of a tile.
 use Rattle.std.specs.Prelude.{◌≡◌, ◌≢◌, ℕ, ◌<◌, ◌≤◌, ◌⊎◌, List, length, slice_get, Some}
-use Rattle.mvt_confirm.specs.Feature.{IsFeatureIn}
+use Rattle.mvt_rules.specs.Shows.{IsFeatureIn}
 use Rattle.mvt_fault.specs.declared.fault.Fault.{Fault}
 use Rattle.mvt_fault.specs.declared.fault.Fault.TheVariants.{Wire, Version, Name, Tag, Command, Ring, Meeting, Outside, HoleInHole, InPolygon}
 use Rattle.mvt_gate.specs.FaultList.{of_feature, subject_of}
@@ -8,7 +8,7 @@ use Rattle.mvt_plane.specs.Commands.Figure.{polygon}
 use Rattle.mvt_plane.specs.FeatureGeometry.{type_number}
 use Rattle.mvt_tile.specs.FeatureBytes.{Shows}
 use Rattle.mvt_tile.specs.declared.feature_bytes.FeatureBytes.{FeatureBytes}
-use Rattle.mvt_wire.specs.Tile.{FeatureRecord, LayerRecord}
+use Rattle.mvt_rules.specs.Tile.{FeatureRecord, LayerRecord}
 use Rattle.mvt_mender.specs.Mendable.{MayDrawRings}
 use Rattle.mvt_mender.specs.declared.place.FeaturePlace.{FeaturePlace}
 

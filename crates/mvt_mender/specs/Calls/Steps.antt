@@ -1,7 +1,7 @@
 -- What the steps of mending have found.
 use Rattle.std.specs.Prelude.{◌≡◌, ◌<◌, ℕ, Bool, true, false, List, length, slice_get, Option, Some, None, Vec}
 use Rattle.std.specs.declared.alloc.Global.{Global}
-use Rattle.mvt_confirm.specs.Valid.{AreValidRingsBy}
+use Rattle.mvt_rules.specs.Valid.{AreValidRingsBy}
 use Rattle.mvt_fault.specs.declared.profile.Profile.{Profile}
 use Rattle.mvt_plane.specs.Commands.Figure.{polygon}
 use Rattle.mvt_plane.specs.FeatureGeometry.{HasRings, type_number}
@@ -9,7 +9,7 @@ use Rattle.mvt_plane.specs.Position.{Position}
 use Rattle.mvt_splice.specs.declared.change.Change.{Change}
 use Rattle.mvt_tile.specs.FeatureBytes.{Shows}
 use Rattle.mvt_tile.specs.declared.feature_bytes.FeatureBytes.{FeatureBytes}
-use Rattle.mvt_wire.specs.Tile.{FeatureRecord}
+use Rattle.mvt_rules.specs.Tile.{FeatureRecord}
 use Rattle.mvt_mender.specs.Changed.{IsMendedGeometry}
 use Rattle.mvt_mender.specs.Measures.{AreMeasuresOf}
 use Rattle.mvt_mender.specs.declared.changes.ChangesFound.{ChangesFound}

@@ -1,27 +1,14 @@
--- Which faults are of one hole or of one of its vertices, and which comes first.
+-- Which faults are of one hole, and which holes are around a vertex.
 use Rattle.std.specs.Prelude.{◌≡◌, ◌≢◌, ℕ, ◌<◌, ◌≤◌, List, slice_get, Some}
-use Rattle.mvt_fault.specs.Place.{ComesFirst}
 use Rattle.mvt_plane.specs.Geometry.Inside.{IsInside}
 use Rattle.mvt_plane.specs.Position.{Position}
 use Rattle.mvt_polygon.specs.declared.nesting.NestFault.{NestFault}
 use Rattle.mvt_polygon.specs.declared.nesting.NestFault.TheVariants.{Outside, InHole}
-use Rattle.mvt_polygon.specs.Nesting.{IsNestFault, nest_place}
 
 -- the fault is one of this hole
 abbrev pub IsOfHole : ℕ → NestFault → Type 0
 IsOfHole hole (Outside ring vertex) = ring ≡ hole
 IsOfHole hole (InHole ring vertex other) = ring ≡ hole
-
--- the fault is one of this vertex of a hole
-abbrev pub IsOfVertex : ℕ → ℕ → NestFault → Type 0
-IsOfVertex hole number (Outside ring vertex) = (ring ≡ hole) × (vertex ≡ number)
-IsOfVertex hole number (InHole ring vertex other) = (ring ≡ hole) × (vertex ≡ number)
-
--- the first of the polygon's faults of a kind
-pub record IsFirstOf (rings : List (List Position)) (Is : NestFault → Type 0) (fault : NestFault) : Type 0 where
-  pub is : Is fault
-  pub holds : IsNestFault rings fault
-  pub first : (other : NestFault) → Is other → IsNestFault rings other → ComesFirst (nest_place fault) (nest_place other)
 
 -- the position of a hole's vertex is inside this other hole
 pub record IsHoleAround (rings : List (List Position)) (ring : ℕ) (position : Position) (other : ℕ) : Type 0 where

@@ -2,7 +2,7 @@
 use Rattle.std.specs.Prelude.{◌≤◌, ℕ, List}
 use Rattle.mvt_fault.specs.Code.{ring_code}
 use Rattle.mvt_plane.specs.Position.{Position}
-use Rattle.mvt_plane.specs.Geometry.Ring.{BreaksRings}
+use Rattle.mvt_rules.specs.Ring.{BreaksRings}
 use Rattle.mvt_fault.specs.declared.ring.RingCode.{RingCode}
 
 -- the first, by the code, of all faults that this ring has of its own

@@ -1,17 +1,15 @@
 //! Holes that aren't where they should be, by what a sweep noted of each ring.
 ghost use Rattle.std.specs.Prelude.{◌≡◌, ◌↔◌, ◌<◌, IsTrue, IfNone, IfSome, length};
-ghost use Rattle.mvt_polygon.specs.Work.{AddsWork};
-ghost use Rattle.mvt_polygon.specs.Work.{vertex_count};
+ghost use Rattle.mvt_sweep.specs.Work.{AddsWork, vertex_count};
 ghost use Rattle.mvt_polygon.specs.Nesting.{IsNestFault, IsFirstNestFault};
-ghost use Rattle.mvt_polygon.specs.Calls.RingsAround.{nearest_at};
-ghost use Rattle.mvt_polygon.specs.Rings.{rings_of, AreProperRings};
-ghost use Rattle.mvt_polygon.specs.Calls.Swept.{IsNotedClear};
+ghost use Rattle.mvt_sweep.specs.RingsAround.{nearest_at};
+ghost use Rattle.mvt_sweep.specs.Rings.{rings_of, AreProperRings};
+ghost use Rattle.mvt_sweep.specs.Swept.{IsNotedClear};
 ghost use Rattle.mvt_polygon.specs.declared.nesting.NestFault.{NestFault};
 
-use crate::nesting::NestFault;
-use crate::nesting::once::fault_of_first_vertex;
-use crate::sweep::RingNotes;
+use crate::nesting::{NestFault, fault_of_first_vertex};
 use mvt_plane::{Count, Point};
+use mvt_sweep::RingNotes;
 
 /// What `check_nesting` answers of the rings of a polygon, where no two of their edges meet wrongly
 /// and it is noted of each ring which other rings are around it. Of the hole that it answers, and

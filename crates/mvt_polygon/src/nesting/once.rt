@@ -1,13 +1,12 @@
 //! Holes that aren't where they should be, by one vertex of each.
 ghost use Rattle.std.specs.Prelude.{◌≡◌, ◌≤◌, ℕ, ◌↔◌, ◌*◌, ◌-◌, ◌<◌, IsTrue, IfNone, IfSome, length, take};
 ghost use Rattle.mvt_plane.specs.Geometry.Inside.{IsInside};
-ghost use Rattle.mvt_plane.specs.Geometry.Nesting.{IsVertexOf};
-ghost use Rattle.mvt_polygon.specs.Work.{AddsWork};
-ghost use Rattle.mvt_polygon.specs.Work.{vertex_count};
-ghost use Rattle.mvt_polygon.specs.Meeting.{NoMeeting};
-ghost use Rattle.mvt_polygon.specs.Nesting.{IsNestFault, IsFirstNestFault};
-ghost use Rattle.mvt_polygon.specs.Calls.Nesting.{IsFirstOf, IsOfVertex, IsHoleAround, IsFirstHoleAround};
-ghost use Rattle.mvt_polygon.specs.Rings.{rings_of, AreProperRings};
+ghost use Rattle.mvt_sweep.specs.Work.{AddsWork, vertex_count};
+ghost use Rattle.mvt_sweep.specs.Meeting.{NoMeeting};
+ghost use Rattle.mvt_polygon.specs.Nesting.{IsNestFault, IsFirstNestFault, IsFirstOf, IsOfVertex};
+ghost use Rattle.mvt_polygon.specs.Calls.Nesting.{IsHoleAround, IsFirstHoleAround};
+ghost use Rattle.mvt_sweep.specs.Rings.{rings_of, AreProperRings};
+ghost use Rattle.mvt_rules.specs.Nesting.{IsVertexOf};
 ghost use Rattle.mvt_polygon.specs.declared.nesting.NestFault.{NestFault};
 ghost use Rattle.mvt_status.specs.Counts.{raised};
 
@@ -41,8 +40,8 @@ pub fn check_nesting_once(rings: &[Vec<Point>], count: &mut Count) -> Option<Nes
 
 /// Why the first vertex of a hole isn't where it should be: it isn't inside the exterior, or else
 /// it is inside another hole, of which the first is returned. Ticks a probe for each edge of the
-/// exterior at least.
-pub(crate) fn fault_of_first_vertex(
+/// exterior at least, and one for each edge of the rings at most. It takes no memory.
+pub fn fault_of_first_vertex(
     rings: &[Vec<Point>],
     ring: usize,
     position: Point,

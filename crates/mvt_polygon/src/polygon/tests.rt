@@ -1,16 +1,15 @@
 use super::{PolygonFault, check_polygon};
-use crate::meeting::Meeting;
-use crate::meeting::tests::{MEETINGS, are_drawn, is_one_of, is_some_work};
 use crate::nesting::NestFault;
 use crate::nesting::tests::PLACES;
 use crate::rings::tests::{Coordinates, SQUARE, ring_at, rings_at};
 use mvt_plane::{Count, Point};
+use mvt_sweep::{Meeting, are_proper};
 use std::alloc::Global;
 use std::process::Abort;
 
 /// The fault of the polygon of these rings, and the work of it.
 fn fault_in(rt: &impl Abort, alloc: Global, rings: &[Vec<Point>]) -> (Option<PolygonFault>, Count) {
-    assert!(rt; are_drawn(rings));
+    assert!(rt; are_proper(rings));
     let mut count = Count::new();
     let fault = check_polygon(alloc, rings, &mut count).expect(rt, "memory");
     (fault, count)
@@ -28,6 +27,45 @@ fn meeting_of(fault: Option<PolygonFault>) -> Option<Meeting> {
         _ => None,
     }
 }
+
+/// Whether a meeting is that of one of these pairs of edges, with this point.
+fn is_one_of(found: Option<Meeting>, pairs: &[Edges], point: (i128, i128, i128)) -> bool {
+    match found {
+        Some(meeting) => {
+            let first = (meeting.first_ring, meeting.first_edge);
+            let second = (meeting.second_ring, meeting.second_edge);
+            let at = meeting.point;
+            pairs.contains(&(first, second)) && (at.x(), at.y(), at.w()) == point
+        }
+        None => false,
+    }
+}
+
+/// Two edges, each by ring and edge.
+type Edges = ((usize, usize), (usize, usize));
+
+/// Rings, the pairs of edges of which any may be found, and the point: edges that cross in a ring,
+/// also beside a hole, and a vertex of a hole on an edge.
+const MEETINGS: &[(&[Coordinates], &[Edges], (i128, i128, i128))] = &[
+    (
+        &[&[(0, 8), (10, 0), (10, 10), (0, 0)]],
+        &[((0, 0), (0, 2))],
+        (800, 800, 180),
+    ),
+    (
+        &[
+            &[(0, 80), (100, 0), (100, 100), (20, 10)],
+            &[(10, 60), (30, 50), (30, 45)],
+        ],
+        &[((0, 0), (0, 2))],
+        (740_000, 640_000, 15_400),
+    ),
+    (
+        &[SQUARE, &[(0, 5), (3, 7), (3, 3)]],
+        &[((0, 3), (1, 0)), ((0, 3), (1, 2))],
+        (0, 5, 1),
+    ),
+];
 
 #[test]
 fn meetings(rt: HostRuntime) {
@@ -66,6 +104,11 @@ fn places_of_holes(rt: HostRuntime) {
         };
         assert!(rt; fault_at(&rt, rt.alloc(), rings) == wanted);
     }
+}
+
+/// Whether something was done, so often at most.
+fn is_some_work(ticks: u64, most: u64) -> bool {
+    0 < ticks && ticks <= most
 }
 
 /// A triangle, one of many in rows of 400.

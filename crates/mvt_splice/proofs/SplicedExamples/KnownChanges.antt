@@ -3,17 +3,17 @@ use Rattle.std.proofs.Common.{◌≡◌, ℕ, zero, suc, List, [], ◌∷◌, le
 use Rattle.std.proofs.lemmas.Int.{ints}
 use Rattle.std.proofs.lemmas.Option.{same_Some}
 use Rattle.std.specs.declared.alloc.Global.{Global}
-use Rattle.mvt_confirm.proofs.Examples.ExampleValid.{triangle_valid}
-use Rattle.mvt_confirm.specs.Valid.{ValidBy}
+use Rattle.mvt_rules.proofs.Examples.ExampleValid.{triangle_valid}
+use Rattle.mvt_rules.specs.Valid.{ValidBy}
 use Rattle.mvt_fault.specs.declared.profile.Profile.TheVariants.{Polygon}
 use Rattle.mvt_fault.specs.declared.tag.TagCode.TheVariants.{OddLength, NoKey, NoValue, Repeated}
 use Rattle.mvt_plane.specs.Commands.Figure.{polygon}
 use Rattle.mvt_plane.specs.FeatureGeometry.{HasRings, type_number}
 use Rattle.mvt_plane.specs.Geometry.Examples.{triangle}
 use Rattle.mvt_plane.specs.Position.{Position}
-use Rattle.mvt_wire.proofs.Parts.Tiles.{one_tile}
+use Rattle.mvt_rules.proofs.Tiles.Tiles.{one_tile}
 use Rattle.mvt_wire.specs.Number.{VarintList}
-use Rattle.mvt_wire.specs.Tile.{FeatureRecord, LayerRecord, TileRecord}
+use Rattle.mvt_rules.specs.Tile.{FeatureRecord, LayerRecord, TileRecord}
 use Rattle.mvt_splice.specs.Examples.{right_way, wrong_way, bytes_before, bytes_after, changes_to, feature_of, tile_of}
 use Rattle.mvt_splice.specs.FeatureFaults.{AreRightTags}
 use Rattle.mvt_splice.specs.Splice.{stays, redrawn, fate_in, Piece, bytes_of, IsRedrawn, IsSplicedLayer, IsSpliced}

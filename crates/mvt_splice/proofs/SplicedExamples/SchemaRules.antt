@@ -5,9 +5,9 @@ use Rattle.std.proofs.lemmas.Option.{same_Some}
 use Rattle.mvt_wire.specs.Field.{varint, delimited, Entry}
 use Rattle.mvt_wire.specs.Number.{States, AreSmall}
 use Rattle.mvt_wire.specs.Schema.{rule_of, rules_of, find_rule, is_own, is_out_of_range, is_singular, is_required}
-use Rattle.mvt_wire.specs.Calls.Tile.{FitsRule}
-use Rattle.mvt_wire.specs.Tile.{Fits, KeepsSchema}
-use Rattle.mvt_wire.specs.WireFault.{count_of}
+use Rattle.mvt_rules.specs.Parts.Fields.{FitsRule}
+use Rattle.mvt_rules.specs.Tile.{Fits, KeepsSchema}
+use Rattle.mvt_wire.specs.Payload.{count_of}
 use Rattle.mvt_wire.specs.declared.schema.FieldRule.{FieldRule}
 use Rattle.mvt_wire.specs.declared.schema.Message.{Message}
 use Rattle.mvt_wire.specs.declared.schema.Message.TheVariants.{Value}

@@ -1,8 +1,8 @@
 -- Which layers and features of a tile are left, and at which ordinals.
 use Rattle.std.proofs.Common.{◌≡◌, ◌⊎◌, ℕ, zero, suc, ◌+◌, ◌≤◌, inl, inr, List, [], ◌∷◌, ◌++◌, slice_get, Some, refl, sym, ◌∙◌, ap, subst, arith}
 use Rattle.std.proofs.lemmas.Option.{same_Some}
-use Rattle.mvt_wire.specs.Rules.{IsFeatureOf}
-use Rattle.mvt_wire.specs.Tile.{FeatureRecord, LayerRecord, TileRecord}
+use Rattle.mvt_rules.specs.Rules.{IsFeatureOf}
+use Rattle.mvt_rules.specs.Tile.{FeatureRecord, LayerRecord, TileRecord}
 use Rattle.mvt_splice.specs.Splice.{Fate, stays, redrawn, dropped}
 use Rattle.mvt_splice.specs.SplicedTile.{redrawn_feature, feature_after, features_after, layer_after, layers_after, spliced_tile}
 

@@ -7,8 +7,9 @@ use Rattle.mvt_wire.specs.Field.{Content, delimited, Entry, IsPayload}
 use Rattle.mvt_wire.specs.Message.{FieldList, IsMessage, moved}
 use Rattle.mvt_wire.specs.Number.{StateTogether}
 use Rattle.mvt_wire.specs.Schema.{rule_of}
-use Rattle.mvt_wire.specs.Scope.{contents_of, Span, span_of, spans_of, whole_span, IsMessageAt}
-use Rattle.mvt_wire.specs.Tile.{Each, KeepsSchema, numbers_of, texts_of, bytes_in, FeatureRecord, IsFeature, ValueRecord, Says, IsValue, LayerRecord, IsLayer, TileRecord, IsTile}
+use Rattle.mvt_wire.specs.Payload.{contents_of, Span, span_of, spans_of, numbers_of, texts_of, bytes_in}
+use Rattle.mvt_rules.specs.Scope.{whole_span, IsMessageAt}
+use Rattle.mvt_rules.specs.Tile.{Each, KeepsSchema, FeatureRecord, IsFeature, ValueRecord, Says, IsValue, LayerRecord, IsLayer, TileRecord, IsTile}
 use Rattle.mvt_wire.specs.declared.schema.Message.TheVariants as messages
 use Rattle.mvt_wire.proofs.Encoding.Entries.{slice_range-append}
 use Rattle.mvt_wire.proofs.Encoding.Messages.{one_list}

@@ -4,7 +4,8 @@ use Rattle.std.proofs.lemmas.List.{drop-drop, drop-take, length-take-le}
 use Rattle.mvt_wire.specs.Varint.{IsVarint, SpellsVarint}
 use Rattle.mvt_wire.specs.Field.{Content, varint, delimited, Entry, wire_type_of, IsKey, IsPayload, IsField}
 use Rattle.mvt_wire.specs.Message.{FieldList, IsMessage, content_moved, moved}
-use Rattle.mvt_wire.specs.Scope.{Span, IsMessageAt}
+use Rattle.mvt_wire.specs.Payload.{Span}
+use Rattle.mvt_rules.specs.Scope.{IsMessageAt}
 use Rattle.mvt_wire.proofs.Encoding.Entries.{entry_at, field_extent}
 
 -- a part of the rest of a list is a part of the list, further on

@@ -5,10 +5,9 @@ use Rattle.std.proofs.lemmas.List.Elements.{All-nil, All-cons, All-head, All-tai
 use Rattle.std.proofs.lemmas.Option.{same_Some}
 use Rattle.mvt_wire.specs.Field.{Entry}
 use Rattle.mvt_wire.specs.Schema.{rule_of, is_singular, is_required}
-use Rattle.mvt_wire.specs.Scope.{fields_of, contents_of}
-use Rattle.mvt_wire.specs.Calls.Tile.{FitsRule}
-use Rattle.mvt_wire.specs.Tile.{KeepsSchema}
-use Rattle.mvt_wire.specs.WireFault.{count_of}
+use Rattle.mvt_wire.specs.Payload.{fields_of, contents_of, count_of}
+use Rattle.mvt_rules.specs.Parts.Fields.{FitsRule}
+use Rattle.mvt_rules.specs.Tile.{KeepsSchema}
 use Rattle.mvt_wire.specs.declared.schema.FieldRule.{FieldRule}
 use Rattle.mvt_wire.specs.declared.schema.Message.{Message}
 use Rattle.mvt_wire.specs.declared.schema.Message.TheVariants.{Value}

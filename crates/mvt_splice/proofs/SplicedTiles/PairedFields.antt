@@ -1,7 +1,7 @@
 -- Two lists that have a relation member by member, in order: what is filtered, picked or made of them.
 use Rattle.std.proofs.Common.{◌≡◌, cond, Bool, true, false, List, [], ◌∷◌, ◌++◌, map, filter, filter_map, Option, refl, sym, ◌∙◌, ap, subst}
 use Rattle.std.specs.List.{cons_option}
-use Rattle.mvt_wire.specs.Tile.{Each}
+use Rattle.mvt_rules.specs.Tile.{Each}
 
 each_cond : {A B : Type 0} (R : A → B → Type 0) (test : Bool) (x : A) (y : B) (xs : List A) (ys : List B) → R x y → Each R xs ys → Each R (cond test (x ∷ xs) xs) (cond test (y ∷ ys) ys)
 each_cond R true x y xs ys first rest = (first, rest)

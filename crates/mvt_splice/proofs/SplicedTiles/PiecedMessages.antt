@@ -3,7 +3,7 @@ use Rattle.std.proofs.Common.{◌≡◌, ℕ, ◌+◌, List, [], ◌∷◌, ◌+
 use Rattle.std.specs.List.{concat}
 use Rattle.mvt_wire.specs.Field.{Entry}
 use Rattle.mvt_wire.specs.Message.{IsMessage, moved, AreSpellings}
-use Rattle.mvt_wire.specs.Tile.{Each}
+use Rattle.mvt_rules.specs.Tile.{Each}
 use Rattle.mvt_wire.proofs.Encoding.FieldSpellings.{joined}
 use Rattle.mvt_splice.specs.Splice.{Piece, bytes_of, AreSpelled, IsPieced}
 use Rattle.mvt_splice.proofs.SplicedTiles.SameFields.{IsSameField, field_first_moved}

@@ -6,10 +6,9 @@ use Rattle.std.proofs.lemmas.Option.{same_Some}
 use Rattle.mvt_wire.specs.Field.{Content, varint, eight_bytes, delimited, four_bytes, Entry}
 use Rattle.mvt_wire.specs.Number.{States, StateTogether, AreSmall}
 use Rattle.mvt_wire.specs.Schema.{rule_of, is_own, is_out_of_range, field_rule}
-use Rattle.mvt_wire.specs.Scope.{fields_of, contents_of}
-use Rattle.mvt_wire.specs.Calls.Tile.{FitsRule}
-use Rattle.mvt_wire.specs.Tile.{Fits, number_in, FeatureRecord}
-use Rattle.mvt_wire.specs.WireFault.{count_of}
+use Rattle.mvt_wire.specs.Payload.{fields_of, contents_of, number_in, count_of}
+use Rattle.mvt_rules.specs.Parts.Fields.{FitsRule}
+use Rattle.mvt_rules.specs.Tile.{Fits, FeatureRecord}
 use Rattle.mvt_wire.specs.declared.schema.FieldRule.{FieldRule}
 use Rattle.mvt_wire.specs.declared.schema.Message.TheVariants as messages
 use Rattle.mvt_wire.specs.declared.schema.Occurrence.TheVariants.{AtLeastOnce}

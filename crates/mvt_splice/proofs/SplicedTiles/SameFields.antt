@@ -5,13 +5,13 @@ use Rattle.mvt_wire.specs.Field.{Content, varint, eight_bytes, delimited, four_b
 use Rattle.mvt_wire.specs.Message.{content_moved, moved}
 use Rattle.mvt_wire.specs.Number.{States, StateTogether}
 use Rattle.mvt_wire.specs.Schema.{rule_of, is_own}
-use Rattle.mvt_wire.specs.Scope.{fields_of, contents_of}
-use Rattle.mvt_wire.specs.Calls.Tile.{FitsRule}
-use Rattle.mvt_wire.specs.Tile.{Each, Fits, KeepsSchema, number_in, bytes_in, numbers_of, texts_of, Says, says_text, says_float, says_double, says_int, says_uint, says_sint, says_truth, ValueRecord}
-use Rattle.mvt_wire.specs.WireFault.{count_of, count_known}
+use Rattle.mvt_wire.specs.Payload.{fields_of, contents_of, number_in, bytes_in, numbers_of, texts_of, count_of}
+use Rattle.mvt_rules.specs.Parts.Fields.{FitsRule}
+use Rattle.mvt_rules.specs.Tile.{Each, Fits, KeepsSchema, Says, says_text, says_float, says_double, says_int, says_uint, says_sint, says_truth, ValueRecord}
+use Rattle.mvt_rules.specs.WireFault.{count_known}
 use Rattle.mvt_wire.specs.declared.schema.FieldRule.{FieldRule}
 use Rattle.mvt_wire.specs.declared.schema.Message.{Message}
-use Rattle.mvt_wire.proofs.Parts.PairedLists.{same_length}
+use Rattle.mvt_rules.proofs.Tiles.PairedLists.{same_length}
 use Rattle.mvt_splice.proofs.SplicedTiles.PairedFields.{each_filtered, each_mapped, same_picked}
 
 -- two payloads are the same, wherever they lie

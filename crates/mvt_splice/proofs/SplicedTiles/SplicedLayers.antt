@@ -8,9 +8,9 @@ use Rattle.std.proofs.lemmas.Option.{same_Some}
 use Rattle.mvt_wire.specs.Field.{Content, delimited, Entry}
 use Rattle.mvt_wire.specs.Number.{AreSmall}
 use Rattle.mvt_wire.specs.Schema.{rule_of, is_own, field_rule}
-use Rattle.mvt_wire.specs.Scope.{contents_of}
-use Rattle.mvt_wire.specs.Calls.Tile.{FitsRule}
-use Rattle.mvt_wire.specs.Tile.{Each, Fits, number_in, bytes_in, texts_of, FeatureRecord, LayerRecord}
+use Rattle.mvt_wire.specs.Payload.{contents_of, number_in, bytes_in, texts_of}
+use Rattle.mvt_rules.specs.Parts.Fields.{FitsRule}
+use Rattle.mvt_rules.specs.Tile.{Each, Fits, FeatureRecord, LayerRecord}
 use Rattle.mvt_wire.specs.declared.schema.FieldRule.{FieldRule}
 use Rattle.mvt_wire.specs.declared.schema.Message.{Message}
 use Rattle.mvt_wire.specs.declared.schema.Message.TheVariants as messages

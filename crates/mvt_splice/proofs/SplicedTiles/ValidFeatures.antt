@@ -1,7 +1,7 @@
 -- A feature is valid where no fault that is true of the bytes names it, and where its rings are those of valid polygons.
 use Rattle.std.proofs.Common.{◌≡◌, ℕ, inl, inr, List, refl, sym, ◌∙◌, subst, arith}
 use Rattle.mvt_fault.specs.Code.{command_code}
-use Rattle.mvt_fault.specs.TrueFaults.{IsFaultOfTags, tag}
+use Rattle.mvt_rules.specs.Parts.TrueFaults.{IsFaultOfTags, tag}
 use Rattle.mvt_fault.specs.declared.command.CommandCode.{CommandCode}
 use Rattle.mvt_fault.specs.declared.command.CommandCode.TheVariants.{OtherCommand, OtherCount, Unfinished, GreatestParameter, OutOfBounds, NoStep}
 use Rattle.mvt_fault.specs.declared.profile.Profile.{Profile}
@@ -12,20 +12,19 @@ use Rattle.mvt_plane.proofs.Spelling.CommandFaults.{figure_or_command_fault}
 use Rattle.mvt_plane.specs.Commands.CommandFault.{Part, Applies, other_command, other_count, greatest_x, greatest_y, x_outside, y_outside, no_step, IsCause, ends, nothing_due, due, HasCommandFault}
 use Rattle.mvt_plane.specs.Commands.Figure.{GeometryType, point, line_string, polygon, Figure, rings, Spells}
 use Rattle.mvt_plane.specs.FeatureGeometry.{type_number, HasFigure, HasRings, BreaksCommands}
-use Rattle.mvt_plane.specs.Geometry.Polygon.{PolygonRings}
+use Rattle.mvt_rules.specs.Polygon.{PolygonRings}
 use Rattle.mvt_plane.specs.Position.{Position}
-use Rattle.mvt_plane.specs.Geometry.Ring.{ends_at_its_beginning, no_area, begins_with_hole, ArePolygonRings}
-use Rattle.mvt_wire.proofs.FieldNumbers.SmallNumbers.{geometry_small}
+use Rattle.mvt_rules.specs.Ring.{ends_at_its_beginning, no_area, begins_with_hole, ArePolygonRings}
+use Rattle.mvt_rules.proofs.Tiles.SmallNumbers.{geometry_small}
 use Rattle.mvt_wire.specs.Number.{AreSmall}
-use Rattle.mvt_wire.specs.Tile.{FeatureRecord, LayerRecord}
-use Rattle.mvt_confirm.proofs.Features.TileFeatures.{one_list_of_rings}
-use Rattle.mvt_confirm.proofs.Validity.ShownParts.{shown_by_parts, one_has}
-use Rattle.mvt_confirm.proofs.Validity.UnshownMeetings.{none_meets}
-use Rattle.mvt_confirm.specs.Feature.{IsFeatureIn}
-use Rattle.mvt_confirm.specs.Geometry.{IsFaultOfGeometryBy, command, ring, meeting, outside, hole_in_hole, in_polygon}
-use Rattle.mvt_confirm.specs.PolygonFault.{IsPolygonOf}
-use Rattle.mvt_confirm.specs.Shows.{ShowsBy}
-use Rattle.mvt_confirm.specs.Valid.{IsValidPolygonBy, AreValidRingsBy, IsValidGeometryBy, IsValidFeatureBy}
+use Rattle.mvt_rules.specs.Tile.{FeatureRecord, LayerRecord}
+use Rattle.mvt_rules.proofs.Validity.TileFeatures.{one_list_of_rings}
+use Rattle.mvt_rules.proofs.Validity.ShownParts.{shown_by_parts, one_has}
+use Rattle.mvt_rules.proofs.Validity.UnshownMeetings.{none_meets}
+use Rattle.mvt_rules.specs.Shows.{IsFeatureIn, ShowsBy}
+use Rattle.mvt_rules.specs.Parts.Geometry.{IsFaultOfGeometryBy, command, ring, meeting, outside, hole_in_hole, in_polygon}
+use Rattle.mvt_rules.specs.PolygonFault.{IsPolygonOf}
+use Rattle.mvt_rules.specs.Valid.{IsValidPolygonBy, AreValidRingsBy, IsValidGeometryBy, IsValidFeatureBy}
 use Rattle.mvt_splice.specs.FeatureFaults.{IsOfFeature, AreRightTags}
 use Rattle.mvt_splice.specs.Splice.{redrawn}
 use Rattle.mvt_splice.specs.SplicedTile.{redrawn_feature, IsValidAfter}

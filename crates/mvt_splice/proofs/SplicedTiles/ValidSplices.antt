@@ -1,9 +1,9 @@
 -- Spliced bytes are a valid tile where its layers keep their rules and each feature is what its fate asks.
 use Rattle.std.proofs.Common.{◌≡◌, ℕ, List, [], ◌∷◌, sym, ◌∙◌, ap, subst}
-use Rattle.mvt_confirm.specs.Valid.{IsValidFeatureBy, IsValidTileBy, ValidBy}
+use Rattle.mvt_rules.specs.Valid.{IsValidFeatureBy, IsValidTileBy, ValidBy}
 use Rattle.mvt_fault.specs.declared.profile.Profile.{Profile}
 use Rattle.mvt_wire.specs.Number.{AreSmall}
-use Rattle.mvt_wire.specs.Tile.{FeatureRecord, LayerRecord, TileRecord, IsTile}
+use Rattle.mvt_rules.specs.Tile.{FeatureRecord, LayerRecord, TileRecord, IsTile}
 use Rattle.mvt_splice.specs.Splice.{Fate, stays, redrawn, dropped, fate_in, IsSpliced}
 use Rattle.mvt_splice.specs.SplicedTile.{redrawn_feature, feature_after, layer_after, spliced_tile, IsValidAfter, IsValidOnceSpliced}
 use Rattle.mvt_splice.specs.declared.change.Change.{Change}

@@ -1,7 +1,7 @@
 -- A walk over a layer's message that has written what became of the fields that it passed.
 use Rattle.std.proofs.Common.{◌≡◌, ◌≢◌, ℕ, suc, ◌≤◌, List, [], ◌∷◌, ◌++◌, length, take, Option, Some, None, refl, sym, ◌∙◌, ap, subst, arith, append_assoc, append-nil}
 use Rattle.mvt_wire.specs.Field.{Entry}
-use Rattle.mvt_wire.specs.Tile.{bytes_in}
+use Rattle.mvt_wire.specs.Payload.{bytes_in}
 use Rattle.mvt_wire.specs.Walk.{Walk, IsOver, GivesField}
 use Rattle.mvt_splice.specs.Splice.{Fate, stays, Piece, IsPieced, message_in, ordinal_after, Becomes, BecomesInLayer, AreInLayer, IsSplicedLayer}
 use Rattle.mvt_splice.specs.Calls.Messages.{IsLayerMessage}

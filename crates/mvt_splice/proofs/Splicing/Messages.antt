@@ -11,10 +11,9 @@ use Rattle.mvt_confirm.proofs.Wire.WholeTiles.{layers_hold}
 use Rattle.mvt_wire.specs.Field.{Content, varint, eight_bytes, delimited, four_bytes, Entry, wire_type_of, IsPayload}
 use Rattle.mvt_wire.specs.Message.{FieldList, IsMessage, content_moved, moved}
 use Rattle.mvt_wire.specs.Schema.{field_rule, rule_of, is_own}
-use Rattle.mvt_wire.specs.Scope.{Span, span_of, spans_of}
-use Rattle.mvt_wire.specs.Tile.{Fits, bytes_in, TileRecord, IsTile}
-use Rattle.mvt_wire.specs.WireFault.{count_of}
-use Rattle.mvt_wire.specs.Calls.Tile.{FitsRule}
+use Rattle.mvt_wire.specs.Payload.{Span, span_of, spans_of, bytes_in, count_of}
+use Rattle.mvt_rules.specs.Tile.{Fits, TileRecord, IsTile}
+use Rattle.mvt_rules.specs.Parts.Fields.{FitsRule}
 use Rattle.mvt_wire.specs.declared.schema.FieldRule.{FieldRule}
 use Rattle.mvt_wire.specs.declared.schema.Message.{Message}
 use Rattle.mvt_wire.specs.declared.schema.Message.TheVariants as messages

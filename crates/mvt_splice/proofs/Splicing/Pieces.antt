@@ -7,8 +7,8 @@ use Rattle.std.proofs.lemmas.List.Elements.{All-nil, All-cons, All-head, All-tai
 use Rattle.std.proofs.lemmas.List.Folds.{drop_split}
 use Rattle.mvt_wire.specs.Field.{Entry, IsField, IsFieldSpelling}
 use Rattle.mvt_wire.specs.Message.{IsMessage, moved, AreSpellings}
-use Rattle.mvt_wire.specs.Scope.{fields_of, Span, IsMessageAt}
-use Rattle.mvt_wire.specs.WireFault.{count_of}
+use Rattle.mvt_wire.specs.Payload.{fields_of, Span, count_of}
+use Rattle.mvt_rules.specs.Scope.{IsMessageAt}
 use Rattle.mvt_wire.proofs.Encoding.Entries.{field_extent}
 use Rattle.mvt_wire.proofs.Encoding.FieldSpellings.{joined}
 use Rattle.mvt_splice.specs.Splice.{Piece, bytes_of, AreSpelled, IsPieced}

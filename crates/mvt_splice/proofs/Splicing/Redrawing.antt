@@ -4,9 +4,9 @@ use Rattle.std.proofs.lemmas.Bool.{eq-eqb, ne_eqb, cond-true, cond-false}
 use Rattle.std.proofs.lemmas.List.Elements.{filter-append}
 use Rattle.mvt_wire.specs.Field.{Entry}
 use Rattle.mvt_wire.specs.Number.{States, VarintList}
-use Rattle.mvt_wire.specs.WireFault.{count_of}
+use Rattle.mvt_wire.specs.Payload.{count_of}
 use Rattle.mvt_wire.specs.Walk.{Walk, IsOver, GivesField}
-use Rattle.mvt_wire.proofs.Parts.Schemas.{count_of-append}
+use Rattle.mvt_rules.proofs.Tiles.Schemas.{count_of-append}
 use Rattle.mvt_wire.proofs.Walking.{IsWalking-over}
 use Rattle.mvt_splice.specs.Splice.{Piece, Embeds, IsPieced, geometry_of, others_of, IsRedrawn}
 use Rattle.mvt_splice.specs.Calls.Messages.{IsFeatureMessage}

@@ -3,7 +3,7 @@ use Rattle.std.proofs.Common.{◌≡◌, ◌≢◌, ℕ, suc, ◌≤◌, ◌==�
 use mathlib.Core.Path.{fun_ext}
 use Rattle.std.proofs.lemmas.Bool.{cases_eq, eq-eqb, ne_eqb, cond-true, cond-false}
 use Rattle.mvt_wire.specs.Field.{Content, delimited, Entry}
-use Rattle.mvt_wire.specs.Tile.{bytes_in}
+use Rattle.mvt_wire.specs.Payload.{bytes_in}
 use Rattle.mvt_wire.specs.Walk.{Walk, IsOver, GivesField}
 use Rattle.mvt_splice.specs.Splice.{Fate, stays, fate_in, bytes_of, Piece, Embeds, IsPieced, message_in, ordinal_after, BecomesInTile, AreInTile, IsSpliced}
 use Rattle.mvt_splice.specs.Calls.Writing.{Spells, Writes}

@@ -3,7 +3,7 @@ use Rattle.std.proofs.Common.{◌≡◌, ◌≢◌, ℕ, suc, ◌+◌, ◌-◌, 
 use Rattle.std.proofs.Math.Seq.{take-add, take-length}
 use Rattle.std.proofs.lemmas.Bool.{eq-eqb, ne_eqb, cond-true, cond-false}
 use Rattle.mvt_wire.specs.Field.{Entry, IsField}
-use Rattle.mvt_wire.specs.Tile.{bytes_in}
+use Rattle.mvt_wire.specs.Payload.{bytes_in}
 use Rattle.mvt_wire.specs.Walk.{Walk, IsOver, GivesField}
 use Rattle.mvt_wire.proofs.Walking.{IsWalking, IsWalking-none, IsWalking-more}
 use Rattle.mvt_splice.specs.Splice.{Piece, bytes_of, AreSpelled, IsPieced, message_in, ordinal_after}

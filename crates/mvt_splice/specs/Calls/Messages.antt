@@ -2,8 +2,7 @@
 use Rattle.std.specs.Prelude.{◌≡◌, ℕ, ◌≤◌, List, All, Some}
 use Rattle.mvt_wire.specs.Field.{Entry}
 use Rattle.mvt_wire.specs.Message.{IsMessage}
-use Rattle.mvt_wire.specs.Tile.{bytes_in}
-use Rattle.mvt_wire.specs.WireFault.{count_of}
+use Rattle.mvt_wire.specs.Payload.{bytes_in, count_of}
 
 -- the field is of another number, or embeds a message with the property
 abbrev pub EmbedsWhole : ℕ → (List ℕ → Type 0) → Entry → Type 0

@@ -3,12 +3,12 @@
 
 ghost use Rattle.std.specs.Prelude.{◌≡◌, ◌≢◌, ℕ, [], ◌∷◌, Vec};
 ghost use Rattle.std.specs.declared.alloc.Global.{Global};
-ghost use Rattle.mvt_confirm.specs.Valid.{ValidBy};
+ghost use Rattle.mvt_rules.specs.Valid.{ValidBy};
 ghost use Rattle.mvt_fault.specs.declared.profile.Profile.TheVariants.{Polygon};
 ghost use Rattle.mvt_splice.specs.Examples.{right_way, wrong_way, bytes_before, bytes_after, changes_to, feature_of, tile_of};
 ghost use Rattle.mvt_splice.specs.Splice.{fate_in, IsSpliced};
 ghost use Rattle.mvt_splice.specs.SplicedTile.{spliced_tile, IsValidOnceSpliced};
-ghost use Rattle.mvt_wire.specs.Tile.{IsTile};
+ghost use Rattle.mvt_rules.specs.Tile.{IsTile};
 
 /// Of three features of a layer the first stays, the second is redrawn and the third is left out;
 /// the tile is valid afterwards.

@@ -2,10 +2,10 @@
 use Rattle.std.proofs.Common.{◌≡◌, ◌≢◌, ℕ, ◌≤◌, List, [], ◌∷◌, ◌++◌, length, map, slice_get, take, Some, None, refl, sym, ◌∙◌, ap, subst, arith}
 use Rattle.std.proofs.lemmas.List.{map_push}
 use Rattle.mvt_wire.specs.Field.{Entry, IsField}
-use Rattle.mvt_wire.specs.Scope.{Span}
-use Rattle.mvt_wire.specs.Tile.{number_in, numbers_of, FeatureRecord, IsFeature}
+use Rattle.mvt_wire.specs.Payload.{Span, number_in, numbers_of}
+use Rattle.mvt_rules.specs.Tile.{FeatureRecord, IsFeature}
 use Rattle.mvt_wire.specs.Walk.{Walk, IsOver}
-use Rattle.mvt_wire.proofs.FieldNumbers.SmallNumbers.{tags_end, geometry_end}
+use Rattle.mvt_rules.proofs.Tiles.SmallNumbers.{tags_end, geometry_end}
 use Rattle.mvt_wire.proofs.Walking.{IsWalking, IsWalking-over}
 use Rattle.mvt_tile.specs.FeatureBytes.{Shows}
 use Rattle.mvt_tile.specs.Calls.FeatureBytes.{GivesParts}

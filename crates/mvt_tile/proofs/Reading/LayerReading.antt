@@ -1,8 +1,8 @@
 -- One more field of a layer is read.
 use Rattle.std.proofs.Common.{◌≡◌, ◌≢◌, ℕ, ◌≤◌, List, [], ◌∷◌, ◌++◌, length, slice_get, unwrap_or, Some, refl, sym, ◌∙◌, ap, arith}
 use Rattle.mvt_wire.specs.Field.{Entry}
-use Rattle.mvt_wire.specs.Scope.{Span, span_of, spans_of}
-use Rattle.mvt_wire.specs.Tile.{number_in, numbers_of, bytes_in, texts_of, Each, FeatureRecord, IsFeature, ValueRecord, IsValue, LayerRecord, IsLayer}
+use Rattle.mvt_wire.specs.Payload.{Span, span_of, spans_of, number_in, numbers_of, bytes_in, texts_of}
+use Rattle.mvt_rules.specs.Tile.{Each, FeatureRecord, IsFeature, ValueRecord, IsValue, LayerRecord, IsLayer}
 use Rattle.mvt_tile.specs.Calls.Reading.{GivesLayer, last_of}
 use Rattle.mvt_wire.proofs.Encoding.Payloads.{picked-push, picked-other, few_picked}
 use Rattle.mvt_tile.proofs.Reading.ReadingRules.{last_of-push}

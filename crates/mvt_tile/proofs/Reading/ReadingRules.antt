@@ -3,8 +3,9 @@ use Rattle.std.proofs.Common.{◌≡◌, ℕ, ◌<◌, ◌==◌, nat_le, List, [
 use Rattle.std.proofs.lemmas.Bool.{eqb-true, leb-false}
 use Rattle.mvt_wire.specs.Field.{content_of, entry_of, Content, varint, eight_bytes, delimited, four_bytes, Entry, wire_type_of}
 use Rattle.mvt_wire.specs.Schema.{rule_of, is_own, is_out_of_range}
-use Rattle.mvt_wire.specs.Tile.{Fits, number_in}
-use Rattle.mvt_wire.specs.Calls.Tile.{FitsRule}
+use Rattle.mvt_rules.specs.Tile.{Fits}
+use Rattle.mvt_wire.specs.Payload.{number_in}
+use Rattle.mvt_rules.specs.Parts.Fields.{FitsRule}
 use Rattle.mvt_wire.specs.declared.field.Field.{Field}
 use Rattle.mvt_wire.specs.declared.schema.FieldRule.{FieldRule}
 use Rattle.mvt_wire.specs.declared.schema.Message.{Message}

@@ -5,8 +5,8 @@ use Rattle.std.specs.Option.{option_map}
 use Rattle.std.specs.Int.{cast_signed, w64}
 use Rattle.mvt_wire.specs.Field.{Content, varint, eight_bytes, delimited, four_bytes, Entry}
 use Rattle.mvt_wire.specs.Schema.{rule_of}
-use Rattle.mvt_wire.specs.Scope.{Span}
-use Rattle.mvt_wire.specs.Tile.{number_in, bytes_in, ValueRecord, int, truth, Says, says_int, says_truth, IsValue}
+use Rattle.mvt_wire.specs.Payload.{Span, number_in, bytes_in}
+use Rattle.mvt_rules.specs.Tile.{ValueRecord, int, truth, Says, says_int, says_truth, IsValue}
 use Rattle.mvt_wire.specs.declared.schema.Message.TheVariants.{Value}
 
 -- the message knows the field's number

@@ -5,7 +5,7 @@ use Rattle.std.proofs.lemmas.Bool.{cases_lt, cases_eq, eqb-true}
 use Rattle.std.proofs.lemmas.List.{length-map, map-append, append_assoc, append-nil, get_or_past, length-take-le}
 use Rattle.std.proofs.lemmas.Option.{slice_get_within, same_Some}
 use Rattle.mvt_wire.proofs.Encoding.Payloads.{slice_get-last}
-use Rattle.mvt_wire.specs.Tile.{FeatureRecord, LayerRecord}
+use Rattle.mvt_rules.specs.Tile.{FeatureRecord, LayerRecord}
 use Rattle.mvt_tile.specs.Advice.{ArePairs, AreRepetitions, AreLayersAdvice, IsLayerAdvice, KeyAt, IdAt, no_feature, equal_keys, equal_ids}
 use Rattle.mvt_tile.specs.Calls.Equal.{AreFirstPlaces, StandsAt, equal_advice}
 use Rattle.mvt_tile.specs.declared.advice.Advice.{Advice}

@@ -3,15 +3,16 @@
 use Rattle.std.proofs.Common.{◌≡◌, ℕ, ◌<◌, ◌≤◌, ◌⊎◌, inl, inr, List, ◌∷◌, length, Option, Some, None, Result, Ok, Err, IfOk, IfNone, IfSome, slice_get, refl, sym, ◌∙◌, ap, subst, arith}
 use Rattle.std.proofs.lemmas.Bool.{cases_lt}
 use Rattle.std.proofs.lemmas.Option.{same_Some}
-use Rattle.mvt_wire.specs.Scope.{Span, spans_of}
-use Rattle.mvt_wire.specs.Tile.{FeatureRecord, IsFeature, LayerRecord, IsLayer, TileRecord, IsTile}
+use Rattle.mvt_wire.specs.Payload.{Span, spans_of}
+use Rattle.mvt_rules.specs.Tile.{FeatureRecord, IsFeature, LayerRecord, IsLayer, TileRecord, IsTile}
 use Rattle.mvt_fault.specs.Place.{ComesFirst, IsLeast, place_of}
-use Rattle.mvt_fault.specs.TrueFaults.{IsFaultOfTags, OneFeatureHas, TagsBreak, tag}
+use Rattle.mvt_rules.specs.Parts.TrueFaults.{IsFaultOfTags, OneFeatureHas, tag}
+use Rattle.mvt_rules.specs.Rules.{TagsBreak}
 use Rattle.mvt_fault.specs.declared.fault.Fault.{Fault}
 use Rattle.mvt_fault.specs.declared.fault.Fault.TheVariants.{Tag}
 use Rattle.mvt_fault.specs.declared.tag.TagCode.{TagCode}
 use Rattle.mvt_fault.specs.declared.tag.TagCode.TheVariants.{OddLength, NoKey, NoValue, Repeated}
-use Rattle.mvt_wire.proofs.Parts.PairedLists.{each_here, each_there}
+use Rattle.mvt_rules.proofs.Tiles.PairedLists.{each_here, each_there}
 use Rattle.mvt_tile.specs.FreeFaults.{IsLeastOr}
 use Rattle.mvt_tile.specs.RuleFaults.{Breaks, Frees, Keeps, IsAfterTags, IsFaultOfFeature, IsSound}
 use Rattle.mvt_tile.specs.Calls.FeatureRules.{IsFaultInLayer, AllSoundInLayer, AllSound, FindsInFeature}

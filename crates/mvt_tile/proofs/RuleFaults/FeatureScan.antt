@@ -1,8 +1,8 @@
 -- A walk over a layer that checks its features before all its keys and values were counted.
 use Rattle.std.proofs.Common.{◌≡◌, ◌≢◌, ℕ, ◌+◌, ◌-◌, ◌≤◌, true, false, is_some, inl, inr, List, take, Option, Some, None, MatchOption, arith}
 use Rattle.mvt_wire.specs.Field.{Entry}
-use Rattle.mvt_wire.specs.Scope.{Span, span_of}
-use Rattle.mvt_wire.specs.Tile.{FeatureRecord, IsFeature, LayerRecord, IsLayer}
+use Rattle.mvt_wire.specs.Payload.{Span, span_of}
+use Rattle.mvt_rules.specs.Tile.{FeatureRecord, IsFeature, LayerRecord, IsLayer}
 use Rattle.mvt_wire.specs.Walk.{Walk, IsOver, GivesField}
 use Rattle.mvt_wire.proofs.Walking.{IsWalking}
 use Rattle.mvt_fault.specs.declared.fault.Fault.{Fault}

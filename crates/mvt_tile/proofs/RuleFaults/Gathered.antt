@@ -2,8 +2,8 @@
 use Rattle.std.proofs.Common.{◌≡◌, ℕ, ◌+◌, ◌<◌, ◌⊎◌, inl, inr, List, [], ◌∷◌, ◌++◌, length, Some, slice_get, refl, sym, ◌∙◌, ap, subst, arith}
 use Rattle.std.proofs.lemmas.Bool.{cases_lt}
 use Rattle.std.proofs.lemmas.Option.{slice_get_within, same_Some}
-use Rattle.mvt_wire.specs.Rules.{IsFeatureOf}
-use Rattle.mvt_wire.specs.Tile.{FeatureRecord, LayerRecord, TileRecord}
+use Rattle.mvt_rules.specs.Rules.{IsFeatureOf}
+use Rattle.mvt_rules.specs.Tile.{FeatureRecord, LayerRecord, TileRecord}
 use Rattle.mvt_wire.proofs.Encoding.Payloads.{slice_get-last}
 use Rattle.mvt_wire.proofs.Parts.EmbeddedSpans.{slice_get-some, slice_get-push}
 use Rattle.mvt_fault.specs.Place.{place_of}

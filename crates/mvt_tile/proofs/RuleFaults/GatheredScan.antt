@@ -2,11 +2,11 @@
 use Rattle.std.proofs.Common.{◌≡◌, ℕ, ◌+◌, ◌≤◌, List, [], ◌∷◌, ◌++◌, length, take, Option, Some, None, slice_get, inl, inr, refl, sym, ◌∙◌, ap, subst}
 use Rattle.std.proofs.lemmas.List.{append-nil}
 use Rattle.mvt_wire.specs.Field.{Entry}
-use Rattle.mvt_wire.specs.Scope.{Span, span_of, spans_of}
-use Rattle.mvt_wire.specs.Tile.{FeatureRecord, IsFeature, LayerRecord, IsLayer, TileRecord, IsTile}
+use Rattle.mvt_wire.specs.Payload.{Span, span_of, spans_of}
+use Rattle.mvt_rules.specs.Tile.{FeatureRecord, IsFeature, LayerRecord, IsLayer, TileRecord, IsTile}
 use Rattle.mvt_wire.specs.Walk.{Walk, IsOver, GivesField}
 use Rattle.mvt_wire.proofs.Parts.EmbeddedSpans.{slice_get-push}
-use Rattle.mvt_wire.proofs.Parts.PairedLists.{each_there, same_length}
+use Rattle.mvt_rules.proofs.Tiles.PairedLists.{each_there, same_length}
 use Rattle.mvt_wire.proofs.Walking.{IsWalking, IsWalking-over}
 use Rattle.mvt_fault.specs.declared.fault.Fault.{Fault}
 use Rattle.mvt_tile.specs.RuleFaults.{Breaks, Frees, Keeps}

@@ -15,7 +15,7 @@ use Rattle.mvt_tile.specs.declared.first_places.Held.{Held}
 use Rattle.mvt_tile.specs.declared.rules.summary.LayerSummary.{LayerSummary}
 use Rattle.mvt_tile.proofs.RuleFaults.Names.{IsNaming, AreGrouped, compare_keyed, grouped_by_sort}
 use Rattle.mvt_tile.proofs.RuleFaults.Repetitions.{Through, Before}
-use Rattle.mvt_wire.specs.Tile.{LayerRecord}
+use Rattle.mvt_rules.specs.Tile.{LayerRecord}
 
 abbrev number : Held → ℕ
 number item = item.number

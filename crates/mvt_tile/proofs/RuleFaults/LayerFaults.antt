@@ -6,11 +6,11 @@ use Rattle.std.proofs.lemmas.Bool.{cases_lt, cases_eq}
 use Rattle.std.proofs.lemmas.List.{length-map}
 use Rattle.std.proofs.lemmas.Option.{slice_get_within, same_Some, slice_get-map}
 use Rattle.std.proofs.lemmas.Slice.Eq.{bytes_eq-Decides}
-use Rattle.mvt_wire.specs.Rules.{OtherVersion, SameName}
-use Rattle.mvt_wire.specs.Tile.{LayerRecord, TileRecord}
+use Rattle.mvt_rules.specs.Rules.{OtherVersion, SameName}
+use Rattle.mvt_rules.specs.Tile.{LayerRecord, TileRecord}
 use Rattle.mvt_fault.specs.Place.{ComesFirst, IsLeast, place_of}
-use Rattle.mvt_fault.specs.TrueFaults.{IsFaultOfLayers}
-use Rattle.mvt_fault.specs.TrueFaults as faults
+use Rattle.mvt_rules.specs.Parts.TrueFaults.{IsFaultOfLayers}
+use Rattle.mvt_rules.specs.Parts.TrueFaults as faults
 use Rattle.mvt_fault.specs.declared.fault.Fault.{Fault}
 use Rattle.mvt_fault.specs.declared.fault.Fault.TheVariants.{Version, Name}
 use Rattle.mvt_fault.proofs.Places.{ComesFirst-reflexive}

@@ -2,11 +2,11 @@
 use Rattle.std.proofs.Common.{◌≡◌, ℕ, ◌+◌, ◌<◌, ◌≤◌, true, false, List, [], ◌∷◌, ◌++◌, length, slice_get, Some, inl, inr, refl, sym, ◌∙◌, ap, true≢false, length-append, arith}
 use Rattle.std.proofs.lemmas.Bool.{cases_lt}
 use Rattle.std.proofs.lemmas.Option.{slice_get_within, same_Some}
-use Rattle.mvt_wire.specs.Rules.{OtherVersion, SameName}
-use Rattle.mvt_wire.specs.Tile.{LayerRecord, TileRecord}
+use Rattle.mvt_rules.specs.Rules.{OtherVersion, SameName}
+use Rattle.mvt_rules.specs.Tile.{LayerRecord, TileRecord}
 use Rattle.mvt_fault.specs.Place.{place_of, ComesFirst, IsLeast}
-use Rattle.mvt_fault.specs.TrueFaults.{IsFaultOfLayers}
-use Rattle.mvt_fault.specs.TrueFaults as faults
+use Rattle.mvt_rules.specs.Parts.TrueFaults.{IsFaultOfLayers}
+use Rattle.mvt_rules.specs.Parts.TrueFaults as faults
 use Rattle.mvt_fault.specs.declared.fault.Fault.{Fault}
 use Rattle.mvt_fault.specs.declared.fault.Fault.TheVariants.{Version, Name}
 use Rattle.mvt_fault.proofs.Places.{ComesFirst-reflexive}

@@ -1,7 +1,7 @@
 -- A tile has one advice.
 use Rattle.std.proofs.Common.{◌≡◌, ◌∙◌, sym, subst, refl, ℕ, zero, suc, ◌<◌, List, [], ◌∷◌, ◌++◌, slice_get, Some, ◌⊎◌, inl, inr, arith}
 use Rattle.std.proofs.lemmas.Option.{slice_get_within, same_Some}
-use Rattle.mvt_wire.specs.Tile.{LayerRecord}
+use Rattle.mvt_rules.specs.Tile.{LayerRecord}
 use Rattle.mvt_tile.specs.Advice.{ArePairs, AreLayersAdvice, AreAllLayersAdvice, IsLayerAdvice, KeyAt, IdAt, IsRepetition, no_feature, equal_keys, equal_ids}
 use Rattle.mvt_tile.specs.declared.advice.Advice.{Advice}
 

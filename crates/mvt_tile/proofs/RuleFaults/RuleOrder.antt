@@ -1,8 +1,8 @@
 -- Of the faults of a tile's bytes, those of layers come first and those of features after them; there are no others.
 use Rattle.std.proofs.Common.{◌≡◌, ℕ, ◌⊎◌, inl, inr, List, ◌∷◌, length, Option, Some, None, IfSome, IfNone, refl, sym, subst, arith}
-use Rattle.mvt_wire.specs.Tile.{TileRecord, IsTile}
+use Rattle.mvt_rules.specs.Tile.{TileRecord, IsTile}
 use Rattle.mvt_fault.specs.Place.{ComesFirst, IsLeast, place_of}
-use Rattle.mvt_fault.specs.TrueFaults.{BreaksRule, IsFaultOfLayers, OneFeatureHas, version, name}
+use Rattle.mvt_rules.specs.Parts.TrueFaults.{BreaksRule, IsFaultOfLayers, OneFeatureHas, version, name}
 use Rattle.mvt_fault.specs.declared.fault.Fault.{Fault}
 use Rattle.mvt_tile.specs.FreeFaults.{IsLeastOr}
 use Rattle.mvt_tile.specs.RuleFaults.{Breaks, Frees, Keeps, BreaksAnyRule, KeepsRules, IsFaultOfFeature}

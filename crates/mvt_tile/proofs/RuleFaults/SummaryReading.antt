@@ -4,11 +4,11 @@ use Rattle.std.proofs.lemmas.List.{length-map}
 use Rattle.std.proofs.lemmas.List.Filters.{length-filter_both}
 use Rattle.mvt_wire.specs.Field.{Content, varint, eight_bytes, delimited, four_bytes, Entry, wire_type_of}
 use Rattle.mvt_wire.specs.Message.{FieldList}
-use Rattle.mvt_wire.specs.Scope.{contents_of, Span, span_of, spans_of}
-use Rattle.mvt_wire.specs.Tile.{number_in, numbers_of, bytes_in, texts_of, LayerRecord, IsLayer}
+use Rattle.mvt_wire.specs.Payload.{contents_of, Span, span_of, spans_of, number_in, numbers_of, bytes_in, texts_of}
+use Rattle.mvt_rules.specs.Tile.{LayerRecord, IsLayer}
 use Rattle.mvt_wire.specs.Walk.{Walk, GivesField}
 use Rattle.mvt_wire.proofs.Encoding.Entries.{field_extent}
-use Rattle.mvt_wire.proofs.Parts.PairedLists.{same_length}
+use Rattle.mvt_rules.proofs.Tiles.PairedLists.{same_length}
 use Rattle.mvt_tile.specs.Calls.Reading.{GivesSummary, last_of}
 use Rattle.mvt_tile.specs.Calls.RuleFaults.{IsSummary}
 use Rattle.mvt_tile.specs.declared.rules.summary.LayerSummary.{LayerSummary}

@@ -4,13 +4,13 @@ use Rattle.std.proofs.lemmas.Bool.{cases_lt, cases_order, or_cases, or_left, or_
 use Rattle.std.proofs.lemmas.Option.{slice_get_within, slice_get_read, slice_get-map}
 use Rattle.mvt_fault.specs.Code.{tag_code}
 use Rattle.mvt_fault.specs.Place.{place_of, ComesFirst, IsLeast}
-use Rattle.mvt_fault.specs.TrueFaults.{TagsBreak, IsFaultOfTags, tag}
+use Rattle.mvt_rules.specs.Rules.{TagsBreak, OddTags, IsKeyAt, NoSuchKey, NoSuchValue}
+use Rattle.mvt_rules.specs.Parts.TrueFaults.{IsFaultOfTags, tag}
 use Rattle.mvt_fault.specs.declared.fault.Fault.{Fault}
 use Rattle.mvt_fault.specs.declared.fault.Fault.TheVariants.{Tag}
 use Rattle.mvt_fault.specs.declared.tag.TagCode.{TagCode}
 use Rattle.mvt_fault.specs.declared.tag.TagCode.TheVariants.{OddLength, NoKey, NoValue, Repeated}
-use Rattle.mvt_wire.specs.Rules.{OddTags, IsKeyAt, NoSuchKey, NoSuchValue}
-use Rattle.mvt_wire.specs.Tile.{FeatureRecord, LayerRecord}
+use Rattle.mvt_rules.specs.Tile.{FeatureRecord, LayerRecord}
 use Rattle.mvt_tile.specs.Calls.PassedTags.{AreCleanBefore, IsMetBefore, IsPassed, AreMetBy}
 use Rattle.mvt_tile.specs.Calls.RuleFaults.{IsFirstTagFault}
 use Rattle.mvt_tile.specs.View.{feature_of}

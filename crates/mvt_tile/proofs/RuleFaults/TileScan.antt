@@ -2,11 +2,11 @@
 use Rattle.std.proofs.Common.{◌≡◌, ◌≢◌, ℕ, ◌+◌, List, length, take, Option, Some, None, MatchOption, true, false, is_some, slice_get, refl, sym, ◌∙◌, ap, arith, inl, inr}
 use Rattle.std.proofs.lemmas.Option.{slice_get_within}
 use Rattle.mvt_wire.specs.Field.{Entry}
-use Rattle.mvt_wire.specs.Scope.{Span, span_of, spans_of}
-use Rattle.mvt_wire.specs.Tile.{LayerRecord, IsLayer, TileRecord, IsTile}
+use Rattle.mvt_wire.specs.Payload.{Span, span_of, spans_of}
+use Rattle.mvt_rules.specs.Tile.{LayerRecord, IsLayer, TileRecord, IsTile}
 use Rattle.mvt_wire.specs.Walk.{Walk, IsOver, GivesField}
-use Rattle.mvt_wire.proofs.Parts.PairedLists.{each_there, same_length}
-use Rattle.mvt_fault.specs.TrueFaults.{OneFeatureHas}
+use Rattle.mvt_rules.proofs.Tiles.PairedLists.{each_there, same_length}
+use Rattle.mvt_rules.specs.Parts.TrueFaults.{OneFeatureHas}
 use Rattle.mvt_fault.specs.declared.fault.Fault.{Fault}
 use Rattle.mvt_tile.specs.FreeFaults.{IsLeastOr}
 use Rattle.mvt_tile.specs.RuleFaults.{Breaks, Frees, Keeps, IsFaultOfFeature}

@@ -3,7 +3,7 @@
 use Rattle.std.proofs.Common.{◌≡◌, ◌≢◌, ℕ, ◌+◌, ◌<◌, ◌≤◌, List, [], ◌∷◌, ◌++◌, length, Some, slice_get, refl, sym, ◌∙◌, ap, subst, arith, length-append}
 use Rattle.mvt_wire.specs.Field.{Entry}
 use Rattle.mvt_wire.specs.Message.{IsMessage}
-use Rattle.mvt_wire.specs.Scope.{Span, span_of, spans_of}
+use Rattle.mvt_wire.specs.Payload.{Span, span_of, spans_of}
 use Rattle.mvt_wire.specs.Walk.{Walk, IsOver, GivesField}
 use Rattle.mvt_wire.specs.Embedded.{AreClean}
 use Rattle.mvt_wire.proofs.Encoding.Payloads.{picked-push, picked-other, slice_get-last}

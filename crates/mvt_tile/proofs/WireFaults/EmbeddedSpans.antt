@@ -3,9 +3,9 @@ use Rattle.std.proofs.Common.{◌≡◌, ◌≢◌, ℕ, List, [], ◌∷◌, �
 use Rattle.mvt_wire.specs.Field.{Entry, IsField}
 use Rattle.mvt_wire.specs.Message.{IsMessage}
 use Rattle.mvt_wire.specs.Embedded.{LiesIn}
-use Rattle.mvt_wire.specs.Scope.{Span, span_of, spans_of}
+use Rattle.mvt_wire.specs.Payload.{Span, span_of, spans_of}
 use Rattle.mvt_wire.specs.Calls.Scope.{Embeds}
-use Rattle.mvt_wire.specs.Tile.{Each}
+use Rattle.mvt_rules.specs.Tile.{Each}
 use Rattle.mvt_wire.specs.Walk.{Walk, GivesField}
 use Rattle.mvt_wire.proofs.Encoding.Payloads.{LiesIn-field, picked-push, picked-other, spans_of-append}
 use Rattle.mvt_wire.proofs.Walking.{IsWalking-front, IsWalking}

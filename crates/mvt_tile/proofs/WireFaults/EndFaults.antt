@@ -2,7 +2,7 @@
 use Rattle.std.proofs.Common.{◌≡◌, ℕ, ◌<◌, ◌≤◌, nat_lt, Bool, true, false, ◌&&◌, not, ◌⊎◌, inl, inr, List, refl, sym, ◌∙◌, ap, subst, arith}
 use Rattle.std.proofs.lemmas.Bool.{cases_lt, cases_Bool, both_ways, and_parts, not-true, ltb-true, ltb-false}
 use Rattle.mvt_wire.specs.Field.{Entry, cause_at}
-use Rattle.mvt_wire.specs.WireFault.{count_known, EndFault, missing, not_one}
+use Rattle.mvt_rules.specs.WireFault.{count_known, EndFault, missing, not_one}
 use Rattle.mvt_wire.specs.declared.cause.WireCause.{WireCause}
 use Rattle.mvt_wire.specs.declared.cause.WireCode.TheVariants.{Missing, OneField}
 use Rattle.mvt_wire.specs.declared.schema.Message.{Message}

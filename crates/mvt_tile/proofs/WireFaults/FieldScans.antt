@@ -3,7 +3,7 @@ use Rattle.std.proofs.Common.{◌≡◌, ℕ, ◌+◌, ◌<◌, nat_lt, Bool, tr
 use Rattle.std.proofs.lemmas.Bool.{cases_eq, cases_lt, lt-ltb, le-ltb}
 use Rattle.mvt_wire.specs.Field.{Entry}
 use Rattle.mvt_wire.specs.Schema.{rule_of}
-use Rattle.mvt_wire.specs.WireFault.{stands_in, count_known, EntryFault}
+use Rattle.mvt_rules.specs.WireFault.{stands_in, count_known, EntryFault}
 use Rattle.mvt_wire.specs.declared.cause.WireCause.{WireCause}
 use Rattle.mvt_wire.specs.declared.schema.FieldRule.{FieldRule}
 use Rattle.mvt_wire.specs.declared.schema.Message.{Message}
@@ -12,7 +12,7 @@ use Rattle.mvt_tile.specs.Calls.Least.{IsLeastCause}
 use Rattle.mvt_tile.proofs.WireFaults.FieldPlaces.{IsPlaced}
 use Rattle.mvt_tile.specs.Calls.FieldScan.{was_seen, Passes, IsFirstFault}
 use Rattle.mvt_tile.specs.declared.wire.scan.FieldScan.{FieldScan}
-use Rattle.mvt_wire.proofs.Parts.Schemas.{stands_in-own, stands_in-other}
+use Rattle.mvt_rules.proofs.Tiles.Schemas.{stands_in-own, stands_in-other}
 use Rattle.mvt_tile.proofs.WireFaults.OneMoreField.{count_known-more, count_known-same, faultless-unknown, faultless-known, IsFirstFault-new}
 
 -- no field was passed

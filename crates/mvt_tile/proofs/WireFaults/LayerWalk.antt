@@ -2,10 +2,10 @@
 use Rattle.std.proofs.Common.{◌≡◌, ℕ, ◌+◌, ◌≤◌, List, [], ◌∷◌, ◌++◌, length, take, Option, Some, None, sym, ◌∙◌, subst, arith}
 use Rattle.std.proofs.lemmas.List.{length-take-le}
 use Rattle.mvt_wire.specs.Field.{Entry, entry_of}
-use Rattle.mvt_wire.specs.Scope.{spans_of}
+use Rattle.mvt_wire.specs.Payload.{spans_of}
 use Rattle.mvt_wire.specs.Calls.Scope.{span_between}
 use Rattle.mvt_wire.specs.Message.{FieldList, IsMessage}
-use Rattle.mvt_wire.specs.WireFault.{EndFault, MessageFault}
+use Rattle.mvt_rules.specs.WireFault.{EndFault, MessageFault}
 use Rattle.mvt_wire.specs.declared.cause.WireCause.{WireCause}
 use Rattle.mvt_wire.specs.declared.field.Field.{Field}
 use Rattle.mvt_wire.specs.declared.schema.Message.{Message}
@@ -20,7 +20,7 @@ use Rattle.mvt_tile.specs.Calls.FieldScan.{Passes, PassesNext, IsFirstFrom}
 use Rattle.mvt_wire.specs.declared.embedded.EmbeddedScan.{EmbeddedScan}
 use Rattle.mvt_tile.specs.declared.wire.message.MessageCheck.{MessageCheck}
 use Rattle.mvt_tile.specs.declared.wire.scan.FieldScan.{FieldScan}
-use Rattle.mvt_fault.specs.TrueFaults.{wire_fault_in}
+use Rattle.mvt_fault.specs.Cause.{wire_fault_in}
 use Rattle.mvt_tile.proofs.WireFaults.Layers.{IsLeast-own, IsLeast-value, IsLeast-feature, IsLayerFault-none}
 use Rattle.mvt_tile.proofs.WireFaults.Walking.{IsScanning, IsScanning-more, IsScanning-whole}
 

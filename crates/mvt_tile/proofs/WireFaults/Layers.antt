@@ -2,15 +2,16 @@
 use Rattle.std.proofs.Common.{◌≡◌, ℕ, inl, inr, List, ◌∷◌, Some, slice_get, refl, sym, ◌∙◌, ap, subst, arith}
 use Rattle.std.proofs.lemmas.Bool.{cases_lt}
 use Rattle.mvt_wire.specs.Field.{Entry, cause_at}
-use Rattle.mvt_wire.specs.Scope.{Span, spans_of, IsMessageAt, IsPart}
+use Rattle.mvt_wire.specs.Payload.{Span, spans_of}
+use Rattle.mvt_rules.specs.Scope.{IsMessageAt, IsPart}
 use Rattle.mvt_wire.specs.declared.cause.WireCause.{WireCause}
 use Rattle.mvt_wire.specs.declared.scope.Scope.{Scope}
 use Rattle.mvt_wire.specs.declared.scope.Scope.TheVariants.{Tile, Layer, Value, Feature}
 use Rattle.mvt_wire.specs.declared.schema.Message.{Message}
 use Rattle.mvt_wire.specs.declared.schema.Message.TheVariants as messages
-use Rattle.mvt_wire.proofs.Parts.Tiles.{part_here}
+use Rattle.mvt_rules.proofs.Tiles.Tiles.{part_here}
 use Rattle.mvt_fault.specs.Place.{ComesFirst, IsLeast, place_of}
-use Rattle.mvt_fault.specs.TrueFaults.{wire_fault_in}
+use Rattle.mvt_fault.specs.Cause.{wire_fault_in}
 use Rattle.mvt_fault.specs.declared.fault.Fault.{Fault}
 use Rattle.mvt_tile.specs.Calls.Embedded.{HasFault, HasNone, HasFirst, FaultInLayer, IsLayerFault, wire}
 use Rattle.mvt_wire.specs.Embedded.{AreClean, IsFirst}

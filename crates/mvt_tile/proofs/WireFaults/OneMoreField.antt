@@ -4,7 +4,7 @@ use Rattle.std.proofs.lemmas.Bool.{cond-true, cond-false}
 use Rattle.std.proofs.lemmas.List.Elements.{filter-append}
 use Rattle.mvt_wire.specs.Field.{Entry}
 use Rattle.mvt_wire.specs.Schema.{rule_of}
-use Rattle.mvt_wire.specs.WireFault.{stands_in, count_known, EntryFault, FieldFault}
+use Rattle.mvt_rules.specs.WireFault.{stands_in, count_known, EntryFault, FieldFault}
 use Rattle.mvt_wire.specs.declared.cause.WireCause.{WireCause}
 use Rattle.mvt_wire.specs.declared.schema.FieldRule.{FieldRule}
 use Rattle.mvt_wire.specs.declared.schema.Message.{Message}
@@ -13,7 +13,7 @@ use Rattle.mvt_tile.proofs.WireFaults.FieldPlaces.{IsPlaced}
 use Rattle.mvt_tile.specs.Calls.FieldScan.{IsFirstFault}
 use Rattle.mvt_tile.proofs.WireFaults.Causes.{by_offset}
 use Rattle.mvt_tile.proofs.WireFaults.FieldFaults.{fault_within}
-use Rattle.mvt_wire.proofs.Parts.LastFields.{LastFault, FieldFault-last, FieldFault-earlier}
+use Rattle.mvt_rules.proofs.Tiles.LastFields.{LastFault, FieldFault-last, FieldFault-earlier}
 
 count_known-append : (message : Message) (entries : List Entry) (entry : Entry) → count_known message (entries ++ entry ∷ []) ≡ count_known message entries + length (filter (λ (e : Entry). is_some (rule_of message e.number)) (entry ∷ []))
 count_known-append message entries entry =

@@ -4,15 +4,16 @@ use Rattle.std.proofs.Math.Seq.{take-length}
 use Rattle.std.proofs.lemmas.List.{length-take-le}
 use Rattle.mvt_wire.specs.Field.{Entry, entry_of}
 use Rattle.mvt_wire.specs.Message.{FieldList, IsMessage}
-use Rattle.mvt_wire.specs.WireFault.{WireFault, EndFault, MessageFault}
-use Rattle.mvt_wire.specs.Scope.{spans_of}
+use Rattle.mvt_rules.specs.WireFault.{WireFault, EndFault, MessageFault}
+use Rattle.mvt_wire.specs.Payload.{spans_of}
 use Rattle.mvt_wire.specs.declared.cause.WireCause.{WireCause}
 use Rattle.mvt_wire.specs.declared.field.Field.{Field}
 use Rattle.mvt_wire.specs.declared.scope.Scope.{Scope}
 use Rattle.mvt_wire.specs.declared.scope.Scope.TheVariants as scopes
 use Rattle.mvt_wire.specs.declared.schema.Message.TheVariants.{Tile}
 use Rattle.mvt_fault.specs.Place.{IsLeast}
-use Rattle.mvt_fault.specs.TrueFaults.{IsWireFault, wire_fault_in}
+use Rattle.mvt_rules.specs.Parts.TrueFaults.{IsWireFault}
+use Rattle.mvt_fault.specs.Cause.{wire_fault_in}
 use Rattle.mvt_fault.specs.declared.fault.Fault.{Fault}
 use Rattle.mvt_wire.specs.Embedded.{FindsFirst}
 use Rattle.mvt_tile.specs.Calls.Embedded.{IsFaultless, IsFirstOf}

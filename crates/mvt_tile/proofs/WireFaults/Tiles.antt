@@ -2,16 +2,18 @@
 use Rattle.std.proofs.Common.{◌≡◌, ℕ, ◌<◌, ◌⊎◌, inl, inr, List, ◌∷◌, Some, None, slice_get, refl, sym, ◌∙◌, ap, subst, arith}
 use Rattle.std.proofs.lemmas.Bool.{cases_lt}
 use Rattle.mvt_wire.specs.Field.{Entry, cause_at}
-use Rattle.mvt_wire.specs.Scope.{Span, spans_of, whole_span, IsMessageAt, IsPart}
-use Rattle.mvt_wire.specs.Tile.{TileRecord, IsTile}
-use Rattle.mvt_wire.specs.WireFault.{WireFault}
+use Rattle.mvt_wire.specs.Payload.{Span, spans_of}
+use Rattle.mvt_rules.specs.Scope.{whole_span, IsMessageAt, IsPart}
+use Rattle.mvt_rules.specs.Tile.{TileRecord, IsTile}
+use Rattle.mvt_rules.specs.WireFault.{WireFault}
 use Rattle.mvt_wire.specs.declared.cause.WireCause.{WireCause}
 use Rattle.mvt_wire.specs.declared.scope.Scope.{Scope}
 use Rattle.mvt_wire.specs.declared.scope.Scope.TheVariants.{Tile, Layer, Value, Feature}
 use Rattle.mvt_wire.specs.declared.schema.Message.TheVariants as messages
-use Rattle.mvt_wire.proofs.Parts.Tiles.{tile_or_fault, part_here}
+use Rattle.mvt_rules.proofs.Tiles.Tiles.{tile_or_fault, part_here}
 use Rattle.mvt_fault.specs.Place.{ComesFirst, IsLeast, place_of}
-use Rattle.mvt_fault.specs.TrueFaults.{IsWireFault, wire, wire_fault_in}
+use Rattle.mvt_rules.specs.Parts.TrueFaults.{IsWireFault, wire}
+use Rattle.mvt_fault.specs.Cause.{wire_fault_in}
 use Rattle.mvt_fault.specs.declared.fault.Fault.{Fault}
 use Rattle.mvt_tile.specs.Calls.Embedded.{HasFault, FaultInLayer, IsLayerFault, IsFaultless, IsFirstOf}
 use Rattle.mvt_wire.specs.Embedded.{IsFirst, FindsFirst}

@@ -4,7 +4,7 @@ use Rattle.std.proofs.lemmas.List.{length-take-le}
 use Rattle.mvt_wire.specs.Field.{Entry, entry_of}
 use Rattle.mvt_wire.specs.Message.{FieldList, IsMessage, HasDefect}
 use Rattle.mvt_wire.specs.Walk.{Walk}
-use Rattle.mvt_wire.specs.WireFault.{FieldFault, EndFault, MessageFault}
+use Rattle.mvt_rules.specs.WireFault.{FieldFault, EndFault, MessageFault}
 use Rattle.mvt_wire.specs.declared.cause.WireCause.{WireCause}
 use Rattle.mvt_wire.specs.declared.field.Field.{Field}
 use Rattle.mvt_wire.specs.declared.schema.Message.{Message}

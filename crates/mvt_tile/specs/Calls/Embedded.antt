@@ -1,8 +1,9 @@
 -- The wire faults of a layer and of the messages in it, as walks over the fields find them.
 use Rattle.std.specs.Prelude.{◌≡◌, ℕ, List, take}
 use Rattle.mvt_wire.specs.Field.{cause_at}
-use Rattle.mvt_wire.specs.Scope.{Span, IsPart}
-use Rattle.mvt_wire.specs.WireFault.{MessageFault}
+use Rattle.mvt_wire.specs.Payload.{Span}
+use Rattle.mvt_rules.specs.Scope.{IsPart}
+use Rattle.mvt_rules.specs.WireFault.{MessageFault}
 use Rattle.mvt_wire.specs.declared.cause.WireCause.{WireCause}
 use Rattle.mvt_wire.specs.declared.cause.WireCode.{WireCode}
 use Rattle.mvt_wire.specs.declared.scope.Scope.{Scope}

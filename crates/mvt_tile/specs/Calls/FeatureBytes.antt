@@ -1,7 +1,7 @@
 -- The parts of a feature, as its fields give them.
 use Rattle.std.specs.Prelude.{◌≡◌, ℕ, List, map, None, Some}
 use Rattle.mvt_wire.specs.Field.{Entry}
-use Rattle.mvt_wire.specs.Tile.{numbers_of}
+use Rattle.mvt_wire.specs.Payload.{numbers_of}
 use Rattle.mvt_wire.specs.NumberSources.{StandBefore}
 use Rattle.mvt_tile.specs.Calls.Reading.{last_of}
 use Rattle.mvt_tile.specs.View.{kind_number}

@@ -1,9 +1,9 @@
 -- What a walk over features finds by a further rule.
 use Rattle.std.specs.Prelude.{◌≡◌, ℕ, Option, Some, MatchOption, slice_get}
-use Rattle.mvt_fault.specs.TrueFaults.{OneFeatureHas}
+use Rattle.mvt_rules.specs.Parts.TrueFaults.{OneFeatureHas}
 use Rattle.mvt_fault.specs.declared.fault.Fault.{Fault}
-use Rattle.mvt_wire.specs.Rules.{IsFeatureOf}
-use Rattle.mvt_wire.specs.Tile.{FeatureRecord, LayerRecord, TileRecord}
+use Rattle.mvt_rules.specs.Rules.{IsFeatureOf}
+use Rattle.mvt_rules.specs.Tile.{FeatureRecord, LayerRecord, TileRecord}
 use Rattle.mvt_tile.specs.FreeFaults.{IsLeastOr}
 use Rattle.mvt_tile.specs.RuleFaults.{Breaks, Frees, Keeps, IsFaultOfFeature, IsSound}
 

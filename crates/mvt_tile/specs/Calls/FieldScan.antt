@@ -3,7 +3,7 @@ use Rattle.std.specs.Prelude.{◌≡◌, ℕ, ◌<◌, nat_lt, Bool, true, false
 use Rattle.mvt_wire.specs.Field.{Entry, entry_of}
 use Rattle.mvt_wire.specs.Message.{FieldList}
 use Rattle.mvt_wire.specs.Schema.{rule_of, is_required}
-use Rattle.mvt_wire.specs.WireFault.{stands_in, count_known, FieldFault, MessageFault}
+use Rattle.mvt_rules.specs.WireFault.{stands_in, count_known, FieldFault, MessageFault}
 use Rattle.mvt_wire.specs.Walk.{GivesField}
 use Rattle.mvt_wire.specs.declared.cause.WireCause.{WireCause}
 use Rattle.mvt_wire.specs.declared.field.Field.{Field}

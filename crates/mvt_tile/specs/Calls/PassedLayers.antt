@@ -1,8 +1,8 @@
 -- What is kept of the layers of a tile that were passed, to find the first that breaks a rule (Mapbox Vector Tile
 -- Specification 2.1, section 4.1).
 use Rattle.std.specs.Prelude.{◌≡◌, ℕ, ◌<◌, ◌⊎◌, true, false, List, length, slice_get, Some}
-use Rattle.mvt_wire.specs.Rules.{OtherVersion}
-use Rattle.mvt_wire.specs.Tile.{LayerRecord, TileRecord}
+use Rattle.mvt_rules.specs.Rules.{OtherVersion}
+use Rattle.mvt_rules.specs.Tile.{LayerRecord, TileRecord}
 use Rattle.mvt_tile.specs.declared.rules.layer_rules.LayerRules.{LayerRules}
 
 -- how many layers of version 2 were passed: as many as names are kept

@@ -1,8 +1,7 @@
 -- Tags that a pass over their pairs has gone over, and what is kept of them (Mapbox Vector Tile Specification 2.1, section 4.4).
 use Rattle.std.specs.Prelude.{◌≡◌, ◌==◌, ℕ, ◌+◌, ◌-◌, ◌*◌, ◌<◌, ◌≤◌, nat_lt, Bool, true, cond, List, length, slice_get, slice_index_or, Option, Some, MatchOption}
-use Rattle.mvt_fault.specs.TrueFaults.{TagsBreak}
+use Rattle.mvt_rules.specs.Rules.{TagsBreak, IsKeyAt, NoSuchKey, NoSuchValue}
 use Rattle.mvt_fault.specs.declared.tag.TagCode.{TagCode}
-use Rattle.mvt_wire.specs.Rules.{IsKeyAt, NoSuchKey, NoSuchValue}
 use Rattle.mvt_tile.specs.Calls.RuleFaults.{IsFirstTagFault}
 use Rattle.mvt_tile.specs.declared.rules.key_marks.KeyMarks.{KeyMarks}
 use Rattle.mvt_tile.specs.declared.rules.tags.TagNeeds.{TagNeeds}

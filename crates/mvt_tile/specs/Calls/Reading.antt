@@ -1,8 +1,8 @@
 -- What is known of the fields of a message while they are read one by one.
 use Rattle.std.specs.Prelude.{◌≡◌, ℕ, List, [], ◌∷◌, length}
 use Rattle.mvt_wire.specs.Field.{Entry}
-use Rattle.mvt_wire.specs.Scope.{spans_of}
-use Rattle.mvt_wire.specs.Tile.{numbers_of, texts_of, IsFeature, IsValue, LayerRecord, IsLayer, TileRecord, Each}
+use Rattle.mvt_wire.specs.Payload.{spans_of, numbers_of, texts_of}
+use Rattle.mvt_rules.specs.Tile.{IsFeature, IsValue, LayerRecord, IsLayer, TileRecord, Each}
 use Rattle.mvt_tile.specs.declared.rules.summary.LayerSummary.{LayerSummary}
 
 -- the last of a list, or another value where there is none

@@ -2,10 +2,10 @@
 use Rattle.std.specs.Prelude.{◌≡◌, ℕ, ◌<◌, ◌≤◌, ◌⊎◌, List, length, Option, MatchOption}
 use Rattle.mvt_fault.specs.Code.{tag_code}
 use Rattle.mvt_fault.specs.Place.{place_of}
-use Rattle.mvt_fault.specs.TrueFaults.{TagsBreak}
+use Rattle.mvt_rules.specs.Rules.{TagsBreak}
 use Rattle.mvt_fault.specs.declared.fault.Fault.{Fault}
 use Rattle.mvt_fault.specs.declared.tag.TagCode.{TagCode}
-use Rattle.mvt_wire.specs.Tile.{FeatureRecord, LayerRecord}
+use Rattle.mvt_rules.specs.Tile.{FeatureRecord, LayerRecord}
 use Rattle.mvt_tile.specs.RuleFaults.{Breaks, IsAfterTags}
 use Rattle.mvt_tile.specs.declared.rules.summary.LayerSummary.{LayerSummary}
 use Rattle.mvt_tile.specs.declared.rules.tags.TagNeeds.{TagNeeds}

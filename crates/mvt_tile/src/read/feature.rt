@@ -1,5 +1,5 @@
 ghost use Rattle.std.specs.Prelude.{IfOk};
-ghost use Rattle.mvt_wire.specs.Tile.{FeatureRecord, IsFeature};
+ghost use Rattle.mvt_rules.specs.Tile.{FeatureRecord, IsFeature};
 ghost use Rattle.mvt_wire.specs.Embedded.{Holds};
 ghost use Rattle.mvt_tile.specs.View.{feature_of};
 

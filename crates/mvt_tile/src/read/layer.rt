@@ -1,7 +1,7 @@
 ghost use Rattle.std.specs.Prelude.{List, ◌∷◌, [], ◌++◌, IfOk, OnOk};
 ghost use Rattle.mvt_wire.specs.Field.{Entry, entry_of};
-ghost use Rattle.mvt_wire.specs.Tile.{FeatureRecord, IsFeature, ValueRecord, IsValue, LayerRecord, IsLayer};
-ghost use Rattle.mvt_wire.specs.Calls.Tile.{FitsRule};
+ghost use Rattle.mvt_rules.specs.Tile.{FeatureRecord, IsFeature, ValueRecord, IsValue, LayerRecord, IsLayer};
+ghost use Rattle.mvt_rules.specs.Parts.Fields.{FitsRule};
 ghost use Rattle.mvt_wire.specs.declared.schema.Message.TheVariants as messages;
 ghost use Rattle.mvt_wire.specs.Calls.Scope.{Embeds};
 ghost use Rattle.mvt_wire.specs.Embedded.{LiesIn, Holds};

@@ -1,8 +1,8 @@
 ghost use Rattle.std.specs.Prelude.{◌≡◌, true, false, is_some, IfSome, IfNone};
 ghost use Rattle.mvt_wire.specs.Field.{content_of, entry_of};
 ghost use Rattle.mvt_wire.specs.Schema.{rule_of};
-ghost use Rattle.mvt_wire.specs.Tile.{ValueRecord, IsValue, Says};
-ghost use Rattle.mvt_wire.specs.Calls.Tile.{FitsRule};
+ghost use Rattle.mvt_rules.specs.Tile.{ValueRecord, IsValue, Says};
+ghost use Rattle.mvt_rules.specs.Parts.Fields.{FitsRule};
 ghost use Rattle.mvt_wire.specs.declared.schema.Message.TheVariants as messages;
 ghost use Rattle.mvt_wire.specs.Embedded.{Holds};
 ghost use Rattle.mvt_tile.specs.View.{value_of};

@@ -2,7 +2,7 @@
 ghost use Rattle.std.specs.Prelude.{◌≡◌, [], ℕ, length, IfOk, OnOk};
 ghost use Rattle.mvt_fault.specs.Place.{place_of};
 ghost use Rattle.mvt_fault.specs.declared.fault.Fault.{Fault};
-ghost use Rattle.mvt_wire.specs.Tile.{FeatureRecord, TileRecord, IsTile};
+ghost use Rattle.mvt_rules.specs.Tile.{FeatureRecord, TileRecord, IsTile};
 ghost use Rattle.mvt_tile.specs.Calls.Gathered.{AreGatheredTo, AreSummaries};
 ghost use Rattle.mvt_tile.specs.Calls.RuleFaults.{AreAfterTags};
 ghost use Rattle.mvt_tile.specs.FirstFaults.{AreFirstFaults};

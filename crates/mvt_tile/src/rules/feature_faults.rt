@@ -3,7 +3,7 @@
 ghost use Rattle.std.specs.Prelude.{◌≡◌, ◌+◌, ◌++◌, ℕ, List, Some, slice_get, IfOk, OnOk};
 ghost use Rattle.mvt_fault.specs.declared.fault.Fault.{Fault};
 ghost use Rattle.mvt_wire.specs.Embedded.{Holds};
-ghost use Rattle.mvt_wire.specs.Tile.{LayerRecord, IsLayer, TileRecord};
+ghost use Rattle.mvt_rules.specs.Tile.{LayerRecord, IsLayer, TileRecord};
 ghost use Rattle.mvt_tile.specs.Calls.Gathered.{AreGatheredTo};
 ghost use Rattle.mvt_tile.specs.Calls.RuleFaults.{AreAfterTags, IsLike, IsSummary};
 

@@ -1,7 +1,7 @@
 //! The rules on a feature of a tile, which is read from its bytes.
 ghost use Rattle.std.specs.Prelude.{◌≡◌, ◌≤◌, ℕ, None, IfOk, IfNone, IfSome};
 ghost use Rattle.mvt_fault.specs.declared.fault.Fault.{Fault};
-ghost use Rattle.mvt_wire.specs.Tile.{FeatureRecord, LayerRecord};
+ghost use Rattle.mvt_rules.specs.Tile.{FeatureRecord, LayerRecord};
 ghost use Rattle.mvt_tile.specs.Calls.FeatureRules.{FindsInFeature};
 ghost use Rattle.mvt_tile.specs.FeatureBytes.{Shows};
 ghost use Rattle.mvt_tile.specs.FreeFaults.{IsLeastOr};

@@ -1,7 +1,7 @@
 //! The faults of versions and names of layers, one of each layer that has any (Mapbox Vector Tile
 //! Specification 2.1, section 4.1).
 ghost use Rattle.std.specs.Prelude.{◌≡◌, ◌↔◌, ℕ, List, length, Some, slice_get, IfOk};
-ghost use Rattle.mvt_wire.specs.Tile.{TileRecord};
+ghost use Rattle.mvt_rules.specs.Tile.{TileRecord};
 ghost use Rattle.mvt_tile.specs.Advice.{IsRepetition};
 ghost use Rattle.mvt_tile.specs.Calls.Equal.{AreFirstPlaces};
 ghost use Rattle.mvt_tile.specs.Calls.Gathered.{AreGatheredLayers, AreSummaries, FindsOfLayer, NameAt};

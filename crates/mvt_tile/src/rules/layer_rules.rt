@@ -2,9 +2,9 @@
 //! Specification 2.1, section 4.1).
 ghost use Rattle.std.specs.Prelude.{◌≡◌, ◌+◌, IfOk, IfNone, IfSome, IsFalse, IsTrue, true};
 ghost use Rattle.mvt_fault.specs.Place.{IsLeast};
-ghost use Rattle.mvt_fault.specs.TrueFaults.{IsFaultOfLayers};
+ghost use Rattle.mvt_rules.specs.Parts.TrueFaults.{IsFaultOfLayers};
 ghost use Rattle.mvt_fault.specs.declared.fault.Fault.{Fault};
-ghost use Rattle.mvt_wire.specs.Tile.{TileRecord};
+ghost use Rattle.mvt_rules.specs.Tile.{TileRecord};
 ghost use Rattle.mvt_tile.specs.Calls.PassedLayers.{passed, EndsLayers, PassesLayers, IsNextLayer};
 
 use super::layer_names::LayerNames;

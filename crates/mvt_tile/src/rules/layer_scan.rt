@@ -1,7 +1,7 @@
 //! The features of a layer, and its summary, by one walk over it, or by a second one where a tag
 //! names a key or a value that the layer doesn't have.
 ghost use Rattle.std.specs.Prelude.{◌≡◌, true, false, is_some, IfOk};
-ghost use Rattle.mvt_wire.specs.Tile.{LayerRecord, IsLayer};
+ghost use Rattle.mvt_rules.specs.Tile.{LayerRecord, IsLayer};
 ghost use Rattle.mvt_tile.specs.Calls.FeatureRules.{FindsInLayer};
 ghost use Rattle.mvt_wire.specs.Embedded.{Holds};
 ghost use Rattle.mvt_tile.specs.Calls.RuleFaults.{AreAfterTags, IsLike, IsSummary};

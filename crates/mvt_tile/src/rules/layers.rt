@@ -1,9 +1,9 @@
 //! The versions and names of layers (Mapbox Vector Tile Specification 2.1, section 4.1).
 ghost use Rattle.std.specs.Prelude.{◌≡◌, IfOk, IfNone, IfSome};
 ghost use Rattle.mvt_fault.specs.Place.{IsLeast};
-ghost use Rattle.mvt_fault.specs.TrueFaults.{IsFaultOfLayers};
+ghost use Rattle.mvt_rules.specs.Parts.TrueFaults.{IsFaultOfLayers};
 ghost use Rattle.mvt_fault.specs.declared.fault.Fault.{Fault};
-ghost use Rattle.mvt_wire.specs.Tile.{TileRecord, IsTile};
+ghost use Rattle.mvt_rules.specs.Tile.{TileRecord, IsTile};
 ghost use Rattle.mvt_tile.specs.View.{tile_of};
 
 #[cfg(test)]

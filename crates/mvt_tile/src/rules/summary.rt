@@ -1,7 +1,7 @@
 //! What the rules need to know of a layer (Mapbox Vector Tile Specification 2.1, section 4.1).
 ghost use Rattle.std.specs.Prelude.{◌+◌, ◌<◌, ◌^◌, List, ◌∷◌, [], ◌++◌};
 ghost use Rattle.mvt_wire.specs.Field.{Entry, entry_of};
-ghost use Rattle.mvt_wire.specs.Calls.Tile.{FitsRule};
+ghost use Rattle.mvt_rules.specs.Parts.Fields.{FitsRule};
 ghost use Rattle.mvt_wire.specs.declared.schema.Message.TheVariants as messages;
 ghost use Rattle.mvt_tile.specs.Calls.Reading.{GivesSummary};
 

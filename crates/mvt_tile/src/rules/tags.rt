@@ -1,9 +1,9 @@
 //! The tags of a feature (Mapbox Vector Tile Specification 2.1, section 4.4).
 ghost use Rattle.std.specs.Prelude.{◌≡◌, ◌+◌, ◌<◌, ◌≤◌, ◌^◌, ℕ, List, length, drop, IfOk, IfNone, IfSome, Some, None, slice_get};
 ghost use Rattle.mvt_fault.specs.Place.{IsLeast};
-ghost use Rattle.mvt_fault.specs.TrueFaults.{IsFaultOfTags};
+ghost use Rattle.mvt_rules.specs.Parts.TrueFaults.{IsFaultOfTags};
 ghost use Rattle.mvt_fault.specs.declared.fault.Fault.{Fault};
-ghost use Rattle.mvt_wire.specs.Tile.{FeatureRecord};
+ghost use Rattle.mvt_rules.specs.Tile.{FeatureRecord};
 ghost use Rattle.mvt_tile.specs.Calls.RuleFaults.{FindsFirstTagFault};
 ghost use Rattle.mvt_tile.specs.Calls.PassedTags.{ArePassed, HasFoundBefore, IsPairAt, IsScanned, AreMetBy};
 ghost use Rattle.mvt_tile.specs.View.{layer_of};

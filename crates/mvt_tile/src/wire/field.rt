@@ -2,7 +2,7 @@
 ghost use Rattle.std.specs.Prelude.{◌≡◌, ℕ, ◌<◌, ◌^◌, Bool, true, List};
 ghost use Rattle.mvt_wire.specs.Field.{IsField, entry_of, content_of, wire_type_of, cause_at};
 ghost use Rattle.mvt_wire.specs.Schema.{is_own, is_singular};
-ghost use Rattle.mvt_wire.specs.WireFault.{EntryFault};
+ghost use Rattle.mvt_rules.specs.WireFault.{EntryFault};
 ghost use Rattle.mvt_tile.specs.Calls.Least.{FindsLeastCause};
 
 use mvt_wire::{Body, Field, FieldRule, Shape, WireCause, WireCode, is_text, packed_fault};

@@ -2,7 +2,7 @@
 ghost use Rattle.std.specs.Prelude.{◌≡◌, ℕ, ◌<◌, ◌≤◌, ◌^◌, List, [], ◌∷◌, ◌++◌, IfNone, IfSome, ◌&&◌, not};
 ghost use Rattle.mvt_wire.specs.Field.{Entry, IsField, entry_of};
 ghost use Rattle.mvt_wire.specs.Schema.{is_required};
-ghost use Rattle.mvt_wire.specs.WireFault.{EndFault};
+ghost use Rattle.mvt_rules.specs.WireFault.{EndFault};
 ghost use Rattle.mvt_tile.specs.Calls.Least.{FindsLeastCause};
 
 use crate::wire::field::field_fault;

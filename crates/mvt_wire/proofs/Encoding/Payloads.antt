@@ -7,8 +7,7 @@ use Rattle.std.proofs.lemmas.List.Elements.{filter-append, filter_map-append}
 use Rattle.std.specs.List.{cons_option}
 use Rattle.mvt_wire.specs.Field.{Content, delimited, Entry, IsField, IsPayload}
 use Rattle.mvt_wire.specs.Embedded.{LiesIn}
-use Rattle.mvt_wire.specs.Scope.{fields_of, contents_of, Span, span_of, spans_of}
-use Rattle.mvt_wire.specs.WireFault.{count_of}
+use Rattle.mvt_wire.specs.Payload.{fields_of, contents_of, Span, span_of, spans_of, count_of}
 
 -- the payload of one field, if it has the number
 one_content : (field_number : ℕ) (entry : Entry) (test : Bool) → (entry.number == field_number) ≡ test → contents_of field_number (entry ∷ []) ≡ cond test (entry.content ∷ []) []

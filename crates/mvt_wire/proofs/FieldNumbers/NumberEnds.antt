@@ -4,7 +4,7 @@ use Rattle.std.proofs.lemmas.Bool.{eq-eqb, ne_eqb}
 use Rattle.std.proofs.lemmas.List.Elements.{All-append, All-nil}
 use Rattle.mvt_wire.specs.Field.{Content, Entry, IsField, FieldDefect}
 use Rattle.mvt_wire.specs.Number.{States, StateTogether, AreSmall}
-use Rattle.mvt_wire.specs.Scope.{contents_of}
+use Rattle.mvt_wire.specs.Payload.{contents_of}
 use Rattle.mvt_wire.specs.Numbers.{NumberFault, at_defect, in_field, NumbersEnd}
 use Rattle.mvt_wire.specs.declared.cause.WireCause.{WireCause}
 use Rattle.mvt_wire.proofs.Parts.Contents.{contents_of-own, contents_of-other}

@@ -5,7 +5,7 @@ use Rattle.std.proofs.lemmas.List.Elements.{All-nil}
 use Rattle.mvt_wire.specs.Field.{Content, Entry, IsField, FieldDefect}
 use Rattle.mvt_wire.specs.Message.{FieldList}
 use Rattle.mvt_wire.specs.Number.{States, StateTogether, AreSmall}
-use Rattle.mvt_wire.specs.Scope.{contents_of}
+use Rattle.mvt_wire.specs.Payload.{contents_of}
 use Rattle.mvt_wire.specs.Numbers.{StopsAt, at_defect, in_field, NumbersEnd}
 use Rattle.mvt_wire.specs.declared.cause.WireCause.{WireCause}
 use Rattle.mvt_wire.proofs.Encoding.Entries.{one_field, no_field_at_end}

@@ -6,7 +6,7 @@ use Rattle.mvt_wire.specs.Varint.{SpellsVarint}
 use Rattle.mvt_wire.specs.Field.{Content, varint, delimited, Entry, IsPayload, IsField, FieldDefect}
 use Rattle.mvt_wire.specs.Message.{FieldList}
 use Rattle.mvt_wire.specs.Number.{VarintList, States, StateTogether}
-use Rattle.mvt_wire.specs.Scope.{contents_of}
+use Rattle.mvt_wire.specs.Payload.{contents_of}
 use Rattle.mvt_wire.specs.Numbers.{StopsAt, at_defect, in_field, NumbersEnd, StatesAt, IsNumberAt, StandBetween, place_of_end}
 use Rattle.mvt_wire.specs.declared.cause.WireCause.{WireCause}
 use Rattle.mvt_wire.proofs.Encoding.Varints.{one_end}

@@ -3,7 +3,7 @@ use Rattle.std.proofs.Common.{◌≡◌, ℕ, ◌^◌, ◌<◌, ◌≤◌, inl, 
 use Rattle.mvt_wire.specs.Field.{Entry, IsField, FieldDefect, key, key_out_of_range, refused_type, leading_varint, past_end}
 use Rattle.mvt_wire.specs.Message.{FieldList}
 use Rattle.mvt_wire.specs.Number.{StateTogether, AreSmall}
-use Rattle.mvt_wire.specs.Scope.{contents_of}
+use Rattle.mvt_wire.specs.Payload.{contents_of}
 use Rattle.mvt_wire.specs.Numbers.{StopsAt, at_defect, in_field, IsNumbersFault, NumbersEnd}
 use Rattle.mvt_wire.specs.declared.cause.WireCause.{WireCause}
 use Rattle.mvt_wire.proofs.Encoding.Entries.{one_field, no_field_at_end, field_extent}

@@ -3,7 +3,7 @@ use Rattle.std.proofs.Common.{◌≡◌, ◌⊎◌, ℕ, suc, zero, ◌+◌, ◌
 use Rattle.std.proofs.lemmas.List.Elements.{filter_map-append}
 use Rattle.std.proofs.lemmas.Option.{slice_get_within, same_Some}
 use Rattle.mvt_wire.specs.Field.{Entry, content_of, entry_of}
-use Rattle.mvt_wire.specs.Scope.{contents_of, Span, span_of, spans_of}
+use Rattle.mvt_wire.specs.Payload.{contents_of, Span, span_of, spans_of}
 use Rattle.mvt_wire.specs.Calls.Scope.{span_between}
 use Rattle.std.specs.Borrow.{Bor}
 use Rattle.mvt_wire.specs.declared.field.Field.{Field}

@@ -1,7 +1,7 @@
 -- Spans between two places, and what embeds a message.
 use Rattle.std.specs.Prelude.{◌≡◌, ℕ, Some}
 use Rattle.mvt_wire.specs.Field.{Entry}
-use Rattle.mvt_wire.specs.Scope.{Span, span_of}
+use Rattle.mvt_wire.specs.Payload.{Span, span_of}
 
 -- the bytes from one place up to another
 abbrev pub span_between : ℕ → ℕ → Span

@@ -1,7 +1,7 @@
 use Rattle.std.proofs.Common.{ℕ, suc, List, drop}
 use Rattle.mvt_confirm.specs.Calls.Vertices.{RingsLeft}
 use Rattle.mvt_confirm.proofs.Shapes.PolygonWalks.{AreAmidHoles}
-use Rattle.mvt_plane.specs.Geometry.Polygon.{PolygonRings, IsPolygon}
+use Rattle.mvt_rules.specs.Polygon.{PolygonRings, IsPolygon}
 use Rattle.mvt_plane.specs.Position.{Position}
 use Rattle.mvt_wire.specs.Numbers.{most_left}
 use Rattle.mvt_confirm.proofs.apart.is_in_holes.Given as goal

@@ -3,7 +3,7 @@ use Rattle.std.proofs.lemmas.Bool.Decides.{not_from_Decides}
 use Rattle.mvt_fault.specs.declared.profile.Profile.TheVariants.{Feature}
 use Rattle.mvt_confirm.proofs.Shapes.PolygonMembers.{test_fails}
 use Rattle.mvt_confirm.proofs.Shapes.PolygonVertices.{vertex_decided}
-use Rattle.mvt_confirm.proofs.Validity.TrueFaults.{another_polygon}
+use Rattle.mvt_rules.proofs.Validity.TrueFaults.{another_polygon}
 use Rattle.mvt_confirm.proofs.apart.is_vertex_in_another.Goals as goal
 use Rattle.mvt_confirm.proofs.apart.is_vertex_in_another.Goals.{then-polygon-other-via-then-polygon-other, then-polygon-other-via-else-polygon-other+then-not-are_polygon_rings}
 

@@ -1,7 +1,7 @@
 use Rattle.mvt_fault.specs.declared.fault.Fault.TheVariants.{Wire}
-use Rattle.mvt_wire.specs.Tile.{TileRecord, IsTile}
-use Rattle.mvt_confirm.proofs.Validity.TrueFaults.{shown_is_invalid}
-use Rattle.mvt_confirm.proofs.Validity.ShownByCases.{no_tile}
+use Rattle.mvt_rules.specs.Tile.{TileRecord, IsTile}
+use Rattle.mvt_rules.proofs.Validity.TrueFaults.{shown_is_invalid}
+use Rattle.mvt_confirm.proofs.Features.ShownByCases.{no_tile}
 use Rattle.mvt_confirm.proofs.checker.confirm_with.Goals as goal
 
 pub returns-in-Wire-clause-invalid : goal.returns-in-Wire-clause-invalid

@@ -1,5 +1,5 @@
 use Rattle.mvt_confirm.specs.Calls.HoleFault.{outside, hole_in_hole}
-use Rattle.mvt_confirm.proofs.Validity.ShownByCases.{not_of_hole, with_polygon}
+use Rattle.mvt_confirm.proofs.Features.ShownByCases.{not_of_hole, with_polygon}
 use Rattle.mvt_confirm.proofs.checker.has_fault_of_hole.Goals as goal
 
 pub returns-in-Outside : goal.returns-in-Outside

@@ -1,7 +1,7 @@
 use Rattle.std.proofs.Common.{rules}
 use mir.Syntax.{w128}
 use Rattle.std.proofs.lemmas.Int.{to_z-of_z}
-use Rattle.mvt_confirm.proofs.Validity.ShownByCases.{by_hole, with_polygon}
+use Rattle.mvt_confirm.proofs.Features.ShownByCases.{by_hole, with_polygon}
 use Rattle.mvt_confirm.proofs.checker.has_fault_of_polygon.Goals as goal
 
 pub returns-in-Meeting : goal.returns-in-Meeting

@@ -1,5 +1,5 @@
-use Rattle.mvt_wire.specs.Rules.{OtherVersion, SameName}
-use Rattle.mvt_confirm.proofs.Validity.ShownByCases.{of_tile, no_wire, of_polygon, any_of_polygon}
+use Rattle.mvt_rules.specs.Rules.{OtherVersion, SameName}
+use Rattle.mvt_confirm.proofs.Features.ShownByCases.{of_tile, no_wire, of_polygon, any_of_polygon}
 use Rattle.mvt_confirm.proofs.checker.has_fault_of_tile.Goals as goal
 
 pub returns-in-Wire : goal.returns-in-Wire

@@ -1,6 +1,6 @@
 use Rattle.std.proofs.lemmas.Int.{to_z-of_z}
 use mir.Syntax.{w128}
-use Rattle.mvt_confirm.specs.PolygonFault.{number_of}
+use Rattle.mvt_rules.specs.PolygonFault.{number_of}
 use Rattle.mvt_confirm.proofs.Shapes.EdgeMeetings.{meeting_in_order}
 use Rattle.mvt_confirm.proofs.edge_tests.meets_in_order.Goals as goal
 

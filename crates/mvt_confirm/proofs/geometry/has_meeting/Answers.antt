@@ -1,4 +1,4 @@
-use Rattle.mvt_confirm.specs.PolygonFault.{IsMeetingBy}
+use Rattle.mvt_rules.specs.PolygonFault.{IsMeetingBy}
 use Rattle.mvt_confirm.proofs.Features.DrawnFeatures.{no_rings_decided, rings_decide}
 use Rattle.mvt_confirm.proofs.geometry.has_meeting.Goals as goal
 

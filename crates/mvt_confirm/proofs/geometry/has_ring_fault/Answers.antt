@@ -1,5 +1,5 @@
 use Rattle.mvt_fault.specs.Code.{ring_code}
-use Rattle.mvt_plane.specs.Geometry.Ring.{BreaksRings}
+use Rattle.mvt_rules.specs.Ring.{BreaksRings}
 use Rattle.mvt_confirm.proofs.Features.DrawnFeatures.{no_rings_decided, rings_decide}
 use Rattle.mvt_confirm.proofs.geometry.has_ring_fault.Goals as goal
 

@@ -1,4 +1,4 @@
-use Rattle.mvt_confirm.specs.PolygonFault.{IsVertexInPolygonBy}
+use Rattle.mvt_rules.specs.PolygonFault.{IsVertexInPolygonBy}
 use Rattle.mvt_confirm.proofs.Features.DrawnFeatures.{no_rings_decided, rings_decide}
 use Rattle.mvt_confirm.proofs.geometry.has_vertex_in_polygon.Goals as goal
 

@@ -2,10 +2,11 @@ use Rattle.std.proofs.Common.{◌≡◌, ◌≢◌, ◌↔◌, ℕ, ◌==◌, �
 use Rattle.std.proofs.lemmas.Bool.{cases_eq, eq-eqb, ne_eqb, leb-false}
 use Rattle.std.specs.Option.{option_eq}
 use Rattle.mvt_wire.specs.Numbers.{NumbersEnd}
-use Rattle.mvt_wire.specs.Rules.{OtherVersion}
+use Rattle.mvt_rules.specs.Rules.{OtherVersion}
 use Rattle.mvt_wire.specs.Schema.{field_rule}
-use Rattle.mvt_wire.specs.Scope.{Span, IsScope}
-use Rattle.mvt_wire.specs.Tile.{LayerRecord, IsLayer, TileRecord, IsTile}
+use Rattle.mvt_wire.specs.Payload.{Span}
+use Rattle.mvt_rules.specs.Scope.{IsScope}
+use Rattle.mvt_rules.specs.Tile.{LayerRecord, IsLayer, TileRecord, IsTile}
 use Rattle.mvt_wire.specs.declared.schema.Message.TheVariants as messages
 use Rattle.mvt_wire.specs.declared.schema.Occurrence.TheVariants.{Once}
 use Rattle.mvt_wire.specs.declared.schema.Shape.TheVariants.{Uint32}

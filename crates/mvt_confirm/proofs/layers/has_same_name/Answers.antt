@@ -1,8 +1,8 @@
 use Rattle.std.proofs.Common.{◌≡◌, ◌↔◌, ◌<◌, ℕ, Bool, Decides, IsTrue, List, Some, slice_get, sym, ◌∙◌}
 use Rattle.std.proofs.lemmas.Bool.Decides.{Decides-eqb}
 use Rattle.std.proofs.lemmas.Slice.Eq.{slice_eq-Decides}
-use Rattle.mvt_wire.specs.Rules.{SameName}
-use Rattle.mvt_wire.specs.Tile.{LayerRecord, TileRecord}
+use Rattle.mvt_rules.specs.Rules.{SameName}
+use Rattle.mvt_rules.specs.Tile.{LayerRecord, TileRecord}
 use Rattle.mvt_confirm.proofs.layers.has_same_name.Goals as goal
 
 -- the layer of a tile with an ordinal has this name

@@ -1,5 +1,5 @@
 use Rattle.mvt_plane.specs.Geometry.Ring.{edges}
-use Rattle.mvt_confirm.specs.PolygonFault.{number_of}
+use Rattle.mvt_rules.specs.PolygonFault.{number_of}
 use Rattle.mvt_confirm.proofs.Shapes.NumberedEdges.{counted_by_edges, too_few_edges, too_few_rings}
 use Rattle.mvt_confirm.proofs.meeting.edge_of_number.Goals as goal
 

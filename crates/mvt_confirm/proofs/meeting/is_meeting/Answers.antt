@@ -1,8 +1,8 @@
 use Rattle.std.proofs.Common.{true≢false, sym, ◌∙◌}
 use Rattle.std.proofs.lemmas.Bool.Decides.{not_from_Decides}
-use Rattle.mvt_confirm.specs.PolygonFault.{number_of, IsMeetingBy}
+use Rattle.mvt_rules.specs.PolygonFault.{number_of, IsMeetingBy}
 use Rattle.mvt_confirm.proofs.Shapes.PolygonMembers.{meeting_by_parts, second_member, test_fails}
-use Rattle.mvt_confirm.proofs.Validity.UnshownMeetings.{rings_in_order}
+use Rattle.mvt_rules.proofs.Validity.UnshownMeetings.{rings_in_order}
 use Rattle.mvt_confirm.proofs.meeting.is_meeting.Goals as goal
 use Rattle.mvt_confirm.proofs.meeting.is_meeting.Goals.{then-are_polygon_rings, else-are_polygon_rings, then-is_ring_of_polygon, else-is_ring_of_polygon}
 

@@ -1,6 +1,6 @@
 use Rattle.std.proofs.Common.{◌+◌, ◌<◌, ◌^◌, ap, length, arith}
 use Rattle.mvt_wire.specs.Field.{content_of}
-use Rattle.mvt_wire.specs.Scope.{span_of}
+use Rattle.mvt_wire.specs.Payload.{span_of}
 use Rattle.mvt_confirm.proofs.span.payload_in.Goals as goal
 
 pub overflow_add-result : goal.overflow_add-result

@@ -1,5 +1,6 @@
 use Rattle.std.proofs.Common.{sym, subst}
-use Rattle.mvt_wire.specs.Scope.{Span, IsScope}
+use Rattle.mvt_wire.specs.Payload.{Span}
+use Rattle.mvt_rules.specs.Scope.{IsScope}
 use Rattle.mvt_wire.specs.declared.scope.Scope.{Scope}
 use Rattle.mvt_wire.proofs.NothingFound.{IfNone_then}
 use Rattle.mvt_confirm.proofs.span.span_of_scope.Goals as goal

@@ -1,6 +1,5 @@
 use Rattle.std.proofs.Common.{length}
-use Rattle.mvt_fault.specs.TrueFaults.{TagsBreak}
-use Rattle.mvt_wire.specs.Rules.{OddTags, NoSuchKey, NoSuchValue, KeyAgain}
+use Rattle.mvt_rules.specs.Rules.{TagsBreak, OddTags, NoSuchKey, NoSuchValue, KeyAgain}
 use Rattle.mvt_confirm.proofs.Features.DrawnFeatures.{nothing_decided, place_decides}
 use Rattle.mvt_confirm.proofs.Features.LayerTexts.{keys_beyond, values_beyond}
 use Rattle.mvt_confirm.proofs.Features.TagRules.{lack_of_key, lack_of_value}

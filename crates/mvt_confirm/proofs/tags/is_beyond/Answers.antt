@@ -1,5 +1,5 @@
 use Rattle.std.proofs.Common.{◌≡◌, ◌≤◌, ℕ, length, subst}
-use Rattle.mvt_wire.specs.Scope.{spans_of}
+use Rattle.mvt_wire.specs.Payload.{spans_of}
 use Rattle.mvt_confirm.proofs.Features.LayerTexts.{none_found}
 use Rattle.mvt_confirm.proofs.tags.is_beyond.Goals as goal
 

@@ -1,5 +1,5 @@
 use Rattle.std.proofs.Common.{◌≡◌, subst}
-use Rattle.mvt_confirm.specs.Shows.{ShowsBy}
+use Rattle.mvt_rules.specs.Shows.{ShowsBy}
 use Rattle.mvt_gate.proofs.agreement.judge_and_confirm_with.Goals as goal
 use Rattle.mvt_gate.proofs.agreement.judge_and_confirm_with.Goals.{in-Yes, in-No}
 

@@ -1,4 +1,4 @@
-use Rattle.mvt_confirm.specs.Shows.{ShowsBy}
+use Rattle.mvt_rules.specs.Shows.{ShowsBy}
 use Rattle.mvt_tile.proofs.RuleFaults.FreeFaults.{none_earlier}
 use Rattle.mvt_gate.specs.Quick.{IsFreeBy}
 use Rattle.mvt_gate.proofs.QuickVerdicts.{first_where_apart, quick_is_shown, quick_verdict_by_polygon, verdict_by_polygon}

@@ -1,7 +1,7 @@
 use Rattle.std.proofs.Common.{Some, sym, ◌∙◌, ap, subst}
 use Rattle.mvt_fault.specs.declared.profile.Profile.TheVariants.{Polygon}
 use Rattle.mvt_polygon.specs.PolygonFault.{IsPolygonAnswer}
-use Rattle.mvt_polygon.specs.Rings.{rings_of}
+use Rattle.mvt_sweep.specs.Rings.{rings_of}
 use Rattle.mvt_gate.proofs.PolygonPlaces.{own_is_drawn, meeting_is_within, hole_is_within, least_of_meeting, least_of_hole, apart_by_slice, valid_by_slice}
 use Rattle.mvt_gate.specs.Calls.Polygons.{IsFirstOfRings}
 use Rattle.mvt_gate.proofs.polygons.polygon_fault.Goals as goal

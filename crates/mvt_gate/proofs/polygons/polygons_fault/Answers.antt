@@ -1,5 +1,5 @@
 use Rattle.std.proofs.lemmas.Option.{MatchOption-at_none}
-use Rattle.mvt_polygon.specs.Rings.{rings_of}
+use Rattle.mvt_sweep.specs.Rings.{rings_of}
 use Rattle.mvt_gate.proofs.PolygonPlaces.{polygon_passed, polygons_passed}
 use Rattle.mvt_gate.proofs.PolygonWalk.{none_passed}
 use Rattle.mvt_gate.proofs.polygons.polygons_fault.Goals as goal

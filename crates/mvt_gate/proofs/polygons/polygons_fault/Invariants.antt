@@ -1,5 +1,5 @@
 use Rattle.std.proofs.Common.{◌-◌, length}
-use Rattle.mvt_polygon.specs.Rings.{rings_of}
+use Rattle.mvt_sweep.specs.Rings.{rings_of}
 use Rattle.mvt_gate.proofs.PolygonWalk.{HasPassed}
 use Rattle.mvt_gate.proofs.polygons.polygons_fault.Given as goal
 

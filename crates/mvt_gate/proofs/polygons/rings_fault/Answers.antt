@@ -1,6 +1,6 @@
 use Rattle.std.proofs.lemmas.Option.{IfSome_then}
 use Rattle.std.proofs.lemmas.Result.{IfOk-weaker}
-use Rattle.mvt_polygon.specs.Rings.{rings_of}
+use Rattle.mvt_sweep.specs.Rings.{rings_of}
 use Rattle.mvt_tile.specs.FreeFaults.{of_least}
 use Rattle.mvt_gate.proofs.DrawnRings.{rings_are_drawn}
 use Rattle.mvt_gate.proofs.FirstFaults.{ring_is_least}

@@ -1,8 +1,8 @@
 use Rattle.std.proofs.Common.{◌+◌, Some, false, ℕ, sym, ◌∙◌, ap, subst, arith}
 use Rattle.std.proofs.lemmas.Option.{slice_get-get_or}
-use Rattle.mvt_polygon.specs.Rings.{rings_of}
-use Rattle.mvt_polygon.proofs.Holes.ApartFaults.{rings_at, rings_listed}
-use Rattle.mvt_polygon.proofs.Placed.AddedPassings.{ends_read}
+use Rattle.mvt_sweep.specs.Rings.{rings_of}
+use Rattle.mvt_polygon.proofs.ApartFaults.{rings_at, rings_listed}
+use Rattle.mvt_feature.proofs.Placed.AddedPassings.{ends_read}
 use Rattle.mvt_mend.proofs.KeptPolygons.{AreKeptBefore, all_kept, found_is_same, none_kept, one_kept, one_passed}
 use Rattle.mvt_mend.proofs.kept.are_among.Goals as goal
 use Rattle.mvt_mend.proofs.kept.are_among.Goals.{then-right-polygon+in-Some, else-right-polygon}

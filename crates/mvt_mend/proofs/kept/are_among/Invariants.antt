@@ -1,4 +1,4 @@
-use Rattle.mvt_polygon.specs.Rings.{rings_of}
+use Rattle.mvt_sweep.specs.Rings.{rings_of}
 use Rattle.mvt_mend.proofs.KeptPolygons.{AreKeptBefore}
 use Rattle.mvt_mend.proofs.kept.are_among.Given as goal
 

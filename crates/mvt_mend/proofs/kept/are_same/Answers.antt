@@ -1,6 +1,6 @@
 use Rattle.std.proofs.Common.{◌<◌, length, arith}
-use Rattle.mvt_polygon.specs.Rings.{rings_of}
-use Rattle.mvt_polygon.proofs.Vertices.RingReads.{count_of_rings, vertices_there}
+use Rattle.mvt_sweep.specs.Rings.{rings_of}
+use Rattle.mvt_sweep.proofs.Vertices.RingReads.{count_of_rings, vertices_there}
 use Rattle.mvt_mend.proofs.KeptPolygons.{same_more, same_whole}
 use Rattle.mvt_mend.proofs.kept.are_same.Goals as goal
 

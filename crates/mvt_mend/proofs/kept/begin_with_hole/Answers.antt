@@ -1,7 +1,7 @@
 use Rattle.std.proofs.Common.{◌≡◌, pos, below_more}
 use Rattle.mvt_plane.specs.Geometry.Ring.{doubled_area}
-use Rattle.mvt_polygon.specs.Rings.{rings_of}
-use Rattle.mvt_polygon.proofs.Vertices.RingReads.{vertices_there, fails}
+use Rattle.mvt_sweep.specs.Rings.{rings_of}
+use Rattle.mvt_sweep.proofs.Vertices.RingReads.{vertices_there, fails}
 use Rattle.mvt_mend.proofs.KeptPolygons.{first_with_area, flat_elsewhere, not_false}
 use Rattle.mvt_mend.proofs.kept.begin_with_hole.Goals as goal
 

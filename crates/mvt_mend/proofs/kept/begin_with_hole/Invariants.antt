@@ -1,6 +1,6 @@
 use Rattle.std.proofs.Common.{ℕ, ◌<◌}
-use Rattle.mvt_plane.specs.Geometry.Ring.{HasNoArea}
-use Rattle.mvt_polygon.specs.Rings.{rings_of}
+use Rattle.mvt_sweep.specs.Rings.{rings_of}
+use Rattle.mvt_rules.specs.Ring.{HasNoArea}
 use Rattle.mvt_mend.proofs.kept.begin_with_hole.Given as goal
 
 -- the rings so far have no area

@@ -1,9 +1,9 @@
 use Rattle.std.proofs.Common.{◌<◌, length, pos, ◌<ℤ◌, arith}
 use Rattle.mvt_plane.specs.Geometry.Ring.{doubled_area}
-use Rattle.mvt_plane.proofs.Rings.PolygonNumbers.{none_from_next}
-use Rattle.mvt_polygon.specs.Rings.{rings_of}
-use Rattle.mvt_polygon.proofs.Placed.PolygonList.{is_exterior}
-use Rattle.mvt_polygon.proofs.Vertices.RingReads.{vertices_there, fails}
+use Rattle.mvt_sweep.specs.Rings.{rings_of}
+use Rattle.mvt_polygon.proofs.PolygonList.{is_exterior}
+use Rattle.mvt_sweep.proofs.Vertices.RingReads.{vertices_there, fails}
+use Rattle.mvt_rules.proofs.Rings.PolygonNumbers.{none_from_next}
 use Rattle.mvt_mend.proofs.kept.first_exterior.Goals as goal
 
 pub returns-clause-none : goal.returns-clause-none

@@ -1,7 +1,7 @@
 use Rattle.std.proofs.Common.{◌≡◌, ℕ, ◌⊎◌, sym, subst, arith}
-use Rattle.mvt_plane.specs.Geometry.Polygon.{IsExterior}
-use Rattle.mvt_polygon.specs.Rings.{rings_of}
-use Rattle.mvt_polygon.proofs.Vertices.RingReads.{count_of_rings}
+use Rattle.mvt_sweep.specs.Rings.{rings_of}
+use Rattle.mvt_sweep.proofs.Vertices.RingReads.{count_of_rings}
+use Rattle.mvt_rules.specs.Polygon.{IsExterior}
 use Rattle.mvt_mend.proofs.PolygonLists.{none_listed, more_listed, all_listed}
 use Rattle.mvt_mend.proofs.kept.polygons_of.Goals as goal
 

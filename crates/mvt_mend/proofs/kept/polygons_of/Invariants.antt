@@ -1,5 +1,5 @@
 use Rattle.std.proofs.Common.{◌-◌, length}
-use Rattle.mvt_polygon.specs.Rings.{rings_of}
+use Rattle.mvt_sweep.specs.Rings.{rings_of}
 use Rattle.mvt_mend.proofs.PolygonLists.{AreListedFrom}
 use Rattle.mvt_mend.proofs.kept.polygons_of.Given as goal
 

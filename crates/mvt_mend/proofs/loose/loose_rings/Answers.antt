@@ -3,7 +3,7 @@ use Rattle.std.specs.Option.{IfSome}
 use Rattle.std.specs.declared.alloc.Global.{Global}
 use Rattle.std.proofs.lemmas.List.{map_push}
 use Rattle.mvt_plane.specs.Position.{Position}
-use Rattle.mvt_polygon.specs.Rings.{rings_of}
+use Rattle.mvt_sweep.specs.Rings.{rings_of}
 use Rattle.mvt_mend.specs.Calls.Pen.{IsRingDrawn}
 use Rattle.mvt_mend.proofs.DrawnSteps.{all_drawn, none_drawn, one_more_ring}
 use Rattle.mvt_mend.proofs.loose.loose_rings.Goals as goal

@@ -1,5 +1,5 @@
 use Rattle.std.proofs.Common.{◌-◌, length}
-use Rattle.mvt_polygon.specs.Rings.{rings_of}
+use Rattle.mvt_sweep.specs.Rings.{rings_of}
 use Rattle.mvt_mend.proofs.DrawnSteps.{AreDrawn}
 use Rattle.mvt_mend.proofs.loose.loose_rings.Given as goal
 

@@ -1,7 +1,7 @@
 use Rattle.std.proofs.Common.{List, Vec, sym, ◌∙◌, ap, subst}
 use Rattle.std.specs.declared.alloc.Global.{Global}
 use Rattle.mvt_plane.specs.Position.{Position}
-use Rattle.mvt_polygon.specs.Rings.{rings_of}
+use Rattle.mvt_sweep.specs.Rings.{rings_of}
 use Rattle.mvt_mend.specs.Near.{AreNear}
 use Rattle.mvt_mend.proofs.mending.mend_rings.Goals as goal
 

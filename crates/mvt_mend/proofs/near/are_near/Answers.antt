@@ -1,7 +1,7 @@
 use Rattle.std.proofs.Common.{below_more, arith}
 use Rattle.std.proofs.lemmas.Option.{slice_get_within}
-use Rattle.mvt_polygon.specs.Rings.{rings_of}
-use Rattle.mvt_polygon.proofs.Vertices.RingReads.{count_of_rings, vertices_there}
+use Rattle.mvt_sweep.specs.Rings.{rings_of}
+use Rattle.mvt_sweep.proofs.Vertices.RingReads.{count_of_rings, vertices_there}
 use Rattle.mvt_mend.proofs.NearRings.{near_vertex}
 use Rattle.mvt_mend.proofs.near.are_near.Goals as goal
 

@@ -1,7 +1,7 @@
 use Rattle.std.proofs.Common.{◌≤◌, ℕ, ◌<◌}
-use Rattle.mvt_plane.specs.Geometry.Nesting.{IsVertexOf}
+use Rattle.mvt_rules.specs.Nesting.{IsVertexOf}
 use Rattle.mvt_plane.specs.Position.{Position}
-use Rattle.mvt_polygon.specs.Rings.{rings_of}
+use Rattle.mvt_sweep.specs.Rings.{rings_of}
 use Rattle.mvt_mend.specs.Near.{IsNear}
 use Rattle.mvt_mend.proofs.near.are_near.Given as goal
 

@@ -1,7 +1,7 @@
 use Rattle.std.proofs.Common.{◌≡◌, ◌<◌, length, arith}
 use Rattle.mvt_plane.specs.Geometry.Ring.{next_round}
 use Rattle.mvt_plane.proofs.Rings.RingEdges.{round_last, round_next}
-use Rattle.mvt_polygon.proofs.Vertices.EdgeNumbers.{edge_read}
+use Rattle.mvt_sweep.proofs.Vertices.EdgeNumbers.{edge_read}
 use Rattle.mvt_mend.proofs.near.edge_at.Goals as goal
 use Rattle.mvt_mend.proofs.near.edge_at.Goals.{then-vertex-ring, else-vertex-ring}
 

@@ -1,5 +1,5 @@
-use Rattle.mvt_polygon.specs.Rings.{rings_of}
-use Rattle.mvt_polygon.proofs.Vertices.RingReads.{vertices_there}
+use Rattle.mvt_sweep.specs.Rings.{rings_of}
+use Rattle.mvt_sweep.proofs.Vertices.RingReads.{vertices_there}
 use Rattle.mvt_mend.proofs.NearRings.{near_edge}
 use Rattle.mvt_mend.proofs.near.is_near_edge.Goals as goal
 

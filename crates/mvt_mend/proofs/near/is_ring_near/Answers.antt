@@ -1,6 +1,6 @@
 use Rattle.std.proofs.Common.{length, refl, sym, ◌∙◌, subst, below_more, arith}
 use Rattle.std.proofs.lemmas.Option.{same_Some, slice_get_read, slice_get_within}
-use Rattle.mvt_polygon.specs.Rings.{rings_of}
+use Rattle.mvt_sweep.specs.Rings.{rings_of}
 use Rattle.mvt_mend.specs.Near.{IsNear}
 use Rattle.mvt_mend.proofs.near.is_ring_near.Goals as goal
 

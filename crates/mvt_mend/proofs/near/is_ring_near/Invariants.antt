@@ -1,6 +1,6 @@
 use Rattle.std.proofs.Common.{◌≡◌, ◌≤◌, ℕ, ◌<◌, slice_get, Some}
 use Rattle.mvt_plane.specs.Position.{Position}
-use Rattle.mvt_polygon.specs.Rings.{rings_of}
+use Rattle.mvt_sweep.specs.Rings.{rings_of}
 use Rattle.mvt_mend.specs.Near.{IsNear}
 use Rattle.mvt_mend.proofs.near.is_ring_near.Given as goal
 

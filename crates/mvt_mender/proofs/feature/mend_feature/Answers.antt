@@ -1,5 +1,5 @@
 use Rattle.std.proofs.Common.{◌∙◌}
-use Rattle.mvt_polygon.specs.Rings.{rings_of}
+use Rattle.mvt_sweep.specs.Rings.{rings_of}
 use Rattle.mvt_tile.specs.FeatureBytes.{Shows}
 use Rattle.mvt_mender.proofs.NewGeometries.{new_of}
 use Rattle.mvt_mender.proofs.feature.mend_feature.Goals as goal

@@ -3,8 +3,8 @@ use Rattle.mvt_tile.proofs.Reading.ReadingRules.{own_type}
 use Rattle.mvt_tile.proofs.WireFaults.CleanWalk.{CleanWalk-nothing}
 use Rattle.mvt_tile.proofs.WireFaults.EmbeddedSpans.{Embeds-given, LiesIn-given}
 use Rattle.mvt_wire.proofs.Walking.{IsWalking-defectless, All-given}
-use Rattle.mvt_wire.specs.Calls.Tile.{FitsRule}
-use Rattle.mvt_wire.specs.Tile.{IsLayer}
+use Rattle.mvt_rules.specs.Parts.Fields.{FitsRule}
+use Rattle.mvt_rules.specs.Tile.{IsLayer}
 use Rattle.mvt_wire.specs.declared.schema.Message.TheVariants as messages
 use Rattle.mvt_mender.proofs.FoundFeatures.{found_none}
 use Rattle.mvt_mender.proofs.FoundWalks.{tile_more, tile_other, tile_over}

@@ -1,5 +1,5 @@
 use Rattle.std.proofs.Common.{◌≤◌, drop}
-use Rattle.mvt_polygon.specs.Rings.{rings_of}
+use Rattle.mvt_sweep.specs.Rings.{rings_of}
 use Rattle.mvt_mender.proofs.Sums.{SumsLeft}
 use Rattle.mvt_mender.proofs.measures.measures_of.Given as goal
 

@@ -1,6 +1,6 @@
 use Rattle.std.proofs.Common.{rules, below_more, arith}
-use Rattle.mvt_polygon.specs.Rings.{rings_of}
-use Rattle.mvt_polygon.proofs.Holes.ApartFaults.{rings_at, rings_listed, exterior_read, exterior_there, vertex_there, around_position, first_vertex, no_vertex}
+use Rattle.mvt_sweep.specs.Rings.{rings_of}
+use Rattle.mvt_polygon.proofs.ApartFaults.{rings_at, rings_listed, exterior_read, exterior_there, vertex_there, around_position, first_vertex, no_vertex}
 use Rattle.mvt_polygon.proofs.apart.check_apart.Goals as goal
 
 pub offset_bounds-rings-exterior : goal.offset_bounds-rings-exterior

@@ -1,5 +1,5 @@
-use Rattle.mvt_polygon.proofs.Holes.ApartFaults.{AreApartBefore}
-use Rattle.mvt_polygon.specs.Rings.{rings_of}
+use Rattle.mvt_polygon.proofs.ApartFaults.{AreApartBefore}
+use Rattle.mvt_sweep.specs.Rings.{rings_of}
 use Rattle.mvt_polygon.proofs.apart.check_apart.Given as goal
 
 -- the vertices so far are inside no other polygon

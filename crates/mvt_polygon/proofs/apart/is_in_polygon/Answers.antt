@@ -1,9 +1,9 @@
 use Rattle.std.proofs.Common.{below_more, refl, arith}
 use Rattle.mvt_plane.specs.Geometry.Inside.{IsInside}
-use Rattle.mvt_plane.specs.Geometry.Polygon.{PolygonRings}
-use Rattle.mvt_polygon.specs.Rings.{rings_of}
-use Rattle.mvt_polygon.proofs.Holes.ApartFaults.{in_polygon, not_in_exterior, not_in_hole, not_in_ring}
-use Rattle.mvt_polygon.proofs.Vertices.RingReads.{vertices_there, fails}
+use Rattle.mvt_sweep.specs.Rings.{rings_of}
+use Rattle.mvt_polygon.proofs.ApartFaults.{in_polygon, not_in_exterior, not_in_hole, not_in_ring}
+use Rattle.mvt_sweep.proofs.Vertices.RingReads.{vertices_there, fails}
+use Rattle.mvt_rules.specs.Polygon.{PolygonRings}
 use Rattle.mvt_polygon.proofs.apart.is_in_polygon.Goals as goal
 
 pub returns-then-not-inside : goal.returns-then-not-inside

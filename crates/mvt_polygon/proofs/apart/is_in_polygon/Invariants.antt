@@ -1,5 +1,5 @@
-use Rattle.mvt_polygon.proofs.Holes.ApartFaults.{IsInNoHole}
-use Rattle.mvt_polygon.specs.Rings.{rings_of}
+use Rattle.mvt_polygon.proofs.ApartFaults.{IsInNoHole}
+use Rattle.mvt_sweep.specs.Rings.{rings_of}
 use Rattle.mvt_polygon.proofs.apart.is_in_polygon.Given as goal
 
 -- the position is inside none of the holes so far

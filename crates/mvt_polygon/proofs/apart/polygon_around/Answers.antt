@@ -1,8 +1,8 @@
 use Rattle.std.proofs.Common.{below_more, arith}
-use Rattle.mvt_plane.specs.Geometry.Nesting.{IsInsidePolygon}
-use Rattle.mvt_polygon.specs.Rings.{rings_of}
-use Rattle.mvt_polygon.proofs.Holes.ApartFaults.{rings_at, rings_listed, ends_within, first_around, not_around, none_around}
-use Rattle.mvt_polygon.proofs.Vertices.RingReads.{count_of_rings, fails}
+use Rattle.mvt_sweep.specs.Rings.{rings_of}
+use Rattle.mvt_polygon.proofs.ApartFaults.{rings_at, rings_listed, ends_within, first_around, not_around, none_around}
+use Rattle.mvt_sweep.proofs.Vertices.RingReads.{count_of_rings, fails}
+use Rattle.mvt_rules.specs.Nesting.{IsInsidePolygon}
 use Rattle.mvt_polygon.proofs.apart.polygon_around.Goals as goal
 use Rattle.mvt_polygon.proofs.apart.polygon_around.Goals.{else-other-polygon-via-then-other-polygon+else-is_in_polygon, else-other-polygon-via-else-other-polygon}
 

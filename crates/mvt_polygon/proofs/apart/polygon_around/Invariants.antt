@@ -1,6 +1,6 @@
 use Rattle.std.proofs.Common.{ℕ, ◌<◌}
-use Rattle.mvt_polygon.specs.Calls.Apart.{IsPolygonAround}
-use Rattle.mvt_polygon.specs.Rings.{rings_of}
+use Rattle.mvt_polygon.specs.Apart.{IsPolygonAround}
+use Rattle.mvt_sweep.specs.Rings.{rings_of}
 use Rattle.mvt_polygon.proofs.apart.polygon_around.Given as goal
 
 -- the position is inside none of the other polygons so far

@@ -1,7 +1,7 @@
 use Rattle.std.proofs.Common.{arith}
-use Rattle.mvt_polygon.proofs.Vertices.RingReads.{count_of_rings}
-use Rattle.mvt_polygon.specs.Rings.{rings_of}
-use Rattle.mvt_polygon.proofs.Holes.NestFaults.{first_hole, no_hole}
+use Rattle.mvt_sweep.proofs.Vertices.RingReads.{count_of_rings}
+use Rattle.mvt_sweep.specs.Rings.{rings_of}
+use Rattle.mvt_polygon.proofs.NestFaults.{first_hole, no_hole}
 use Rattle.mvt_polygon.proofs.nesting.check_nesting.Goals as goal
 
 pub returns-in-Some-clause-least : goal.returns-in-Some-clause-least

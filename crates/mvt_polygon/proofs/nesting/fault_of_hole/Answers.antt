@@ -1,7 +1,7 @@
 use Rattle.std.proofs.Common.{arith}
-use Rattle.mvt_polygon.specs.Rings.{rings_of}
-use Rattle.mvt_polygon.proofs.Holes.NestFaults.{first_vertex, no_vertex}
-use Rattle.mvt_polygon.proofs.Vertices.RingReads.{ring_there}
+use Rattle.mvt_sweep.specs.Rings.{rings_of}
+use Rattle.mvt_polygon.proofs.NestFaults.{first_vertex, no_vertex}
+use Rattle.mvt_sweep.proofs.Vertices.RingReads.{ring_there}
 use Rattle.mvt_polygon.proofs.nesting.fault_of_hole.Goals as goal
 
 pub returns-in-Some-clause-least : goal.returns-in-Some-clause-least

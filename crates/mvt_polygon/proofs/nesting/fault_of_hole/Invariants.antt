@@ -1,7 +1,6 @@
 use Rattle.std.proofs.Common.{ℕ, ◌<◌}
-use Rattle.mvt_polygon.specs.Nesting.{IsNestFault}
-use Rattle.mvt_polygon.specs.Calls.Nesting.{IsOfVertex}
-use Rattle.mvt_polygon.specs.Rings.{rings_of}
+use Rattle.mvt_polygon.specs.Nesting.{IsNestFault, IsOfVertex}
+use Rattle.mvt_sweep.specs.Rings.{rings_of}
 use Rattle.mvt_polygon.specs.declared.nesting.NestFault.{NestFault}
 use Rattle.mvt_polygon.proofs.nesting.fault_of_hole.Given as goal
 

@@ -1,8 +1,8 @@
 use Rattle.std.proofs.Common.{below_more, arith}
 use Rattle.mvt_plane.specs.Geometry.Inside.{IsInside}
-use Rattle.mvt_polygon.specs.Rings.{rings_of}
-use Rattle.mvt_polygon.proofs.Holes.NestFaults.{not_around, no_ring_around}
-use Rattle.mvt_polygon.proofs.Vertices.RingReads.{vertices_there, count_of_rings, fails}
+use Rattle.mvt_sweep.specs.Rings.{rings_of}
+use Rattle.mvt_polygon.proofs.NestFaults.{not_around, no_ring_around}
+use Rattle.mvt_sweep.proofs.Vertices.RingReads.{vertices_there, count_of_rings, fails}
 use Rattle.mvt_polygon.proofs.nesting.hole_around.Goals as goal
 use Rattle.mvt_polygon.proofs.nesting.hole_around.Goals.{else-other-ring-via-then-other-ring+else-inside, else-other-ring-via-else-other-ring}
 

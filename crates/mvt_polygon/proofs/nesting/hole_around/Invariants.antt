@@ -1,6 +1,6 @@
 use Rattle.std.proofs.Common.{ℕ, ◌<◌}
 use Rattle.mvt_polygon.specs.Calls.Nesting.{IsHoleAround}
-use Rattle.mvt_polygon.specs.Rings.{rings_of}
+use Rattle.mvt_sweep.specs.Rings.{rings_of}
 use Rattle.mvt_polygon.proofs.nesting.hole_around.Given as goal
 
 -- the position is inside none of the holes so far

@@ -1,10 +1,10 @@
 use Rattle.std.proofs.Common.{◌*◌, arith}
 use Rattle.mvt_status.specs.Counts.{bits}
-use Rattle.mvt_polygon.specs.Work.{vertex_count}
-use Rattle.mvt_polygon.specs.Rings.{rings_of}
-use Rattle.mvt_polygon.specs.TurnVertices.{turn_count}
-use Rattle.mvt_polygon.proofs.Sweeps.MeetingsFound.{work_of_vertices}
-use Rattle.mvt_polygon.proofs.Vertices.TurnCounts.{turns_among_vertices}
+use Rattle.mvt_sweep.specs.Work.{vertex_count}
+use Rattle.mvt_sweep.specs.Rings.{rings_of}
+use Rattle.mvt_sweep.specs.TurnVertices.{turn_count}
+use Rattle.mvt_sweep.proofs.Sweeps.MeetingsFound.{work_of_vertices}
+use Rattle.mvt_sweep.proofs.Vertices.TurnCounts.{turns_among_vertices}
 use Rattle.mvt_polygon.proofs.polygon.check_polygon.Goals as goal
 
 pub returns-in_err-meeting_in_ring-clause-counted : goal.returns-in_err-meeting_in_ring-clause-counted

@@ -1,8 +1,8 @@
 use Rattle.std.proofs.Common.{◌≡◌, ℕ, ◌⊎◌, sym, subst, arith}
-use Rattle.mvt_plane.specs.Geometry.Polygon.{IsExterior}
-use Rattle.mvt_polygon.specs.Rings.{rings_of}
-use Rattle.mvt_polygon.proofs.Placed.PolygonList.{none_listed, more_listed, all_listed}
-use Rattle.mvt_polygon.proofs.Vertices.RingReads.{count_of_rings}
+use Rattle.mvt_sweep.specs.Rings.{rings_of}
+use Rattle.mvt_polygon.proofs.PolygonList.{none_listed, more_listed, all_listed}
+use Rattle.mvt_sweep.proofs.Vertices.RingReads.{count_of_rings}
+use Rattle.mvt_rules.specs.Polygon.{IsExterior}
 use Rattle.mvt_polygon.proofs.polygons.groups.Goals as goal
 
 pub polygons-init : goal.polygons-init

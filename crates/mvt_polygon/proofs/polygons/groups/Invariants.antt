@@ -1,6 +1,6 @@
 use Rattle.std.proofs.Common.{◌-◌, length}
-use Rattle.mvt_polygon.specs.Rings.{rings_of}
-use Rattle.mvt_polygon.proofs.Placed.PolygonList.{AreListed}
+use Rattle.mvt_sweep.specs.Rings.{rings_of}
+use Rattle.mvt_polygon.proofs.PolygonList.{AreListed}
 use Rattle.mvt_polygon.proofs.polygons.groups.Given as goal
 
 -- the polygons of the rings before this one are listed

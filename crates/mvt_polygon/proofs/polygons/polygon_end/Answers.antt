@@ -1,9 +1,9 @@
 use Rattle.std.proofs.Common.{suc, pos, ◌<ℤ◌}
 use Rattle.mvt_plane.specs.Geometry.Ring.{doubled_area}
-use Rattle.mvt_plane.proofs.Rings.PolygonNumbers.{one_more_hole}
-use Rattle.mvt_polygon.specs.Rings.{rings_of}
-use Rattle.mvt_polygon.proofs.Placed.PolygonList.{is_exterior}
-use Rattle.mvt_polygon.proofs.Vertices.RingReads.{vertices_there, fails}
+use Rattle.mvt_sweep.specs.Rings.{rings_of}
+use Rattle.mvt_polygon.proofs.PolygonList.{is_exterior}
+use Rattle.mvt_sweep.proofs.Vertices.RingReads.{vertices_there, fails}
+use Rattle.mvt_rules.proofs.Rings.PolygonNumbers.{one_more_hole}
 use Rattle.mvt_polygon.proofs.polygons.polygon_end.Goals as goal
 
 pub loop-ring-preserved : goal.loop-ring-preserved

@@ -1,6 +1,6 @@
 use Rattle.std.proofs.Common.{suc}
-use Rattle.mvt_plane.specs.Geometry.Polygon.{NoExterior}
-use Rattle.mvt_polygon.specs.Rings.{rings_of}
+use Rattle.mvt_sweep.specs.Rings.{rings_of}
+use Rattle.mvt_rules.specs.Polygon.{NoExterior}
 use Rattle.mvt_polygon.proofs.polygons.polygon_end.Given as goal
 
 -- the rings so far are holes

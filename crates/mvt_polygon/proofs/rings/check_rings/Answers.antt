@@ -1,7 +1,7 @@
 use Rattle.std.proofs.Common.{below_more, arith}
-use Rattle.mvt_polygon.specs.Rings.{rings_of}
-use Rattle.mvt_polygon.proofs.Vertices.RingFaults.{first_fault, no_fault}
-use Rattle.mvt_polygon.proofs.Vertices.RingReads.{count_of_rings}
+use Rattle.mvt_sweep.specs.Rings.{rings_of}
+use Rattle.mvt_polygon.proofs.RingFaults.{first_fault, no_fault}
+use Rattle.mvt_sweep.proofs.Vertices.RingReads.{count_of_rings}
 use Rattle.mvt_polygon.proofs.rings.check_rings.Goals as goal
 
 pub returns-in-Some-clause-least : goal.returns-in-Some-clause-least

@@ -1,6 +1,6 @@
 use Rattle.std.proofs.Common.{ℕ, ◌<◌}
-use Rattle.mvt_plane.specs.Geometry.Ring.{BreaksRings}
-use Rattle.mvt_polygon.specs.Rings.{rings_of}
+use Rattle.mvt_sweep.specs.Rings.{rings_of}
+use Rattle.mvt_rules.specs.Ring.{BreaksRings}
 use Rattle.mvt_polygon.proofs.rings.check_rings.Given as goal
 
 -- the rings so far have no fault

@@ -1,12 +1,11 @@
-ghost use Rattle.mvt_polygon.specs.Rings.{rings_of, AreProperRings};
+ghost use Rattle.mvt_sweep.specs.Rings.{rings_of, AreProperRings};
 
 use super::check_nesting_once;
-use crate::meeting::find_meeting;
-use crate::meeting::tests::are_drawn;
 use crate::nesting::NestFault;
 use crate::nesting::tests::PLACES;
 use crate::rings::tests::rings_at;
 use mvt_plane::{Count, Point};
+use mvt_sweep::{are_proper, find_meeting};
 use std::alloc::Global;
 use std::process::Abort;
 
@@ -32,6 +31,6 @@ fn finds(
 fn places_of_holes(rt: HostRuntime) {
     for &(coordinates, fault, probes) in PLACES {
         let rings = rings_at(&rt, rt.alloc(), coordinates);
-        assert!(rt; are_drawn(&rings) && finds(&rt, rt.alloc(), &rings, fault, probes));
+        assert!(rt; are_proper(&rings) && finds(&rt, rt.alloc(), &rings, fault, probes));
     }
 }

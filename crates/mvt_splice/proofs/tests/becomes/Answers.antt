@@ -1,5 +1,5 @@
 use Rattle.std.proofs.Common.{inl, inr}
-use Rattle.mvt_wire.proofs.Parts.Tiles.{tile_or_fault}
+use Rattle.mvt_rules.proofs.Tiles.Tiles.{tile_or_fault}
 use Rattle.mvt_splice.proofs.tests.becomes.Goals as goal
 
 pub splice-requires-clause-tile : goal.splice-requires-clause-tile

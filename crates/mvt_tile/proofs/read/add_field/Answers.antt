@@ -2,7 +2,7 @@ use Rattle.std.proofs.Common.{◌∙◌, ap, map, refl}
 use Rattle.std.proofs.lemmas.List.{map_push}
 use Rattle.std.proofs.lemmas.Result.{on_ok_weaker}
 use Rattle.mvt_wire.specs.Field.{entry_of}
-use Rattle.mvt_wire.specs.Tile.{IsLayer}
+use Rattle.mvt_rules.specs.Tile.{IsLayer}
 use Rattle.mvt_wire.specs.declared.schema.Message.TheVariants as messages
 use Rattle.mvt_tile.specs.View.{layer_of}
 use Rattle.mvt_tile.proofs.Reading.ReadingRules.{own_type}

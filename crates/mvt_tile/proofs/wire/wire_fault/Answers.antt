@@ -1,6 +1,6 @@
 use Rattle.std.proofs.Common.{[], refl, sym, subst, arith}
 use Rattle.mvt_fault.specs.Place.{IsLeast}
-use Rattle.mvt_fault.specs.TrueFaults.{IsWireFault}
+use Rattle.mvt_rules.specs.Parts.TrueFaults.{IsWireFault}
 use Rattle.mvt_wire.specs.declared.schema.Message.TheVariants.{Tile}
 use Rattle.mvt_wire.proofs.Encoding.Payloads.{payload_within}
 use Rattle.mvt_tile.specs.Calls.FieldScan.{PassesNext}

@@ -1,5 +1,5 @@
 use Rattle.std.proofs.Common.{rules, sym, subst, ◌∙◌}
-use Rattle.mvt_confirm.specs.Shows.{ShowsBy}
+use Rattle.mvt_rules.specs.Shows.{ShowsBy}
 use Rattle.mvt_fault.specs.declared.profile.Profile.{Profile}
 use Rattle.mvtgate_c.proofs.Profiles.{one_profile}
 use Rattle.mvtgate_c.proofs.confirm.mvtgate_confirm.Goals as goal

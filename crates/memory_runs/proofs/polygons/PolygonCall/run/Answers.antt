@@ -1,6 +1,6 @@
 use Rattle.std.proofs.Common.{sym, subst}
 use Rattle.mvt_plane.specs.FeatureGeometry.{HasRings}
-use Rattle.mvt_polygon.specs.Rings.{rings_of}
+use Rattle.mvt_sweep.specs.Rings.{rings_of}
 use Rattle.mvt_gate.proofs.DrawnRings.{rings_are_drawn}
 use Rattle.memory_runs.proofs.polygons.PolygonCall.run.Goals as goal
 

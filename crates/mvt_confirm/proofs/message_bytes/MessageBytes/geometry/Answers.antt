@@ -1,5 +1,5 @@
 use Rattle.std.proofs.Common.{None}
-use Rattle.mvt_wire.proofs.FieldNumbers.SmallNumbers.{geometry_end}
+use Rattle.mvt_rules.proofs.Tiles.SmallNumbers.{geometry_end}
 use Rattle.mvt_confirm.specs.Calls.ByteSpan.{as_span}
 use Rattle.mvt_confirm.proofs.message_bytes.MessageBytes.geometry.Goals as goal
 

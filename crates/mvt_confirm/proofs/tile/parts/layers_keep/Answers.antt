@@ -2,7 +2,7 @@ use Rattle.std.proofs.Common.{◌≤◌, ℕ, List, length, All, subst, sym}
 use Rattle.std.proofs.lemmas.Bool.{both_ways}
 use Rattle.std.proofs.lemmas.Result.{IfOk-at_ok, IfErr-at_err}
 use Rattle.mvt_wire.specs.Field.{Entry, entry_of}
-use Rattle.mvt_wire.specs.Scope.{spans_of}
+use Rattle.mvt_wire.specs.Payload.{spans_of}
 use Rattle.mvt_confirm.specs.Calls.Walking.{HoldsLayer}
 use Rattle.mvt_confirm.proofs.Wire.FieldWalks.{passed, refused, defective, answered_no, one_with}
 use Rattle.mvt_confirm.proofs.Wire.EmbeddedMessages.{part_passed, part_refused, lies_within}

@@ -1,5 +1,6 @@
 use Rattle.std.proofs.Common.{◌↔◌, ◌-◌, ◌≤◌, All, length}
-use Rattle.mvt_wire.specs.Scope.{spans_of, whole_span}
+use Rattle.mvt_wire.specs.Payload.{spans_of}
+use Rattle.mvt_rules.specs.Scope.{whole_span}
 use Rattle.mvt_confirm.specs.Calls.Walking.{HoldsLayer, HoldsParts}
 use Rattle.mvt_confirm.proofs.Wire.FieldWalks.{HasLeft}
 use Rattle.mvt_confirm.proofs.tile.parts.layers_keep.Given as goal

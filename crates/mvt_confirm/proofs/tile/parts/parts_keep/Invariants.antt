@@ -1,5 +1,5 @@
 use Rattle.std.proofs.Common.{◌↔◌, ◌-◌, ◌≤◌, All, length}
-use Rattle.mvt_wire.specs.Scope.{spans_of}
+use Rattle.mvt_wire.specs.Payload.{spans_of}
 use Rattle.mvt_confirm.specs.Calls.ByteSpan.{as_span}
 use Rattle.mvt_confirm.specs.Calls.Walking.{HoldsMessage, HoldsParts}
 use Rattle.mvt_confirm.proofs.Wire.FieldWalks.{HasLeft}

@@ -1,5 +1,5 @@
 use Rattle.std.proofs.Common.{◌≡◌, ◌↔◌, ◌-◌, length}
-use Rattle.mvt_wire.specs.WireFault.{count_known}
+use Rattle.mvt_rules.specs.WireFault.{count_known}
 use Rattle.mvt_wire.specs.declared.schema.Message.TheVariants as messages
 use Rattle.mvt_confirm.specs.Calls.MessageBytes.{Holds}
 use Rattle.mvt_confirm.specs.Calls.Walking.{HasOneKnownAfter}

@@ -2,7 +2,7 @@ use Rattle.std.proofs.Common.{List, subst, sym}
 use Rattle.mvt_plane.specs.Commands.Figure.{polygon}
 use Rattle.mvt_plane.specs.FeatureGeometry.{HasRings, type_number}
 use Rattle.mvt_plane.specs.Position.{Position}
-use Rattle.mvt_polygon.specs.Rings.{rings_of}
+use Rattle.mvt_sweep.specs.Rings.{rings_of}
 use Rattle.mvt_tile.specs.FeatureBytes.{Shows}
 use Rattle.mvt_gate.proofs.FeatureGeometries.{valid_by_rings, least_by_commands, least_by_rings}
 use Rattle.mvt_gate.proofs.geometry.GeometryRule.fault_of_polygons.Goals as goal

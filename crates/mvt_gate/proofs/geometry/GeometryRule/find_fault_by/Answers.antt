@@ -1,11 +1,11 @@
 use Rattle.std.proofs.Common.{ℕ, sym, subst}
-use Rattle.mvt_confirm.proofs.Validity.ValidParts.{geometry_kept}
-use Rattle.mvt_confirm.specs.Valid.{IsValidGeometryBy}
+use Rattle.mvt_rules.proofs.Validity.ValidParts.{geometry_kept}
+use Rattle.mvt_rules.specs.Valid.{IsValidGeometryBy}
 use Rattle.mvt_plane.specs.FeatureGeometry.{HasFigure}
 use Rattle.mvt_tile.specs.FeatureBytes.{Shows}
 use Rattle.mvt_tile.specs.View.{kind_number}
 use Rattle.mvt_wire.proofs.NothingFound.{IfNone-any}
-use Rattle.mvt_wire.specs.Tile.{FeatureRecord}
+use Rattle.mvt_rules.specs.Tile.{FeatureRecord}
 use Rattle.mvt_gate.proofs.FeatureGeometries.{least_by_commands, other_kind, valid_by_figure}
 use Rattle.mvt_gate.proofs.geometry.GeometryRule.find_fault_by.Goals as goal
 

@@ -1,6 +1,6 @@
 use Rattle.std.proofs.Common.{sym, subst}
 use Rattle.mvt_fault.specs.declared.profile.Profile.TheVariants.{Feature}
-use Rattle.mvt_polygon.specs.Rings.{rings_of}
+use Rattle.mvt_sweep.specs.Rings.{rings_of}
 use Rattle.mvt_gate.proofs.FeatureSearches.{least_for, reportable_for, valid_for}
 use Rattle.mvt_gate.specs.Calls.Polygons.{IsFeatureAnswerFor, IsFirstOfRingsFor}
 use Rattle.mvt_gate.proofs.polygons.apart.feature_fault.Goals as goal

@@ -1,6 +1,6 @@
 use Rattle.std.proofs.Common.{subst}
 use Rattle.mvt_polygon.specs.PolygonFault.{IsPolygonAnswer}
-use Rattle.mvt_polygon.specs.Rings.{rings_of}
+use Rattle.mvt_sweep.specs.Rings.{rings_of}
 use Rattle.mvt_mend.proofs.RightPolygons.{as_one_polygon, fault_of_polygon, fault_of_rings}
 use Rattle.mvt_mend.proofs.kept.right.are_right.Goals as goal
 

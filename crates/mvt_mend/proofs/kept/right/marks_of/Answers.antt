@@ -1,7 +1,7 @@
 use Rattle.std.proofs.Common.{arith}
-use Rattle.mvt_polygon.specs.Rings.{rings_of}
-use Rattle.mvt_polygon.proofs.Holes.ApartFaults.{ends_within, rings_at, rings_listed}
-use Rattle.mvt_polygon.proofs.Vertices.RingReads.{count_of_rings}
+use Rattle.mvt_sweep.specs.Rings.{rings_of}
+use Rattle.mvt_polygon.proofs.ApartFaults.{ends_within, rings_at, rings_listed}
+use Rattle.mvt_sweep.proofs.Vertices.RingReads.{count_of_rings}
 use Rattle.mvt_mend.proofs.RightPolygons.{none_marked, one_more_marked, all_marked}
 use Rattle.mvt_mend.proofs.kept.right.marks_of.Goals as goal
 

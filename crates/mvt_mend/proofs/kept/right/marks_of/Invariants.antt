@@ -1,4 +1,4 @@
-use Rattle.mvt_polygon.specs.Rings.{rings_of}
+use Rattle.mvt_sweep.specs.Rings.{rings_of}
 use Rattle.mvt_mend.proofs.RightPolygons.{AreMarkedUpTo}
 use Rattle.mvt_mend.proofs.kept.right.marks_of.Given as goal
 

@@ -1,9 +1,9 @@
 use Rattle.std.proofs.Common.{◌≡◌, length, slice_get, ◌≤◌, Some, below_more, refl, arith}
 use Rattle.std.proofs.lemmas.Option.{slice_get_read}
-use Rattle.mvt_polygon.specs.Rings.{rings_of}
-use Rattle.mvt_polygon.proofs.Holes.NestFaults.{no_hole}
-use Rattle.mvt_polygon.proofs.Notes.NotedHoles.{IsRight, hole_right, hole_wrong, none_answered, first_answered}
-use Rattle.mvt_polygon.proofs.Vertices.RingReads.{ring_there, count_of_rings, fails}
+use Rattle.mvt_sweep.specs.Rings.{rings_of}
+use Rattle.mvt_polygon.proofs.NestFaults.{no_hole}
+use Rattle.mvt_polygon.proofs.NotedHoles.{IsRight, hole_right, hole_wrong, none_answered, first_answered}
+use Rattle.mvt_sweep.proofs.Vertices.RingReads.{ring_there, count_of_rings, fails}
 use Rattle.mvt_polygon.proofs.nesting.noted.fault_of_holes.Goals as goal
 
 pub is_right-requires : goal.is_right-requires

@@ -1,7 +1,7 @@
 use Rattle.std.proofs.Common.{◌≡◌, ℕ, ◌<◌}
 use Rattle.mvt_polygon.specs.Nesting.{IsNestFault}
 use Rattle.mvt_polygon.specs.Calls.Nesting.{IsOfHole}
-use Rattle.mvt_polygon.specs.Rings.{rings_of}
+use Rattle.mvt_sweep.specs.Rings.{rings_of}
 use Rattle.mvt_polygon.specs.declared.nesting.NestFault.{NestFault}
 use Rattle.mvt_polygon.proofs.nesting.noted.fault_of_holes.Given as goal
 

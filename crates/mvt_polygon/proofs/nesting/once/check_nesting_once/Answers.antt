@@ -1,9 +1,9 @@
 use Rattle.std.proofs.Common.{length, ◌≤◌, below_more, refl, arith}
 use Rattle.std.proofs.lemmas.Option.{slice_get_read}
-use Rattle.mvt_polygon.specs.Rings.{rings_of}
-use Rattle.mvt_polygon.proofs.Holes.NestFaults.{first_hole, no_hole}
-use Rattle.mvt_polygon.proofs.Holes.NestOnce.{no_first_vertex, first_of_first_vertex, one_more_hole}
-use Rattle.mvt_polygon.proofs.Vertices.RingReads.{ring_there, count_of_rings}
+use Rattle.mvt_sweep.specs.Rings.{rings_of}
+use Rattle.mvt_polygon.proofs.NestFaults.{first_hole, no_hole}
+use Rattle.mvt_polygon.proofs.NestOnce.{no_first_vertex, first_of_first_vertex, one_more_hole}
+use Rattle.mvt_sweep.proofs.Vertices.RingReads.{ring_there, count_of_rings}
 use Rattle.mvt_polygon.proofs.nesting.once.check_nesting_once.Goals as goal
 
 pub index-position-requires : goal.index-position-requires

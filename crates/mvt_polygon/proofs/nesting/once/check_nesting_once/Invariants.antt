@@ -1,9 +1,8 @@
 use Rattle.std.proofs.Common.{ℕ, ◌<◌, ◌-◌, ◌*◌}
-use Rattle.mvt_polygon.specs.Work.{AddsWork}
-use Rattle.mvt_polygon.specs.Work.{vertex_count}
+use Rattle.mvt_sweep.specs.Work.{AddsWork, vertex_count}
 use Rattle.mvt_polygon.specs.Nesting.{IsNestFault}
 use Rattle.mvt_polygon.specs.Calls.Nesting.{IsOfHole}
-use Rattle.mvt_polygon.specs.Rings.{rings_of}
+use Rattle.mvt_sweep.specs.Rings.{rings_of}
 use Rattle.mvt_polygon.specs.declared.nesting.NestFault.{NestFault}
 use Rattle.mvt_polygon.proofs.nesting.once.check_nesting_once.Given as goal
 

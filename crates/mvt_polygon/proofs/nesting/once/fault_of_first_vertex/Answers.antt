@@ -1,9 +1,9 @@
 use Rattle.std.proofs.Common.{arith}
 use Rattle.mvt_plane.specs.Geometry.Inside.{IsInside}
-use Rattle.mvt_polygon.specs.Rings.{rings_of}
-use Rattle.mvt_polygon.proofs.Holes.NestFaults.{not_inside, no_hole_around, in_hole_around}
-use Rattle.mvt_polygon.proofs.Vertices.VertexNumbers.{count_step}
-use Rattle.mvt_polygon.proofs.Vertices.RingReads.{vertices_there, count_of_rings, fails}
+use Rattle.mvt_sweep.specs.Rings.{rings_of}
+use Rattle.mvt_polygon.proofs.NestFaults.{not_inside, no_hole_around, in_hole_around}
+use Rattle.mvt_sweep.proofs.Vertices.VertexNumbers.{count_step}
+use Rattle.mvt_sweep.proofs.Vertices.RingReads.{vertices_there, count_of_rings, fails}
 use Rattle.mvt_polygon.proofs.nesting.once.fault_of_first_vertex.Goals as goal
 
 pub returns-then-not-inside_counted-clause-least : goal.returns-then-not-inside_counted-clause-least

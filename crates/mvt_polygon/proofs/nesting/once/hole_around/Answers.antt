@@ -1,10 +1,10 @@
 use Rattle.std.proofs.Common.{◌+◌, below_more, arith}
 use Rattle.mvt_plane.specs.Geometry.Inside.{IsInside}
-use Rattle.mvt_polygon.specs.Rings.{rings_of}
-use Rattle.mvt_polygon.proofs.Vertices.VertexNumbers.{count_all}
-use Rattle.mvt_polygon.proofs.Holes.NestFaults.{not_around, no_ring_around}
-use Rattle.mvt_polygon.proofs.Holes.NestOnce.{first_around, one_more_ring, probes_within, ring_passed}
-use Rattle.mvt_polygon.proofs.Vertices.RingReads.{vertices_there, count_of_rings, fails}
+use Rattle.mvt_sweep.specs.Rings.{rings_of}
+use Rattle.mvt_sweep.proofs.Vertices.VertexNumbers.{count_all}
+use Rattle.mvt_polygon.proofs.NestFaults.{not_around, no_ring_around}
+use Rattle.mvt_polygon.proofs.NestOnce.{first_around, one_more_ring, probes_within, ring_passed}
+use Rattle.mvt_sweep.proofs.Vertices.RingReads.{vertices_there, count_of_rings, fails}
 use Rattle.mvt_polygon.proofs.nesting.once.hole_around.Goals as goal
 use Rattle.mvt_polygon.proofs.nesting.once.hole_around.Goals.{else-other-ring-via-then-other-ring+else-inside_counted, else-other-ring-via-else-other-ring}
 

@@ -1,8 +1,7 @@
 use Rattle.std.proofs.Common.{ℕ, ◌<◌, ◌-◌, take}
-use Rattle.mvt_polygon.specs.Work.{AddsWork}
-use Rattle.mvt_polygon.specs.Work.{vertex_count}
+use Rattle.mvt_sweep.specs.Work.{AddsWork, vertex_count}
 use Rattle.mvt_polygon.specs.Calls.Nesting.{IsHoleAround}
-use Rattle.mvt_polygon.specs.Rings.{rings_of}
+use Rattle.mvt_sweep.specs.Rings.{rings_of}
 use Rattle.mvt_polygon.proofs.nesting.once.hole_around.Given as goal
 
 -- the position is inside none of the holes so far, whose edges are counted

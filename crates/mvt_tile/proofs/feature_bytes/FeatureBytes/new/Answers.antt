@@ -1,5 +1,5 @@
 use Rattle.std.proofs.Common.{[], refl}
-use Rattle.mvt_wire.specs.Calls.Tile.{FitsRule}
+use Rattle.mvt_rules.specs.Parts.Fields.{FitsRule}
 use Rattle.mvt_wire.specs.declared.schema.Message.TheVariants as messages
 use Rattle.mvt_wire.proofs.Walking.{IsWalking-more, IsWalking-none, IsWalking-defectless, All-given}
 use Rattle.mvt_tile.proofs.Reading.FeatureParts.{Shows-all, tags_lie, geometry_lies}

@@ -1,5 +1,5 @@
 use Rattle.std.proofs.Common.{◌≡◌, subst, sym}
-use Rattle.mvt_wire.specs.Tile.{FeatureRecord, IsFeature}
+use Rattle.mvt_rules.specs.Tile.{FeatureRecord, IsFeature}
 use Rattle.mvt_tile.specs.View.{feature_of}
 use Rattle.mvt_tile.specs.declared.record.Feature.{Feature}
 use Rattle.mvt_tile.proofs.read.feature.read_feature.Goals as goal

@@ -1,6 +1,6 @@
 use Rattle.mvt_wire.specs.Field.{entry_of}
 use Rattle.mvt_wire.specs.declared.schema.Message.TheVariants as messages
-use Rattle.mvt_wire.specs.Calls.Tile.{FitsRule}
+use Rattle.mvt_rules.specs.Parts.Fields.{FitsRule}
 use Rattle.mvt_tile.proofs.Reading.ValueReading.{IsValue-from_known, none_known-more, none_known-over}
 use Rattle.mvt_wire.proofs.Walking.{IsWalking-front, IsWalking-defectless, IsWalking-over, All-given, IsWalking-more}
 use Rattle.mvt_tile.proofs.read.value.read_value.Goals as goal

@@ -1,7 +1,7 @@
 use Rattle.std.proofs.Common.{ℤ, SFits, w64, refl, sym, subst, rules}
 use Rattle.std.proofs.lemmas.Int.{to_z-of_z}
 use Rattle.mvt_wire.specs.Field.{content_of, entry_of}
-use Rattle.mvt_wire.specs.Tile.{int, sint, Says, says_text, says_uint, says_sint, says_float, says_double}
+use Rattle.mvt_rules.specs.Tile.{int, sint, Says, says_text, says_uint, says_sint, says_float, says_double}
 use Rattle.mvt_wire.specs.declared.schema.Message.TheVariants as messages
 use Rattle.mvt_tile.proofs.Reading.ReadingRules.{fits_at, own_type, varint_from}
 use Rattle.mvt_tile.proofs.Reading.ValueReading.{delimited_from, says_by_int, says_by_truth}

@@ -1,6 +1,6 @@
 use Rattle.std.proofs.Common.{◌∙◌, ◌+◌, refl, sym, ap, subst, ℕ, List, [], ◌∷◌, length, slice_get, arith, length-append}
-use Rattle.mvt_wire.specs.Tile.{IsLayer}
-use Rattle.mvt_wire.specs.Calls.Tile.{FitsRule}
+use Rattle.mvt_rules.specs.Tile.{IsLayer}
+use Rattle.mvt_rules.specs.Parts.Fields.{FitsRule}
 use Rattle.mvt_wire.specs.declared.schema.Message.TheVariants as messages
 use Rattle.mvt_wire.proofs.Walking.{IsWalking-defectless, All-given}
 use Rattle.mvt_tile.specs.Calls.Gathered.{AreGatheredTo}

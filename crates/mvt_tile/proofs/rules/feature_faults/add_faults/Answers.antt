@@ -1,8 +1,8 @@
 use Rattle.std.proofs.Common.{◌≡◌, List, [], ◌++◌, Vec, Global, refl, sym, ◌∙◌, ap, subst, arith}
 use Rattle.std.proofs.lemmas.List.{append-nil, append_assoc}
 use Rattle.mvt_wire.specs.Field.{Entry}
-use Rattle.mvt_wire.specs.Tile.{IsFeature}
-use Rattle.mvt_wire.specs.Calls.Tile.{FitsRule}
+use Rattle.mvt_rules.specs.Tile.{IsFeature}
+use Rattle.mvt_rules.specs.Parts.Fields.{FitsRule}
 use Rattle.mvt_wire.specs.declared.schema.Message.TheVariants as messages
 use Rattle.mvt_wire.proofs.Walking.{IsWalking-none, IsWalking-defectless, IsWalking-over, All-given, IsWalking-more}
 use Rattle.mvt_fault.specs.declared.fault.Fault.{Fault}

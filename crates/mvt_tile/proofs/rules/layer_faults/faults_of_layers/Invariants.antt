@@ -1,4 +1,4 @@
-use Rattle.mvt_wire.specs.Tile.{TileRecord}
+use Rattle.mvt_rules.specs.Tile.{TileRecord}
 use Rattle.mvt_tile.specs.Calls.Gathered.{AreGatheredLayers, AreSummaries}
 use Rattle.mvt_tile.proofs.rules.layer_faults.faults_of_layers.Given as goal
 

@@ -1,7 +1,7 @@
 use Rattle.std.proofs.Common.{◌≡◌, true, false, is_some, Option, Some, None, MatchOption, List, [], refl, sym, ◌∙◌, ap, subst, arith}
 use Rattle.mvt_wire.specs.Field.{Entry}
-use Rattle.mvt_wire.specs.Tile.{IsFeature}
-use Rattle.mvt_wire.specs.Calls.Tile.{FitsRule}
+use Rattle.mvt_rules.specs.Tile.{IsFeature}
+use Rattle.mvt_rules.specs.Parts.Fields.{FitsRule}
 use Rattle.mvt_wire.specs.declared.schema.Message.TheVariants as messages
 use Rattle.mvt_tile.specs.FeatureBytes.{Shows}
 use Rattle.mvt_tile.specs.Calls.Reading.{GivesSummary}

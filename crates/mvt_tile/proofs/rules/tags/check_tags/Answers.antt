@@ -1,7 +1,7 @@
 use Rattle.std.proofs.Common.{◌≡◌, ◌∙◌, ◌<◌, ℕ, List, length, get_or, Option, Some, slice_get, subst, arith}
 use Rattle.std.proofs.lemmas.List.{length-map}
 use Rattle.mvt_fault.specs.declared.tag.TagCode.{TagCode}
-use Rattle.mvt_wire.specs.Tile.{FeatureRecord}
+use Rattle.mvt_rules.specs.Tile.{FeatureRecord}
 use Rattle.mvt_tile.specs.Calls.RuleFaults.{FindsFirstTagFault}
 use Rattle.mvt_tile.specs.View.{layer_of, value_of}
 use Rattle.mvt_tile.specs.declared.record.Feature.{Feature}

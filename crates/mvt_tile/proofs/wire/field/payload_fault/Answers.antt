@@ -1,6 +1,6 @@
 use Rattle.std.proofs.Common.{rules, sym, ap, subst, arith}
 use Rattle.mvt_wire.specs.Field.{content_of, entry_of}
-use Rattle.mvt_wire.specs.WireFault.{EntryFault}
+use Rattle.mvt_rules.specs.WireFault.{EntryFault}
 use Rattle.mvt_tile.specs.Calls.Least.{IsLeastCause}
 use Rattle.mvt_tile.proofs.WireFaults.FieldFaults.{out_of_range-first, no_text-first, packed-first}
 use Rattle.mvt_tile.proofs.WireFaults.FieldPlaces.{LiesWithin, IsPlaced-field}

@@ -2,7 +2,7 @@ use Rattle.std.proofs.Common.{◌≡◌, ◌+◌, ◌≤◌, ℕ, List, length, 
 use Rattle.std.specs.Borrow.{Bor}
 use Rattle.mvt_wire.specs.Field.{content_of, entry_of}
 use Rattle.mvt_wire.specs.Embedded.{LiesIn}
-use Rattle.mvt_wire.specs.Scope.{span_of}
+use Rattle.mvt_wire.specs.Payload.{span_of}
 use Rattle.mvt_wire.specs.Calls.Scope.{span_between}
 use Rattle.mvt_wire.specs.declared.field.Body.{Body}
 use Rattle.mvt_wire.specs.declared.field.Body.TheVariants.{Bytes}

@@ -1,6 +1,6 @@
 use Rattle.std.proofs.Common.{sym, subst, ℕ}
 use Rattle.mvt_fault.specs.Place.{IsLeast}
-use Rattle.mvt_fault.specs.TrueFaults.{IsFaultOfLayers}
+use Rattle.mvt_rules.specs.Parts.TrueFaults.{IsFaultOfLayers}
 use Rattle.mvt_fault.specs.declared.fault.Fault.TheVariants.{Version}
 use Rattle.mvt_tile.proofs.RuleFaults.LayerNames.{IsLeast-name, fault_at_other, none_at_end}
 use Rattle.mvt_tile.proofs.rules.layer_rules.LayerRules.fault.Goals as goal

@@ -1,5 +1,0 @@
-use Rattle.mvt_confirm.proofs.Validity.TrueFaults.{another_polygon}
-use Rattle.mvt_confirm.proofs.laws.another_polygon.Goals as goal
-
-pub returns : goal.returns
-returns c profile bytes layer feature polygon vertex other shown = another_polygon profile shown.3.0 polygon vertex other shown.3.2

@@ -1,5 +1,0 @@
-use Rattle.mvt_confirm.proofs.Examples.ExampleFaults.{touching_shown}
-use Rattle.mvt_confirm.proofs.laws.examples.edges_of_two_rings.Goals as goal
-
-pub returns-clause-touching : goal.returns-clause-touching
-returns-clause-touching c = touching_shown

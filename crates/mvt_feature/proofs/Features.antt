@@ -1,0 +1,22 @@
+-- The first fault of a feature's polygons.
+pub mod CountedFaults
+pub mod FaultsByRings
+pub mod FeatureAnswers
+pub mod FeatureFronts
+pub mod FeatureShares
+pub mod FirstFaults
+pub mod FirstMeetings
+pub mod FirstPolygons
+pub mod FirstRings
+pub mod FrontHalves
+pub mod GatheredLists
+pub mod GatheredPolygons
+pub mod GatheredSteps
+pub mod LaterPolygons
+pub mod OwnFaults
+pub mod PartedAnswers
+pub mod QuickAnswers
+pub mod RingCopies
+pub mod SweepShares
+pub mod SweepsAdded
+pub mod SweepsOfFeatures

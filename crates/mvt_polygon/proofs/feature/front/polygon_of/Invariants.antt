@@ -1,7 +1,0 @@
-use Rattle.std.proofs.Common.{ℕ, ◌<◌, ◌≤◌}
-use Rattle.mvt_polygon.specs.Calls.FeatureParts.{listed_at}
-use Rattle.mvt_polygon.proofs.feature.front.polygon_of.Given as goal
-
--- the polygons so far end before the ring
-abbrev pub invariant-loop-polygon : goal.invariant-loop-polygon
-invariant-loop-polygon l = (polygon : ℕ) → polygon < l.polygon → (listed_at l.polygons polygon).after ≤ l.ring

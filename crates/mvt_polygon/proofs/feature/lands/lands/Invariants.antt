@@ -1,6 +1,0 @@
-use Rattle.mvt_polygon.specs.Calls.Lands.{AreLands}
-use Rattle.mvt_polygon.proofs.feature.lands.lands.Given as goal
-
--- the cells of the polygons so far have lands
-abbrev pub invariant-loop-polygon : goal.invariant-loop-polygon
-invariant-loop-polygon l = AreLands l.cells l.polygon l.lands.items

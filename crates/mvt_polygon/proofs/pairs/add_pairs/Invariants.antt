@@ -1,6 +1,0 @@
-use Rattle.mvt_polygon.specs.Calls.Pairs.{AreEnough}
-use Rattle.mvt_polygon.proofs.pairs.add_pairs.Given as goal
-
--- the edge was held against those so far
-abbrev pub invariant-loop-first : goal.invariant-loop-first
-invariant-loop-first l = AreEnough l.vertices l.pairs.items l.second l.first

@@ -1,0 +1,4 @@
+pub mod Examples
+pub mod Rings
+pub mod Tiles
+pub mod Validity

@@ -1,0 +1,2 @@
+-- What laws alone speak of.
+pub mod Examples

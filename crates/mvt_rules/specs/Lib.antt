@@ -1,0 +1,14 @@
+pub mod Laws
+pub mod Meeting
+pub mod Nesting
+pub mod Parts
+pub mod Polygon
+pub mod PolygonFault
+pub mod Profiles
+pub mod Ring
+pub mod Rules
+pub mod Scope
+pub mod Shows
+pub mod Tile
+pub mod Valid
+pub mod WireFault

@@ -1,0 +1,4 @@
+pub mod Chains
+pub mod Notes
+pub mod Sweeps
+pub mod Vertices

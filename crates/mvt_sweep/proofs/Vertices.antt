@@ -1,0 +1,19 @@
+-- Rings, vertices and edges by their numbers, vertices in order, and bounds.
+pub mod EdgeNumbers
+pub mod FarEdges
+pub mod KeyParts
+pub mod NearSorted
+pub mod NumbersOnce
+pub mod PairMeetings
+pub mod PairsEnough
+pub mod ProperRings
+pub mod RingReads
+pub mod SegmentEnds
+pub mod SharedVertices
+pub mod TestCounts
+pub mod TurnCounts
+pub mod VertexNumbers
+pub mod VertexOrders
+pub mod VertexParts
+pub mod VertexPlans
+pub mod WiderBounds

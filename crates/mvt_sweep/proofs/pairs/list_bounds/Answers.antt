@@ -1,0 +1,12 @@
+use Rattle.std.proofs.Common.{subst}
+use Rattle.mvt_plane.specs.declared.geometry.edge.Edge.{Edge}
+use Rattle.mvt_sweep.specs.Calls.Pairs.{AreEndsWithin}
+use Rattle.mvt_sweep.proofs.Vertices.PairsEnough.{bounds_more}
+use Rattle.mvt_sweep.proofs.pairs.list_bounds.Goals as goal
+
+pub loop-number-preserved : goal.loop-number-preserved
+loop-number-preserved c =
+    let its = c.of_edge.result in
+    let ends : AreEndsWithin its c.edge.result = record { begin = c.of_edge.ensures.begin; end = c.of_edge.ensures.end } in
+    bounds_more c.args.vertices.now c.loop-number.number c.loop-number.bounds.items c.push.new.self.items its c.push.ensures.items c.loop-number.invariant
+    (subst (λ (edge : Edge). AreEndsWithin its edge) c.edge.ensures ends)

@@ -1,0 +1,188 @@
+//! Edges that meet wrongly.
+ghost use Rattle.std.specs.Prelude.{◌≡◌, ◌+◌, ◌*◌, ◌<◌, IfOk, IfNone, IfSome, None, Some, [], length};
+ghost use Rattle.mvt_sweep.specs.Work.{AddsWork, IsCounted, vertex_count};
+ghost use Rattle.mvt_sweep.specs.Calls.SweepVertices.{AreSweepVertices, IsNumbered, IsNamedMeeting};
+ghost use Rattle.mvt_sweep.specs.Meeting.{IsMeetingOf, NoMeeting};
+ghost use Rattle.mvt_sweep.specs.Rings.{rings_of, AreProperRings};
+ghost use Rattle.mvt_sweep.specs.TurnVertices.{turn_count};
+ghost use Rattle.mvt_status.specs.Counts.{bits};
+
+use crate::pairs::{Pairs, find_pairs, meeting_among};
+use crate::sweep::{
+    FEW_VERTICES, FewVertices, NamedPair, NoNotes, SweepVertices, Swept, list_few, list_of,
+    sweep_over,
+};
+use mvt_plane::{Count, Hpoint, Point};
+use mvt_status::{Status, TreeStatus};
+use std::alloc::{AllocError, Global};
+
+#[cfg(test)]
+mod tests;
+
+/// Two edges that meet wrongly, the first of them before the second by ring and edge.
+#[derive(Clone, Copy, Debug, PartialEq, Eq)]
+pub struct Meeting {
+    /// The ordinal of the first edge's ring in the slice, counted from 0.
+    pub first_ring: usize,
+    /// The ordinal of the first edge in its ring, counted from 0.
+    pub first_edge: usize,
+    /// The ordinal of the second edge's ring.
+    pub second_ring: usize,
+    /// The ordinal of the second edge in its ring.
+    pub second_edge: usize,
+    /// The point that they have in common, as `common` of `mvt_plane` names it for the first and
+    /// the second edge.
+    pub point: Hpoint,
+}
+
+/// Two edges of the rings that have a point in common other than the vertex that they share as
+/// neighbours in a ring, or None where there are no such edges (Mapbox Vector Tile Specification
+/// 2.1, section 4.3.4.4). Each ring is to have three vertices or more, none at the position of the
+/// next one. `count` counts the work: of n vertices at most 3 * n tests of two edges, n * (2 *
+/// bits(n) + 2) comparisons of an edge with a vertex and n * 20 * bits(n) nodes of the status that
+/// are visited, where bits(n) is the number of n's binary digits; none of its numbers falls. Only
+/// at turn vertices the status is searched and changed: both neighbours of such a vertex in its
+/// ring come before it by x and then y, or both after it. So of t turn vertices there are at most n
+/// + t * 2 * bits(n) comparisons and t * 12 * bits(n) visits. Where a meeting is found, there is a
+/// test at least, and where none is, n comparisons. The edges are swept over. The only error is
+/// that memory was refused, or that there are 2^32 vertices or more.
+pub fn find_meeting(
+    alloc: Global,
+    rings: &[Vec<Point>],
+    count: &mut Count,
+) -> Result<Option<Meeting>, AllocError>
+    requires { AreProperRings (rings_of rings.now) }
+    ensures none { IfOk result (λ found. IfNone found (NoMeeting (rings_of rings.now))) }
+    ensures some { IfOk result (λ found. IfSome found (IsMeetingOf (rings_of rings.now))) }
+    ensures counted { let n = vertex_count (rings_of rings.now) in
+        AddsWork (3 * n) (n * (2 * bits n + 2)) (n * (20 * bits n)) count.old count.new }
+    ensures turns { let n = vertex_count (rings_of rings.now) in
+        let turns = turn_count (rings_of rings.now) in
+        AddsWork (3 * n) (n + turns * (2 * bits n)) (turns * (12 * bits n)) count.old count.new }
+    ensures least { IfOk result (IsCounted (vertex_count (rings_of rings.now)) count.old
+        count.new) }
+{
+    find_meeting_with(alloc, rings, &mut TreeStatus::new(alloc), count)
+}
+
+/// The same, over a status of the caller's that is empty at the call. Where the status is refused
+/// memory, the call returns the error.
+pub fn find_meeting_with<S: Status>(
+    alloc: Global,
+    rings: &[Vec<Point>],
+    status: &mut S,
+    count: &mut Count,
+) -> Result<Option<Meeting>, AllocError>
+    requires rings { AreProperRings (rings_of rings.now) }
+    requires empty { S.edges status.old ≡ [] }
+    ensures none { IfOk result (λ found. IfNone found (NoMeeting (rings_of rings.now))) }
+    ensures some { IfOk result (λ found. IfSome found (IsMeetingOf (rings_of rings.now))) }
+    ensures counted { let n = vertex_count (rings_of rings.now) in
+        AddsWork (3 * n) (n * (2 * bits n + 2)) (n * (20 * bits n)) count.old count.new }
+    ensures turns { let n = vertex_count (rings_of rings.now) in
+        let turns = turn_count (rings_of rings.now) in
+        AddsWork (3 * n) (n + turns * (2 * bits n)) (turns * (12 * bits n)) count.old count.new }
+    ensures least { IfOk result (IsCounted (vertex_count (rings_of rings.now)) count.old
+        count.new) }
+{
+    let list = list_of(alloc, rings)?;
+    let vertices = SweepVertices::new(&list);
+    meeting_by_sweep(alloc, rings, &vertices, status, count)
+}
+
+/// The same, where the vertices of the rings are given.
+fn meeting_by_sweep<S: Status>(
+    alloc: Global,
+    rings: &[Vec<Point>],
+    vertices: &SweepVertices,
+    status: &mut S,
+    count: &mut Count,
+) -> Result<Option<Meeting>, AllocError>
+    requires rings { AreProperRings (rings_of rings.now) }
+    requires vertices { AreSweepVertices (rings_of rings.now) vertices.now }
+    requires empty { S.edges status.old ≡ [] }
+    ensures none { IfOk result (λ found. IfNone found (NoMeeting (rings_of rings.now))) }
+    ensures some { IfOk result (λ found. IfSome found (IsMeetingOf (rings_of rings.now))) }
+    ensures counted { let n = vertex_count (rings_of rings.now) in
+        AddsWork (3 * n) (n * (2 * bits n + 2)) (n * (20 * bits n)) count.old count.new }
+    ensures turns { let n = vertex_count (rings_of rings.now) in
+        let turns = turn_count (rings_of rings.now) in
+        AddsWork (3 * n) (n + turns * (2 * bits n)) (turns * (12 * bits n)) count.old count.new }
+    ensures least { IfOk result (IsCounted (vertex_count (rings_of rings.now)) count.old
+        count.new) }
+{
+    Ok(
+        match sweep_over::<S, NoNotes>(alloc, rings, vertices, status, count)? {
+            Swept::Meets(meeting) => Some(meeting),
+            Swept::Clear(_) => None,
+        },
+    )
+}
+
+/// The meeting of two edges of the only ring, as `find_meeting` answers. Of few edges all pairs are
+/// looked at, with no memory and no sweep unless too many of them need a test. So comparisons are up
+/// to 9 * n in place of n, beside those at turn vertices.
+pub fn meeting_in_ring(
+    alloc: Global,
+    rings: &[Vec<Point>],
+    count: &mut Count,
+) -> Result<Option<Meeting>, AllocError>
+    requires proper { AreProperRings (rings_of rings.now) }
+    requires one { length rings.now ≡ 1 }
+    ensures none { IfOk result (λ found. IfNone found (NoMeeting (rings_of rings.now))) }
+    ensures some { IfOk result (λ found. IfSome found (IsMeetingOf (rings_of rings.now))) }
+    ensures counted { let n = vertex_count (rings_of rings.now) in
+        let turns = turn_count (rings_of rings.now) in
+        AddsWork (3 * n) (9 * n + turns * (2 * bits n)) (turns * (12 * bits n)) count.old
+        count.new }
+    ensures least { IfOk result (IsCounted (vertex_count (rings_of rings.now)) count.old
+        count.new) }
+{
+    if rings[0].len() > FEW_VERTICES {
+        return find_meeting(alloc, rings, count);
+    }
+    let mut list = FewVertices::new();
+    list_few(rings, &mut list);
+    let vertices = SweepVertices::new(&list);
+    let mut pairs = Pairs::new();
+    if find_pairs(&vertices, &mut pairs, count) {
+        return Ok(named_meeting(rings, meeting_among(&vertices, &pairs, count)));
+    }
+    find_meeting(alloc, rings, count)
+}
+
+/// The meeting that was found, if any, with its edges named by ring and ordinal.
+pub(crate) fn named_meeting(rings: &[Vec<Point>], found: Option<NamedPair>) -> Option<Meeting>
+    requires first { IfSome found (λ pair. pair.first < vertex_count (rings_of rings.now)) }
+    requires second { IfSome found (λ pair. pair.second < vertex_count (rings_of rings.now)) }
+    ensures none { IfNone result (found ≡ None) }
+    ensures some { IfSome result (λ meeting. (pair : NamedPair) × (found ≡ Some pair)
+        × IsNamedMeeting (rings_of rings.now) pair meeting) }
+{
+    let pair = found?;
+    let (first_ring, first_edge) = ring_and_ordinal(rings, pair.first);
+    let (second_ring, second_edge) = ring_and_ordinal(rings, pair.second);
+    Some(Meeting {
+        first_ring,
+        first_edge,
+        second_ring,
+        second_edge,
+        point: pair.point,
+    })
+}
+
+/// The ring of the vertex that has this number among all, and its ordinal there.
+fn ring_and_ordinal(rings: &[Vec<Point>], number: usize) -> (usize, usize)
+    requires { number < vertex_count (rings_of rings.now) }
+    ensures { IsNumbered (rings_of rings.now) number (record { ring = result.0; edge = result.1 }) }
+{
+    let mut left = number;
+    for ring in 0..rings.len() {
+        let vertices = rings[ring].len();
+        if left < vertices {
+            return (ring, left);
+        }
+        left -= vertices;
+    }
+    unreachable!()
+}

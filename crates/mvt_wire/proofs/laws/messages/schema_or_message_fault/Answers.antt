@@ -1,8 +1,0 @@
-use Rattle.mvt_wire.proofs.Parts.Judgements.{message_judged, message_or_fault}
-use Rattle.mvt_wire.proofs.laws.messages.schema_or_message_fault.Goals as goal
-
-pub returns-clause-some : goal.returns-clause-some
-returns-clause-some c = message_judged
-
-pub returns-clause-not_both : goal.returns-clause-not_both
-returns-clause-not_both c = message_or_fault
