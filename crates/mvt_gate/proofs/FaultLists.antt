@@ -1,5 +1,5 @@
 -- The list of a tile's faults, by the faults that its rules find.
-use Rattle.std.proofs.Common.{◌≡◌, ◌≢◌, ◌↔◌, ◌⊎◌, ◌<◌, inl, inr, ℕ, zero, suc, List, [], ◌∷◌, Some, None, slice_get, refl, sym, ◌∙◌, subst, arith}
+use Rattle.std.proofs.Common.{◌≡◌, ◌↔◌, ◌⊎◌, inl, inr, ℕ, zero, suc, List, [], ◌∷◌, Some, slice_get, refl, sym, ◌∙◌, subst, arith}
 use Rattle.std.proofs.lemmas.Option.{same_Some, none-some}
 use Rattle.mvt_rules.proofs.Validity.TileFeatures.{one_feature_of}
 use Rattle.mvt_rules.proofs.Validity.ShownParts.{shown_by_parts}
@@ -7,18 +7,18 @@ use Rattle.mvt_rules.proofs.Validity.TrueFaults.{no_fault_of_tile}
 use Rattle.mvt_rules.specs.Parts.Geometry.{IsFaultOfGeometryBy}
 use Rattle.mvt_rules.specs.Shows.{OfTile, ShowsBy}
 use Rattle.mvt_rules.specs.Valid.{IsValidGeometryBy}
-use Rattle.mvt_fault.specs.Place.{ComesFirst, IsLeast, place_of}
+use Rattle.mvt_fault.specs.Place.{IsLeast}
 use Rattle.mvt_rules.specs.Parts.TrueFaults.{IsWireFault}
 use Rattle.mvt_fault.specs.declared.fault.Fault.{Fault}
 use Rattle.mvt_fault.specs.declared.profile.Profile.{Profile}
 use Rattle.mvt_tile.specs.FirstFaults.{AreFirstFaults, AreInOrder, IsFaultOfLayer, IsFirstFault, of_feature as first_of_feature, of_layer as first_of_layer, OneOf}
 use Rattle.mvt_tile.proofs.RuleFaults.FreeFaults.{least_or_holds}
-use Rattle.mvt_tile.specs.FreeFaults.{IsLeastOr, of_least, of_free}
+use Rattle.mvt_tile.specs.FreeFaults.{of_least, of_free}
 use Rattle.mvt_tile.specs.RuleFaults.{Breaks, BreaksAnyRule, Frees, IsFaultOfFeature}
 use Rattle.mvt_rules.proofs.Tiles.Tiles.{one_tile}
 use Rattle.mvt_rules.specs.Rules.{IsFeatureOf}
 use Rattle.mvt_rules.specs.Tile.{FeatureRecord, LayerRecord, TileRecord, IsTile}
-use Rattle.mvt_gate.proofs.FaultSubjects.{AreOfTheirFeature, HasFeature, HasLayer, layer_or_feature, subject_of_feature, subject_of_geometry, subject_of_layer, subject_of_wire}
+use Rattle.mvt_gate.proofs.FaultSubjects.{AreOfTheirFeature, layer_or_feature, subject_of_feature, subject_of_geometry, subject_of_layer, subject_of_wire}
 use Rattle.mvt_gate.proofs.Verdicts.{first_of_wire}
 use Rattle.mvt_gate.specs.Calls.Faults.{AreFoundBy}
 use Rattle.mvt_gate.specs.FaultList.{Subject, of_layer, of_feature, subject_of, IsFirstOfItsSubject, IsListedFor, AreFaultsFor}

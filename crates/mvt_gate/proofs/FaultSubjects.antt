@@ -1,7 +1,6 @@
 -- What a fault of a tile's rules is of: a layer, or a feature.
-use Rattle.std.proofs.Common.{◌≡◌, ◌⊎◌, inl, inr, ℕ, List, [], ◌∷◌, refl, sym, ◌∙◌, ap}
+use Rattle.std.proofs.Common.{◌≡◌, ◌⊎◌, inl, inr, ℕ, List, [], ◌∷◌, refl, ap}
 use Rattle.mvt_rules.specs.Parts.Geometry.{IsFaultOfGeometryBy, command, ring, meeting, outside, hole_in_hole, in_polygon}
-use Rattle.mvt_fault.specs.Place.{place_of}
 use Rattle.mvt_rules.specs.Parts.TrueFaults.{IsWireFault, wire, IsFaultOfLayers, version, name, IsFaultOfTags, tag}
 use Rattle.mvt_fault.specs.declared.fault.Fault.{Fault}
 use Rattle.mvt_fault.specs.declared.profile.Profile.{Profile}
@@ -9,7 +8,7 @@ use Rattle.mvt_tile.specs.FirstFaults.{IsFaultOfLayer, IsOfLayer}
 use Rattle.mvt_tile.specs.RuleFaults.{Breaks, BreaksAnyRule, IsFaultOfFeature}
 use Rattle.mvt_rules.specs.Rules.{IsFeatureOf}
 use Rattle.mvt_rules.specs.Tile.{FeatureRecord, LayerRecord, TileRecord}
-use Rattle.mvt_gate.specs.FaultList.{Subject, of_bytes, of_layer, of_feature, subject_of}
+use Rattle.mvt_gate.specs.FaultList.{of_bytes, of_layer, of_feature, subject_of}
 
 -- a wire fault is of the bytes
 pub subject_of_wire : (bytes : List ℕ) (fault : Fault) → IsWireFault bytes fault → subject_of fault ≡ of_bytes

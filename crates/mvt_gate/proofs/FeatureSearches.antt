@@ -8,12 +8,11 @@ use Rattle.mvt_fault.specs.Place.{ComesFirst, place_of}
 use Rattle.mvt_fault.specs.declared.fault.Fault.{Fault}
 use Rattle.mvt_fault.specs.declared.profile.Profile.{Profile}
 use Rattle.mvt_fault.specs.declared.profile.Profile.TheVariants.{Feature}
-use Rattle.mvt_rules.specs.Polygon.{IsPolygon}
 use Rattle.mvt_rules.specs.Ring.{ArePolygonRings}
 use Rattle.mvt_plane.specs.Position.{Position}
 use Rattle.mvt_feature.proofs.Features.FeatureShares.{HasFault, found_is_there}
 use Rattle.mvt_polygon.proofs.ApartFaults.{ends_within}
-use Rattle.mvt_feature.specs.QuickFeature.{IsAnyMeeting, IsMeetingCause}
+use Rattle.mvt_feature.specs.QuickFeature.{IsMeetingCause}
 use Rattle.mvt_feature.specs.declared.feature.FeatureCause.{FeatureCause}
 use Rattle.mvt_feature.specs.declared.feature.FeatureCause.TheVariants.{Meeting, Nesting, Apart}
 use Rattle.mvt_feature.specs.declared.feature.FeatureFault.{FeatureFault}

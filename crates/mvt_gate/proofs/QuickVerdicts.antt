@@ -1,5 +1,5 @@
 -- What a quick verdict says of all faults that are true of bytes: it is the judge's own, but where edges of its feature meet.
-use Rattle.std.proofs.Common.{◌≡◌, ◌↔◌, ℕ, List, take, refl}
+use Rattle.std.proofs.Common.{◌≡◌, ◌↔◌, ℕ, List, refl}
 use Rattle.mvt_rules.proofs.Validity.TrueFaults.{shown_is_invalid}
 use Rattle.mvt_rules.specs.PolygonFault.{number_of}
 use Rattle.mvt_rules.specs.Shows.{ShowsBy}
@@ -10,7 +10,7 @@ use Rattle.mvt_fault.specs.declared.fault.Fault.TheVariants.{Wire, Version, Name
 use Rattle.mvt_fault.specs.declared.profile.Profile.{Profile}
 use Rattle.mvt_fault.specs.declared.profile.Profile.TheVariants.{Polygon, Feature}
 use Rattle.mvt_tile.proofs.RuleFaults.FreeFaults.{least_or_holds, least_unless_free}
-use Rattle.mvt_tile.specs.FreeFaults.{IsLeastOr, of_least, of_free}
+use Rattle.mvt_tile.specs.FreeFaults.{of_least, of_free}
 use Rattle.mvt_gate.specs.FaultList.{HasNoMeetingIn, subject_of}
 use Rattle.mvt_gate.specs.Quick.{IsFreeBy, IsMeeting, IsQuickFaultBy}
 use Rattle.mvt_gate.specs.Verdict.{IsQuickVerdictBy, IsVerdictBy, IsVerdictFor}

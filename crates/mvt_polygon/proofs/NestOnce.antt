@@ -4,7 +4,6 @@ use Rattle.std.proofs.lemmas.Bool.{cases_order}
 use Rattle.std.proofs.lemmas.Option.{slice_get_within, slice_get-get_or}
 use Rattle.mvt_plane.specs.Counted.{Counted}
 use Rattle.mvt_plane.specs.Geometry.Inside.{IsInside}
-use Rattle.mvt_rules.specs.Meeting.{EdgeNumber}
 use Rattle.mvt_rules.specs.Nesting.{IsOutside, IsInHole}
 use Rattle.mvt_plane.specs.Position.{Position}
 use Rattle.mvt_plane.proofs.Insides.InsideAsAWhole.{one_vertex_decides}

@@ -1,7 +1,7 @@
 -- The least and the greatest coordinates of rings, by which most pairs of polygons are told apart.
 use Rattle.std.specs.Prelude.{◌≡◌, ℕ, ◌+◌, ◌<◌, ◌≤◌, ◌⊎◌, List, length, slice_get, Option, Some, None, IfSome, ℤ, ◌≤ℤ◌}
 use Rattle.mvt_rules.specs.Nesting.{IsInsidePolygon}
-use Rattle.mvt_rules.specs.Polygon.{PolygonRings, IsRingOf}
+use Rattle.mvt_rules.specs.Polygon.{PolygonRings}
 use Rattle.mvt_plane.specs.Position.{Position}
 use Rattle.mvt_polygon.specs.Apart.{IsApartFault}
 use Rattle.mvt_feature.specs.Calls.FeatureParts.{listed_at}

@@ -1,5 +1,5 @@
 -- Rings, their edges and their area (Mapbox Vector Tile Specification 2.1, section 4.3.4.4).
-use Rattle.std.specs.Prelude.{ℕ, suc, ◌-◌, ◌==◌, cond, List, [], ◌∷◌, ℤ, pos, ◌+ℤ◌, ◌-ℤ◌, ◌*ℤ◌}
+use Rattle.std.specs.Prelude.{ℕ, suc, ◌==◌, cond, List, [], ◌∷◌, ℤ, pos, ◌+ℤ◌, ◌-ℤ◌, ◌*ℤ◌}
 use Rattle.mvt_plane.specs.Position.{Position}
 use Rattle.mvt_plane.specs.declared.geometry.edge.Edge.{Edge}
 

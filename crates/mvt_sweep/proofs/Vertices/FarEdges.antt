@@ -1,9 +1,6 @@
 -- Edges whose bounds are apart: they have no point in common.
 use Rattle.std.proofs.Common.{inl, inr, ℤ, pos, ◌*ℤ◌, ◌≤ℤ◌, ◌<ℤ◌, arith}
 use Rattle.mvt_plane.proofs.Orders.Order.{zs, le_or_lt, mono_le_right, mono_lt_right}
-use Rattle.mvt_rules.specs.Meeting.{EdgeNumber, IsEdgeOf, MeetsWrongly}
-use Rattle.mvt_rules.specs.Nesting.{IsVertexOf}
-use Rattle.mvt_rules.specs.Polygon.{PolygonRings, IsRingOf}
 use Rattle.mvt_plane.specs.Position.{Position}
 use Rattle.mvt_plane.specs.Geometry.RationalPoint.{RationalPoint, LiesOn, IsBetween}
 use Rattle.mvt_plane.specs.declared.geometry.edge.Edge.{Edge}

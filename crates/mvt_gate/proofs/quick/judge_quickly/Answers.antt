@@ -1,5 +1,5 @@
 use Rattle.std.proofs.lemmas.Result.{IfOk-weaker}
-use Rattle.mvt_fault.specs.declared.profile.Profile.TheVariants.{Polygon, Feature}
+use Rattle.mvt_fault.specs.declared.profile.Profile.TheVariants.{Feature}
 use Rattle.mvt_gate.proofs.QuickVerdicts.{fault_of_invalid, quick_verdict_by_polygon, yes_where_valid}
 use Rattle.mvt_gate.specs.declared.quick.Search.TheVariants.{Least, Quick}
 use Rattle.mvt_gate.proofs.quick.judge_quickly.Goals as goal
