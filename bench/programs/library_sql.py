@@ -9,7 +9,7 @@ import sqlite3
 import sys
 import time
 
-TOP = pathlib.Path(__file__).resolve().parent.parent
+TOP = pathlib.Path(__file__).resolve().parents[2]
 SECONDS, MOST_CALLS = 2e-3, 100_000
 
 

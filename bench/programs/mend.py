@@ -12,7 +12,7 @@ import sys
 import time
 from typing import List, Optional, Tuple
 
-TOP = pathlib.Path(__file__).resolve().parent.parent
+TOP = pathlib.Path(__file__).resolve().parents[2]
 sys.path.insert(0, str(TOP / "tests/mending"))
 
 import plane  # noqa: E402

@@ -13,10 +13,12 @@ import tempfile
 import time
 from typing import Dict, Iterator, List, NamedTuple, Sequence, Tuple
 
+HERE = pathlib.Path(__file__).resolve().parent
+sys.path.insert(0, str(HERE.parent / "makers"))
+
 import mvtgate
 import planet_tiles
 
-HERE = pathlib.Path(__file__).resolve().parent
 MIB = 1 << 20
 WORKERS = (1, 2, 4)
 # computed, not run: so many tiles on so many machines, which have as many processors as the most workers above

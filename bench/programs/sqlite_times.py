@@ -11,17 +11,20 @@ import sys
 import tempfile
 from typing import Dict, List
 
+TOP = pathlib.Path(__file__).resolve().parents[2]
+sys.path.insert(0, str(TOP / "bench/makers"))
+
 import mvtgate
 import planet_tiles
 
 # (the name `planet` is that of a package, which planet_tiles reads)
-found = importlib.util.spec_from_file_location("planet_of_bench", pathlib.Path(__file__).resolve().parent / "planet.py")
+found = importlib.util.spec_from_file_location("planet_of_bench", TOP / "bench/programs/planet.py")
 assert found and found.loader
 planet = importlib.util.module_from_spec(found)
 sys.modules[found.name] = planet
 found.loader.exec_module(planet)
 
-EXTENSION = pathlib.Path(__file__).resolve().parent.parent / "bindings/sqlite/out/mvtgate"
+EXTENSION = TOP / "bindings/sqlite/out/mvtgate"
 # (in the words of planet_plain.py)
 QUERY = """SELECT (SELECT count(*) FROM tiles) || ' tiles, ' || count(*) || ' with a fault'
 FROM tiles WHERE mvt_fault(tile_data) IS NOT NULL"""

@@ -4,7 +4,7 @@
  * takes.
  */
 import { readFileSync } from 'node:fs';
-import { load } from '../bindings/js/src/node.js';
+import { load } from '../../bindings/js/src/node.js';
 
 const BATCH_MICROSECONDS = 2000;
 const MOST_CALLS = 100_000;

@@ -14,7 +14,7 @@ import random
 import statistics
 import sys
 
-TOP = pathlib.Path(__file__).resolve().parent.parent
+TOP = pathlib.Path(__file__).resolve().parents[2]
 sys.path.insert(0, str(TOP / "proxy/tests"))
 import mvtgate
 import running

@@ -8,8 +8,8 @@ import sqlite3
 import sys
 from typing import Iterator, List, Sequence, Tuple
 
-# (before this folder, whose planet.py is another one)
-sys.path.insert(0, str(pathlib.Path(__file__).resolve().parent.parent / "bindings/python/tests"))
+# (before the folder of the programs, whose planet.py is another one)
+sys.path.insert(0, str(pathlib.Path(__file__).resolve().parents[2] / "bindings/python/tests"))
 from planet.archives import archive, directory
 
 LEAF = 4096  # entries of a leaf directory

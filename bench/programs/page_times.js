@@ -1,5 +1,5 @@
-/** Times the page's module, for bench/page.py: in Node, and as one script in a browser. */
-import { Calls } from '../bindings/js/src/gate/calls.js';
+/** Times the page's module, for bench/programs/page.py: in Node, and as one script in a browser. */
+import { Calls } from '../../bindings/js/src/gate/calls.js';
 
 /** In milliseconds: calls are counted together until they take as long, since a browser's clock is coarse. */
 const BATCH = 5;

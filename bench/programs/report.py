@@ -10,7 +10,7 @@ import tempfile
 import time
 from typing import Callable, Dict, List, Tuple
 
-TOP = pathlib.Path(__file__).resolve().parent.parent
+TOP = pathlib.Path(__file__).resolve().parents[2]
 # (before this folder, which has a page.py and a planet.py too)
 sys.path[:0] = [str(TOP / it) for it in ("web/tests/browser", "bindings/python/tests", "bindings/python/src")]
 

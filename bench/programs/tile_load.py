@@ -14,7 +14,7 @@ import statistics
 import sys
 import time
 
-TOP = pathlib.Path(__file__).resolve().parent.parent
+TOP = pathlib.Path(__file__).resolve().parents[2]
 sys.path.insert(0, str(TOP / "examples/tile_server/tests"))
 import mvtgate
 import psycopg2

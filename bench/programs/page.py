@@ -17,10 +17,10 @@ import sys
 import time
 from typing import Any, Callable, Dict, List, Tuple
 
-TOP = pathlib.Path(__file__).resolve().parent.parent
+TOP = pathlib.Path(__file__).resolve().parents[2]
 MODULE, PAGE = TOP / "web/module/out/mvtgate.wasm", TOP / "web/out/index.html"
 sys.dont_write_bytecode = True
-sys.path[:0] = [str(TOP / "bench"), str(TOP / "bindings/python/src")]
+sys.path[:0] = [str(TOP / "bench/makers"), str(TOP / "bindings/python/src")]
 
 import inputs
 import shapes
@@ -37,7 +37,7 @@ OTHERS: Dict[str, Callable[[], bytes]] = {
 Times = Dict[str, Any]
 NODE = """
 import { readFileSync } from 'node:fs';
-import { times } from '%s/bench/page_times.js';
+import { times } from '%s/bench/programs/page_times.js';
 const [module, tile, rounds] = JSON.parse(readFileSync(0, 'utf8'));
 console.log(JSON.stringify(times(module, tile, rounds)));
 """
