@@ -10,7 +10,7 @@ from typing import Iterator, List, Sequence, Tuple
 
 # (before the folder of the programs, whose planet.py is another one)
 sys.path.insert(0, str(pathlib.Path(__file__).resolve().parents[2] / "bindings/python/tests"))
-from planet.archives import archive, directory
+from planet.helpers.archives import archive, directory
 
 LEAF = 4096  # entries of a leaf directory
 DATA_LENGTH = slice(64, 72)  # in the header of a PMTiles archive

@@ -16,7 +16,7 @@ sys.path[:0] = [str(TOP / it) for it in ("web/tests/browser", "bindings/python/t
 
 from browsers import Browser, Chromium, Firefox
 from page import Page
-from planet.report_samples import TILES, MemorySource, Sample, run_of
+from planet.helpers.report_samples import TILES, MemorySource, Sample, run_of
 
 from mvtgate.planet.further import OneFault
 from mvtgate.planet.records import Place
