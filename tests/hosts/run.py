@@ -21,7 +21,7 @@ import tiles
 # so many tiles take one worker some 10 seconds, where it is slow
 COUNT = 2000
 HOSTS = ("first", "second", "third")
-SHIM = tiles.TOP / "bindings/python/tests/planet/shim.c"
+SHIM = tiles.TOP / "bindings/python/tests/planet/helpers/shim.c"
 
 
 def compiled(folder: pathlib.Path) -> runs.Libraries:

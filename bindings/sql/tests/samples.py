@@ -29,8 +29,8 @@ def _script(path: pathlib.Path) -> Any:
 
 
 # the shapes that cost much
-sys.path.insert(0, str(TOP / "bench"))
-shapes = _script(TOP / "bench/shapes.py")
+sys.path.insert(0, str(TOP / "bench/makers"))
+shapes = _script(TOP / "bench/makers/shapes.py")
 # (which reads a tile by itself)
 _dump_of = _script(TOP / "tiles/check_folder").dump_of
 

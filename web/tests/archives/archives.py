@@ -18,7 +18,7 @@ from typing import Callable, Dict, List, NamedTuple
 
 TOP = pathlib.Path(__file__).resolve().parents[3]
 sys.path.append(str(TOP / "bindings/python/tests"))
-from planet.archives import archive, directory, varint, write_archive
+from planet.helpers.archives import archive, directory, varint, write_archive
 
 PLACE = "zoom_level INTEGER, tile_column INTEGER, tile_row INTEGER"
 ON_PLACE = "(zoom_level, tile_column, tile_row)"

@@ -18,7 +18,7 @@ from test_mend import mended, saved
 
 sys.path.append(str(TOP / "web/tests/archives"))
 import archives
-from planet.archives import archive, directory
+from planet.helpers.archives import archive, directory
 
 __all__ = ["archives"]  # (for other tests, too)
 FAULT = "14/8803/5373"

@@ -190,7 +190,7 @@ def test_memory_refused_to_the_list(small_chromium: Chromium, many_faults: pathl
 
 def test_first_fault_that_takes_too_long(browser: Browser, tmp_path: pathlib.Path) -> None:
     """Where the first fault of a feature isn't found in some seconds, a true one of the same feature is shown, and it is said so."""
-    subprocess.run([sys.executable, TOP / "bench/shapes.py", tmp_path, "slivers_1000000"], check=True)
+    subprocess.run([sys.executable, TOP / "bench/makers/shapes.py", tmp_path, "slivers_1000000"], check=True)
     page = opened(browser, FILE_ADDRESS)
     page.use_profile("feature")
     page.choose(tmp_path / "slivers_1000000")

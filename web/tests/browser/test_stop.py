@@ -22,7 +22,7 @@ QUICK = 15.0  # seconds, a fourth of what the slow tile takes
 def slow_tile(tmp_path_factory: pytest.TempPathFactory) -> pathlib.Path:
     """A ring of 33 million vertices, whose check takes a minute."""
     folder = tmp_path_factory.mktemp("slow")
-    subprocess.run([sys.executable, TOP / "bench/shapes.py", folder, "zigzag_64_mib"], check=True)
+    subprocess.run([sys.executable, TOP / "bench/makers/shapes.py", folder, "zigzag_64_mib"], check=True)
     return folder / "zigzag_64_mib"
 
 

@@ -1,6 +1,7 @@
-"""A library that stands before the real one, workers that many tests share, and a planet of sample tiles."""
+"""A library that stands before the real one, workers that many tests share, a planet of sample tiles, and a disk with little room."""
 from __future__ import annotations
 
+import os
 import pathlib
 import shutil
 import subprocess
@@ -10,8 +11,8 @@ from typing import Any, Callable, Dict, Iterator, List
 import pytest
 
 from mvtgate import _library
-from planet.planets import Planet, full_zoom
-from planet.runs import environment
+from planet.helpers.planets import Planet, full_zoom
+from planet.helpers.runs import environment
 
 HERE = pathlib.Path(__file__).resolve().parent
 # the environment of a run with the library of shim.c, which takes so many microseconds more for a tile
@@ -34,7 +35,7 @@ def shimmed(tmp_path_factory: pytest.TempPathFactory, gate_path: pathlib.Path) -
     if shutil.which("gcc") is None:
         pytest.skip("there is no gcc, which makes the library that is slow and that kills")
     made = tmp_path_factory.mktemp("shim") / "libshim.so"
-    words = ["gcc", "-std=gnu11", "-Wall", "-Wextra", "-Werror", "-O1", "-shared", "-fPIC", "-o", str(made), str(HERE / "shim.c"), "-ldl"]
+    words = ["gcc", "-std=gnu11", "-Wall", "-Wextra", "-Werror", "-O1", "-shared", "-fPIC", "-o", str(made), str(HERE / "helpers/shim.c"), "-ldl"]
     subprocess.run(words, check=True)
 
     def of_delay(microseconds: int) -> Dict[str, str]:
@@ -96,3 +97,15 @@ def scheduler(shimmed: Shimmed) -> Iterator[str]:
 def planet(tmp_path_factory: pytest.TempPathFactory) -> Planet:
     """1,024 tiles, of which 113 have a fault."""
     return full_zoom(tmp_path_factory.mktemp("planet") / "planet.mbtiles", 5)
+
+
+@pytest.fixture
+def small_disk(tmp_path: pathlib.Path) -> Iterator[pathlib.Path]:
+    """A file system with room for some lines of a journal."""
+    folder = tmp_path / "disk"
+    folder.mkdir()
+    words = ["mount", "-t", "tmpfs", "-o", "size=32k", "tmpfs", str(folder)]
+    if os.geteuid() != 0 or shutil.which("mount") is None or subprocess.run(words, capture_output=True).returncode != 0:
+        pytest.skip("a small file system can't be mounted, which needs root")
+    yield folder
+    subprocess.run(["umount", str(folder)], check=True)

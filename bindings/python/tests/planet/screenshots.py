@@ -19,7 +19,7 @@ sys.path[:0] = [str(TOP / it) for it in ("web/tests/browser", "bindings/python/s
 
 from browsers import Chromium
 from page import Page
-from planet.report_samples import MemorySource, Sample, run_of
+from planet.helpers.report_samples import MemorySource, Sample, run_of
 from wire import POLYGON, feature, layer
 
 import mvtgate

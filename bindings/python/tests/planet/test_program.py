@@ -5,8 +5,8 @@ import pathlib
 import subprocess
 import sys
 
-from planet.planets import Planet
-from planet.runs import LONG, faults_text
+from planet.helpers.planets import Planet
+from planet.helpers.runs import LONG, faults_text
 from test_wheel import WEB, pytestmark, wheel
 
 __all__ = ["pytestmark", "wheel"]
