@@ -4,7 +4,7 @@ use Rattle.std.specs.Str.Parse.{AllDigits, signed_digits_value}
 use Rattle.serde_json.specs.Data.{Data, string}
 use Rattle.serde_json.specs.Read.{read}
 use Rattle.mvt_fault.specs.declared.fault.Fault.{Fault}
-use Rattle.mvt_fault.specs.declared.fault.Fault.TheVariants.{Wire, Version, Name, Tag, Command, Ring, Meeting, Outside, HoleInHole, InPolygon}
+use Rattle.mvt_fault.specs.declared.fault.Fault.TheVariants.{Meeting}
 use Rattle.mvt_fault.specs.declared.ring.RingEdge.{RingEdge}
 use Rattle.mvt_fault.specs.Text.{data_of, edge_data, meeting_parts, IsInRange}
 
@@ -32,16 +32,8 @@ pub record IsMeetingObject (layer feature polygon : ℕ) (first second : RingEdg
 
 -- the value is an object with this fault's keys and what the fault has at each, whatever the size of the fault's numbers
 abbrev pub StandsFor : Fault → Data → Type 0
-StandsFor (Wire code scope at field) d = d ≡ data_of (Wire code scope at field)
-StandsFor (Version layer) d = d ≡ data_of (Version layer)
-StandsFor (Name first second) d = d ≡ data_of (Name first second)
-StandsFor (Tag code layer feature index) d = d ≡ data_of (Tag code layer feature index)
-StandsFor (Command code layer feature index) d = d ≡ data_of (Command code layer feature index)
-StandsFor (Ring code layer feature ring) d = d ≡ data_of (Ring code layer feature ring)
 StandsFor (Meeting layer feature polygon first second x y w) d = IsMeetingObject layer feature polygon first second x y w d
-StandsFor (Outside layer feature polygon ring vertex) d = d ≡ data_of (Outside layer feature polygon ring vertex)
-StandsFor (HoleInHole layer feature polygon ring vertex other) d = d ≡ data_of (HoleInHole layer feature polygon ring vertex other)
-StandsFor (InPolygon layer feature polygon vertex other) d = d ≡ data_of (InPolygon layer feature polygon vertex other)
+StandsFor fault d = d ≡ data_of fault
 
 -- the value has exactly the keys of its code, with its scope for a wire fault, and at each a value of the key's type
 abbrev pub HasShape : Data → Type 0

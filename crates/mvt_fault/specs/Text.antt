@@ -170,15 +170,8 @@ HasWidth z = (neg_ℤ (pos (2 ^ 127)) ≤ℤ z) × (z <ℤ pos (2 ^ 127))
 -- a field's number has 32 bits, the numbers of a point 128; offsets and ordinals have 64, as any whole number that is read
 abbrev pub IsInRange : Fault → Type 0
 IsInRange (Wire code scope at field) = field < 2 ^ 32
-IsInRange (Version layer) = Unit {0}
-IsInRange (Name first second) = Unit {0}
-IsInRange (Tag code layer feature index) = Unit {0}
-IsInRange (Command code layer feature index) = Unit {0}
-IsInRange (Ring code layer feature ring) = Unit {0}
 IsInRange (Meeting layer feature polygon first second x y w) = HasWidth x × HasWidth y × HasWidth w
-IsInRange (Outside layer feature polygon ring vertex) = Unit {0}
-IsInRange (HoleInHole layer feature polygon ring vertex other) = Unit {0}
-IsInRange (InPolygon layer feature polygon vertex other) = Unit {0}
+IsInRange fault = Unit {0}
 
 -- the bytes are a text of this fault, as JSON is read
 pub record Reads (bytes : List ℕ) (f : Fault) : Type 0 where

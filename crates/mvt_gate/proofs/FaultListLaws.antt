@@ -11,7 +11,7 @@ use Rattle.mvt_fault.proofs.Places.{ComesFirst-reflexive, ComesFirst-transitive,
 use Rattle.mvt_fault.specs.Place.{ComesFirst, IsLeast, place_of}
 use Rattle.mvt_rules.specs.Parts.TrueFaults.{IsWireFault}
 use Rattle.mvt_fault.specs.declared.fault.Fault.{Fault}
-use Rattle.mvt_fault.specs.declared.fault.Fault.TheVariants.{Wire, Version, Name, Tag, Command, Ring, Meeting, Outside, HoleInHole, InPolygon}
+use Rattle.mvt_fault.specs.declared.fault.Fault.TheVariants.{Tag, Command, Ring, Meeting, Outside, HoleInHole, InPolygon}
 use Rattle.mvt_fault.specs.declared.profile.Profile.{Profile}
 use Rattle.mvt_fault.specs.declared.profile.Profile.TheVariants.{Polygon, Feature}
 use Rattle.mvt_rules.specs.Parts.Geometry.{IsFaultOfGeometryBy}
@@ -46,9 +46,6 @@ begin_alike layer feature its_layer its_feature same =
 
 -- the places of a meeting and of another fault of its feature begin alike
 three_of_meeting : (layer feature : ℕ) (other : Fault) → subject_of other ≡ of_feature layer feature → 2 ∷ layer ∷ feature ∷ [] ≡ take 3 (place_of other)
-three_of_meeting layer feature (Wire code scope at field) same = absurd (cc)
-three_of_meeting layer feature (Version its_layer) same = absurd (cc)
-three_of_meeting layer feature (Name first second) same = absurd (cc)
 three_of_meeting layer feature (Tag code its_layer its_feature index) same = begin_alike layer feature its_layer its_feature same
 three_of_meeting layer feature (Command code its_layer its_feature index) same = begin_alike layer feature its_layer its_feature same
 three_of_meeting layer feature (Ring code its_layer its_feature number) same = begin_alike layer feature its_layer its_feature same
@@ -56,19 +53,12 @@ three_of_meeting layer feature (Meeting its_layer its_feature polygon first seco
 three_of_meeting layer feature (Outside its_layer its_feature polygon hole vertex) same = begin_alike layer feature its_layer its_feature same
 three_of_meeting layer feature (HoleInHole its_layer its_feature polygon hole vertex other) same = begin_alike layer feature its_layer its_feature same
 three_of_meeting layer feature (InPolygon its_layer its_feature polygon vertex other) same = begin_alike layer feature its_layer its_feature same
+three_of_meeting layer feature other same = absurd (cc)
 
 three_of_free : (profile : Profile) (fault other : Fault) → IsFreeBy profile fault → subject_of other ≡ subject_of fault → take 3 (place_of fault) ≡ take 3 (place_of other)
 three_of_free Polygon fault other free same = absurd free
 three_of_free Feature (Meeting layer feature polygon first second x y w) other free same = three_of_meeting layer feature other same
-three_of_free Feature (Wire code scope at field) other free same = absurd free
-three_of_free Feature (Version layer) other free same = absurd free
-three_of_free Feature (Name first second) other free same = absurd free
-three_of_free Feature (Tag code layer feature index) other free same = absurd free
-three_of_free Feature (Command code layer feature index) other free same = absurd free
-three_of_free Feature (Ring code layer feature number) other free same = absurd free
-three_of_free Feature (Outside layer feature polygon hole vertex) other free same = absurd free
-three_of_free Feature (HoleInHole layer feature polygon hole vertex another) other free same = absurd free
-three_of_free Feature (InPolygon layer feature polygon vertex another) other free same = absurd free
+three_of_free Feature fault other free same = absurd free
 
 -- a list of no faults has none
 not_empty : (at : ℕ) (fault : Fault) → ¬ (slice_get [] at ≡ Some fault)

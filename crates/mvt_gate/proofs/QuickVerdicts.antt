@@ -6,7 +6,7 @@ use Rattle.mvt_rules.specs.Shows.{ShowsBy}
 use Rattle.mvt_rules.specs.Valid.{ValidBy}
 use Rattle.mvt_fault.specs.Place.{IsLeast}
 use Rattle.mvt_fault.specs.declared.fault.Fault.{Fault}
-use Rattle.mvt_fault.specs.declared.fault.Fault.TheVariants.{Wire, Version, Name, Tag, Command, Ring, Meeting, Outside, HoleInHole, InPolygon}
+use Rattle.mvt_fault.specs.declared.fault.Fault.TheVariants.{Meeting}
 use Rattle.mvt_fault.specs.declared.profile.Profile.{Profile}
 use Rattle.mvt_fault.specs.declared.profile.Profile.TheVariants.{Polygon, Feature}
 use Rattle.mvt_tile.proofs.RuleFaults.FreeFaults.{least_or_holds, least_unless_free}
@@ -29,15 +29,7 @@ quick_is_shown profile bytes fault quick = least_or_holds (IsFreeBy profile) (Sh
 no_meeting_shown : (bytes : List ℕ) (fault : Fault) → ShowsBy Feature bytes fault → HasNoMeetingIn bytes (subject_of fault) → ¬ IsMeeting fault
 no_meeting_shown bytes (Meeting layer feature polygon first second x y w) shown apart is =
     apart layer feature shown.0 shown.1 refl shown.2 shown.3.0 shown.3.1 (number_of first) (number_of second) (record { x = x; y = y; w = w }) shown.3.2.meets
-no_meeting_shown bytes (Wire code scope at field) shown apart is = is
-no_meeting_shown bytes (Version layer) shown apart is = is
-no_meeting_shown bytes (Name first second) shown apart is = is
-no_meeting_shown bytes (Tag code layer feature index) shown apart is = is
-no_meeting_shown bytes (Command code layer feature index) shown apart is = is
-no_meeting_shown bytes (Ring code layer feature number) shown apart is = is
-no_meeting_shown bytes (Outside layer feature polygon hole vertex) shown apart is = is
-no_meeting_shown bytes (HoleInHole layer feature polygon hole vertex other) shown apart is = is
-no_meeting_shown bytes (InPolygon layer feature polygon vertex other) shown apart is = is
+no_meeting_shown bytes fault shown apart is = is
 
 -- so none may be named there
 pub none_free : (profile : Profile) (bytes : List ℕ) (fault : Fault) → ShowsBy profile bytes fault → HasNoMeetingIn bytes (subject_of fault) → ¬ IsFreeBy profile fault

@@ -3,7 +3,7 @@ use Rattle.std.proofs.Common.{◌≡◌, ◌↔◌, ◌⊎◌, inl, inr, ℕ, �
 use Rattle.mvt_fault.specs.Calls.Place.{IsOfPolygon}
 use Rattle.mvt_fault.specs.declared.profile.Profile.{Profile}
 use Rattle.mvt_fault.specs.declared.fault.Fault.{Fault}
-use Rattle.mvt_fault.specs.declared.fault.Fault.TheVariants.{Wire, Version, Name, Tag, Command, Ring, Meeting, Outside, HoleInHole, InPolygon}
+use Rattle.mvt_fault.specs.declared.fault.Fault.TheVariants.{Wire, Meeting, Outside, HoleInHole, InPolygon}
 use Rattle.mvt_fault.specs.declared.ring.RingEdge.{RingEdge}
 use Rattle.mvt_rules.proofs.Tiles.Tiles.{tile_faultless, tile_or_fault}
 use Rattle.mvt_wire.specs.Field.{cause_at}
@@ -54,12 +54,7 @@ others_of_hole (Meeting layer feature polygon first second x y w) meeting in_pol
 others_of_hole (InPolygon layer feature polygon vertex other) meeting in_polygon is = absurd (in_polygon layer feature polygon vertex other refl)
 others_of_hole (Outside layer feature polygon ring vertex) meeting in_polygon is = outside layer feature polygon ring vertex
 others_of_hole (HoleInHole layer feature polygon ring vertex other) meeting in_polygon is = hole_in_hole layer feature polygon ring vertex other
-others_of_hole (Wire code scope at field) meeting in_polygon is = absurd is
-others_of_hole (Version layer) meeting in_polygon is = absurd is
-others_of_hole (Name first second) meeting in_polygon is = absurd is
-others_of_hole (Tag code layer feature index) meeting in_polygon is = absurd is
-others_of_hole (Command code layer feature index) meeting in_polygon is = absurd is
-others_of_hole (Ring code layer feature ring) meeting in_polygon is = absurd is
+others_of_hole fault meeting in_polygon is = absurd is
 
 -- so a test of a hole's fault is one of a polygon's
 pub by_hole : {Found Told : Type 0} (fault : Fault)

@@ -1,7 +1,7 @@
 -- What is wrong by the profile that checks each polygon by itself is wrong by that which keeps a feature's polygons apart.
 use Rattle.std.proofs.Common.{ℕ, List}
 use Rattle.mvt_fault.specs.declared.fault.Fault.{Fault}
-use Rattle.mvt_fault.specs.declared.fault.Fault.TheVariants.{Wire, Version, Name, Tag, Command, Ring, Meeting, Outside, HoleInHole, InPolygon}
+use Rattle.mvt_fault.specs.declared.fault.Fault.TheVariants.{Meeting, InPolygon}
 use Rattle.mvt_fault.specs.declared.profile.Profile.TheVariants.{Polygon, Feature}
 use Rattle.mvt_fault.specs.declared.ring.RingEdge.{RingEdge}
 use Rattle.mvt_rules.specs.Polygon.{PolygonRings}
@@ -26,17 +26,10 @@ meeting_in_feature rings polygon first second point meeting = record {
 
 -- so what is shown is shown
 pub shown_in_feature : (bytes : List ℕ) (fault : Fault) → ShowsBy Polygon bytes fault → ShowsBy Feature bytes fault
-shown_in_feature bytes (Wire code scope at field) shown = shown
-shown_in_feature bytes (Version layer) shown = shown
-shown_in_feature bytes (Name first second) shown = shown
-shown_in_feature bytes (Tag code layer feature index) shown = shown
-shown_in_feature bytes (Command code layer feature index) shown = shown
-shown_in_feature bytes (Ring code layer feature ring) shown = shown
 shown_in_feature bytes (Meeting layer feature polygon first second x y w) (layer_record, it, there, (rings, has, meeting)) =
     (layer_record, it, there, (rings, has, meeting_in_feature rings polygon first second (record { x = x; y = y; w = w }) meeting))
-shown_in_feature bytes (Outside layer feature polygon ring vertex) shown = shown
-shown_in_feature bytes (HoleInHole layer feature polygon ring vertex other) shown = shown
 shown_in_feature bytes (InPolygon layer feature polygon vertex other) shown = absurd (shown.3.2.inside)
+shown_in_feature bytes fault shown = shown
 
 -- The other way round
 
