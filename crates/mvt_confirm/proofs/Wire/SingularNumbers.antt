@@ -1,5 +1,5 @@
 -- A number that occurs at most once in a message is all that the fields of its number state.
-use Rattle.std.proofs.Common.{◌≡◌, ℕ, ◌≤◌, ◌<◌, ◌^◌, List, [], ◌∷◌, length, filter_map, All, Option, Some, None, true, false, refl, sym, subst, arith}
+use Rattle.std.proofs.Common.{◌≡◌, ℕ, ◌≤◌, ◌<◌, ◌^◌, List, [], ◌∷◌, length, filter_map, All, Option, Some, None, true, false, slice_get, refl, sym, ap, subst, arith}
 use Rattle.std.proofs.lemmas.List.{length-map}
 use Rattle.std.proofs.lemmas.List.Elements.{All-nil, All-cons, All-head}
 use Rattle.mvt_wire.specs.Field.{Content, varint, eight_bytes, delimited, four_bytes, Entry}
@@ -44,7 +44,7 @@ singular_number_ends message field_number rule bytes from entries n known singul
     let stated = varint_states rule (contents_of field_number entries) n small (omega arith) (contents_fit message field_number rule entries known keeps.fits) one in
     (entries, whole, stated.0, stated.1)
 
--- a walk gives the one number that is left
-pub one_taken : (old new : NumberWalk) (found : Option ℕ) (n : ℕ) → TakesNumber old new found → NumbersLeft old (n ∷ []) None → found ≡ Some n
-one_taken old new None n taken left = let none = taken (n ∷ []) left in absurd (cc none)
-one_taken old new (Some m) n taken left = let following = taken (n ∷ []) left in cc following.1
+-- a walk gives the first number that is left
+pub first_taken : (old new : NumberWalk) (found : Option ℕ) (numbers : List ℕ) → TakesNumber old new found → NumbersLeft old numbers None → found ≡ slice_get numbers 0
+first_taken old new None numbers taken left = sym (ap (λ (list : List ℕ). slice_get list 0) (taken numbers left))
+first_taken old new (Some m) numbers taken left = let following = taken numbers left in sym (ap (λ (list : List ℕ). slice_get list 0) following.1)

@@ -48,7 +48,7 @@ version_ends bytes span layer_record is =
 pub returns-in-Some : goal.returns-in-Some
 returns-in-Some c = λ tile is.
     version_decides c.args.bytes.now tile c.args.layer (as_span c.in-Some.span) c.ne.result c.number_of.result is c.in-Some.ensures.there
-    (λ layer_record is_layer. c.number_of.ensures layer_record.version (version_ends c.args.bytes.now (as_span c.in-Some.span) layer_record is_layer)) c.ne.ensures
+    (λ layer_record is_layer. c.number_of.ensures (layer_record.version ∷ []) (version_ends c.args.bytes.now (as_span c.in-Some.span) layer_record is_layer)) c.ne.ensures
 
 pub returns-in-None : goal.returns-in-None
 returns-in-None c = λ tile is.
