@@ -5,7 +5,7 @@ use Rattle.std.proofs.lemmas.Option.{slice_get_within, same_Some}
 use Rattle.mvt_rules.specs.Rules.{IsFeatureOf}
 use Rattle.mvt_rules.specs.Tile.{FeatureRecord, LayerRecord, TileRecord}
 use Rattle.mvt_fault.specs.Place.{ComesFirst, IsLeast, place_of}
-use Rattle.mvt_rules.specs.Parts.TrueFaults.{IsFaultOfLayers, OneFeatureHas, version, name}
+use Rattle.mvt_rules.specs.Parts.TrueFaults.{IsFaultOfLayers, OneFeatureHas}
 use Rattle.mvt_fault.specs.declared.fault.Fault.{Fault}
 use Rattle.mvt_fault.proofs.Places.{ComesFirst-antisymmetric, ComesFirst-reflexive, ComesFirst-transitive}
 use Rattle.mvt_tile.specs.FirstFaults.{AreFirstFaults, AreInOrder, ComesBefore, IsFaultOfLayer, IsFirstFault, IsOfLayer, of_layer, of_feature, OneOf}
@@ -17,6 +17,7 @@ use Rattle.mvt_tile.proofs.RuleFaults.FeatureFaults.{place_at}
 use Rattle.mvt_tile.proofs.RuleFaults.FreeFaults.{first_by_taken, least_or_holds, lifted, take_first}
 use Rattle.mvt_tile.proofs.RuleFaults.Gathered.{ComesBefore-same, OneOf-some}
 use Rattle.mvt_tile.proofs.RuleFaults.RuleOrder.{by_part, of_feature as its_feature}
+use Rattle.mvt_tile.proofs.RuleFaults.LayerNames.{place_of_layer}
 
 -- what is in two lists, one after the other, is in one of them
 in_either : {X : Type 0} (xs ys : List X) (place : ℕ) (x : X) → slice_get (xs ++ ys) place ≡ Some x → (slice_get xs place ≡ Some x) ⊎ ((after : ℕ) × (place ≡ length xs + after) × (slice_get ys after ≡ Some x))
@@ -77,14 +78,10 @@ module _ (IsFree : Frees) (IsBroken : Breaks) (IsKept : Keeps) (tile : TileRecor
 
     -- a layer that has a fault is there
     layer_within : (layer : ℕ) (fault : Fault) → IsFaultOfLayers tile fault → (rest : List ℕ) → place_of fault ≡ 1 ∷ layer ∷ rest → layer < length tile.layers
-    layer_within layer fault (version at holds) rest is =
-        let same : at ≡ layer = cc is in
-        let within = slice_get_within tile.layers at holds.layer_record holds.there in
-        omega (arith, same, within)
-    layer_within layer fault (name first second holds) rest is =
-        let same : second ≡ layer = cc is in
-        let within = slice_get_within tile.layers second holds.other holds.other_there in
-        omega (arith, same, within)
+    layer_within layer fault holds rest is =
+        let its = place_of_layer tile fault holds in
+        let same : its.0 ≡ layer = cc (its.3, is) in
+        omega (arith, same, its.1)
 
     pub first_faults_joined : AreFirstFaults IsFree IsBroken IsKept tile (layers ++ features)
     first_faults_joined = record {
@@ -112,8 +109,7 @@ module _ (IsFree : Frees) (IsBroken : Breaks) (IsKept : Keeps) (tile : TileRecor
 
   -- a fault of layers is of one of them
   layer_of : (fault : Fault) → IsFaultOfLayers tile fault → (layer : ℕ) × IsOfLayer layer fault
-  layer_of fault (version layer holds) = (layer, (_, refl))
-  layer_of fault (name first second holds) = (second, (_, refl))
+  layer_of fault holds = let its = place_of_layer tile fault holds in (its.0, (its.2, its.3))
 
   module _ (faults : List Fault) (are : AreFirstFaults IsFree IsBroken IsKept tile faults) where
     -- where the tile has a fault, one is in the list

@@ -22,6 +22,10 @@ use Rattle.mvt_tile.specs.declared.rules.summary.LayerSummary.{LayerSummary}
 use Rattle.mvt_tile.proofs.RuleFaults.Gathered.{AreGathered-none, AreGathered-kept, AreGathered-pushed, ComesBefore-same}
 use Rattle.mvt_tile.proofs.RuleFaults.LayerNames.{by_layer, name_numbers, version_numbers}
 
+-- what the code reads of a place where there is no summary
+abbrev pub no_summary : LayerSummary
+no_summary = record { version = 0; name = record { ref_ptr = (0, 0); now = [] }; keys = 0; values = 0 }
+
 abbrev name_of : LayerSummary → List ℕ
 name_of summary = summary.name.now
 

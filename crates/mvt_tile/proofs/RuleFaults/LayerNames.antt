@@ -34,6 +34,11 @@ by_layer layer other xs ys ordered rest = inr (
   ],
 )
 
+-- a fault of layers is of one that is there, by its place
+pub place_of_layer : (tile : TileRecord) (fault : Fault) → IsFaultOfLayers tile fault → (layer : ℕ) × (layer < length tile.layers) × (rest : List ℕ) × (place_of fault ≡ 1 ∷ layer ∷ rest)
+place_of_layer tile fault (faults.version layer holds) = (layer, slice_get_within tile.layers layer holds.layer_record holds.there, version_numbers, refl)
+place_of_layer tile fault (faults.name first second holds) = (second, slice_get_within tile.layers second holds.other holds.other_there, name_numbers first, refl)
+
 module _ (rules : LayerRules) (tile : TileRecord) (layers : ArePassed rules tile) where
   -- a layer of another version wasn't passed
   after_version : (layer : ℕ) → OtherVersion tile layer → passed rules ≤ layer

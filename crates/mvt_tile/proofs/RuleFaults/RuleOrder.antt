@@ -2,7 +2,7 @@
 use Rattle.std.proofs.Common.{◌≡◌, ℕ, ◌⊎◌, inl, inr, List, ◌∷◌, length, Option, Some, None, IfSome, IfNone, refl, sym, subst, arith}
 use Rattle.mvt_rules.specs.Tile.{TileRecord, IsTile}
 use Rattle.mvt_fault.specs.Place.{ComesFirst, IsLeast, place_of}
-use Rattle.mvt_rules.specs.Parts.TrueFaults.{BreaksRule, IsFaultOfLayers, OneFeatureHas, version, name}
+use Rattle.mvt_rules.specs.Parts.TrueFaults.{BreaksRule, IsFaultOfLayers, OneFeatureHas, version}
 use Rattle.mvt_fault.specs.declared.fault.Fault.{Fault}
 use Rattle.mvt_tile.specs.FreeFaults.{IsLeastOr}
 use Rattle.mvt_tile.specs.RuleFaults.{Breaks, Frees, Keeps, BreaksAnyRule, KeepsRules, IsFaultOfFeature}
@@ -13,11 +13,11 @@ use Rattle.mvt_tile.specs.declared.rules.layer_rules.LayerRules.{LayerRules}
 use Rattle.mvt_fault.specs.declared.fault.Fault.TheVariants.{Version}
 use Rattle.mvt_tile.proofs.RuleFaults.FeatureFaults.{features_begin}
 use Rattle.mvt_tile.proofs.RuleFaults.FreeFaults.{least_unless_free, lifted}
+use Rattle.mvt_tile.proofs.RuleFaults.LayerNames.{place_of_layer}
 
 -- the place of a fault of layers begins as those of all layers do
 layers_begin : (tile : TileRecord) (fault : Fault) → IsFaultOfLayers tile fault → (rest : List ℕ) × (place_of fault ≡ 1 ∷ rest)
-layers_begin tile fault (version layer holds) = (_, refl)
-layers_begin tile fault (name first second holds) = (_, refl)
+layers_begin tile fault holds = let its = place_of_layer tile fault holds in (its.0 ∷ its.2, its.3)
 
 module _ (IsBroken : Breaks) (after_tags : AreAfterTags IsBroken) where
   -- so a fault of layers comes before one of features

@@ -4,14 +4,9 @@ use Rattle.std.proofs.lemmas.Option.{slice_get-get_or}
 use Rattle.mvt_fault.specs.declared.fault.Fault.{Fault}
 use Rattle.mvt_tile.specs.Advice.{IsRepetition}
 use Rattle.mvt_tile.specs.Calls.Gathered.{AreGatheredLayers, NameAt, FindsOfLayer}
-use Rattle.mvt_tile.specs.declared.rules.summary.LayerSummary.{LayerSummary}
-use Rattle.mvt_tile.proofs.RuleFaults.LayerFaults.{layers_none, layers_kept, layers_pushed, flatten_is}
+use Rattle.mvt_tile.proofs.RuleFaults.LayerFaults.{no_summary, layers_none, layers_kept, layers_pushed, flatten_is}
 use Rattle.mvt_tile.proofs.rules.layer_faults.faults_of_layers.Goals.{in-Some+in_ok-push, in_default}
 use Rattle.mvt_tile.proofs.rules.layer_faults.faults_of_layers.Goals as goal
-
--- what the code reads of a place where there is none
-abbrev no_summary : LayerSummary
-no_summary = record { version = 0; name = record { ref_ptr = (0, 0); now = [] }; keys = 0; values = 0 }
 
 -- the list of faults, of a Vec
 abbrev items_of : Vec Fault Global → List Fault

@@ -7,12 +7,9 @@ use Rattle.mvt_tile.specs.Calls.Gathered.{NameAt}
 use Rattle.mvt_tile.specs.Calls.Names.{key_of}
 use Rattle.mvt_tile.specs.declared.rules.summary.LayerSummary.{LayerSummary}
 use Rattle.mvt_tile.proofs.RuleFaults.HeldPlaces.{place_of, NameHeldAt, held_is, through_only, mapped_there}
+use Rattle.mvt_tile.proofs.RuleFaults.LayerFaults.{no_summary}
 use Rattle.mvt_tile.proofs.RuleFaults.Repetitions.{IsNaming-pushed, through_function}
 use Rattle.mvt_tile.proofs.rules.layer_faults.first_equal_names.Goals as goal
-
--- what the code reads of a place where there is none
-abbrev no_summary : LayerSummary
-no_summary = record { version = 0; name = record { ref_ptr = (0, 0); now = [] }; keys = 0; values = 0 }
 
 pub loop-place-preserved : goal.loop-place-preserved
 loop-place-preserved c =
