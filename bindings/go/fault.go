@@ -74,7 +74,7 @@ func (it *Fault) InLayer() (layer uint64, isThere bool) {
 
 // InFeature is the feature that the fault is in, if it is in one.
 func (it *Fault) InFeature() (feature uint64, isThere bool) {
-	if it.Scope == ScopeFeature || it.Code > 202 {
+	if it.Scope == ScopeFeature || it.Code > 300 {
 		return it.Feature, true
 	}
 	return 0, false

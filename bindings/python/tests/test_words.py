@@ -42,7 +42,8 @@ def texts_of(code: int) -> Iterator[str]:
 
 
 def test_codes() -> None:
-    assert list(WORDS["faults"]) == [str(it) for it in (*range(101, 112), 201, 202, *range(301, 305), *range(401, 407), *range(501, 508))]
+    # (tests/rule holds them against the rules)
+    assert list(map(int, WORDS["faults"])) == sorted({int(it) for it in WORDS["faults"]})
     assert list(WORDS["advice"]) == ["no_layer", "no_feature", "equal_key", "equal_id"]
 
 

@@ -14,10 +14,8 @@ def named_by(fault: Dict[str, Any]) -> List[Attributes]:
     code = fault["code"]
     if code < 200:
         return [element("fault-byte", offset=fault["at"])]
-    if code == 201:
-        return [element("fault-layer", layer=fault["layer"])]
-    if code == 202:
-        return [element("fault-layer", layer=fault["first"]), element("fault-layer", layer=fault["second"])]
+    if code < 300:
+        return [element("fault-layer", layer=fault[key]) for key in ("layer", "first", "second") if key in fault]
     if code < 500:
         return [element("fault-number", index=fault["index"])]
     if code < 504:

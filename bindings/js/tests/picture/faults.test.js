@@ -23,8 +23,7 @@ function pictureOf({ tile, fault }) {
  */
 function namedBy(fault) {
   if (fault.code < 200) return { 'fault-byte': [{ 'data-offset': fault.at }] };
-  if (fault.code === 201) return { 'fault-layer': [{ 'data-layer': fault.layer }] };
-  if (fault.code === 202) return { 'fault-layer': [{ 'data-layer': fault.first }, { 'data-layer': fault.second }] };
+  if (fault.code < 300) return { 'fault-layer': ('first' in fault ? [fault.first, fault.second] : [fault.layer]).map((it) => ({ 'data-layer': it })) };
   if (fault.code < 400) return { 'fault-number': [{ 'data-index': fault.index }] };
   if (fault.code < 500) return { 'fault-number': [{ 'data-index': fault.index }], 'last-position': [{}] };
   if (fault.code < 504) return { ring: [{ 'data-ring': fault.ring }], vertex: [{ 'data-ring': fault.ring, 'data-vertex': 0 }], 'last-position': [{ 'data-ring': fault.ring }] };

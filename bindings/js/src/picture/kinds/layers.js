@@ -1,4 +1,4 @@
-// The picture of a fault of layers (201, 202): the layers as a list.
+// The picture of a fault of layers: the layers as a list.
 
 import { featureCounts } from '../../tile/layers.js';
 import { isolated } from '../../words/isolated.js';
@@ -11,17 +11,26 @@ import { tree } from '../tree.js';
 const ROW = 46, SIDE = 12, TOP = 10, AROUND = 4;
 
 /**
+ * By its code, what a fault says of the layers that it names: at each, and of all.
+ * @type {Record<number, {says: string, words: (named: number[], layers: Layer[]) => string}>}
+ */
+const SAID = {
+  201: { says: 'version isn\'t 2', words: ([layer], layers) => `Layer ${layer} has version ${layers[layer].version}, and version 2 is required.` },
+  202: { says: 'same name', words: ([first, second], layers) => `Layers ${first} and ${second} are both named ${nameText(layers[first])}.` },
+};
+
+/**
  * @param {{code: number, layer?: number, first?: number, second?: number}} fault
  * @param {import('../types.js').TileRecord} record
  * @returns {Picture}
  */
 export function pictureOfLayers(fault, { layers }) {
-  const named = fault.code === 201 ? [Number(fault.layer)] : [Number(fault.first), Number(fault.second)];
-  const rows = rowsOf(layers, named, fault.code);
+  const named = 'first' in fault ? [Number(fault.first), Number(fault.second)] : [Number(fault.layer)];
+  const { says, words } = SAID[fault.code];
+  const rows = rowsOf(layers, named, says);
   return {
     kind: 'layers', title: 'The layers of the tile',
-    words: fault.code === 201 ? `Layer ${named[0]} has version ${layers[named[0]].version}, and version 2 is required.`
-      : `Layers ${named[0]} and ${named[1]} are both named ${nameText(layers[named[0]])}.`,
+    words: words(named, layers),
     places: rows.map(({ ordinal, layer, says }) => ({
       name: `layer ${ordinal}`,
       text: `${nameText(layer)}, version ${layer.version}, ${featureCounts(layer)}${says && `: ${says}`}`,
@@ -39,11 +48,10 @@ function nameText({ name }) {
  * The layers that are named, and those around them.
  * @param {Layer[]} layers
  * @param {number[]} named
- * @param {number} code
+ * @param {string} says what is said of them
  * @returns {Row[]}
  */
-function rowsOf(layers, named, code) {
-  const says = code === 201 ? 'version isn\'t 2' : 'same name';
+function rowsOf(layers, named, says) {
   const around = named.flatMap((ordinal) => Array.from({ length: 2 * AROUND + 1 }, (_, k) => ordinal - AROUND + k));
   return [...new Set(around)].sort((a, b) => a - b).filter((ordinal) => ordinal in layers)
     .map((ordinal) => ({ ordinal, layer: layers[ordinal], says: named.includes(ordinal) ? says : '' }));
