@@ -1,5 +1,5 @@
 -- Of the faults of a tile's bytes, those of layers come first and those of features after them; there are no others.
-use Rattle.std.proofs.Common.{◌≡◌, ℕ, ◌⊎◌, inl, inr, List, ◌∷◌, length, Option, Some, None, IfSome, IfNone, refl, sym, subst, arith}
+use Rattle.std.proofs.Common.{◌≡◌, ℕ, ◌⊎◌, inl, inr, List, ◌∷◌, length, Option, Some, None, IfSome, IfNone, sym, subst, arith}
 use Rattle.mvt_rules.specs.Tile.{TileRecord, IsTile}
 use Rattle.mvt_fault.specs.Place.{ComesFirst, IsLeast, place_of}
 use Rattle.mvt_rules.specs.Parts.TrueFaults.{BreaksRule, IsFaultOfLayers, OneFeatureHas, version}

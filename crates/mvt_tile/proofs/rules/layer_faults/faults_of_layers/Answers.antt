@@ -1,4 +1,4 @@
-use Rattle.std.proofs.Common.{◌≡◌, ◌∙◌, ◌↔◌, ◌+◌, sym, ap, subst, refl, ℕ, List, [], Vec, Global, length, get_or, Option, Some, None, arith}
+use Rattle.std.proofs.Common.{◌≡◌, ◌∙◌, ◌↔◌, ◌+◌, sym, ap, subst, refl, ℕ, List, Vec, Global, length, get_or, Option, Some, None, arith}
 use Rattle.std.specs.Option.{option_copied, option_flatten}
 use Rattle.std.proofs.lemmas.Option.{slice_get-get_or}
 use Rattle.mvt_fault.specs.declared.fault.Fault.{Fault}
