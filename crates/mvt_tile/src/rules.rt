@@ -30,7 +30,7 @@ pub use faults::rule_faults;
 use features::FeatureRoom;
 pub use features::FeatureRule;
 use layer_rules::LayerRules;
-use layer_scan::check_layer;
+use layer_scan::find_in_layer;
 pub use layers::check_layers;
 use mvt_fault::Fault;
 use mvt_wire::field_number::LAYERS;
@@ -107,7 +107,7 @@ fn walk_layers<'a, R: FeatureRule>(
         if field.number == LAYERS {
             let (from, to) = payload_span(field.body);
             let part = Part { bytes, from, to };
-            let summary = check_layer(part, rule, layer_index, &mut room, found)?;
+            let summary = find_in_layer(part, rule, layer_index, &mut room, found)?;
             if !layers.note(summary.version, summary.name)? {
                 return Ok(());
             }

@@ -21,7 +21,7 @@ use std::alloc::AllocError;
 /// The summary of the layer with an ordinal, which a part of the bytes holds. Adds the first fault
 /// of each of its features that has one. The only error is that memory was refused.
 ///
-/// Tags are checked as `check_layer` does. Where they need more than the layer has, the faults that
+/// Tags are checked as `find_in_layer` does. Where they need more than the layer has, the faults that
 /// the first walk added are taken back.
 pub(crate) fn add_faults_in_layer<'a, R: FeatureRule>(
     part: Part<'a>,

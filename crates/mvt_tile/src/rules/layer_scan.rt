@@ -33,7 +33,7 @@ pub(crate) struct LayerScan<'a> {
 ///
 /// Its keys and values may come after its features, so tags are checked as if the layer had as many
 /// of both as it has bytes. Where they need more than it has, it is walked again.
-pub(crate) fn check_layer<'a, R: FeatureRule>(
+pub(crate) fn find_in_layer<'a, R: FeatureRule>(
     part: Part<'a>,
     rule: &mut R,
     layer_index: usize,
