@@ -3,7 +3,7 @@ ghost use Rattle.std.specs.Prelude.{◌≡◌, ◌≤◌, ℕ, None, IfOk, IfNon
 ghost use Rattle.mvt_fault.specs.declared.fault.Fault.{Fault};
 ghost use Rattle.mvt_rules.specs.Tile.{FeatureRecord, LayerRecord};
 ghost use Rattle.mvt_tile.specs.Calls.FeatureRules.{FindsInFeature};
-ghost use Rattle.mvt_tile.specs.FeatureBytes.{Shows};
+ghost use Rattle.mvt_tile.specs.FeatureBytes.{Encodes};
 ghost use Rattle.mvt_tile.specs.FreeFaults.{IsLeastOr};
 ghost use Rattle.mvt_tile.specs.Calls.RuleFaults.{AreAfterTags, IsLike};
 
@@ -38,13 +38,13 @@ pub trait FeatureRule {
     ) -> Result<(), AllocError>
         requires { found.old ≡ None }
         ensures none { IfOk result (λ _. IfNone found.new ((feature_record : FeatureRecord)
-            → Shows feature.now feature_record → (fault : Fault)
+            → Encodes feature.now feature_record → (fault : Fault)
             → ¬ IsBroken feature_record layer_index feature_index fault)) }
         ensures kept { IfOk result (λ _. IfNone found.new ((feature_record : FeatureRecord)
-            → Shows feature.now feature_record → IsKept feature_record)) }
+            → Encodes feature.now feature_record → IsKept feature_record)) }
         ensures found { IfOk result (λ _.
             IfSome found.new (λ fault. (feature_record : FeatureRecord)
-            → Shows feature.now feature_record
+            → Encodes feature.now feature_record
             → IsLeastOr IsFree (IsBroken feature_record layer_index feature_index) fault)) };
 }
 
@@ -85,7 +85,7 @@ pub(crate) fn find_in_feature<R: FeatureRule>(
     ensures no_fewer_keys { needs.old.keys ≤ needs.new.keys }
     ensures no_fewer_values { needs.old.values ≤ needs.new.values }
     ensures finds { IfOk result (λ _. (layer_record : LayerRecord) (feature_record : FeatureRecord)
-        → Shows feature.now feature_record → IsLike keys values needs.new layer_record
+        → Encodes feature.now feature_record → IsLike keys values needs.new layer_record
         → FindsInFeature R.IsFree R.IsBroken R.IsKept layer_record feature_record layer_index feature_index
         found.new) }
 {
