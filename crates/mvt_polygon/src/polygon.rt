@@ -56,7 +56,7 @@ pub fn check_polygon(
         IsCounted (vertex_count (rings_of rings.now)) count.old count.new (meeting_in found)) }
 {
     if rings.len() == 1 {
-        return Ok(fault_of_meeting(meeting_in_ring(alloc, rings, count)?));
+        return Ok(meeting_as_fault(meeting_in_ring(alloc, rings, count)?));
     }
     check_with_holes(alloc, rings, count)
 }
@@ -78,12 +78,12 @@ fn check_with_holes(
 {
     Ok(match sweep_rings(alloc, rings, count)? {
         Swept::Meets(meeting) => Some(PolygonFault::Meeting(meeting)),
-        Swept::Clear(notes) => fault_of_nesting(fault_of_holes(rings, &notes, count)),
+        Swept::Clear(notes) => nesting_as_fault(fault_of_holes(rings, &notes, count)),
     })
 }
 
 /// The fault where a meeting was found.
-fn fault_of_meeting(found: Option<Meeting>) -> Option<PolygonFault>
+fn meeting_as_fault(found: Option<Meeting>) -> Option<PolygonFault>
     ensures { result ≡ option_map faults.Meeting found }
 {
     match found {
@@ -93,7 +93,7 @@ fn fault_of_meeting(found: Option<Meeting>) -> Option<PolygonFault>
 }
 
 /// The fault where a hole was found that isn't where it should be.
-fn fault_of_nesting(found: Option<NestFault>) -> Option<PolygonFault>
+fn nesting_as_fault(found: Option<NestFault>) -> Option<PolygonFault>
     ensures { result ≡ option_map faults.Nesting found }
 {
     match found {
