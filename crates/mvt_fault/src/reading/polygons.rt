@@ -55,11 +55,11 @@ pub(super) fn meeting_candidate(alloc: Global, value: &Value) -> Result<Candidat
     };
     Ok(Candidate {
         object: written_meeting_object(alloc, id, first, second, &point)?,
-        fault: meeting_fault(id, first, second, &point),
+        fault: meeting_fault_in_range(id, first, second, &point),
     })
 }
 
-fn meeting_fault(
+fn meeting_fault_in_range(
     id: PolygonId,
     first: RingEdge,
     second: RingEdge,
