@@ -114,7 +114,7 @@ fn pass_to_polygon(ahead: &mut Vertices, vertices: &mut Vertices, polygon: usize
     // How many polygons come before it.
     let mut before = polygon;
     'rings: while let Some(measure) = next_ring(ahead) {
-        if measure.twice_area > 0 {
+        if measure.doubled_area > 0 {
             if before == 0 {
                 return true;
             }
@@ -138,7 +138,7 @@ fn is_in_holes(mut ahead: Vertices, mut vertices: Vertices, position: Point) -> 
         → (IsTrue result ↔ IsInHoles rings polygon_rings position) }
 {
     'holes: while let Some(measure) = next_ring(&mut ahead) {
-        if measure.twice_area > 0 {
+        if measure.doubled_area > 0 {
             return false;
         }
         if is_in_next_ring(&mut vertices, position) {
