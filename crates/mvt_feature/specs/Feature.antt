@@ -67,7 +67,7 @@ AddsSweeps sweeps vertices before after =
     AddsWork (sweeps * (3 * vertices)) (sweeps * (vertices * (2 * bits vertices + 10))) (sweeps * (vertices * (20 * bits vertices))) before after
 
 -- what is counted at least where this was found of a polygon of so many vertices: a test, where edges meet, and else so
--- many comparisons
+-- many probes
 abbrev pub IsCountedCause : ℕ → Counted → Counted → FeatureCause → Type 0
 IsCountedCause vertices before after (Meeting meeting) = ticked before.tests ≤ after.tests
 IsCountedCause vertices before after (Nesting fault) = raised vertices before.probes ≤ after.probes

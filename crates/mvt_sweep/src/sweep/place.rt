@@ -57,7 +57,7 @@ pub(crate) fn place_of<S: Status>(
 
 /// The same, where the vertex may well be above all chains or below all: it is compared with the
 /// highest and the lowest one first. Of few chains, and of more than half as many as there are
-/// vertices, the comparisons would not pay, or be more than are promised.
+/// vertices, the probes would not pay, or be more than are promised.
 pub(crate) fn place_from_outside<S: Status>(
     vertices: &SweepVertices,
     number: usize,
@@ -92,7 +92,7 @@ pub(crate) fn place_from_outside<S: Status>(
     place_of(vertices, number, chains, status, count)
 }
 
-/// Where the vertex is among chains, if it is above all or below all. At most two comparisons.
+/// Where the vertex is among chains, if it is above all or below all. At most two probes.
 fn place_outside<S: Status>(
     vertices: &SweepVertices,
     number: usize,
