@@ -11,7 +11,7 @@ ghost use Rattle.mvt_status.specs.Counts.{bits};
 use crate::nesting::NestFault;
 use crate::nesting::noted::fault_of_holes;
 use mvt_plane::{Count, Point};
-use mvt_sweep::{Meeting, Swept, meeting_in_ring, sweep_rings};
+use mvt_sweep::{Meeting, Swept, self_intersection, sweep_rings};
 use std::alloc::{AllocError, Global};
 
 #[cfg(test)]
@@ -56,7 +56,7 @@ pub fn check_polygon(
         IsCounted (vertex_count (rings_of rings.now)) count.old count.new (meeting_in found)) }
 {
     if rings.len() == 1 {
-        return Ok(meeting_as_fault(meeting_in_ring(alloc, rings, count)?));
+        return Ok(meeting_as_fault(self_intersection(alloc, rings, count)?));
     }
     check_with_holes(alloc, rings, count)
 }

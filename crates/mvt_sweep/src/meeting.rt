@@ -119,10 +119,10 @@ fn meeting_by_sweep<S: Status>(
     )
 }
 
-/// The meeting of two edges of the only ring, as `find_meeting` answers. Of few edges all pairs are
-/// looked at, with no memory and no sweep unless too many of them need a test. So probes are up to
-/// 9 * n in place of n, beside those at turn vertices.
-pub fn meeting_in_ring(
+/// A self-intersection of the only ring: a meeting of two of its edges, as `find_meeting` answers.
+/// Of few edges all pairs are looked at, with no memory and no sweep unless too many of them need a
+/// test. So probes are up to 9 * n in place of n, beside those at turn vertices.
+pub fn self_intersection(
     alloc: Global,
     rings: &[Vec<Point>],
     count: &mut Count,
