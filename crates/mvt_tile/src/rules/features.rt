@@ -50,16 +50,16 @@ pub trait FeatureRule {
 
 /// What serves one feature after another: memory, and marks of the keys of its tags.
 #[derive(Drop)]
-pub(crate) struct FeatureRoom {
+pub(crate) struct FeatureBuffer {
     /// What memory is taken from.
     pub(crate) alloc: Global,
     pub(crate) marks: KeyMarks,
 }
 
-impl FeatureRoom {
-    /// Room that has served no feature. It takes no memory.
-    pub(crate) fn new(alloc: Global) -> FeatureRoom {
-        FeatureRoom {
+impl FeatureBuffer {
+    /// A buffer that has served no feature. It takes no memory.
+    pub(crate) fn new(alloc: Global) -> FeatureBuffer {
+        FeatureBuffer {
             alloc,
             marks: KeyMarks::new(alloc),
         }
@@ -71,7 +71,7 @@ impl FeatureRoom {
 /// further rule. Adds what the tags need. The only error is that memory was refused.
 pub(crate) fn find_in_feature<R: FeatureRule>(
     rule: &mut R,
-    room: &mut FeatureRoom,
+    buffer: &mut FeatureBuffer,
     needs: &mut TagNeeds,
     keys: usize,
     values: usize,
@@ -90,12 +90,18 @@ pub(crate) fn find_in_feature<R: FeatureRule>(
         found.new) }
 {
     if feature.has_no_tag() {
-        return rule.find_fault(room.alloc, feature, layer_index, feature_index, found);
+        return rule.find_fault(buffer.alloc, feature, layer_index, feature_index, found);
     }
     let mut of_tags = None;
-    needs.add(scan_tags(&mut room.marks, feature.tags(), keys, values, &mut of_tags)?);
+    needs.add(scan_tags(
+        &mut buffer.marks,
+        feature.tags(),
+        keys,
+        values,
+        &mut of_tags,
+    )?);
     let Some((code, index)) = of_tags else {
-        return rule.find_fault(room.alloc, feature, layer_index, feature_index, found);
+        return rule.find_fault(buffer.alloc, feature, layer_index, feature_index, found);
     };
     *found = Some(Fault::Tag {
         code,
