@@ -65,8 +65,8 @@ name_data first second =
     no_members)))
 
 -- the object of a fault in the tags or the geometry of a feature: its code's number, and the place in the list
-abbrev pub feature_data : ℕ → ℕ → ℕ → ℕ → Data
-feature_data code layer feature index =
+abbrev pub index_data : ℕ → ℕ → ℕ → ℕ → Data
+index_data code layer feature index =
     object (member (codes "code") (whole code)
     (member (codes "feature") (whole feature)
     (member (codes "index") (whole index)
@@ -151,8 +151,8 @@ abbrev pub data_of : Fault → Data
 data_of (Wire code scope at field) = wire_data code scope at field
 data_of (Version layer) = version_data layer
 data_of (Name first second) = name_data first second
-data_of (Tag code layer feature index) = feature_data (tag_code code) layer feature index
-data_of (Command code layer feature index) = feature_data (command_code code) layer feature index
+data_of (Tag code layer feature index) = index_data (tag_code code) layer feature index
+data_of (Command code layer feature index) = index_data (command_code code) layer feature index
 data_of (Ring code layer feature ring) = ring_data (ring_code code) layer feature ring
 data_of (Meeting layer feature polygon first second x y w) = meeting_data layer feature polygon first second x y w
 data_of (Outside layer feature polygon ring vertex) = outside_data layer feature polygon ring vertex

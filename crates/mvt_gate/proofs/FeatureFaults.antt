@@ -11,7 +11,7 @@ use Rattle.mvt_plane.specs.Position.{Position}
 use Rattle.mvt_polygon.proofs.ApartFaults.{ends_within}
 use Rattle.mvt_rules.specs.Ring.{ArePolygonRings}
 use Rattle.mvt_polygon.specs.Apart.{IsApartFault, IsFirstApartFault}
-use Rattle.mvt_feature.specs.Feature.{IsCause, IsClear, IsFirstFault, front_of}
+use Rattle.mvt_feature.specs.Feature.{IsFeatureCause, IsClear, IsFirstFault, front_of}
 use Rattle.mvt_sweep.specs.Meeting.{IsMeetingOf, NoMeeting}
 use Rattle.mvt_polygon.specs.declared.apart.ApartFault.{ApartFault}
 use Rattle.mvt_feature.specs.declared.feature.FeatureCause.{FeatureCause}
@@ -107,7 +107,7 @@ least_of_apart parts place found of_it valid apart good least =
 
 -- what is wrong with the first polygon that has a fault is the first fault
 least_of_cause : (parts : List (List Position)) (place : PolygonPlace) (cause : FeatureCause) → IsPolygonOf parts place.polygon (rings_at place) → AreValidBefore Feature parts place.polygon
-    → IsCause parts place.polygon (rings_at place) cause → IsFirstOfRings Feature parts place.layer place.feature (cause_fault place cause)
+    → IsFeatureCause parts place.polygon (rings_at place) cause → IsFirstOfRings Feature parts place.layer place.feature (cause_fault place cause)
 least_of_cause parts place (Meeting found) of_it valid is = least_of_front parts place found of_it valid is
 least_of_cause parts place (Nesting fault) of_it valid is =
     first_hole_is_least Feature parts place fault (ends_within parts place.polygon (rings_at place) of_it.there) of_it valid (apart_by_front parts (rings_at place) is.0) is.1
@@ -116,7 +116,7 @@ least_of_cause parts place (Apart found) of_it valid is =
     (enclosed_in_whole parts (rings_at place) (ends_within parts place.polygon (rings_at place) of_it.there) is.1) is.2
 
 -- its rings are there
-pub reportable_of_cause : (parts : List (List Position)) (place : PolygonPlace) (cause : FeatureCause) → IsPolygon parts place.polygon (rings_at place) → IsCause parts place.polygon (rings_at place) cause → IsReportable place cause
+pub reportable_of_cause : (parts : List (List Position)) (place : PolygonPlace) (cause : FeatureCause) → IsPolygon parts place.polygon (rings_at place) → IsFeatureCause parts place.polygon (rings_at place) cause → IsReportable place cause
 reportable_of_cause parts place (Meeting found) there is = meeting_within parts (front_of (rings_at place)) found (ends_within parts place.polygon (rings_at place) there) is
 reportable_of_cause parts place (Nesting fault) there is = hole_within parts place fault (ends_within parts place.polygon (rings_at place) there) is.1
 reportable_of_cause parts place (Apart found) there is = tt

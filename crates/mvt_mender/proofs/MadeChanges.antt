@@ -10,7 +10,7 @@ use Rattle.mvt_gate.specs.FaultList.{AreFaultsFor, of_feature}
 use Rattle.mvt_gate.specs.declared.quick.Search.TheVariants.{Least}
 use Rattle.mvt_plane.specs.Commands.Figure.{polygon}
 use Rattle.mvt_plane.specs.FeatureGeometry.{type_number}
-use Rattle.mvt_splice.specs.Splice.{AreInOrder, IsBefore}
+use Rattle.mvt_splice.specs.Splice.{AreChangesInOrder, IsBefore}
 use Rattle.mvt_splice.specs.declared.change.Change.{Change}
 use Rattle.mvt_tile.specs.FeatureBytes.{Encodes}
 use Rattle.mvt_tile.specs.declared.feature_bytes.FeatureBytes.{FeatureBytes}
@@ -65,7 +65,7 @@ module _ (profile : Profile) (drop : Bool) (bytes : List ℕ) (places : List Fea
       }
 
   -- they are in the order of their features
-  pub made_in_order : AreInTurn places → AreInOrder made
+  pub made_in_order : AreInTurn places → AreChangesInOrder made
   made_in_order in_turn i j d less within =
       let first = get_or made i d in
       let second = get_or made j d in

@@ -33,8 +33,8 @@ abbrev pub IsBefore : Change → ℕ → ℕ → Type 0
 IsBefore change layer feature = (change.layer < layer) ⊎ ((change.layer ≡ layer) × (change.feature < feature))
 
 -- the changes are in the order of their features, and no two are about one
-abbrev pub AreInOrder : List Change → Type 0
-AreInOrder changes = AllPairs (λ change later. IsBefore change later.layer later.feature) changes
+abbrev pub AreChangesInOrder : List Change → Type 0
+AreChangesInOrder changes = AllPairs (λ change later. IsBefore change later.layer later.feature) changes
 
 -- a field with the bytes that spell it; its places are counted from the first of them
 pub record Piece : Type 0 where
@@ -66,7 +66,7 @@ ordinal_after None ordinal = ordinal
 ordinal_after (Some message) ordinal = suc ordinal
 
 -- the field of the number and wire type 2 has this payload
-pub record Embeds (field_number : ℕ) (payload : List ℕ) (field : Entry) : Type 0 where
+pub record HasPayload (field_number : ℕ) (payload : List ℕ) (field : Entry) : Type 0 where
   pub numbered : field.number ≡ field_number
   pub place : ℕ
   pub content : field.content ≡ delimited place payload
@@ -93,7 +93,7 @@ pub record IsRedrawn (geometry before after : List ℕ) : Type 0 where
 abbrev pub Becomes : Fate → List ℕ → Piece → List Piece → Type 0
 Becomes stays message piece after = after ≡ piece ∷ []
 Becomes (redrawn geometry) message piece after =
-    (drawn : Piece) × (message_after : List ℕ) × (after ≡ drawn ∷ []) × Embeds 2 message_after drawn.field × IsRedrawn geometry message message_after
+    (drawn : Piece) × (message_after : List ℕ) × (after ≡ drawn ∷ []) × HasPayload 2 message_after drawn.field × IsRedrawn geometry message message_after
 Becomes dropped message piece after = after ≡ []
 
 -- what became of a field of a layer: one that is no feature is as it was
@@ -121,7 +121,7 @@ pub record IsSplicedLayer (fates : ℕ → Fate) (before after : List ℕ) : Typ
 abbrev pub BecomesInTile : (ℕ → Fate) → Option (List ℕ) → Piece → Piece → Type 0
 BecomesInTile fates None piece after = after ≡ piece
 BecomesInTile fates (Some message) piece after =
-    (message_after : List ℕ) × Embeds 3 message_after after.field × IsSplicedLayer fates message message_after
+    (message_after : List ℕ) × HasPayload 3 message_after after.field × IsSplicedLayer fates message message_after
     × (((feature : ℕ) → fates feature ≡ stays) → after ≡ piece)
 
 -- what became of the fields of a tile, the first layer of which has this ordinal

@@ -1,6 +1,6 @@
 //! A layer's message with changes to its features.
 ghost use Rattle.std.specs.Prelude.{List, IfOk, OnOk};
-ghost use Rattle.mvt_splice.specs.Splice.{Piece, fate_in, AreInOrder, Becomes, IsSplicedLayer};
+ghost use Rattle.mvt_splice.specs.Splice.{Piece, fate_in, AreChangesInOrder, Becomes, IsSplicedLayer};
 ghost use Rattle.mvt_splice.specs.Calls.Fates.{BeginFrom};
 ghost use Rattle.mvt_splice.specs.Calls.Messages.{IsFeatureMessage, IsLayerMessage};
 ghost use Rattle.mvt_splice.specs.Calls.Writing.{Spells, Writes};
@@ -23,7 +23,7 @@ pub(crate) fn spliced_layer(
     layer: usize,
 ) -> Result<Vec<u8>, AllocError>
     requires whole { IsLayerMessage message.now }
-    requires in_order { AreInOrder changes.now }
+    requires in_order { AreChangesInOrder changes.now }
     ensures { IfOk result (λ out.
         IsSplicedLayer (fate_in changes.now layer) message.now out.items) }
 {
@@ -65,7 +65,7 @@ fn add_feature(
     feature: usize,
 ) -> Result<(), AllocError>
     requires whole { IsFeatureMessage message.now }
-    requires in_order { AreInOrder changes.now }
+    requires in_order { AreChangesInOrder changes.now }
     requires begin { BeginFrom changes.now layer feature }
     ensures { OnOk result ((piece : Piece) → Spells spelling.now piece → (after : List Piece)
         × Writes after out.old.items out.new.items

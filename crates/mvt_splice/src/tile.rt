@@ -1,7 +1,7 @@
 //! A tile's bytes with changes to its features.
 ghost use Rattle.std.specs.Prelude.{◌≡◌, Some, ◌∷◌, [], IfOk, OnOk};
 ghost use Rattle.mvt_rules.specs.Tile.{TileRecord, IsTile};
-ghost use Rattle.mvt_splice.specs.Splice.{Piece, fate_in, message_in, AreInOrder, BecomesInTile, IsSpliced};
+ghost use Rattle.mvt_splice.specs.Splice.{Piece, fate_in, message_in, AreChangesInOrder, BecomesInTile, IsSpliced};
 ghost use Rattle.mvt_splice.specs.Calls.Fates.{BeginFrom};
 ghost use Rattle.mvt_splice.specs.Calls.Messages.{IsLayerMessage};
 ghost use Rattle.mvt_splice.specs.Calls.Writing.{Spells, Writes};
@@ -26,7 +26,7 @@ use std::alloc::{AllocError, Global};
 /// Time and memory are linear in the sizes of both. The only error is that memory was refused.
 pub fn splice(alloc: Global, bytes: &[u8], changes: &[Change]) -> Result<Vec<u8>, AllocError>
     requires tile { (tile : TileRecord) × IsTile bytes.now tile }
-    requires in_order { AreInOrder changes.now }
+    requires in_order { AreChangesInOrder changes.now }
     ensures spliced { IfOk result (λ out. IsSpliced changes.now bytes.now out.items) }
     ensures unchanged { IfOk result (λ out. changes.now ≡ [] → out.items ≡ bytes.now) }
 {
@@ -59,7 +59,7 @@ fn add_layer(
     layer: usize,
 ) -> Result<(), AllocError>
     requires whole { IsLayerMessage message.now }
-    requires in_order { AreInOrder changes.now }
+    requires in_order { AreChangesInOrder changes.now }
     requires begin { BeginFrom changes.now layer 0 }
     ensures { OnOk result ((piece : Piece) → Spells spelling.now piece
         → message_in 3 piece.field ≡ Some message.now → (after : Piece)

@@ -35,6 +35,6 @@ abbrev pub IsFaultOfFeature : Breaks → FeatureFaultRelation
 IsFaultOfFeature IsBroken layer_record feature_record layer feature fault = IsFaultOfTags layer_record feature_record layer feature fault ⊎ IsBroken feature_record layer feature fault
 
 -- the feature has no fault, neither of its tags nor of the further rule, and keeps that rule
-pub record IsSound (IsBroken : Breaks) (IsKept : Keeps) (layer_record : LayerRecord) (feature_record : FeatureRecord) (layer feature : ℕ) : Type 0 where
+pub record IsSoundFeature (IsBroken : Breaks) (IsKept : Keeps) (layer_record : LayerRecord) (feature_record : FeatureRecord) (layer feature : ℕ) : Type 0 where
   pub faultless : (fault : Fault) → ¬ IsFaultOfFeature IsBroken layer_record feature_record layer feature fault
   pub kept : IsKept feature_record

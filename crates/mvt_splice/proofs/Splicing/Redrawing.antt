@@ -8,7 +8,7 @@ use Rattle.mvt_wire.specs.Payload.{count_of}
 use Rattle.mvt_wire.specs.Walk.{Walk, IsOver, GivesField}
 use Rattle.mvt_rules.proofs.Tiles.Schemas.{count_of-append}
 use Rattle.mvt_wire.proofs.Walking.{IsWalking-over}
-use Rattle.mvt_splice.specs.Splice.{Piece, Embeds, IsPieced, geometry_of, others_of, IsRedrawn}
+use Rattle.mvt_splice.specs.Splice.{Piece, HasPayload, IsPieced, geometry_of, others_of, IsRedrawn}
 use Rattle.mvt_splice.specs.Calls.Messages.{IsFeatureMessage}
 use Rattle.mvt_splice.specs.Calls.Writing.{Spells, Writes}
 use Rattle.mvt_splice.proofs.Splicing.Pieces.{IsPieceAt}
@@ -117,7 +117,7 @@ module _ {numbers message out : List ℕ} {old new : Walk} {is_drawn : Bool} (so
         }
 
     -- in place of the first one the new geometry was written
-    pub IsRedrawing-drawn : entry.number ≡ 4 → is_drawn ≡ false → (longer packed : List ℕ) → VarintList packed 0 numbers (length packed) → (first : Piece) → Embeds 4 packed first.field → Writes (first ∷ []) out longer → IsRedrawing numbers message longer new true
+    pub IsRedrawing-drawn : entry.number ≡ 4 → is_drawn ≡ false → (longer packed : List ℕ) → VarintList packed 0 numbers (length packed) → (first : Piece) → HasPayload 4 packed first.field → Writes (first ∷ []) out longer → IsRedrawing numbers message longer new true
     IsRedrawing-drawn own fresh longer packed list first embeds writes =
         let found = piece_given {new = new} so_far.passed given in
         let piece = found.0 in

@@ -5,7 +5,7 @@ use Rattle.std.proofs.lemmas.Bool.{cases_eq, eq-eqb, ne_eqb, cond-true, cond-fal
 use Rattle.mvt_wire.specs.Field.{Content, delimited, Entry}
 use Rattle.mvt_wire.specs.Payload.{bytes_in}
 use Rattle.mvt_wire.specs.Walk.{Walk, IsOver, GivesField}
-use Rattle.mvt_splice.specs.Splice.{Fate, stays, fate_in, bytes_of, Piece, Embeds, IsPieced, message_in, ordinal_after, BecomesInTile, AreInTile, IsSpliced}
+use Rattle.mvt_splice.specs.Splice.{Fate, stays, fate_in, bytes_of, Piece, HasPayload, IsPieced, message_in, ordinal_after, BecomesInTile, AreInTile, IsSpliced}
 use Rattle.mvt_splice.specs.Calls.Writing.{Spells, Writes}
 use Rattle.mvt_splice.specs.declared.change.Change.{Change}
 use Rattle.mvt_splice.proofs.Splicing.Pieces.{IsPieceAt}
@@ -98,8 +98,8 @@ delimited_in : (content : Content) (message : List ℕ) → bytes_in content ≡
 delimited_in (delimited place part) message there = (place, let same : part ≡ message = cc in ap (delimited place) same)
 delimited_in content message there = absurd (cc)
 
-pub Embeds-in : (field_number : ℕ) (field : Entry) (message : List ℕ) → message_in field_number field ≡ Some message → Embeds field_number message field
-Embeds-in field_number field message there = elim (cases_eq field.number field_number) [
+pub HasPayload-in : (field_number : ℕ) (field : Entry) (message : List ℕ) → message_in field_number field ≡ Some message → HasPayload field_number message field
+HasPayload-in field_number field message there = elim (cases_eq field.number field_number) [
   | inl own ↦
       let here : bytes_in field.content ≡ Some message = sym (cond-true (field.number == field_number) (bytes_in field.content) None (eq-eqb field.number field_number own)) ∙ there in
       let found = delimited_in field.content message here in

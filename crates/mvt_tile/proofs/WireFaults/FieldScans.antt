@@ -10,10 +10,10 @@ use Rattle.mvt_wire.specs.declared.schema.Message.{Message}
 use Rattle.mvt_wire.specs.declared.schema.Message.TheVariants.{Value}
 use Rattle.mvt_tile.specs.Calls.Least.{IsLeastCause}
 use Rattle.mvt_tile.proofs.WireFaults.FieldPlaces.{IsPlaced}
-use Rattle.mvt_tile.specs.Calls.FieldScan.{was_seen, Passes, IsFirstFault}
+use Rattle.mvt_tile.specs.Calls.FieldScan.{was_seen, Passes, IsFirstFieldFault}
 use Rattle.mvt_tile.specs.declared.wire.scan.FieldScan.{FieldScan}
 use Rattle.mvt_rules.proofs.Tiles.Schemas.{stands_in-own, stands_in-other}
-use Rattle.mvt_tile.proofs.WireFaults.OneMoreField.{count_known-more, count_known-same, faultless-unknown, faultless-known, IsFirstFault-new}
+use Rattle.mvt_tile.proofs.WireFaults.OneMoreField.{count_known-more, count_known-same, faultless-unknown, faultless-known, IsFirstFieldFault-new}
 
 -- no field was passed
 pub none_split : (before : List Entry) (entry : Entry) (after : List Entry) → [] ≡ before ++ entry ∷ after → ⊥
@@ -68,7 +68,7 @@ Passes-known message scan entries entry rule is within clean so_far after kept c
 
 -- its first fault is the first of all
 pub Passes-fault : (message : Message) (scan : FieldScan) (entries : List Entry) (entry : Entry) (next : ℕ) (rule : FieldRule) (cause : WireCause) → IsPlaced entry next → rule_of message entry.number ≡ Some rule
-    → IsLeastCause (EntryFault rule (was_seen scan entry.number) entry) cause → Passes message scan entries → IsFirstFault message (entries ++ entry ∷ []) next cause
+    → IsLeastCause (EntryFault rule (was_seen scan entry.number) entry) cause → Passes message scan entries → IsFirstFieldFault message (entries ++ entry ∷ []) next cause
 Passes-fault message scan entries entry next rule cause placed is least so_far =
-    IsFirstFault-new message entries entry next rule cause placed is so_far.faultless
+    IsFirstFieldFault-new message entries entry next rule cause placed is so_far.faultless
     (subst (λ (occurred : Bool). IsLeastCause (EntryFault rule occurred entry) cause) (so_far.occurred entry.number rule is) least)

@@ -25,7 +25,7 @@ pub record Passes (message : Message) (scan : FieldScan) (entries : List Entry) 
   pub faultless : (cause : WireCause) → ¬ FieldFault message entries cause
 
 -- of the faults of the fields before a place, one with the least place
-pub record IsFirstFault (message : Message) (entries : List Entry) (to : ℕ) (cause : WireCause) : Type 0 where
+pub record IsFirstFieldFault (message : Message) (entries : List Entry) (to : ℕ) (cause : WireCause) : Type 0 where
   pub before : cause.at < to
   pub least : IsLeastCause (FieldFault message entries) cause
 

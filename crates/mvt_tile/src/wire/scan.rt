@@ -21,7 +21,7 @@ pub(crate) struct FieldScan {
 }
 
 impl FieldScan {
-    ghost use Rattle.mvt_tile.specs.Calls.FieldScan.{Passes, IsFirstFault, IsMissing, was_seen};
+    ghost use Rattle.mvt_tile.specs.Calls.FieldScan.{Passes, IsFirstFieldFault, IsMissing, was_seen};
 
     pub(crate) fn new() -> Self
         ensures { (message : Message) → Passes message result [] }
@@ -44,7 +44,7 @@ impl FieldScan {
         ensures fault { IfSome result (λ cause. (bytes : List ℕ) (entries : List Entry) (next : ℕ)
             → IsField bytes next (entry_of field.now)
             → Passes message self.old entries
-            → IsFirstFault message (entries ++ entry_of field.now ∷ []) next cause) }
+            → IsFirstFieldFault message (entries ++ entry_of field.now ∷ []) next cause) }
         ensures unchanged { IfSome result (λ cause. self.new ≡ self.old) }
     {
         let Some(rule) = message.rule(field.number) else {

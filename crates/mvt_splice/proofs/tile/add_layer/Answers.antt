@@ -1,7 +1,7 @@
 use Rattle.std.proofs.Common.{◌≡◌, ℕ, List, refl, subst}
-use Rattle.mvt_splice.specs.Splice.{fate_in, stays, Embeds}
+use Rattle.mvt_splice.specs.Splice.{fate_in, stays, HasPayload}
 use Rattle.mvt_splice.proofs.Splicing.Layers.{IsSplicedLayer-same}
-use Rattle.mvt_splice.proofs.Splicing.Tiles.{Embeds-in}
+use Rattle.mvt_splice.proofs.Splicing.Tiles.{HasPayload-in}
 use Rattle.mvt_splice.proofs.Splicing.Walks.{Writes-copy}
 use Rattle.mvt_splice.proofs.tile.add_layer.Goals as goal
 
@@ -12,7 +12,7 @@ returns c = λ piece spells there.
       written.2,
       (
         c.in_ok-spliced.spliced.items,
-        subst (λ (payload : List ℕ). Embeds 3 payload written.0.field) c.deref.ensures.value written.1,
+        subst (λ (payload : List ℕ). HasPayload 3 payload written.0.field) c.deref.ensures.value written.1,
         c.in_ok-spliced.ensures,
         λ stay. absurd (c.has_change_in.ensures.some c.if-not-has_change_in.false stay),
       ),
@@ -24,5 +24,5 @@ returns-then-not-has_change_in c = λ piece spells there.
     let stay : (feature : ℕ) → fate_in c.args.changes.now c.args.layer feature ≡ stays = c.has_change_in.ensures.none (λ some. let none = c.if-not-has_change_in.true in cc) in (
       piece,
       Writes-copy c.args.out.now.items c.extend_from_slice.new.self.items c.args.spelling.now piece spells c.in_ok-extend_from_slice.ensures.items,
-      (message, Embeds-in 3 piece.field message there, IsSplicedLayer-same (fate_in c.args.changes.now c.args.layer) message c.requires.whole stay, λ all. refl),
+      (message, HasPayload-in 3 piece.field message there, IsSplicedLayer-same (fate_in c.args.changes.now c.args.layer) message c.requires.whole stay, λ all. refl),
     )
