@@ -4,7 +4,7 @@ ghost use Rattle.mvt_rules.specs.Tile.{TileRecord, IsTile};
 ghost use Rattle.mvt_splice.specs.Splice.{Piece, fate_in, message_in, AreChangesInOrder, BecomesInTile, IsSpliced};
 ghost use Rattle.mvt_splice.specs.Calls.Fates.{BeginFrom};
 ghost use Rattle.mvt_splice.specs.Calls.Messages.{IsLayerMessage};
-ghost use Rattle.mvt_splice.specs.Calls.Writing.{Spells, Writes};
+ghost use Rattle.mvt_splice.specs.Calls.Writing.{EncodesPiece, Writes};
 
 use crate::change::Change;
 use crate::fates::{changes_from, has_change_in};
@@ -35,25 +35,25 @@ pub fn splice(alloc: Global, bytes: &[u8], changes: &[Change]) -> Result<Vec<u8>
     let mut layer = 0;
     let mut fields = Fields::new(bytes, 0, bytes.len());
     'walk: while let Some(field) = fields.next_whole() {
-        let spelling = &bytes[field.at..fields.at()];
+        let encoding = &bytes[field.at..fields.at()];
         if field.number == LAYERS {
             left = changes_from(left, layer, 0);
             let message = bytes_in(field.body);
-            add_layer(alloc, &mut out, spelling, message, left, layer)?;
+            add_layer(alloc, &mut out, encoding, message, left, layer)?;
             layer += 1;
         } else {
-            out.extend_from_slice(spelling)?;
+            out.extend_from_slice(encoding)?;
         }
     }
     Ok(out)
 }
 
 /// Writes what becomes of the layer with this ordinal, which has this message, and whose field is
-/// spelled so. No change is about an earlier layer. The only error is that memory was refused.
+/// encoded so. No change is about an earlier layer. The only error is that memory was refused.
 fn add_layer(
     alloc: Global,
     out: &mut Vec<u8>,
-    spelling: &[u8],
+    encoding: &[u8],
     message: &[u8],
     changes: &[Change],
     layer: usize,
@@ -61,13 +61,13 @@ fn add_layer(
     requires whole { IsLayerMessage message.now }
     requires in_order { AreChangesInOrder changes.now }
     requires begin { BeginFrom changes.now layer 0 }
-    ensures { OnOk result ((piece : Piece) → Spells spelling.now piece
+    ensures { OnOk result ((piece : Piece) → EncodesPiece encoding.now piece
         → message_in 3 piece.field ≡ Some message.now → (after : Piece)
         × Writes (after ∷ []) out.old.items out.new.items
         × BecomesInTile (fate_in changes.now layer) (Some message.now) piece after) }
 {
     if !has_change_in(changes, layer) {
-        out.extend_from_slice(spelling)?;
+        out.extend_from_slice(encoding)?;
         return Ok(());
     }
     let spliced = spliced_layer(alloc, message, changes, layer)?;

@@ -1,7 +1,7 @@
 ghost use Rattle.std.specs.Prelude.{◌≡◌, ◌+◌, ◌<◌, ◌≤◌, length, take, IfSome, IfNone, IfOk, IfErr};
 ghost use Rattle.mvt_wire.specs.Field.{IsField, IsPayload, FieldDefect, HasLeadingVarint, PayloadEnd, content_of, entry_of, wire_type_of};
 ghost use Rattle.mvt_wire.specs.Calls.Key.{IsKeyOf, number_of};
-ghost use Rattle.mvt_wire.specs.Varint.{SpellsVarint};
+ghost use Rattle.mvt_wire.specs.Varint.{EncodesVarint};
 ghost use Rattle.mvt_wire.specs.Walk.{Walk, IsOver, GivesField, FindsDefect, IsDefectOr};
 
 use crate::cause::{WireCause, WireCode};
@@ -147,7 +147,7 @@ fn read_payload(bytes: &[u8], key: Key) -> Result<(Body<'_>, usize), WireCause>
 fn read_leading(bytes: &[u8], key: Key) -> Result<(u64, usize), WireCause>
     requires key { IsKeyOf bytes.now key }
     requires leading { HasLeadingVarint (number_of key.wire_type) }
-    ensures varint { IfOk result (λ read. SpellsVarint bytes.now key.end read.1 read.0) }
+    ensures varint { IfOk result (λ read. EncodesVarint bytes.now key.end read.1 read.0) }
     ensures defect { IfErr result (λ cause. FieldDefect bytes.now key.at cause) }
 {
     match read_varint(bytes, key.end) {

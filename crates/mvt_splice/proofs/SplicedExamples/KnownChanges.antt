@@ -19,7 +19,7 @@ use Rattle.mvt_splice.specs.FeatureFaults.{AreRightTags}
 use Rattle.mvt_splice.specs.Splice.{stays, redrawn, fate_in, Piece, bytes_of, IsRedrawn, IsSplicedLayer, IsSpliced}
 use Rattle.mvt_splice.specs.SplicedTile.{spliced_tile, DrawsSmall, IsValidAfter, IsValidOnceSpliced}
 use Rattle.mvt_splice.proofs.SplicedExamples.KnownTile.{right_nine, wrong_nine, feature_pieces, feature_pieced, layer_pieces, layer_pieced, tile_pieces, tile_pieced, tile_known}
-use Rattle.mvt_splice.proofs.SplicedExamples.SpelledPieces.{number_piece, length_piece, number_spelled, length_spelled, spell_themselves}
+use Rattle.mvt_splice.proofs.SplicedExamples.EncodedPieces.{number_piece, length_piece, number_encoded, length_encoded, encode_themselves}
 use Rattle.mvt_splice.proofs.SplicedTiles.SplicedWholes.{spliced_is_tile}
 use Rattle.mvt_splice.proofs.SplicedTiles.ValidFeatures.{rings_are_valid_after}
 use Rattle.mvt_splice.proofs.SplicedTiles.ValidSplices.{small_after, spliced_is_valid}
@@ -36,7 +36,7 @@ redrawn_known numbers same = record {
   others = refl;
   drawn = length_piece 4 right_way;
   one = refl;
-  numbers = subst (λ (list : List ℕ). VarintList right_way 0 list (length right_way)) (sym same) (spell_themselves right_way right_nine.small);
+  numbers = subst (λ (list : List ℕ). VarintList right_way 0 list (length right_way)) (sym same) (encode_themselves right_way right_nine.small);
 }
 
 -- the layer that is left
@@ -49,11 +49,11 @@ layer_known numbers same = record {
   whole = layer_pieced right_way wrong_way wrong_way right_nine wrong_nine wrong_nine;
   pieces_after = layer_left;
   whole_after = record {
-    spelled = (
-      length_spelled 1 (97 ∷ []) (omega arith) (omega arith) (omega arith),
+    encoded = (
+      length_encoded 1 (97 ∷ []) (omega arith) (omega arith) (omega arith),
       (
-        length_spelled 2 (bytes_of (feature_pieces right_way)) (omega arith) (omega arith) (omega arith),
-        (length_spelled 2 (bytes_of (feature_pieces right_way)) (omega arith) (omega arith) (omega arith), (number_spelled 15 2 (omega arith) (omega arith) (omega arith), tt)),
+        length_encoded 2 (bytes_of (feature_pieces right_way)) (omega arith) (omega arith) (omega arith),
+        (length_encoded 2 (bytes_of (feature_pieces right_way)) (omega arith) (omega arith) (omega arith), (number_encoded 15 2 (omega arith) (omega arith) (omega arith), tt)),
       ),
     );
     joined = refl;
@@ -90,7 +90,7 @@ spliced_known numbers same = record {
   pieces = tile_pieces;
   whole = tile_pieced;
   pieces_after = length_piece 3 (bytes_of layer_left) ∷ [];
-  whole_after = record { spelled = (length_spelled 3 (bytes_of layer_left) (omega arith) (omega arith) (omega arith), tt); joined = refl };
+  whole_after = record { encoded = (length_encoded 3 (bytes_of layer_left) (omega arith) (omega arith) (omega arith), tt); joined = refl };
   layers = (
     length_piece 3 (bytes_of layer_left),
     [],
@@ -121,7 +121,7 @@ tile_left numbers same = ap (λ (list : List ℕ). example_tile (example_feature
 rings_known : HasRings (type_number polygon) right_way (triangle ∷ [])
 rings_known = record {
   typed = refl;
-  spelled = record {
+  encoded = record {
     kind = refl;
     able = (
       (
@@ -145,7 +145,7 @@ rings_known = record {
       ),
       omega arith,
     );
-    spelled = refl;
+    encoded = refl;
   };
 }
 

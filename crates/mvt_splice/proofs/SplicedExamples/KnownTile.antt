@@ -12,7 +12,7 @@ use Rattle.mvt_wire.specs.declared.schema.Shape.TheVariants.{Embedded, Text, Uin
 use Rattle.mvt_splice.specs.Examples.{right_way, wrong_way, bytes_before, example_feature, example_tile}
 use Rattle.mvt_splice.specs.Splice.{Piece, bytes_of, IsPieced}
 use Rattle.mvt_splice.proofs.SplicedExamples.SchemaRules.{schema_by_rules, fits_by, varint_fits, delimited_fits}
-use Rattle.mvt_splice.proofs.SplicedExamples.SpelledPieces.{number_piece, length_piece, number_spelled, length_spelled, spell_themselves}
+use Rattle.mvt_splice.proofs.SplicedExamples.EncodedPieces.{number_piece, length_piece, number_encoded, length_encoded, encode_themselves}
 use Rattle.mvt_splice.proofs.SplicedTiles.LoneMessages.{StatesFeature, StatesFeature-same, StatesLayer, StatesLayer-same, StatesTile, StatesTile-same, FeatureAlone, LayerAlone, joined_states, tile_placed}
 use Rattle.mvt_splice.proofs.SplicedTiles.PiecedMessages.{fields_in}
 
@@ -42,18 +42,18 @@ feature_pieces numbers = number_piece 3 3 ∷ length_piece 4 numbers ∷ []
 pub feature_pieced : (numbers : List ℕ) → AreNine numbers → IsPieced (bytes_of (feature_pieces numbers)) (feature_pieces numbers)
 feature_pieced numbers nine =
     let count = nine.count in
-    record { spelled = (number_spelled 3 3 (omega arith) (omega arith) (omega arith), (length_spelled 4 numbers (omega arith) (omega arith) (omega arith), tt)); joined = refl }
+    record { encoded = (number_encoded 3 3 (omega arith) (omega arith) (omega arith), (length_encoded 4 numbers (omega arith) (omega arith) (omega arith), tt)); joined = refl }
 
 feature_states : (numbers : List ℕ) → AreNine numbers → StatesFeature (fields_in (feature_pieces numbers)) (example_feature numbers)
 feature_states numbers nine =
     let small = All-weaker (λ (n : ℕ). n < 128) (λ (n : ℕ). n < 2 ^ 32) (λ n low. omega arith) numbers nine.small in
-    let spelled = spell_themselves numbers nine.small in
+    let encoded = encode_themselves numbers nine.small in
     record {
       keeps = schema_by_rules messages.Feature (fields_in (feature_pieces numbers))
           (All-from_recursion (FitsRule messages.Feature) (fields_in (feature_pieces numbers)) (
             fits_by messages.Feature (number_piece 3 3).field (field_rule 3 GeometryType Once) refl (varint_fits (field_rule 3 GeometryType Once) 3 1 refl refl),
             (
-              fits_by messages.Feature (length_piece 4 numbers).field (field_rule 4 Numbers AtLeastOnce) refl (delimited_fits (field_rule 4 Numbers AtLeastOnce) 2 numbers refl (λ shape. absurd (cc)) (λ shape. (numbers, spelled, small))),
+              fits_by messages.Feature (length_piece 4 numbers).field (field_rule 4 Numbers AtLeastOnce) refl (delimited_fits (field_rule 4 Numbers AtLeastOnce) 2 numbers refl (λ shape. absurd (cc)) (λ shape. (numbers, encoded, small))),
               tt,
             ),
           )) (
@@ -64,7 +64,7 @@ feature_states numbers nine =
       id = refl;
       tags = refl;
       kind = refl;
-      geometry = (numbers, [], spelled, refl, sym (append-nil numbers));
+      geometry = (numbers, [], encoded, refl, sym (append-nil numbers));
     }
 
 pub feature_alone_of : (numbers : List ℕ) → AreNine numbers → FeatureAlone (bytes_of (feature_pieces numbers)) (example_feature numbers)
@@ -131,15 +131,15 @@ layer_pieced first second third one two three =
     let second_long = feature_long second two in
     let third_long = feature_long third three in
     record {
-      spelled = (
-        length_spelled 1 (97 ∷ []) (omega arith) (omega arith) (omega arith),
+      encoded = (
+        length_encoded 1 (97 ∷ []) (omega arith) (omega arith) (omega arith),
         (
-          length_spelled 2 (bytes_of (feature_pieces first)) (omega arith) (omega arith) (omega arith),
+          length_encoded 2 (bytes_of (feature_pieces first)) (omega arith) (omega arith) (omega arith),
           (
-            length_spelled 2 (bytes_of (feature_pieces second)) (omega arith) (omega arith) (omega arith),
+            length_encoded 2 (bytes_of (feature_pieces second)) (omega arith) (omega arith) (omega arith),
             (
-              length_spelled 2 (bytes_of (feature_pieces third)) (omega arith) (omega arith) (omega arith),
-              (number_spelled 15 2 (omega arith) (omega arith) (omega arith), tt),
+              length_encoded 2 (bytes_of (feature_pieces third)) (omega arith) (omega arith) (omega arith),
+              (number_encoded 15 2 (omega arith) (omega arith) (omega arith), tt),
             ),
           ),
         ),
@@ -158,7 +158,7 @@ abbrev pub tile_pieces : List Piece
 tile_pieces = length_piece 3 (bytes_of (layer_pieces right_way wrong_way wrong_way)) ∷ []
 
 pub tile_pieced : IsPieced bytes_before tile_pieces
-tile_pieced = record { spelled = (length_spelled 3 (bytes_of (layer_pieces right_way wrong_way wrong_way)) (omega arith) (omega arith) (omega arith), tt); joined = refl }
+tile_pieced = record { encoded = (length_encoded 3 (bytes_of (layer_pieces right_way wrong_way wrong_way)) (omega arith) (omega arith) (omega arith), tt); joined = refl }
 
 tile_states : StatesTile (fields_in tile_pieces) (example_tile (example_feature right_way ∷ example_feature wrong_way ∷ example_feature wrong_way ∷ []))
 tile_states = record {

@@ -5,7 +5,7 @@ use Rattle.mvt_wire.specs.Payload.{bytes_in}
 use Rattle.mvt_wire.specs.Walk.{Walk, IsOver, GivesField}
 use Rattle.mvt_splice.specs.Splice.{Fate, stays, Piece, IsPieced, message_in, ordinal_after, Becomes, BecomesInLayer, AreInLayer, IsSplicedLayer}
 use Rattle.mvt_splice.specs.Calls.Messages.{IsLayerMessage}
-use Rattle.mvt_splice.specs.Calls.Writing.{Spells, Writes}
+use Rattle.mvt_splice.specs.Calls.Writing.{EncodesPiece, Writes}
 use Rattle.mvt_splice.proofs.Splicing.Pieces.{IsPieceAt, pieced_whole}
 use Rattle.mvt_splice.proofs.Splicing.Walks.{HasPassed, HasPassed-none, HasPassed-more, HasPassed-over, piece_given, message_in-own, message_in-other, IsPieced-more, IsPieced-none, Writes-copy, ordinal_through, ordinal_through-push, few_ordinals}
 
@@ -66,10 +66,10 @@ module _ {fates : ℕ → Fate} {message out : List ℕ} {old new : Walk} {featu
         }
 
     -- a field that is no feature was copied
-    pub IsSplicing-other : entry.number ≢ 2 → (spelling : List ℕ) → ((piece : Piece) → IsPieceAt message old.at new.at entry piece → Spells spelling piece) → longer ≡ out ++ spelling → IsSplicing fates message longer new feature
-    IsSplicing-other other spelling spells copied =
+    pub IsSplicing-other : entry.number ≢ 2 → (encoding : List ℕ) → ((piece : Piece) → IsPieceAt message old.at new.at entry piece → EncodesPiece encoding piece) → longer ≡ out ++ encoding → IsSplicing fates message longer new feature
+    IsSplicing-other other encoding encodes copied =
         let found = piece_given {new = new} so_far.passed given in
-        further found.0 found.1 (found.0 ∷ []) (Writes-copy out longer spelling found.0 (spells found.0 found.1) copied) None (message_in-other found.1 2 other) refl
+        further found.0 found.1 (found.0 ∷ []) (Writes-copy out longer encoding found.0 (encodes found.0 found.1) copied) None (message_in-other found.1 2 other) refl
 
     -- what became of a feature was written
     pub IsSplicing-feature : (part : List ℕ) → entry.number ≡ 2 → bytes_in entry.content ≡ Some part

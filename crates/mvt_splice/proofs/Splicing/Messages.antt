@@ -74,7 +74,7 @@ module _ (bytes : List ℕ) (end : ℕ) (message : Message) (field_number : ℕ)
             let field = list.1.1 in
             let same : spans_of field_number (entry ∷ entries) ≡ cons_option (span_of entry.content) (spans_of field_number entries) =
             ap (filter_map span_of) (contents_of-own field_number entry entries (eq-eqb entry.number field_number own)) in
-            let one = embedded_one field.key_end list.1.0 entry.content (spans_of field_number entries) field.key.spelled.within field.payload type (subst (All Stands) same stand) in
+            let one = embedded_one field.key_end list.1.0 entry.content (spans_of field_number entries) field.key.encoded.within field.payload type (subst (All Stands) same stand) in
             All-cons (EmbedsWhole field_number Holds) entry entries (λ also. one.0) (embedded list.1.0 to entries list.1.2 later one.1)
         | inr other ↦
             let same : spans_of field_number (entry ∷ entries) ≡ spans_of field_number entries =

@@ -6,7 +6,7 @@ use Rattle.mvt_wire.specs.Field.{Content, delimited, Entry}
 use Rattle.mvt_wire.specs.Payload.{bytes_in}
 use Rattle.mvt_wire.specs.Walk.{Walk, IsOver, GivesField}
 use Rattle.mvt_splice.specs.Splice.{Fate, stays, fate_in, bytes_of, Piece, HasPayload, IsPieced, message_in, ordinal_after, BecomesInTile, AreInTile, IsSpliced}
-use Rattle.mvt_splice.specs.Calls.Writing.{Spells, Writes}
+use Rattle.mvt_splice.specs.Calls.Writing.{EncodesPiece, Writes}
 use Rattle.mvt_splice.specs.declared.change.Change.{Change}
 use Rattle.mvt_splice.proofs.Splicing.Pieces.{IsPieceAt}
 use Rattle.mvt_splice.proofs.Splicing.Walks.{HasPassed, HasPassed-none, HasPassed-more, HasPassed-over, piece_given, message_in-own, message_in-other, IsPieced-more, IsPieced-none, Writes-copy, ordinal_through, ordinal_through-push, few_ordinals}
@@ -68,10 +68,10 @@ module _ {changes : List Change} {message out : List ℕ} {old new : Walk} {laye
         }
 
     -- a field that is no layer was copied
-    pub IsSplicingTile-other : entry.number ≢ 3 → (spelling : List ℕ) → ((piece : Piece) → IsPieceAt message old.at new.at entry piece → Spells spelling piece) → longer ≡ out ++ spelling → IsSplicingTile changes message longer new layer
-    IsSplicingTile-other other spelling spells copied =
+    pub IsSplicingTile-other : entry.number ≢ 3 → (encoding : List ℕ) → ((piece : Piece) → IsPieceAt message old.at new.at entry piece → EncodesPiece encoding piece) → longer ≡ out ++ encoding → IsSplicingTile changes message longer new layer
+    IsSplicingTile-other other encoding encodes copied =
         let found = piece_given {new = new} so_far.passed given in
-        further found.0 found.1 found.0 (Writes-copy out longer spelling found.0 (spells found.0 found.1) copied) None (message_in-other found.1 3 other) refl
+        further found.0 found.1 found.0 (Writes-copy out longer encoding found.0 (encodes found.0 found.1) copied) None (message_in-other found.1 3 other) refl
 
     -- what became of a layer was written
     pub IsSplicingTile-layer : (part : List ℕ) → entry.number ≡ 3 → bytes_in entry.content ≡ Some part

@@ -100,7 +100,7 @@ pub record IsScanning (message : Message) (bytes : List ℕ) (from at : ℕ) (sc
 pub IsScanning-more : {message : Message} {bytes : List ℕ} {from at : ℕ} {before after : FieldScan} {entries : List Entry} {read : Field × ℕ} → IsScanning message bytes from at before entries
     → PassesNext message bytes at before after read → IsScanning message bytes from read.1 after (entries ++ entry_of read.0 ∷ [])
 IsScanning-more so_far next = record {
-  passed = FieldList-push _ _ _ _ _ _ so_far.passed next.given.here next.given.spelled;
+  passed = FieldList-push _ _ _ _ _ _ so_far.passed next.given.here next.given.encoded;
   passes = next.passed _ so_far.passes;
 }
 

@@ -1,6 +1,6 @@
 use Rattle.std.proofs.Common.{ℕ, subst}
 use Rattle.mvt_splice.specs.Calls.Writing.{WritesVarint}
-use Rattle.mvt_splice.proofs.Splicing.Spellings.{Writes-delimited}
+use Rattle.mvt_splice.proofs.Splicing.Encodings.{Writes-delimited}
 use Rattle.mvt_splice.proofs.writing.add_delimited.Goals as goal
 
 pub returns : goal.returns
