@@ -87,7 +87,7 @@ defect_or_end bytes from t end code leading defect (inr (inr p)) = varint_or_def
 pub one_field_defect : (bytes : List ℕ) (at : ℕ) (c d : WireCause) → FieldDefect bytes at c → FieldDefect bytes at d → c ≡ d
 one_field_defect bytes at c d (key a x is) (key b y also) =
     is ∙ ap (λ (code : WireCode). cause_at code at 0) (one_defect_of_varint (drop at bytes) a b x y) ∙ sym also
-one_field_defect bytes at c d (key a x is) (key_out_of_range to n encoded range also) = absurd (varint_or_defect bytes at to n an encoded x)
+one_field_defect bytes at c d (key a x is) (key_out_of_range to n encoded range also) = absurd (varint_or_defect bytes at to n a encoded x)
 one_field_defect bytes at c d (key a x is) (refused_type to n t k r also) = absurd (varint_or_defect bytes at to _ a k.encoded x)
 one_field_defect bytes at c d (key a x is) (leading_varint to n t b k l y also) = absurd (varint_or_defect bytes at to _ a k.encoded x)
 one_field_defect bytes at c d (key a x is) (past_end to n t end k e p also) = absurd (varint_or_defect bytes at to _ a k.encoded x)
