@@ -1,7 +1,7 @@
 //! Which change is about a feature, by one walk over the changes in the order of their features.
 ghost use Rattle.std.specs.Prelude.{◌≡◌, ◌↔◌, ℕ, IfNone, IfSome, IsTrue};
 ghost use Rattle.mvt_splice.specs.Splice.{Fate, fate_in, fate_of, AreChangesInOrder, IsBefore};
-ghost use Rattle.mvt_splice.specs.Calls.Fates.{AreLeft, BeginFrom};
+ghost use Rattle.mvt_splice.specs.Calls.Fates.{AreChangesLeft, BeginFrom};
 
 use crate::change::Change;
 
@@ -23,7 +23,7 @@ pub fn are_in_order(changes: &[Change]) -> bool
 /// ordinals.
 pub(crate) fn changes_from(changes: &[Change], layer: usize, feature: usize) -> &[Change]
     requires { AreChangesInOrder changes.now }
-    ensures left { AreLeft changes.now layer feature result.now }
+    ensures left { AreChangesLeft changes.now layer feature result.now }
     ensures begin { BeginFrom result.now layer feature }
 {
     let mut first = 0;

@@ -3,7 +3,7 @@ ghost use Rattle.std.specs.Prelude.{List, IfOk, OnOk};
 ghost use Rattle.mvt_splice.specs.Splice.{Piece, fate_in, AreChangesInOrder, Becomes, IsSplicedLayer};
 ghost use Rattle.mvt_splice.specs.Calls.Fates.{BeginFrom};
 ghost use Rattle.mvt_splice.specs.Calls.Messages.{IsFeatureMessage, IsLayerMessage};
-ghost use Rattle.mvt_splice.specs.Calls.Writing.{EncodesPiece, Writes};
+ghost use Rattle.mvt_splice.specs.Calls.Writing.{EncodesPiece, WritesFields};
 
 use crate::change::Change;
 use crate::fates::{change_of, changes_from};
@@ -68,7 +68,7 @@ fn add_feature(
     requires in_order { AreChangesInOrder changes.now }
     requires begin { BeginFrom changes.now layer feature }
     ensures { OnOk result ((piece : Piece) → EncodesPiece encoding.now piece → (after : List Piece)
-        × Writes after out.old.items out.new.items
+        × WritesFields after out.old.items out.new.items
         × Becomes (fate_in changes.now layer feature) message.now piece after) }
 {
     let Some(change) = change_of(changes, layer, feature) else {

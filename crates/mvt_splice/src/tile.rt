@@ -4,7 +4,7 @@ ghost use Rattle.mvt_rules.specs.Tile.{TileRecord, IsTile};
 ghost use Rattle.mvt_splice.specs.Splice.{Piece, fate_in, message_in, AreChangesInOrder, BecomesInTile, IsSpliced};
 ghost use Rattle.mvt_splice.specs.Calls.Fates.{BeginFrom};
 ghost use Rattle.mvt_splice.specs.Calls.Messages.{IsLayerMessage};
-ghost use Rattle.mvt_splice.specs.Calls.Writing.{EncodesPiece, Writes};
+ghost use Rattle.mvt_splice.specs.Calls.Writing.{EncodesPiece, WritesFields};
 
 use crate::change::Change;
 use crate::fates::{changes_from, has_change_in};
@@ -63,7 +63,7 @@ fn add_layer(
     requires begin { BeginFrom changes.now layer 0 }
     ensures { OnOk result ((piece : Piece) → EncodesPiece encoding.now piece
         → message_in 3 piece.field ≡ Some message.now → (after : Piece)
-        × Writes (after ∷ []) out.old.items out.new.items
+        × WritesFields (after ∷ []) out.old.items out.new.items
         × BecomesInTile (fate_in changes.now layer) (Some message.now) piece after) }
 {
     if !has_change_in(changes, layer) {

@@ -19,14 +19,14 @@ content_moved by (eight_bytes part) = eight_bytes part
 content_moved by (delimited from part) = delimited (by + from) part
 content_moved by (four_bytes part) = four_bytes part
 
-abbrev pub moved : ℕ → Entry → Entry
-moved by entry = record { number = entry.number; at = by + entry.at; content = content_moved by entry.content }
+abbrev pub entry_moved : ℕ → Entry → Entry
+entry_moved by entry = record { number = entry.number; at = by + entry.at; content = content_moved by entry.content }
 
 -- each piece is one field's encoding, the first of them from a place on and each next one after it
 abbrev pub AreEncodings : ℕ → List (List ℕ) → List Entry → Type 0
 AreEncodings at [] [] = Unit {0}
 AreEncodings at (piece ∷ pieces) (entry ∷ entries) =
-    (encoded : Entry) × IsFieldEncoding piece encoded × (entry ≡ moved at encoded) × AreEncodings (at + length piece) pieces entries
+    (encoded : Entry) × IsFieldEncoding piece encoded × (entry ≡ entry_moved at encoded) × AreEncodings (at + length piece) pieces entries
 AreEncodings at [] (entry ∷ entries) = ⊥
 AreEncodings at (piece ∷ pieces) [] = ⊥
 

@@ -26,13 +26,13 @@ MayBeMended (HoleInHole layer feature number ring vertex other) = Unit {0}
 MayBeMended (InPolygon layer feature number vertex other) = Unit {0}
 
 -- the fault is of the feature at this place
-abbrev pub IsAt : FeaturePlace → Fault → Type 0
-IsAt place fault = subject_of fault ≡ of_feature place.layer place.feature
+abbrev pub IsOfPlace : FeaturePlace → Fault → Type 0
+IsOfPlace place fault = subject_of fault ≡ of_feature place.layer place.feature
 
 -- these are the places of the first faults, up to one that isn't mended whatever its feature is
 pub record ArePlacesOf (faults : List Fault) (places : List FeaturePlace) : Type 0 where
   pub few : length places ≤ length faults
-  pub each : (at : ℕ) (place : FeaturePlace) → slice_get places at ≡ Some place → (fault : Fault) × (slice_get faults at ≡ Some fault) × MayBeMended fault × IsAt place fault
+  pub each : (at : ℕ) (place : FeaturePlace) → slice_get places at ≡ Some place → (fault : Fault) × (slice_get faults at ≡ Some fault) × MayBeMended fault × IsOfPlace place fault
   pub stop : (fault : Fault) → slice_get faults (length places) ≡ Some fault → ¬ MayBeMended fault
 
 -- the place is before the feature of these ordinals

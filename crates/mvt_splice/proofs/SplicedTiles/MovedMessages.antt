@@ -3,7 +3,7 @@ use Rattle.std.proofs.Common.{◌≡◌, ℕ, ◌+◌, ◌-◌, ◌*◌, ◌≤�
 use Rattle.std.proofs.lemmas.List.{drop-drop, drop-take, length-take-le}
 use Rattle.mvt_wire.specs.Varint.{IsVarint, EncodesVarint}
 use Rattle.mvt_wire.specs.Field.{Content, varint, delimited, Entry, wire_type_of, IsKey, IsPayload, IsField}
-use Rattle.mvt_wire.specs.Message.{FieldList, IsMessage, content_moved, moved}
+use Rattle.mvt_wire.specs.Message.{FieldList, IsMessage, content_moved, entry_moved}
 use Rattle.mvt_wire.specs.Payload.{Span}
 use Rattle.mvt_rules.specs.Scope.{IsMessageAt}
 use Rattle.mvt_wire.proofs.Encoding.Entries.{entry_at, field_extent}
@@ -41,7 +41,7 @@ IsPayload-raised bytes by from to (delimited start part) p =
     (p.0, EncodesVarint-raised bytes by from start p.0 p.1, omega arith, within-raised bytes by to (omega arith) p.3, p.4 ∙ sym (same_part bytes by start to))
 IsPayload-raised bytes by from to content p = (omega arith, within-raised bytes by to (omega arith) p.1, p.2 ∙ sym (same_part bytes by from to))
 
-IsField-raised : (bytes : List ℕ) (by to : ℕ) (e : Entry) → IsField (drop by bytes) to e → IsField bytes (by + to) (moved by e)
+IsField-raised : (bytes : List ℕ) (by to : ℕ) (e : Entry) → IsField (drop by bytes) to e → IsField bytes (by + to) (entry_moved by e)
 IsField-raised bytes by to e field = record {
   key_end = by + field.key_end;
   key = subst (λ (t : ℕ). IsKey bytes (by + e.at) (by + field.key_end) e.number t) (sym (wire_type-moved by e.content))
@@ -49,7 +49,7 @@ IsField-raised bytes by to e field = record {
   payload = IsPayload-raised bytes by field.key_end to e.content field.payload;
 }
 
-FieldList-raised : (bytes : List ℕ) (by from : ℕ) (entries : List Entry) (to : ℕ) → FieldList (drop by bytes) from entries to → FieldList bytes (by + from) (map (moved by) entries) (by + to)
+FieldList-raised : (bytes : List ℕ) (by from : ℕ) (entries : List Entry) (to : ℕ) → FieldList (drop by bytes) from entries to → FieldList bytes (by + from) (map (entry_moved by) entries) (by + to)
 FieldList-raised bytes by from [] to list = ap (λ (k : ℕ). by + k) list
 FieldList-raised bytes by from (entry ∷ entries) to list =
     (ap (λ (k : ℕ). by + k) list.0, (by + list.1.0, IsField-raised bytes by list.1.0 entry list.1.1, FieldList-raised bytes by list.1.0 entries to list.1.2))
@@ -87,7 +87,7 @@ IsPayload-lowered bytes by from to content p =
     let place : to ≡ by + (to - by) = told_from by to (omega arith) in
     (content, refl, (omega arith, omega arith, p.2 ∙ ap (λ (k : ℕ). slice_range bytes (by + from) k) place ∙ same_part bytes by from (to - by)))
 
-IsField-lowered : (bytes : List ℕ) (by to : ℕ) (e : Entry) → by ≤ e.at → IsField bytes to e → (u : Entry) × (e ≡ moved by u) × IsField (drop by bytes) (to - by) u
+IsField-lowered : (bytes : List ℕ) (by to : ℕ) (e : Entry) → by ≤ e.at → IsField bytes to e → (u : Entry) × (e ≡ entry_moved by u) × IsField (drop by bytes) (to - by) u
 IsField-lowered bytes by to e following field =
     let k = field.key in
     let forward = k.encoded.forward in
@@ -114,7 +114,7 @@ IsField-lowered bytes by to e following field =
     )
 
 FieldList-lowered : (bytes : List ℕ) (by from : ℕ) (entries : List Entry) (to : ℕ) → by ≤ from → FieldList bytes from entries to
-    → (alone : List Entry) × (entries ≡ map (moved by) alone) × FieldList (drop by bytes) (from - by) alone (to - by)
+    → (alone : List Entry) × (entries ≡ map (entry_moved by) alone) × FieldList (drop by bytes) (from - by) alone (to - by)
 FieldList-lowered bytes by from [] to following list = ([], refl, ap (λ (k : ℕ). k - by) list)
 FieldList-lowered bytes by from (entry ∷ entries) to following list =
     let here : entry.at ≡ from = list.0 in
@@ -122,8 +122,8 @@ FieldList-lowered bytes by from (entry ∷ entries) to following list =
     let extent = field_extent bytes next entry list.1.1 in
     let found = IsField-lowered bytes by next entry (omega arith) list.1.1 in
     let rest = FieldList-lowered bytes by next entries to (omega arith) list.1.2 in
-    let head : entry ≡ moved by found.0 = found.1 in
-    let tail : entries ≡ map (moved by) rest.0 = rest.1 in
+    let head : entry ≡ entry_moved by found.0 = found.1 in
+    let tail : entries ≡ map (entry_moved by) rest.0 = rest.1 in
     let place : entry.at ≡ by + found.0.at = ap (λ (e : Entry). e.at) head in
     (found.0 ∷ rest.0, (cc), (omega arith, (next - by, found.2, rest.2)))
 
@@ -141,7 +141,7 @@ rest_of_front bytes span part held =
 
 -- a message in the bytes is a message by itself
 pub message_alone : (bytes : List ℕ) (span : Span) (part : List ℕ) (entries : List Entry) → Holds bytes span part → IsMessageAt bytes span entries
-    → (alone : List Entry) × (entries ≡ map (moved span.from) alone) × IsMessage part 0 alone
+    → (alone : List Entry) × (entries ≡ map (entry_moved span.from) alone) × IsMessage part 0 alone
 message_alone bytes span part entries held whole =
     let forward = held.forward in
     let front = take span.to bytes in
@@ -156,7 +156,7 @@ message_alone bytes span part entries held whole =
     (found.0, found.1, subst (λ (list : List ℕ). FieldList list 0 found.0 (length part)) rest list)
 
 -- and a message by itself is one wherever its bytes lie
-pub message_placed : (bytes : List ℕ) (span : Span) (part : List ℕ) (alone : List Entry) → Holds bytes span part → IsMessage part 0 alone → IsMessageAt bytes span (map (moved span.from) alone)
+pub message_placed : (bytes : List ℕ) (span : Span) (part : List ℕ) (alone : List Entry) → Holds bytes span part → IsMessage part 0 alone → IsMessageAt bytes span (map (entry_moved span.from) alone)
 message_placed bytes span part alone held whole =
     let forward = held.forward in
     let front = take span.to bytes in
@@ -168,5 +168,5 @@ message_placed bytes span part alone held whole =
     let list = FieldList-raised front span.from 0 alone (length part) list in
     let begin : span.from + 0 ≡ span.from = omega arith in
     let end : span.from + length part ≡ length front = omega arith in
-    let list = subst (λ (from : ℕ). FieldList front from (map (moved span.from) alone) (span.from + length part)) begin list in
-    subst (λ (to : ℕ). FieldList front span.from (map (moved span.from) alone) to) end list
+    let list = subst (λ (from : ℕ). FieldList front from (map (entry_moved span.from) alone) (span.from + length part)) begin list in
+    subst (λ (to : ℕ). FieldList front span.from (map (entry_moved span.from) alone) to) end list

@@ -2,7 +2,7 @@
 use Rattle.std.proofs.Common.{◌≡◌, ℕ, ◌+◌, List, [], ◌∷◌, ◌++◌, length, map, refl, sym, ◌∙◌, ap, subst}
 use Rattle.std.specs.List.{concat}
 use Rattle.mvt_wire.specs.Field.{Entry}
-use Rattle.mvt_wire.specs.Message.{IsMessage, moved, AreEncodings}
+use Rattle.mvt_wire.specs.Message.{IsMessage, entry_moved, AreEncodings}
 use Rattle.mvt_rules.specs.Tile.{Each}
 use Rattle.mvt_wire.proofs.Encoding.FieldEncodings.{joined}
 use Rattle.mvt_splice.specs.Splice.{Piece, bytes_of, AreEncoded, IsPieced}
@@ -15,7 +15,7 @@ fields_in pieces = map (λ (piece : Piece). piece.field) pieces
 -- the same, with places from the first byte of them all
 abbrev pub placed : ℕ → List Piece → List Entry
 placed at [] = []
-placed at (piece ∷ pieces) = moved at piece.field ∷ placed (at + length piece.bytes) pieces
+placed at (piece ∷ pieces) = entry_moved at piece.field ∷ placed (at + length piece.bytes) pieces
 
 encodings : (at : ℕ) (pieces : List Piece) → AreEncoded pieces → AreEncodings at (map (λ (piece : Piece). piece.bytes) pieces) (placed at pieces)
 encodings at [] encoded = tt

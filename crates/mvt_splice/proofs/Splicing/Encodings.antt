@@ -10,7 +10,7 @@ use Rattle.mvt_wire.specs.Number.{VarintList}
 use Rattle.mvt_wire.proofs.Encoding.Entries.{EncodesVarint-append}
 use Rattle.mvt_wire.proofs.Encoding.Varints.{sum_of_groups-push}
 use Rattle.mvt_splice.specs.Splice.{Piece, HasPayload}
-use Rattle.mvt_splice.specs.Calls.Writing.{WritesVarint, Writes}
+use Rattle.mvt_splice.specs.Calls.Writing.{WritesVarint, WritesFields}
 
 -- the groups that were written, all but the last, and what is left of the number
 pub record IsWritingVarint (number : ℕ) (before out : List ℕ) (rest : ℕ) : Type 0 where
@@ -157,9 +157,9 @@ encoded_delimited field_number key size payload first last is_key is_size =
       },
     )
 
-pub Writes-delimited : (field_number : ℕ) (before keyed sized after payload : List ℕ) → 1 ≤ field_number → field_number < 16 → WritesVarint (field_number * 8 + 2) before keyed → WritesVarint (length payload) keyed sized → after ≡ sized ++ payload
-    → (piece : Piece) × HasPayload field_number payload piece.field × Writes (piece ∷ []) before after
-Writes-delimited field_number before keyed sized after payload first last key size written =
+pub WritesFields-delimited : (field_number : ℕ) (before keyed sized after payload : List ℕ) → 1 ≤ field_number → field_number < 16 → WritesVarint (field_number * 8 + 2) before keyed → WritesVarint (length payload) keyed sized → after ≡ sized ++ payload
+    → (piece : Piece) × HasPayload field_number payload piece.field × WritesFields (piece ∷ []) before after
+WritesFields-delimited field_number before keyed sized after payload first last key size written =
     let parts : (before ++ key.0) ++ size.0 ++ payload ≡ before ++ (key.0 ++ (size.0 ++ payload)) =
     append_assoc (before ++ key.0) size.0 payload ∙ append_assoc before key.0 (size.0 ++ payload) in (
       delimited_piece field_number key.0 size.0 payload,

@@ -3,7 +3,7 @@ use Rattle.std.proofs.Common.{◌≡◌, ℕ, ◌+◌, ◌-◌, ◌*◌, ◌≤�
 use Rattle.std.proofs.lemmas.List.{drop-drop, drop_at}
 use Rattle.mvt_wire.specs.Varint.{IsVarint, EncodesVarint}
 use Rattle.mvt_wire.specs.Field.{Content, varint, delimited, Entry, wire_type_of, IsKey, IsPayload, IsField, IsFieldEncoding}
-use Rattle.mvt_wire.specs.Message.{content_moved, moved}
+use Rattle.mvt_wire.specs.Message.{content_moved, entry_moved}
 use Rattle.mvt_wire.proofs.Encoding.Entries.{entry_at, slice_range-append, payload_extent}
 
 -- a part of a list is the same part, further on, of the list after others
@@ -52,7 +52,7 @@ IsPayload-following front bytes from to content p =
     (content, refl, (omega arith, omega arith, p.2 ∙ ap (λ (k : ℕ). slice_range (front ++ bytes) (length front + from) k) place ∙ slice_range-prepend front bytes from (to - length front)))
 
 -- a field after a front of the list is a field of the rest, with its places counted from there
-IsField-following : (front bytes : List ℕ) (to : ℕ) (e : Entry) → length front ≤ e.at → IsField (front ++ bytes) to e → (u : Entry) × (e ≡ moved (length front) u) × IsField bytes (to - length front) u
+IsField-following : (front bytes : List ℕ) (to : ℕ) (e : Entry) → length front ≤ e.at → IsField (front ++ bytes) to e → (u : Entry) × (e ≡ entry_moved (length front) u) × IsField bytes (to - length front) u
 IsField-following front bytes to e following field =
     let k = field.key in
     let at : e.at ≡ length front + (e.at - length front) = told_from (length front) e.at following in
@@ -108,13 +108,13 @@ IsField-within bytes more to e within field =
     }
 
 -- what a field after other bytes and before others is moved from is its encoding
-encoded_alone : (by : ℕ) (piece rest : List ℕ) (entry encoded : Entry) → entry.at ≡ by → entry ≡ moved by encoded → IsField (piece ++ rest) (length piece) encoded → IsFieldEncoding piece encoded
+encoded_alone : (by : ℕ) (piece rest : List ℕ) (entry encoded : Entry) → entry.at ≡ by → entry ≡ entry_moved by encoded → IsField (piece ++ rest) (length piece) encoded → IsFieldEncoding piece encoded
 encoded_alone by piece rest entry encoded start told field =
     let places : entry.at ≡ by + encoded.at = ap (λ (entry : Entry). entry.at) told in
     (omega arith, IsField-within piece rest (length piece) encoded (omega arith) field)
 
 -- a field after other bytes and before others has an encoding, which is moved after the former
-pub encoding_between : (front piece rest : List ℕ) (entry : Entry) → entry.at ≡ length front → IsField (front ++ (piece ++ rest)) (length front + length piece) entry → (encoded : Entry) × IsFieldEncoding piece encoded × (entry ≡ moved (length front) encoded)
+pub encoding_between : (front piece rest : List ℕ) (entry : Entry) → entry.at ≡ length front → IsField (front ++ (piece ++ rest)) (length front + length piece) entry → (encoded : Entry) × IsFieldEncoding piece encoded × (entry ≡ entry_moved (length front) encoded)
 encoding_between front piece rest entry start field =
     let found = IsField-following front (piece ++ rest) (length front + length piece) entry (omega arith) field in
     let width : length front + length piece - length front ≡ length piece = omega arith in

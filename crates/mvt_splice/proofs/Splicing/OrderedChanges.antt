@@ -4,7 +4,7 @@ use Rattle.std.proofs.lemmas.List.{get_or-take, get_or_default, length-take, len
 use Rattle.std.proofs.lemmas.List.Quantifiers.{all_pairs_push}
 use Rattle.std.proofs.lemmas.Bool.{cases_lt, ne_eqb, eq-eqb, cond-true, cond-false}
 use Rattle.mvt_splice.specs.Splice.{stays, fate_of, fate_in, IsBefore, AreChangesInOrder}
-use Rattle.mvt_splice.specs.Calls.Fates.{IsFrom, AreLeft}
+use Rattle.mvt_splice.specs.Calls.Fates.{IsFrom, AreChangesLeft}
 use Rattle.mvt_splice.specs.declared.change.Change.{Change}
 
 -- the change is about a later feature
@@ -64,8 +64,8 @@ fate_none change (next ∷ changes) layer feature after in_order =
     ∙ fate_none next changes layer feature later (AreChangesInOrder-tail change (next ∷ changes) in_order)
 
 -- a change about an earlier feature is passed
-pub AreLeft-tail : (changes : List Change) (layer feature : ℕ) (change : Change) (left : List Change) → AreLeft changes layer feature (change ∷ left) → IsBefore change layer feature → AreLeft changes layer feature left
-AreLeft-tail changes layer feature change left are before = record {
+pub AreChangesLeft-tail : (changes : List Change) (layer feature : ℕ) (change : Change) (left : List Change) → AreChangesLeft changes layer feature (change ∷ left) → IsBefore change layer feature → AreChangesLeft changes layer feature left
+AreChangesLeft-tail changes layer feature change left are before = record {
   in_order = AreChangesInOrder-tail change left are.in_order;
   same = λ other_layer other_feature from.
       sym (fate_passed change left other_layer other_feature (not_about_before change other_layer other_feature (before_from change layer feature other_layer other_feature before from)))
@@ -78,9 +78,9 @@ fate_told (Some numbers) same = cc
 fate_told None same = cc
 
 -- what is left from a feature on, for all later ones
-pub AreLeft-later : (changes left further : List Change) (layer feature later_layer later_feature : ℕ) → AreLeft changes layer feature left → IsFrom later_layer later_feature layer feature
-    → AreLeft left later_layer later_feature further → AreLeft changes later_layer later_feature further
-AreLeft-later changes left further layer feature later_layer later_feature are later more = record {
+pub AreChangesLeft-later : (changes left further : List Change) (layer feature later_layer later_feature : ℕ) → AreChangesLeft changes layer feature left → IsFrom later_layer later_feature layer feature
+    → AreChangesLeft left later_layer later_feature further → AreChangesLeft changes later_layer later_feature further
+AreChangesLeft-later changes left further layer feature later_layer later_feature are later more = record {
   in_order = more.in_order;
   same = λ other_layer other_feature from. more.same other_layer other_feature from ∙ are.same other_layer other_feature (transitive later from);
 } where
@@ -95,8 +95,8 @@ pub IsFrom-own : (layer feature : ℕ) → IsFrom layer feature layer feature
 IsFrom-own layer feature = inr (refl, omega arith)
 
 -- all changes are left at first
-pub AreLeft-all : (changes : List Change) (layer feature : ℕ) → AreChangesInOrder changes → AreLeft changes layer feature changes
-AreLeft-all changes layer feature in_order = record { in_order = in_order; same = λ other_layer other_feature from. refl }
+pub AreChangesLeft-all : (changes : List Change) (layer feature : ℕ) → AreChangesInOrder changes → AreChangesLeft changes layer feature changes
+AreChangesLeft-all changes layer feature in_order = record { in_order = in_order; same = λ other_layer other_feature from. refl }
 
 -- the first of changes, and those after it
 first_of_all : (changes : List Change) (change : Change) → Some change ≡ slice_get changes 0 → (rest : List Change) × (changes ≡ change ∷ rest)
@@ -130,9 +130,9 @@ after_layer change layer feature place not other = elim (cases_lt layer change.l
 ]
 
 -- what is left from a feature on is left from a later one on
-pub AreLeft-on : (changes left : List Change) (layer feature later_layer later_feature : ℕ) → AreLeft changes layer feature left → IsFrom later_layer later_feature layer feature → AreLeft changes later_layer later_feature left
-AreLeft-on changes left layer feature later_layer later_feature are later =
-    AreLeft-later changes left left layer feature later_layer later_feature are later (AreLeft-all left later_layer later_feature are.in_order)
+pub AreChangesLeft-on : (changes left : List Change) (layer feature later_layer later_feature : ℕ) → AreChangesLeft changes layer feature left → IsFrom later_layer later_feature layer feature → AreChangesLeft changes later_layer later_feature left
+AreChangesLeft-on changes left layer feature later_layer later_feature are later =
+    AreChangesLeft-later changes left left layer feature later_layer later_feature are later (AreChangesLeft-all left later_layer later_feature are.in_order)
 
 before_before : (change next : Change) (layer feature : ℕ) → IsBefore change next.layer next.feature → IsBefore next layer feature → IsBefore change layer feature
 before_before change next layer feature (inl less) (inl more) = inl (omega arith)

@@ -6,7 +6,7 @@ use Rattle.std.proofs.lemmas.List.Edits.{length-between}
 use Rattle.std.proofs.lemmas.List.Elements.{All-nil, All-cons, All-head, All-tail}
 use Rattle.std.proofs.lemmas.List.Folds.{drop_split}
 use Rattle.mvt_wire.specs.Field.{Entry, IsField, IsFieldEncoding}
-use Rattle.mvt_wire.specs.Message.{IsMessage, moved, AreEncodings}
+use Rattle.mvt_wire.specs.Message.{IsMessage, entry_moved, AreEncodings}
 use Rattle.mvt_wire.specs.Payload.{fields_of, Span, count_of}
 use Rattle.mvt_rules.specs.Scope.{IsMessageAt}
 use Rattle.mvt_wire.proofs.Encoding.Entries.{field_extent}
@@ -30,7 +30,7 @@ bytes_of-push pieces piece = bytes_of-append pieces (piece ∷ []) ∙ ap (λ (l
 -- the fields of pieces that are joined from a place on
 abbrev pub fields_at : ℕ → List Piece → List Entry
 fields_at at [] = []
-fields_at at (piece ∷ pieces) = moved at piece.field ∷ fields_at (at + length piece.bytes) pieces
+fields_at at (piece ∷ pieces) = entry_moved at piece.field ∷ fields_at (at + length piece.bytes) pieces
 
 abbrev lists_of : List Piece → List (List ℕ)
 lists_of [] = []
@@ -54,7 +54,7 @@ whole_pieces bytes pieces pieced =
 pub record IsPieceAt (bytes : List ℕ) (from next : ℕ) (entry : Entry) (piece : Piece) : Type 0 where
   pub encoded : IsFieldEncoding piece.bytes piece.field
   pub same : piece.bytes ≡ slice_range bytes from next
-  pub told : entry ≡ moved from piece.field
+  pub told : entry ≡ entry_moved from piece.field
 
 pub piece_at : (bytes : List ℕ) (from next : ℕ) (entry : Entry) → entry.at ≡ from → IsField bytes next entry → (piece : Piece) × IsPieceAt bytes from next entry piece
 piece_at bytes from next entry here field =
@@ -69,7 +69,7 @@ piece_at bytes from next entry here field =
     let there : IsField (take from bytes ++ (piece ++ drop next bytes)) (length (take from bytes) + length piece) entry =
     subst (λ (to : ℕ). IsField (take from bytes ++ (piece ++ drop next bytes)) to entry) width (subst (λ (list : List ℕ). IsField list next entry) whole field) in
     let found = encoding_between (take from bytes) piece (drop next bytes) entry (omega arith) there in
-    (record { bytes = piece; field = found.0 }, record { encoded = found.1; same = refl; told = subst (λ (by : ℕ). entry ≡ moved by found.0) front found.2 })
+    (record { bytes = piece; field = found.0 }, record { encoded = found.1; same = refl; told = subst (λ (by : ℕ). entry ≡ entry_moved by found.0) front found.2 })
 
 -- the bytes of a whole message from a place on are pieces
 pub pieced_from : (bytes : List ℕ) (from : ℕ) (entries : List Entry) → IsMessage bytes from entries → (pieces : List Piece) × (drop from bytes ≡ bytes_of pieces) × AreEncoded pieces × (entries ≡ fields_at from pieces)
@@ -89,7 +89,7 @@ pieced_from bytes from (entry ∷ entries) whole =
       piece ∷ rest.0,
       parts ∙ ap (λ (tail : List ℕ). piece.bytes ++ tail) rest.1,
       (is.encoded, rest.2),
-      ap (λ (first : Entry). first ∷ entries) is.told ∙ ap (λ (tail : List Entry). moved from piece.field ∷ tail) tail,
+      ap (λ (first : Entry). first ∷ entries) is.told ∙ ap (λ (tail : List Entry). entry_moved from piece.field ∷ tail) tail,
     )
 
 -- so are the bytes of a message in others
@@ -109,12 +109,12 @@ pieced_whole bytes entries whole =
     (found.0, record { encoded = found.2; joined = found.1 }, found.3)
 
 -- what holds of fields wherever they are
-pub All-moved : (P : Entry → Type 0) → ((by other : ℕ) (entry : Entry) → P (moved by entry) → P (moved other entry)) → (at other : ℕ) (pieces : List Piece) → All P (fields_at at pieces) → All P (fields_at other pieces)
+pub All-moved : (P : Entry → Type 0) → ((by other : ℕ) (entry : Entry) → P (entry_moved by entry) → P (entry_moved other entry)) → (at other : ℕ) (pieces : List Piece) → All P (fields_at at pieces) → All P (fields_at other pieces)
 All-moved P move at other [] all = All-nil P
 All-moved P move at other (piece ∷ pieces) all =
-    All-cons P (moved other piece.field) (fields_at (other + length piece.bytes) pieces)
-    (move at other piece.field (All-head P (moved at piece.field) (fields_at (at + length piece.bytes) pieces) all))
-    (All-moved P move (at + length piece.bytes) (other + length piece.bytes) pieces (All-tail P (moved at piece.field) (fields_at (at + length piece.bytes) pieces) all))
+    All-cons P (entry_moved other piece.field) (fields_at (other + length piece.bytes) pieces)
+    (move at other piece.field (All-head P (entry_moved at piece.field) (fields_at (at + length piece.bytes) pieces) all))
+    (All-moved P move (at + length piece.bytes) (other + length piece.bytes) pieces (All-tail P (entry_moved at piece.field) (fields_at (at + length piece.bytes) pieces) all))
 
 one_counted : (b : Bool) (x y : Entry) (xs ys : List Entry) → length xs ≡ length ys → length (cond b (x ∷ xs) xs) ≡ length (cond b (y ∷ ys) ys)
 one_counted true x y xs ys same = ap suc same
@@ -124,6 +124,6 @@ one_counted false x y xs ys same = same
 pub count_of-moved : (field_number at other : ℕ) (pieces : List Piece) → count_of field_number (fields_at at pieces) ≡ count_of field_number (fields_at other pieces)
 count_of-moved field_number at other [] = refl
 count_of-moved field_number at other (piece ∷ pieces) =
-    one_counted (piece.field.number == field_number) (moved at piece.field) (moved other piece.field)
+    one_counted (piece.field.number == field_number) (entry_moved at piece.field) (entry_moved other piece.field)
     (fields_of field_number (fields_at (at + length piece.bytes) pieces)) (fields_of field_number (fields_at (other + length piece.bytes) pieces))
     (count_of-moved field_number (at + length piece.bytes) (other + length piece.bytes) pieces)

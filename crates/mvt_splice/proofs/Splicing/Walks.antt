@@ -7,7 +7,7 @@ use Rattle.mvt_wire.specs.Payload.{bytes_in}
 use Rattle.mvt_wire.specs.Walk.{Walk, IsOver, GivesField}
 use Rattle.mvt_wire.proofs.Walking.{IsWalking, IsWalking-none, IsWalking-more}
 use Rattle.mvt_splice.specs.Splice.{Piece, bytes_of, AreEncoded, IsPieced, message_in, ordinal_after}
-use Rattle.mvt_splice.specs.Calls.Writing.{Writes, EncodesPiece}
+use Rattle.mvt_splice.specs.Calls.Writing.{WritesFields, EncodesPiece}
 use Rattle.mvt_splice.proofs.Splicing.Messages.{bytes_in-moved}
 use Rattle.mvt_splice.proofs.Splicing.Pieces.{bytes_of-append, bytes_of-push, AreEncoded-append, IsPieceAt, piece_at}
 
@@ -67,22 +67,22 @@ message_in-other {piece = piece} is field_number other =
     (ne_eqb piece.field.number field_number (λ own. other (ap (λ (e : Entry). e.number) is.told ∙ own)))
 
 -- fields that were written after others
-pub IsPieced-more : (out longer : List ℕ) (pieces first : List Piece) → IsPieced out pieces → Writes first out longer → IsPieced longer (pieces ++ first)
+pub IsPieced-more : (out longer : List ℕ) (pieces first : List Piece) → IsPieced out pieces → WritesFields first out longer → IsPieced longer (pieces ++ first)
 IsPieced-more out longer pieces first written more = record {
   encoded = AreEncoded-append pieces first written.encoded more.encoded;
   joined = more.longer ∙ ap (λ (front : List ℕ). front ++ bytes_of first) written.joined ∙ sym (bytes_of-append pieces first);
 }
 
 -- a field that was copied
-pub Writes-copy : (out longer encoding : List ℕ) (piece : Piece) → EncodesPiece encoding piece → longer ≡ out ++ encoding → Writes (piece ∷ []) out longer
-Writes-copy out longer encoding piece encodes copied = record {
+pub WritesFields-copy : (out longer encoding : List ℕ) (piece : Piece) → EncodesPiece encoding piece → longer ≡ out ++ encoding → WritesFields (piece ∷ []) out longer
+WritesFields-copy out longer encoding piece encodes copied = record {
   encoded = (encodes.encoded, tt);
   longer = copied ∙ ap (λ (last : List ℕ). out ++ last) (encodes.same ∙ sym (append-nil piece.bytes));
 }
 
 -- none was written
-pub Writes-none : (out : List ℕ) → Writes [] out out
-Writes-none out = record { encoded = tt; longer = sym (append-nil out) }
+pub WritesFields-none : (out : List ℕ) → WritesFields [] out out
+WritesFields-none out = record { encoded = tt; longer = sym (append-nil out) }
 
 pub IsPieced-none : IsPieced [] []
 IsPieced-none = record { encoded = tt; joined = refl }

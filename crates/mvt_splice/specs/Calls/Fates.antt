@@ -8,7 +8,7 @@ abbrev pub IsFrom : ℕ → ℕ → ℕ → ℕ → Type 0
 IsFrom layer feature from_layer from_feature = (from_layer < layer) ⊎ ((layer ≡ from_layer) × (from_feature ≤ feature))
 
 -- of these changes those from a feature on are left, in their order
-pub record AreLeft (changes : List Change) (layer feature : ℕ) (left : List Change) : Type 0 where
+pub record AreChangesLeft (changes : List Change) (layer feature : ℕ) (left : List Change) : Type 0 where
   pub in_order : AreChangesInOrder left
   pub same : (other_layer other_feature : ℕ) → IsFrom other_layer other_feature layer feature → fate_in left other_layer other_feature ≡ fate_in changes other_layer other_feature
 

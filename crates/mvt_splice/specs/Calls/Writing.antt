@@ -9,7 +9,7 @@ abbrev pub WritesVarint : ℕ → List ℕ → List ℕ → Type 0
 WritesVarint number before after = (encoding : List ℕ) × IsVarint encoding number × (after ≡ before ++ encoding)
 
 -- fields were written
-pub record Writes (pieces : List Piece) (before after : List ℕ) : Type 0 where
+pub record WritesFields (pieces : List Piece) (before after : List ℕ) : Type 0 where
   pub encoded : AreEncoded pieces
   pub longer : after ≡ before ++ bytes_of pieces
 

@@ -11,7 +11,7 @@ use Rattle.mvt_wire.specs.declared.schema.Message.{Message}
 use Rattle.mvt_wire.proofs.Encoding.Messages.{FieldList-push, one_list, whole_or_defect, one_defect}
 use Rattle.mvt_tile.specs.Calls.Least.{IsLeastCause, FindsLeastCause}
 use Rattle.mvt_wire.specs.Walk.{IsDefectOr}
-use Rattle.mvt_tile.specs.Calls.FieldScan.{Passes, PassesNext, IsFirstFieldFault}
+use Rattle.mvt_tile.specs.Calls.FieldScan.{HasScanned, PassesNext, IsFirstFieldFault}
 use Rattle.mvt_tile.specs.declared.wire.scan.FieldScan.{FieldScan}
 use Rattle.mvt_tile.proofs.WireFaults.Causes.{by_offset, same_cause}
 use Rattle.mvt_tile.proofs.WireFaults.EndFaults.{end_place}
@@ -94,7 +94,7 @@ first_or_defect message bytes from walk entries first cause walked fault (inr wh
 -- What is known while the fields of a message are walked, up to a place: those that were passed, and what the scan keeps of them.
 pub record IsScanning (message : Message) (bytes : List ℕ) (from at : ℕ) (scan : FieldScan) (entries : List Entry) : Type 0 where
   pub passed : FieldList bytes from entries at
-  pub passes : Passes message scan entries
+  pub passes : HasScanned message scan entries
 
 -- one more field was passed
 pub IsScanning-more : {message : Message} {bytes : List ℕ} {from at : ℕ} {before after : FieldScan} {entries : List Entry} {read : Field × ℕ} → IsScanning message bytes from at before entries
@@ -107,7 +107,7 @@ IsScanning-more so_far next = record {
 -- the faults at the end of a whole message that was scanned are all that it has
 pub IsScanning-whole : {message : Message} (bytes : List ℕ) {from at : ℕ} (to : ℕ) {scan : FieldScan} {entries : List Entry} (found : Option WireCause) → to ≤ length bytes → at ≡ to
     → IsScanning message (take to bytes) from at scan entries
-    → ((passed : List Entry) → Passes message scan passed → FindsLeastCause (EndFault message passed to) found)
+    → ((passed : List Entry) → HasScanned message scan passed → FindsLeastCause (EndFault message passed to) found)
     → FindsLeastCause (MessageFault message (take to bytes) from) found
 IsScanning-whole {message} bytes {from} to {entries = entries} found within end so_far finds =
     let size : length (take to bytes) ≡ to = length-take-le to bytes within in

@@ -4,7 +4,7 @@ use Rattle.std.specs.List.{concat}
 use Rattle.std.proofs.lemmas.List.{drop-drop, drop_at, drop_all, append-nil, length-take-le, take-append-drop}
 use Rattle.mvt_wire.specs.Varint.{IsVarint, EncodesVarint}
 use Rattle.mvt_wire.specs.Field.{Content, varint, delimited, Entry, wire_type_of, IsKey, IsPayload, IsField, IsFieldEncoding}
-use Rattle.mvt_wire.specs.Message.{FieldList, IsMessage, content_moved, moved, AreEncodings}
+use Rattle.mvt_wire.specs.Message.{FieldList, IsMessage, content_moved, entry_moved, AreEncodings}
 use Rattle.mvt_wire.proofs.Encoding.Entries.{entry_at, slice_range-append, IsField-append, payload_extent, field_extent}
 
 -- a part of a list is the same part, further on, of the list after others
@@ -40,7 +40,7 @@ IsPayload-prepend front bytes from to (delimited start part) p =
 IsPayload-prepend front bytes from to content p = (omega arith, within-prepend front bytes to p.1, p.2 ∙ sym (slice_range-prepend front bytes from to))
 
 -- a field of a list is a field of the list after others, with its places moved
-IsField-prepend : (front bytes : List ℕ) (to : ℕ) (e : Entry) → IsField bytes to e → IsField (front ++ bytes) (length front + to) (moved (length front) e)
+IsField-prepend : (front bytes : List ℕ) (to : ℕ) (e : Entry) → IsField bytes to e → IsField (front ++ bytes) (length front + to) (entry_moved (length front) e)
 IsField-prepend front bytes to e field = record {
   key_end = length front + field.key_end;
   key = subst (λ (t : ℕ). IsKey (front ++ bytes) (length front + e.at) (length front + field.key_end) e.number t) (sym (wire_type-moved (length front) e.content))
@@ -53,7 +53,7 @@ joined_from : (front : List ℕ) (pieces : List (List ℕ)) (entries : List Entr
 joined_from front [] [] p = ap length (sym (append-nil front))
 joined_from front (piece ∷ pieces) (entry ∷ entries) p =
     let here : entry.at ≡ length front = ap (λ (e : Entry). e.at) p.2 ∙ ap (λ (k : ℕ). length front + k) p.1.0 ∙ (omega arith) in
-    let following : IsField (front ++ (piece ++ concat pieces)) (length front + length piece) (moved (length front) p.0) =
+    let following : IsField (front ++ (piece ++ concat pieces)) (length front + length piece) (entry_moved (length front) p.0) =
     IsField-prepend front (piece ++ concat pieces) (length piece) p.0 (IsField-append piece (concat pieces) (length piece) p.0 p.1.1) in
     let field : IsField (front ++ (piece ++ concat pieces)) (length front + length piece) entry = subst (λ (e : Entry). IsField (front ++ (piece ++ concat pieces)) (length front + length piece) e) (sym p.2) following in
     let place : length (front ++ piece) ≡ length front + length piece = length-append front piece in
@@ -101,7 +101,7 @@ IsPayload-following front bytes from to content p =
     (content, refl, (omega arith, omega arith, p.2 ∙ ap (λ (k : ℕ). slice_range (front ++ bytes) (length front + from) k) place ∙ slice_range-prepend front bytes from (to - length front)))
 
 -- a field after a front of the list is a field of the rest, with its places counted from there
-IsField-following : (front bytes : List ℕ) (to : ℕ) (e : Entry) → length front ≤ e.at → IsField (front ++ bytes) to e → (u : Entry) × (e ≡ moved (length front) u) × IsField bytes (to - length front) u
+IsField-following : (front bytes : List ℕ) (to : ℕ) (e : Entry) → length front ≤ e.at → IsField (front ++ bytes) to e → (u : Entry) × (e ≡ entry_moved (length front) u) × IsField bytes (to - length front) u
 IsField-following front bytes to e following field =
     let k = field.key in
     let at : e.at ≡ length front + (e.at - length front) = told_from (length front) e.at following in
@@ -157,13 +157,13 @@ IsField-within bytes more to e within field =
     }
 
 -- what a field after other bytes and before others is moved from is its encoding
-encoded_alone : (by : ℕ) (piece rest : List ℕ) (entry encoded : Entry) → entry.at ≡ by → entry ≡ moved by encoded → IsField (piece ++ rest) (length piece) encoded → IsFieldEncoding piece encoded
+encoded_alone : (by : ℕ) (piece rest : List ℕ) (entry encoded : Entry) → entry.at ≡ by → entry ≡ entry_moved by encoded → IsField (piece ++ rest) (length piece) encoded → IsFieldEncoding piece encoded
 encoded_alone by piece rest entry encoded start told field =
     let places : entry.at ≡ by + encoded.at = ap (λ (entry : Entry). entry.at) told in
     (omega arith, IsField-within piece rest (length piece) encoded (omega arith) field)
 
 -- a field after other bytes and before others has an encoding, which is moved after the former
-encoding_between : (front piece rest : List ℕ) (entry : Entry) → entry.at ≡ length front → IsField (front ++ (piece ++ rest)) (length front + length piece) entry → (encoded : Entry) × IsFieldEncoding piece encoded × (entry ≡ moved (length front) encoded)
+encoding_between : (front piece rest : List ℕ) (entry : Entry) → entry.at ≡ length front → IsField (front ++ (piece ++ rest)) (length front + length piece) entry → (encoded : Entry) × IsFieldEncoding piece encoded × (entry ≡ entry_moved (length front) encoded)
 encoding_between front piece rest entry start field =
     let found = IsField-following front (piece ++ rest) (length front + length piece) entry (omega arith) field in
     let width : length front + length piece - length front ≡ length piece = omega arith in
@@ -187,7 +187,7 @@ parted_from bytes from (e ∷ es) h =
     let field : IsField (take from bytes ++ (piece ++ drop next bytes)) (length (take from bytes) + length piece) e =
     subst (λ (to : ℕ). IsField (take from bytes ++ (piece ++ drop next bytes)) to e) width (subst (λ (list : List ℕ). IsField list next e) whole h.1.1) in
     let found = encoding_between (take from bytes) piece (drop next bytes) e (omega arith) field in
-    let told : e ≡ moved from found.0 = subst (λ (by : ℕ). e ≡ moved by found.0) front found.2 in
+    let told : e ≡ entry_moved from found.0 = subst (λ (by : ℕ). e ≡ entry_moved by found.0) front found.2 in
     let rest = parted_from bytes next es h.1.2 in
     let end : next ≡ from + length piece = omega arith in (
       piece ∷ rest.0,

@@ -2,7 +2,7 @@ use Rattle.std.proofs.Common.{◌≡◌, ℕ, List, refl, subst}
 use Rattle.mvt_splice.specs.Splice.{fate_in, stays, HasPayload}
 use Rattle.mvt_splice.proofs.Splicing.Layers.{IsSplicedLayer-same}
 use Rattle.mvt_splice.proofs.Splicing.Tiles.{HasPayload-in}
-use Rattle.mvt_splice.proofs.Splicing.Walks.{Writes-copy}
+use Rattle.mvt_splice.proofs.Splicing.Walks.{WritesFields-copy}
 use Rattle.mvt_splice.proofs.tile.add_layer.Goals as goal
 
 pub returns : goal.returns
@@ -23,6 +23,6 @@ returns-then-not-has_change_in c = λ piece encodes there.
     let message = c.args.message.now in
     let stay : (feature : ℕ) → fate_in c.args.changes.now c.args.layer feature ≡ stays = c.has_change_in.ensures.none (λ some. let none = c.if-not-has_change_in.true in cc) in (
       piece,
-      Writes-copy c.args.out.now.items c.extend_from_slice.new.self.items c.args.encoding.now piece encodes c.in_ok-extend_from_slice.ensures.items,
+      WritesFields-copy c.args.out.now.items c.extend_from_slice.new.self.items c.args.encoding.now piece encodes c.in_ok-extend_from_slice.ensures.items,
       (message, HasPayload-in 3 piece.field message there, IsSplicedLayer-same (fate_in c.args.changes.now c.args.layer) message c.requires.whole stay, λ all. refl),
     )
