@@ -17,7 +17,7 @@ loop-place-preserved c =
     let text = c.as_bytes-text.result.now in
     let there : slice_get layer.keys place ≡ Some text =
     mapped_there (λ key. key.now) c.args.layer.now.keys.items c.deref-key-items.result.now place _ text c.deref-key-items.ensures.value c.loop-place-test.true c.as_bytes-text.ensures.value in
-    let value : c.key_of-number.result ∷ text ≡ name_key text ∷ text = λ i. c.key_of-number.ensures i ∷ text in
+    let value : c.name_key-number.result ∷ text ≡ name_key text ∷ text = λ i. c.name_key-number.ensures i ∷ text in
     IsNaming-pushed held_value place_of (KeyHeldAt layer) place c.loop-place.held.items c.loop-place.invariant c.push.new.self.items _ c.in_ok-push.ensures.items refl (text, there, value)
     (λ it held. value ∙ through_only (λ key. name_key key ∷ key) (KeyAt layer) place text (λ other again. same_Some _ _ (sym there ∙ again)) it held)
 

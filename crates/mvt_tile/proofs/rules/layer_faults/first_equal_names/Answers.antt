@@ -20,7 +20,7 @@ loop-place-preserved c =
     let place = c.loop-place.place in
     let text = (get_or layers place no_summary).name.now in
     let there : slice_get (map (λ (summary : LayerSummary). summary.name.now) layers) place ≡ Some text = mapped_there (λ (summary : LayerSummary). summary.name.now) layers layers place no_summary text refl c.loop-place-test.true refl in
-    let value : c.key_of-number.result ∷ text ≡ name_key text ∷ text = λ i. c.key_of-number.ensures i ∷ text in
+    let value : c.name_key-number.result ∷ text ≡ name_key text ∷ text = λ i. c.name_key-number.ensures i ∷ text in
     IsNaming-pushed held_value place_of (NameHeldAt layers) place c.loop-place.held.items c.loop-place.invariant c.push.new.self.items _ c.in_ok-push.ensures.items refl (text, there, value)
     (λ it held. value ∙ through_only (λ name. name_key name ∷ name) (NameAt layers) place text (λ other again. same_Some _ _ (sym there ∙ again)) it held)
 

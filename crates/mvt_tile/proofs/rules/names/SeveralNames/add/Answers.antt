@@ -10,5 +10,5 @@ pub invariant_of-self-2 : goal.invariant_of-self-2
 invariant_of-self-2 c = (
   numbered_pushed (λ named. named.ordinal) c.self.inside.names.items c.push.new.self.items _ c.in_ok-push.ensures.items (omega (arith, c.len-ordinal.ensures, c.self.inside.names.ok)) c.self.invariant.0,
   subst (All (λ (named : NamedLayer). named.key ≡ name_key named.name.now)) (sym c.in_ok-push.ensures.items)
-      (All-push (λ (named : NamedLayer). named.key ≡ name_key named.name.now) c.self.inside.names.items _ c.self.invariant.1 c.key_of-key.ensures),
+      (All-push (λ (named : NamedLayer). named.key ≡ name_key named.name.now) c.self.inside.names.items _ c.self.invariant.1 c.name_key-key.ensures),
 )
