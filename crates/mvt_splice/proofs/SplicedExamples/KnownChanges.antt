@@ -121,7 +121,7 @@ tile_left numbers same = ap (λ (list : List ℕ). example_tile (example_feature
 rings_known : HasRings (type_number polygon) right_way (triangle ∷ [])
 rings_known = record {
   typed = refl;
-  encoded = record {
+  spelled = record {
     kind = refl;
     able = (
       (
@@ -145,7 +145,7 @@ rings_known = record {
       ),
       omega arith,
     );
-    encoded = refl;
+    spelled = refl;
   };
 }
 
