@@ -1,4 +1,4 @@
--- The fields of messages, and the faults of a tile's spelling.
+-- The fields of messages, and the faults of a tile's encoding.
 pub mod EmbeddedMessages
 pub mod FieldCounts
 pub mod FieldFaults

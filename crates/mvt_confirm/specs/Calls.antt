@@ -3,7 +3,7 @@ pub mod Apart
 pub mod ByteSpan
 pub mod Commands
 pub mod EdgeTests
-pub mod FeatureBytes
+pub mod FeatureMessage
 pub mod HoleFault
 pub mod MessageBytes
 pub mod Numbers

@@ -4,7 +4,7 @@
 ghost use Rattle.std.specs.Prelude.{◌↔◌, IsTrue, ℕ, suc, ◌∷◌, List, drop, IfNone, IfSome};
 ghost use Rattle.mvt_confirm.specs.Calls.Apart.{StandAtPolygon};
 ghost use Rattle.mvt_confirm.specs.Calls.Vertices.{RingsLeft};
-ghost use Rattle.mvt_confirm.specs.Calls.FeatureBytes.{DrawsRings};
+ghost use Rattle.mvt_confirm.specs.Calls.FeatureMessage.{DrawsRings};
 ghost use Rattle.mvt_rules.specs.PolygonFault.{IsVertexInPolygonBy};
 ghost use Rattle.mvt_fault.specs.declared.profile.Profile.TheVariants.{Feature};
 ghost use Rattle.mvt_plane.specs.Geometry.Inside.{IsInside};
@@ -14,7 +14,7 @@ ghost use Rattle.mvt_plane.specs.Position.{Position};
 ghost use Rattle.mvt_rules.specs.Ring.{ArePolygonRings};
 
 use crate::crossings::Crossings;
-use crate::feature_bytes::FeatureBytes;
+use crate::feature_message::FeatureMessage;
 use crate::polygons::are_polygon_rings;
 use crate::ring_edges::{edge_at, edges_of_ring};
 use crate::rings::next_ring;
@@ -27,7 +27,7 @@ use mvt_plane::Point;
 /// feature that draws rings.
 pub(crate) fn is_vertex_in_polygon(
     profile: Profile,
-    feature: &FeatureBytes,
+    feature: &FeatureMessage,
     polygon: usize,
     vertex: usize,
     other: usize,
@@ -43,7 +43,12 @@ pub(crate) fn is_vertex_in_polygon(
 
 /// Whether the vertex with this ordinal, of the exterior of this polygon, is inside another
 /// polygon, which has this other ordinal, of a feature that draws rings.
-fn is_vertex_in_another(feature: &FeatureBytes, polygon: usize, vertex: usize, other: usize) -> bool
+fn is_vertex_in_another(
+    feature: &FeatureMessage,
+    polygon: usize,
+    vertex: usize,
+    other: usize,
+) -> bool
     ensures { (rings : List (List Position)) → DrawsRings feature.now rings
         → (IsTrue result ↔ IsVertexInPolygonBy Feature rings polygon vertex other) }
 {
@@ -58,7 +63,7 @@ fn is_vertex_in_another(feature: &FeatureBytes, polygon: usize, vertex: usize, o
 
 /// The vertex with this ordinal, of the exterior of this polygon; None where there is no such
 /// vertex.
-fn vertex_of_exterior(feature: &FeatureBytes, polygon: usize, vertex: usize) -> Option<Point>
+fn vertex_of_exterior(feature: &FeatureMessage, polygon: usize, vertex: usize) -> Option<Point>
     ensures there { IfSome result (λ position. (rings : List (List Position))
         → DrawsRings feature.now rings → ArePolygonRings rings
         → (polygon_rings : PolygonRings) × IsPolygon rings polygon polygon_rings
@@ -79,7 +84,7 @@ fn vertex_of_exterior(feature: &FeatureBytes, polygon: usize, vertex: usize) -> 
 
 /// Whether a position is inside the polygon with this ordinal: inside its exterior, and inside none
 /// of its holes.
-fn is_in_polygon(feature: &FeatureBytes, position: Point, polygon: usize) -> bool
+fn is_in_polygon(feature: &FeatureMessage, position: Point, polygon: usize) -> bool
     ensures { (rings : List (List Position)) → DrawsRings feature.now rings
         → ArePolygonRings rings →
         (IsTrue result ↔ ((polygon_rings : PolygonRings) × IsPolygon rings polygon polygon_rings
@@ -109,7 +114,7 @@ fn pass_to_polygon(ahead: &mut Vertices, vertices: &mut Vertices, polygon: usize
     // How many polygons come before it.
     let mut before = polygon;
     'rings: while let Some(measure) = next_ring(ahead) {
-        if measure.twice_area > 0 {
+        if measure.doubled_area > 0 {
             if before == 0 {
                 return true;
             }
@@ -133,7 +138,7 @@ fn is_in_holes(mut ahead: Vertices, mut vertices: Vertices, position: Point) -> 
         → (IsTrue result ↔ IsInHoles rings polygon_rings position) }
 {
     'holes: while let Some(measure) = next_ring(&mut ahead) {
-        if measure.twice_area > 0 {
+        if measure.doubled_area > 0 {
             return false;
         }
         if is_in_next_ring(&mut vertices, position) {

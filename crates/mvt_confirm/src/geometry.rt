@@ -3,7 +3,7 @@
 
 ghost use Rattle.std.specs.Prelude.{◌↔◌, IsTrue, List, IfNone, IfSome};
 ghost use Rattle.mvt_rules.specs.Shows.{OfRings, OfFeature};
-ghost use Rattle.mvt_confirm.specs.Calls.FeatureBytes.{DrawsRings};
+ghost use Rattle.mvt_confirm.specs.Calls.FeatureMessage.{DrawsRings};
 ghost use Rattle.mvt_rules.specs.PolygonFault.{IsMeetingBy, IsVertexInHole, IsVertexInPolygonBy, IsVertexOutside};
 ghost use Rattle.mvt_fault.specs.Code.{command_code, ring_code};
 ghost use Rattle.mvt_plane.specs.FeatureGeometry.{BreaksCommands, HasRings};
@@ -13,7 +13,7 @@ ghost use Rattle.mvt_rules.specs.Rules.{IsFeatureOf};
 ghost use Rattle.mvt_rules.specs.Tile.{FeatureRecord, LayerRecord, TileRecord, IsTile};
 
 use crate::apart::is_vertex_in_polygon;
-use crate::feature_bytes::{FeatureBytes, feature_of};
+use crate::feature_message::{FeatureMessage, feature_of};
 use crate::meeting::{EdgeMeeting, is_meeting};
 use crate::nesting::{is_vertex_in_hole, is_vertex_outside};
 use crate::ring_faults::breaks_rings;
@@ -144,7 +144,7 @@ pub(crate) fn has_vertex_in_polygon(
 }
 
 /// The feature with these ordinals, if there is one and it draws rings.
-fn drawn_feature(bytes: &[u8], layer: usize, feature: usize) -> Option<FeatureBytes>
+fn drawn_feature(bytes: &[u8], layer: usize, feature: usize) -> Option<FeatureMessage>
     ensures there { IfSome result (λ place. (tile : TileRecord) → IsTile bytes.now tile
         → (layer_record : LayerRecord) × (feature_record : FeatureRecord)
         × (rings : List (List Position))

@@ -6,7 +6,7 @@ mod checker;
 mod commands;
 mod crossings;
 mod edge_tests;
-mod feature_bytes;
+mod feature_message;
 mod geometry;
 mod layers;
 mod meeting;

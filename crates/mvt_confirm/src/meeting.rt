@@ -2,7 +2,7 @@
 //! 4.3.4.4).
 
 ghost use Rattle.std.specs.Prelude.{◌≡◌, ◌↔◌, ◌≤◌, ℕ, IsTrue, List, length, slice_get, Some, IfNone, IfSome};
-ghost use Rattle.mvt_confirm.specs.Calls.FeatureBytes.{DrawsRings};
+ghost use Rattle.mvt_confirm.specs.Calls.FeatureMessage.{DrawsRings};
 ghost use Rattle.mvt_rules.specs.PolygonFault.{IsMeetingBy, number_of};
 ghost use Rattle.mvt_rules.specs.Profiles.{IsKeptApart};
 ghost use Rattle.mvt_rules.specs.Meeting.{ComesBefore, IsEdgeOf, MeetsWrongly};
@@ -13,7 +13,7 @@ ghost use Rattle.mvt_rules.specs.Ring.{ArePolygonRings};
 ghost use Rattle.mvt_plane.specs.declared.geometry.edge.Edge.{Edge};
 
 use crate::edge_tests::{NumberedEdge, meets_in_order};
-use crate::feature_bytes::FeatureBytes;
+use crate::feature_message::FeatureMessage;
 use crate::polygons::{are_polygon_rings, place_of_ring};
 use crate::ring_edges::{edge_at, edges_of_ring};
 use mvt_fault::{Profile, RingEdge};
@@ -40,7 +40,7 @@ struct EdgeInRing {
 /// the second one is of this polygon, of a feature that draws rings. The numbers may be any.
 pub(crate) fn is_meeting(
     profile: Profile,
-    feature: &FeatureBytes,
+    feature: &FeatureMessage,
     polygon: usize,
     meeting: EdgeMeeting,
 ) -> bool
@@ -57,7 +57,7 @@ pub(crate) fn is_meeting(
 /// Whether the profile keeps the ring with this ordinal apart from those of this polygon, of rings
 /// that have no fault of their own. It is asked only of rings that aren't after all of the
 /// polygon's.
-fn is_kept_apart(profile: Profile, feature: &FeatureBytes, polygon: usize, ring: usize) -> bool
+fn is_kept_apart(profile: Profile, feature: &FeatureMessage, polygon: usize, ring: usize) -> bool
     ensures { (rings : List (List Position)) (polygon_rings : PolygonRings) (last : ℕ)
         → DrawsRings feature.now rings → ArePolygonRings rings →
         IsPolygon rings polygon polygon_rings → IsRingOf polygon_rings last → ring ≤ last
@@ -71,7 +71,7 @@ fn is_kept_apart(profile: Profile, feature: &FeatureBytes, polygon: usize, ring:
 
 /// Whether the ring with this ordinal belongs to this polygon, of rings that have no fault of their
 /// own.
-fn is_ring_of_polygon(feature: &FeatureBytes, polygon: usize, ring: usize) -> bool
+fn is_ring_of_polygon(feature: &FeatureMessage, polygon: usize, ring: usize) -> bool
     ensures { (rings : List (List Position)) → DrawsRings feature.now rings
         → ArePolygonRings rings →
         (IsTrue result ↔ ((polygon_rings : PolygonRings) × IsPolygon rings polygon polygon_rings
@@ -84,7 +84,7 @@ fn is_ring_of_polygon(feature: &FeatureBytes, polygon: usize, ring: usize) -> bo
 }
 
 /// Whether two edges, named in order, meet wrongly at this point.
-fn do_meet(feature: &FeatureBytes, meeting: EdgeMeeting) -> bool
+fn do_meet(feature: &FeatureMessage, meeting: EdgeMeeting) -> bool
     ensures { (rings : List (List Position)) → DrawsRings feature.now rings → (IsTrue result
         ↔ (ComesBefore (number_of meeting.first) (number_of meeting.second)
         × IsBounded (record { x = meeting.x; y = meeting.y; w = meeting.w })
@@ -108,7 +108,7 @@ fn do_meet(feature: &FeatureBytes, meeting: EdgeMeeting) -> bool
 }
 
 /// The edge with these ordinals; None where there is no such edge.
-fn edge_of_number(feature: &FeatureBytes, number: RingEdge) -> Option<EdgeInRing>
+fn edge_of_number(feature: &FeatureMessage, number: RingEdge) -> Option<EdgeInRing>
     ensures number { IfSome result (λ found. found.numbered.number ≡ number) }
     ensures there { IfSome result (λ found. (rings : List (List Position))
         → DrawsRings feature.now rings → IsEdgeOf rings (number_of number) found.numbered.edge) }

@@ -1,7 +1,7 @@
 //! Holes that aren't where they should be (Mapbox Vector Tile Specification 2.1, section 4.3.4.4).
 
 ghost use Rattle.std.specs.Prelude.{◌≡◌, ◌↔◌, IsTrue, List, slice_get, Some, IfNone, IfSome};
-ghost use Rattle.mvt_confirm.specs.Calls.FeatureBytes.{DrawsRings};
+ghost use Rattle.mvt_confirm.specs.Calls.FeatureMessage.{DrawsRings};
 ghost use Rattle.mvt_rules.specs.PolygonFault.{IsVertexInHole, IsVertexOutside};
 ghost use Rattle.mvt_plane.specs.Geometry.Inside.{IsInside};
 ghost use Rattle.mvt_rules.specs.Nesting.{IsVertexOf};
@@ -9,7 +9,7 @@ ghost use Rattle.mvt_rules.specs.Polygon.{PolygonRings, IsHoleOf, IsPolygon};
 ghost use Rattle.mvt_plane.specs.Position.{Position};
 ghost use Rattle.mvt_rules.specs.Ring.{ArePolygonRings};
 
-use crate::feature_bytes::FeatureBytes;
+use crate::feature_message::FeatureMessage;
 use crate::polygons::{are_polygon_rings, place_of_ring};
 use crate::ring_edges::{edge_at, edges_of_ring, odd_number_over};
 use mvt_plane::Point;
@@ -17,7 +17,7 @@ use mvt_plane::Point;
 /// Whether the vertex with this ordinal, of the ring with that one, is one of a hole of this
 /// polygon and isn't inside its exterior, of a feature that draws rings.
 pub(crate) fn is_vertex_outside(
-    feature: &FeatureBytes,
+    feature: &FeatureMessage,
     polygon: usize,
     ring: usize,
     vertex: usize,
@@ -41,7 +41,7 @@ pub(crate) fn is_vertex_outside(
 /// polygon and inside another hole of it, which has this other ordinal, of a feature that draws
 /// rings.
 pub(crate) fn is_vertex_in_hole(
-    feature: &FeatureBytes,
+    feature: &FeatureMessage,
     polygon: usize,
     ring: usize,
     vertex: usize,
@@ -64,7 +64,7 @@ pub(crate) fn is_vertex_in_hole(
 
 /// Whether the ring with this ordinal is a hole of this polygon, of rings that have no fault of
 /// their own.
-fn is_hole(feature: &FeatureBytes, polygon: usize, ring: usize) -> bool
+fn is_hole(feature: &FeatureMessage, polygon: usize, ring: usize) -> bool
     ensures { (rings : List (List Position)) → DrawsRings feature.now rings
         → ArePolygonRings rings →
         (IsTrue result ↔ ((polygon_rings : PolygonRings) × IsPolygon rings polygon polygon_rings
@@ -75,7 +75,7 @@ fn is_hole(feature: &FeatureBytes, polygon: usize, ring: usize) -> bool
 
 /// The ordinal of the polygon's exterior, if the ring with this ordinal is one of its holes, of
 /// rings that have no fault of their own.
-fn exterior_round(feature: &FeatureBytes, polygon: usize, ring: usize) -> Option<usize>
+fn exterior_round(feature: &FeatureMessage, polygon: usize, ring: usize) -> Option<usize>
     ensures there { IfSome result (λ exterior. (rings : List (List Position))
         → DrawsRings feature.now rings → ArePolygonRings rings
         → (polygon_rings : PolygonRings) × IsPolygon rings polygon polygon_rings
@@ -93,7 +93,7 @@ fn exterior_round(feature: &FeatureBytes, polygon: usize, ring: usize) -> Option
 }
 
 /// The vertex with this ordinal, of the ring with that one; None where there is no such vertex.
-fn vertex_of(feature: &FeatureBytes, ring: usize, vertex: usize) -> Option<Point>
+fn vertex_of(feature: &FeatureMessage, ring: usize, vertex: usize) -> Option<Point>
     ensures there { IfSome result (λ position. (rings : List (List Position))
         → DrawsRings feature.now rings → IsVertexOf rings ring vertex position) }
     ensures none { IfNone result ((rings : List (List Position)) (position : Position)
@@ -104,7 +104,7 @@ fn vertex_of(feature: &FeatureBytes, ring: usize, vertex: usize) -> Option<Point
 }
 
 /// Whether a position is inside the ring with this ordinal.
-fn is_inside(feature: &FeatureBytes, position: Point, ring: usize) -> bool
+fn is_inside(feature: &FeatureMessage, position: Point, ring: usize) -> bool
     ensures { (rings : List (List Position)) (vertices : List Position)
         → DrawsRings feature.now rings → slice_get rings ring ≡ Some vertices
         → (IsTrue result ↔ IsInside position vertices) }

@@ -26,10 +26,10 @@ pub(crate) fn are_polygon_rings(mut vertices: Vertices) -> bool
 {
     let mut is_first = true;
     'rings: while let Some(measure) = next_ring(&mut vertices) {
-        if measure.is_closed || measure.twice_area == 0 {
+        if measure.is_closed || measure.doubled_area == 0 {
             return false;
         }
-        if is_first && measure.twice_area < 0 {
+        if is_first && measure.doubled_area < 0 {
             return false;
         }
         is_first = false;
@@ -50,12 +50,12 @@ pub(crate) fn place_of_ring(mut vertices: Vertices, ring: usize) -> Option<RingP
     let mut exteriors = 0;
     let mut last = 0;
     'rings: for number in 0..ring {
-        if next_ring(&mut vertices)?.twice_area > 0 {
+        if next_ring(&mut vertices)?.doubled_area > 0 {
             exteriors += 1;
             last = number;
         }
     }
-    if next_ring(&mut vertices)?.twice_area > 0 {
+    if next_ring(&mut vertices)?.doubled_area > 0 {
         return Some(RingPlace {
             polygon: exteriors,
             exterior: ring,

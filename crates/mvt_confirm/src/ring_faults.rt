@@ -54,7 +54,7 @@ pub(crate) fn breaks_rings(vertices: Vertices, code: RingCode, ring: usize) -> b
     };
     match code {
         RingCode::EndsAtItsBeginning => measure.is_closed,
-        RingCode::NoArea => measure.twice_area == 0,
-        RingCode::BeginsWithHole => ring == 0 && measure.twice_area < 0,
+        RingCode::NoArea => measure.doubled_area == 0,
+        RingCode::BeginsWithHole => ring == 0 && measure.doubled_area < 0,
     }
 }

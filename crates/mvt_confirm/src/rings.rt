@@ -14,7 +14,7 @@ use mvt_plane::{Point, area_part};
 pub(crate) struct Measure {
     /// Twice the area that it goes round, in square units of the tile's coordinates: positive for
     /// an exterior, negative for a hole.
-    pub(crate) twice_area: i128,
+    pub(crate) doubled_area: i128,
     /// Whether its last vertex is at the position of the first one.
     pub(crate) is_closed: bool,
 }
@@ -38,7 +38,7 @@ pub(crate) fn next_ring(vertices: &mut Vertices) -> Option<Measure>
         is_over = vertex.is_last;
     }
     Some(Measure {
-        twice_area: area + i128::from(area_part(last, first)),
+        doubled_area: area + i128::from(area_part(last, first)),
         is_closed: is_same(last, first),
     })
 }

@@ -6,11 +6,11 @@ ghost use Rattle.mvt_wire.specs.Payload.{Span, spans_of};
 ghost use Rattle.mvt_rules.specs.Scope.{IsMessageAt, IsScope};
 ghost use Rattle.mvt_rules.specs.Tile.{FeatureRecord, TileRecord, IsTile};
 ghost use Rattle.mvt_wire.specs.declared.scope.Scope.TheVariants.{Layer};
-ghost use Rattle.mvt_confirm.specs.Calls.FeatureBytes.{IsFeatureAt};
+ghost use Rattle.mvt_confirm.specs.Calls.FeatureMessage.{IsFeatureAt};
 ghost use Rattle.mvt_confirm.specs.Calls.Tags.{HasPassed};
 ghost use Rattle.mvt_rules.specs.Shows.{OfFeature};
 
-use crate::feature_bytes::{FeatureBytes, feature_of};
+use crate::feature_message::{FeatureMessage, feature_of};
 use crate::numbers::next_number;
 use crate::span::part_of_layer;
 use mvt_fault::TagCode;
@@ -43,7 +43,7 @@ pub(crate) fn breaks_tags(
 }
 
 /// The feature's tags are of an odd number, which is the index.
-fn end_odd(feature: &FeatureBytes<'_>, index: usize) -> bool
+fn end_odd(feature: &FeatureMessage<'_>, index: usize) -> bool
     ensures { (feature_record : FeatureRecord) → IsFeatureAt feature.now feature_record
         → (IsTrue result ↔ OddTags feature_record.tags index) }
 {
@@ -65,7 +65,7 @@ fn is_beyond(bytes: &[u8], layer: usize, field_number: u32, tag: Option<u32>) ->
 
 /// In a list of pairs, the number there is the index of a key, and an earlier pair has the same
 /// key.
-fn repeat_key(feature: &FeatureBytes<'_>, index: usize) -> bool
+fn repeat_key(feature: &FeatureMessage<'_>, index: usize) -> bool
     ensures { (feature_record : FeatureRecord) → IsFeatureAt feature.now feature_record
         → (IsTrue result ↔ KeyAgain feature_record.tags index) }
 {
@@ -76,7 +76,7 @@ fn repeat_key(feature: &FeatureBytes<'_>, index: usize) -> bool
 }
 
 /// The number at a place, if that is the index of a key in a list of pairs.
-fn key_at(feature: &FeatureBytes<'_>, index: usize) -> Option<u32>
+fn key_at(feature: &FeatureMessage<'_>, index: usize) -> Option<u32>
     ensures { (feature_record : FeatureRecord) (key : ℕ)
         → IsFeatureAt feature.now feature_record →
         (result ≡ Some key ↔ IsKeyAt feature_record.tags index key) }
@@ -88,7 +88,7 @@ fn key_at(feature: &FeatureBytes<'_>, index: usize) -> Option<u32>
 }
 
 /// The number at a place, if that is the index of a value in a list of pairs.
-fn value_at(feature: &FeatureBytes<'_>, index: usize) -> Option<u32>
+fn value_at(feature: &FeatureMessage<'_>, index: usize) -> Option<u32>
     ensures { (feature_record : FeatureRecord) (value : ℕ)
         → IsFeatureAt feature.now feature_record →
         (result ≡ Some value ↔ IsValueAt feature_record.tags index value) }
@@ -100,7 +100,7 @@ fn value_at(feature: &FeatureBytes<'_>, index: usize) -> Option<u32>
 }
 
 /// The number at a place of a list of pairs.
-fn tag_of_pairs(feature: &FeatureBytes<'_>, index: usize) -> Option<u32>
+fn tag_of_pairs(feature: &FeatureMessage<'_>, index: usize) -> Option<u32>
     ensures { (feature_record : FeatureRecord) (number : ℕ)
         → IsFeatureAt feature.now feature_record →
         (result ≡ Some number ↔ (((pairs : ℕ) × (length feature_record.tags ≡ 2 * pairs))
@@ -114,7 +114,7 @@ fn tag_of_pairs(feature: &FeatureBytes<'_>, index: usize) -> Option<u32>
 }
 
 /// The tags are pairs.
-fn are_pairs(feature: &FeatureBytes<'_>) -> bool
+fn are_pairs(feature: &FeatureMessage<'_>) -> bool
     ensures { (feature_record : FeatureRecord) → IsFeatureAt feature.now feature_record →
         (IsTrue result ↔ ((pairs : ℕ) × (length feature_record.tags ≡ 2 * pairs))) }
 {
@@ -127,7 +127,7 @@ fn are_pairs(feature: &FeatureBytes<'_>) -> bool
 }
 
 /// There are as many tags as the index says.
-fn end_at(feature: &FeatureBytes<'_>, index: usize) -> bool
+fn end_at(feature: &FeatureMessage<'_>, index: usize) -> bool
     ensures { (feature_record : FeatureRecord) → IsFeatureAt feature.now feature_record
         → (IsTrue result ↔ (length feature_record.tags ≡ index)) }
 {
@@ -138,7 +138,7 @@ fn end_at(feature: &FeatureBytes<'_>, index: usize) -> bool
 }
 
 /// The number occurs at an even place before the index.
-fn occurs_earlier(feature: &FeatureBytes<'_>, key: u32, index: usize) -> bool
+fn occurs_earlier(feature: &FeatureMessage<'_>, key: u32, index: usize) -> bool
     ensures { (feature_record : FeatureRecord) → IsFeatureAt feature.now feature_record →
         (IsTrue result ↔ ((pair : ℕ) × (2 * pair < index)
         × (slice_get feature_record.tags (2 * pair) ≡ Some key))) }
@@ -156,7 +156,7 @@ fn occurs_earlier(feature: &FeatureBytes<'_>, key: u32, index: usize) -> bool
 }
 
 /// A walk over the tags from the index on, or None where there are fewer.
-fn tags_from<'a>(feature: &FeatureBytes<'a>, index: usize) -> Option<Numbers<'a>>
+fn tags_from<'a>(feature: &FeatureMessage<'a>, index: usize) -> Option<Numbers<'a>>
     ensures there { IfSome result (λ numbers. (feature_record : FeatureRecord)
         → IsFeatureAt feature.now feature_record →
         HasPassed feature_record.tags numbers index) }

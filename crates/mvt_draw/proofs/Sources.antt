@@ -4,7 +4,7 @@ use Rattle.std.specs.Option.{IfSome, IfNone}
 use Rattle.std.proofs.lemmas.List.{length-drop}
 use Rattle.std.proofs.lemmas.Option.{same_Some}
 use Rattle.mvt_wire.proofs.FieldNumbers.Sources.{at_end}
-use Rattle.mvt_draw.specs.Calls.Given.{IsAt, IsGivenAt}
+use Rattle.mvt_draw.specs.Calls.Given.{IsNumberThere, IsGivenAt}
 use Rattle.mvt_draw.proofs.Courses.{one_ahead}
 
 -- numbers are left where the place isn't their end
@@ -20,7 +20,7 @@ number_left After numbers at n told =
 -- whatever a source gave is at the place, and those after it are left
 pub given_there : (Before After : List ℕ → Type 0) (given : Option ℕ) → IfNone given ((numbers : List ℕ) → Before numbers → numbers ≡ [])
     → IfSome given (λ number. (numbers : List ℕ) → Before numbers → (rest : List ℕ) × (numbers ≡ number ∷ rest) × After rest)
-    → (numbers : List ℕ) (at : ℕ) → Before (drop at numbers) → IsAt numbers at given × ((n : ℕ) → given ≡ Some n → IsGivenAt After numbers at n)
+    → (numbers : List ℕ) (at : ℕ) → Before (drop at numbers) → IsNumberThere numbers at given × ((n : ℕ) → given ≡ Some n → IsGivenAt After numbers at n)
 given_there Before After None end number numbers at left = (at_end numbers at (end (drop at numbers) left), λ n is. cc)
 given_there Before After (Some first) end number numbers at left =
     let told = number_left After numbers at first (number (drop at numbers) left) in

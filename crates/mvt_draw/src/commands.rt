@@ -6,7 +6,7 @@ ghost use Rattle.mvt_plane.specs.Calls.Reading.{StandsAt, IsFaulty};
 ghost use Rattle.mvt_plane.specs.Commands.Reading.{AsksCommand, AsksCoordinate, is_line, path_type, with_left};
 ghost use Rattle.mvt_plane.specs.Position.{Position, IsCoordinate, IsPosition};
 ghost use Rattle.mvt_draw.specs.Calls.Cursor.{position_of, course_of};
-ghost use Rattle.mvt_draw.specs.Calls.Given.{IsAt, IsGivenAt};
+ghost use Rattle.mvt_draw.specs.Calls.Given.{IsNumberThere, IsGivenAt};
 ghost use Rattle.mvt_fault.specs.Code.{command_code};
 ghost use Rattle.mvt_plane.specs.Calls.Course.{AreStepsAhead};
 ghost use Rattle.mvt_plane.specs.Commands.Course.{IsPathAhead, IsStepAhead};
@@ -44,13 +44,13 @@ pub(crate) fn command(
 ) -> Result<u32, (CommandCode, usize)>
     ensures count { IfOk result (λ count. (fewest ≤ count) × (count ≤ most)) }
     ensures number { IfOk result (λ count. number ≡ Some (command_integer id count)) }
-    ensures goes { IfOk result (λ count. (numbers : List ℕ) → IsAt numbers at number
+    ensures goes { IfOk result (λ count. (numbers : List ℕ) → IsNumberThere numbers at number
         → (geometry_type : GeometryType) (state : State)
         → AsksCommand geometry_type state id fewest most
         → StandsAt geometry_type numbers at state
         → StandsAt geometry_type numbers (at + 1) (next geometry_type state
         (command_integer id count))) }
-    ensures fault { IfErr result (λ stop. (numbers : List ℕ) → IsAt numbers at number
+    ensures fault { IfErr result (λ stop. (numbers : List ℕ) → IsNumberThere numbers at number
         → (geometry_type : GeometryType) (state : State)
         → AsksCommand geometry_type state id fewest most
         → (number ≡ None → ¬ MayEnd state) → StandsAt geometry_type numbers at state

@@ -9,7 +9,7 @@ use Rattle.serde_json.specs.Data.{Data, string, array, boolean}
 use Rattle.serde_json.specs.View.{items_of}
 use Rattle.serde_json.specs.Written.{compact_text}
 use Rattle.mvt_rules.specs.Tile.{FeatureRecord, LayerRecord, TileRecord}
-use Rattle.mvt_fault.specs.Text.{whole}
+use Rattle.mvt_fault.specs.Text.{whole_number}
 use Rattle.mvt_engine.specs.Dump.{signed, list_data, id_data, feature_data, layer_data, value_data, dump_text}
 
 -- a piece, and what is written after it
@@ -41,8 +41,8 @@ signed_text (negsuc n) = refl
 
 -- what a feature writes, piece by piece
 pub feature_pushed : {E : Type 0} (result : Result (Unit {0}) E) (feature : FeatureRecord) (geometry tags : List ℕ) (kind : ℕ) (t0 t1 t2 t3 t4 t5 t6 t7 : List ℕ)
-    → geometry ≡ compact_text (list_data whole feature.geometry)
-    → tags ≡ compact_text (list_data whole feature.tags)
+    → geometry ≡ compact_text (list_data whole_number feature.geometry)
+    → tags ≡ compact_text (list_data whole_number feature.tags)
     → kind ≡ feature.kind
     → t1 ≡ t0 ++ codes "{\"geometry\":"
     → t2 ≡ t1 ++ geometry

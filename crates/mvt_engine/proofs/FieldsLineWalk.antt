@@ -34,7 +34,7 @@ pub Passing-more : (input : List ℕ) (old new : Walk) (entries : List Entry) (e
 Passing-more input old new entries entry so_far given = record {
   same_bytes = given.same_bytes ∙ so_far.same_bytes;
   passed = FieldList-push input 0 entries old.at new.at entry so_far.passed given.here
-      (let at : List ℕ → Type 0 = λ bytes. IsField bytes new.at entry in subst at so_far.same_bytes given.spelled);
+      (let at : List ℕ → Type 0 = λ bytes. IsField bytes new.at entry in subst at so_far.same_bytes given.encoded);
 }
 
 -- a defect at the place of the walk is one of the message

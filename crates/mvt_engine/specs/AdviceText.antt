@@ -2,7 +2,7 @@
 use Rattle.std.specs.Prelude.{ℕ, List, ◌++◌, codes}
 use Rattle.serde_json.specs.Data.{Data, string, object, member, no_members}
 use Rattle.serde_json.specs.Written.{compact_text}
-use Rattle.mvt_fault.specs.Text.{whole}
+use Rattle.mvt_fault.specs.Text.{whole_number}
 use Rattle.mvt_tile.specs.declared.advice.Advice.{Advice}
 use Rattle.mvt_tile.specs.declared.advice.Advice.TheVariants.{NoLayer, NoFeature, EqualKey, EqualId}
 use Rattle.mvt_engine.specs.Dump.{keyed, list_data}
@@ -10,10 +10,10 @@ use Rattle.mvt_engine.specs.Dump.{keyed, list_data}
 -- two equal things of a layer: what they are, the layer, and the place of each
 abbrev pub equal_data : List ℕ → ℕ → ℕ → ℕ → Data
 equal_data kind layer first second =
-    object (member (codes "first") (whole first)
+    object (member (codes "first") (whole_number first)
     (member (codes "kind") (string kind)
-    (member (codes "layer") (whole layer)
-    (member (codes "second") (whole second)
+    (member (codes "layer") (whole_number layer)
+    (member (codes "second") (whole_number second)
     no_members))))
 
 -- one advice
@@ -21,7 +21,7 @@ abbrev pub advice_data : Advice → Data
 advice_data NoLayer = keyed (codes "kind") (string (codes "no_layer"))
 advice_data (NoFeature layer) =
     object (member (codes "kind") (string (codes "no_feature"))
-    (member (codes "layer") (whole layer)
+    (member (codes "layer") (whole_number layer)
     no_members))
 advice_data (EqualKey layer first second) = equal_data (codes "equal_key") layer first second
 advice_data (EqualId layer first second) = equal_data (codes "equal_id") layer first second

@@ -5,7 +5,7 @@ use Rattle.serde_json.specs.Data.{Data, null, boolean, number, negative, string,
 use Rattle.serde_json.specs.View.{items_of}
 use Rattle.serde_json.specs.Written.{compact_text}
 use Rattle.mvt_fault.specs.Place.{IsLeast}
-use Rattle.mvt_fault.specs.Text.{whole}
+use Rattle.mvt_fault.specs.Text.{whole_number}
 use Rattle.mvt_rules.specs.Parts.TrueFaults.{IsWireFault}
 use Rattle.mvt_fault.specs.declared.fault.Fault.{Fault}
 use Rattle.mvt_rules.specs.Tile.{FeatureRecord, ValueRecord, text, float, double, int, uint, sint, truth, LayerRecord, TileRecord, IsTile}
@@ -19,7 +19,7 @@ list_data member_data members = array (items_of (map member_data members))
 
 -- a JSON number with a sign where it is below 0
 abbrev pub signed : ℤ → Data
-signed (pos n) = whole n
+signed (pos n) = whole_number n
 signed (negsuc n) = number (negative (negsuc n))
 
 -- an object with one key
@@ -32,33 +32,33 @@ value_data (text bytes) = keyed (codes "string") (string bytes)
 value_data (float bytes) = keyed (codes "float") (string (encode_lower bytes))
 value_data (double bytes) = keyed (codes "double") (string (encode_lower bytes))
 value_data (int z) = keyed (codes "int") (signed z)
-value_data (uint n) = keyed (codes "uint") (whole n)
+value_data (uint n) = keyed (codes "uint") (whole_number n)
 value_data (sint z) = keyed (codes "sint") (signed z)
 value_data (truth b) = keyed (codes "bool") (boolean b)
 
 -- an id, or null where there is none
 abbrev pub id_data : Option ℕ → Data
-id_data (Some id) = whole id
+id_data (Some id) = whole_number id
 id_data None = null
 
 -- a feature
 abbrev pub feature_data : FeatureRecord → Data
 feature_data feature =
-    object (member (codes "geometry") (list_data whole feature.geometry)
+    object (member (codes "geometry") (list_data whole_number feature.geometry)
     (member (codes "id") (id_data feature.id)
-    (member (codes "tags") (list_data whole feature.tags)
-    (member (codes "type") (whole feature.kind)
+    (member (codes "tags") (list_data whole_number feature.tags)
+    (member (codes "type") (whole_number feature.kind)
     no_members))))
 
 -- a layer
 abbrev pub layer_data : LayerRecord → Data
 layer_data layer =
-    object (member (codes "extent") (whole layer.extent)
+    object (member (codes "extent") (whole_number layer.extent)
     (member (codes "features") (list_data feature_data layer.features)
     (member (codes "keys") (list_data string layer.keys)
     (member (codes "name") (string layer.name)
     (member (codes "values") (list_data value_data layer.values)
-    (member (codes "version") (whole layer.version)
+    (member (codes "version") (whole_number layer.version)
     no_members))))))
 
 -- a tile

@@ -17,7 +17,7 @@ use std::alloc::{AllocError, Global};
 use std::io::{Read, Write};
 
 /// Reads a whole tile, of at most 67,108,864 bytes, and writes the line of its outermost fields
-/// (Protocol Buffers encoding, "Message Structure"), or of the fault of their spelling, with one
+/// (Protocol Buffers encoding, "Message Structure"), or of the fault of their encoding, with one
 /// LF. `Read` and `Write` come only where a device failed or the devices were interrupted too
 /// often, and `TooLarge` only where the input is too large, as the counts show. The only other
 /// error is `Memory`.

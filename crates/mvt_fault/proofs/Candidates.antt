@@ -11,7 +11,7 @@ use Rattle.mvt_wire.specs.declared.scope.Scope.TheVariants.{Tile, Layer, Value, 
 use Rattle.mvt_fault.specs.Code.{tag_code, command_code, ring_code, fault_code}
 use Rattle.mvt_fault.specs.Calls.Candidate.{HasCode}
 use Rattle.mvt_fault.specs.Reading.{HasDecimalForm, Writes, StandsFor, IsOutOfRange}
-use Rattle.mvt_fault.specs.Text.{whole, wire_data, feature_data, ring_data, edge_data, meeting_parts, HasWidth, IsInRange}
+use Rattle.mvt_fault.specs.Text.{whole_number, wire_data, index_data, ring_data, edge_data, meeting_parts, HasWidth, IsInRange}
 use Rattle.mvt_fault.specs.declared.fault.Fault.{Fault}
 use Rattle.mvt_fault.specs.declared.fault.Fault.TheVariants.{Wire, Tag, Command, Ring, Meeting}
 use Rattle.mvt_fault.specs.declared.tag.TagCode.{TagCode}
@@ -66,7 +66,7 @@ scope_text d code scope at field is = ap (get (codes "scope")) is
 
 -- the number is the whole number that the value has at the key, if any
 abbrev pub IsNumberAt : Data → List ℕ → ℕ → Type 0
-IsNumberAt d key n = (m : ℕ) → get key d ≡ Some (whole m) → n ≡ m
+IsNumberAt d key n = (m : ℕ) → get key d ≡ Some (whole_number m) → n ≡ m
 
 -- the first letter of a text says the scope of wire faults
 module _ (d : Data) (text : List ℕ) (told : (s : List ℕ) → get (codes "scope") d ≡ Some (string s) → text ≡ s) where
@@ -99,7 +99,7 @@ module _ (d : Data) (text : List ℕ) (told : (s : List ℕ) → get (codes "sco
 
 -- so do the place and the field of a wire fault
 place_in : (d : Data) (code : WireCode) (scope : Scope) (at field : ℕ) → d ≡ wire_data code scope at field
-    → (get (codes "at") d ≡ Some (whole at)) × (get (codes "field") d ≡ Some (whole field))
+    → (get (codes "at") d ≡ Some (whole_number at)) × (get (codes "field") d ≡ Some (whole_number field))
 place_in d code Tile at field is = (ap (get (codes "at")) is, ap (get (codes "field")) is)
 place_in d code scope at field is = (ap (get (codes "at")) is, ap (get (codes "field")) is)
 
@@ -132,8 +132,8 @@ wire_in_range built code scope at field (Some f) made told =
 -- a value with the code of a fault of tags or commands has the shape of a fault only as the object of what is read in it
 module _ (d built : Data) (n layer feature index : ℕ) (has : HasCode d n) (at_layer : IsNumberAt d (codes "layer") layer)
     (at_feature : IsNumberAt d (codes "feature") feature) (at_index : IsNumberAt d (codes "index") index)
-    (made : built ≡ feature_data n layer feature index) where
-  same_feature : (m l g i : ℕ) → m ≡ n → d ≡ feature_data m l g i → d ≡ built
+    (made : built ≡ index_data n layer feature index) where
+  same_feature : (m l g i : ℕ) → m ≡ n → d ≡ index_data m l g i → d ≡ built
   same_feature m l g i same_code stands =
       let same_layer = at_layer l (ap (get (codes "layer")) stands) in
       let same_feature = at_feature g (ap (get (codes "feature")) stands) in

@@ -32,10 +32,10 @@ pub record IsClear (rings : List (List Position)) (polygon : ℕ) (it : PolygonR
   pub placed : IsPlaced rings polygon it
 
 -- the polygon has this fault, and none that comes first
-abbrev pub IsCause : List (List Position) → ℕ → PolygonRings → FeatureCause → Type 0
-IsCause rings polygon it (Meeting meeting) = IsMeetingOf (part_of rings (front_of it)) meeting
-IsCause rings polygon it (Nesting fault) = NoMeeting (part_of rings (front_of it)) × IsFirstNestFault (part_of rings it) fault
-IsCause rings polygon it (Apart fault) =
+abbrev pub IsFeatureCause : List (List Position) → ℕ → PolygonRings → FeatureCause → Type 0
+IsFeatureCause rings polygon it (Meeting meeting) = IsMeetingOf (part_of rings (front_of it)) meeting
+IsFeatureCause rings polygon it (Nesting fault) = NoMeeting (part_of rings (front_of it)) × IsFirstNestFault (part_of rings it) fault
+IsFeatureCause rings polygon it (Apart fault) =
     NoMeeting (part_of rings (front_of it)) × ((wrong : NestFault) → ¬ IsNestFault (part_of rings it) wrong) × IsFirstApartFault rings polygon fault
 
 -- All polygons
@@ -48,7 +48,7 @@ rings_in fault = record { exterior = fault.exterior; after = fault.after }
 pub record IsFirstFault (rings : List (List Position)) (fault : FeatureFault) : Type 0 where
   pub there : IsPolygon rings fault.polygon (rings_in fault)
   pub before : (polygon : ℕ) (it : PolygonRings) → polygon < fault.polygon → IsPolygon rings polygon it → IsClear rings polygon it
-  pub is : IsCause rings fault.polygon (rings_in fault) fault.cause
+  pub is : IsFeatureCause rings fault.polygon (rings_in fault) fault.cause
 
 -- the answer is the first fault; or nothing, where no polygon has one
 abbrev pub IsFeatureAnswer : List (List Position) → Option FeatureFault → Type 0
@@ -67,7 +67,7 @@ AddsSweeps sweeps vertices before after =
     AddsWork (sweeps * (3 * vertices)) (sweeps * (vertices * (2 * bits vertices + 10))) (sweeps * (vertices * (20 * bits vertices))) before after
 
 -- what is counted at least where this was found of a polygon of so many vertices: a test, where edges meet, and else so
--- many comparisons
+-- many probes
 abbrev pub IsCountedCause : ℕ → Counted → Counted → FeatureCause → Type 0
 IsCountedCause vertices before after (Meeting meeting) = ticked before.tests ≤ after.tests
 IsCountedCause vertices before after (Nesting fault) = raised vertices before.probes ≤ after.probes

@@ -70,17 +70,16 @@ pub struct FeatureFault {
 ///
 /// Polygons whose bounds are apart from those of all others are checked one by one, and so are
 /// islands in the lakes of a polygon, with that polygon; the others by sweeps. `count` counts the
-/// work: of a sweep over n vertices at most 3 * n tests of two edges, n * (2 * bits(n) + 10)
-/// comparisons and n * 20 * bits(n) visits of the status's nodes, where bits(n) is the number of
-/// n's binary digits. That is all where there is no fault. Where no edges meet it is twice as much
-/// at most; and where they do, as often as the number of polygons has binary digits, and twice
-/// more. Where a fault is found, at least a test was counted if it is a meeting, and else as many
-/// comparisons as its polygon has vertices; where there is none, n comparisons. Not counted is
-/// which bounds are apart and which polygons are islands, which takes the time of some sorts. Nor
-/// is it that, where edges meet, the polygons before the first one with a meeting are held against
-/// those from it on: where the bounds of most of them overlap, this takes their vertices times the
-/// edges of the others. The only error is that memory was refused, or that a sweep would go over
-/// 2^32 vertices or more.
+/// work: of a sweep over n vertices at most 3 * n tests of two edges, n * (2 * bits(n) + 10) probes
+/// and n * 20 * bits(n) visits of the status's nodes, where bits(n) is the number of n's binary
+/// digits. That is all where there is no fault. Where no edges meet it is twice as much at most;
+/// and where they do, as often as the number of polygons has binary digits, and twice more. Where a
+/// fault is found, at least a test was counted if it is a meeting, and else as many probes as its
+/// polygon has vertices; where there is none, n probes. Not counted is which bounds are apart and
+/// which polygons are islands, which takes the time of some sorts. Nor is it that, where edges
+/// meet, the polygons before the first one with a meeting are held against those from it on: where
+/// the bounds of most of them overlap, this takes their vertices times the edges of the others. The
+/// only error is that memory was refused, or that a sweep would go over 2^32 vertices or more.
 pub fn check_feature(
     alloc: Global,
     rings: &[Vec<Point>],

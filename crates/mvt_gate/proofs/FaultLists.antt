@@ -11,7 +11,7 @@ use Rattle.mvt_fault.specs.Place.{IsLeast}
 use Rattle.mvt_rules.specs.Parts.TrueFaults.{IsWireFault}
 use Rattle.mvt_fault.specs.declared.fault.Fault.{Fault}
 use Rattle.mvt_fault.specs.declared.profile.Profile.{Profile}
-use Rattle.mvt_tile.specs.FirstFaults.{AreFirstFaults, AreInOrder, IsFaultOfLayer, IsFirstFault, of_feature as first_of_feature, of_layer as first_of_layer, OneOf}
+use Rattle.mvt_tile.specs.FirstFaults.{AreFirstFaults, AreFaultsInOrder, IsFaultOfLayer, IsFirstOfPart, of_feature as first_of_feature, of_layer as first_of_layer, OneOf}
 use Rattle.mvt_tile.proofs.RuleFaults.FreeFaults.{least_or_holds}
 use Rattle.mvt_tile.specs.FreeFaults.{of_least, of_free}
 use Rattle.mvt_tile.specs.RuleFaults.{Breaks, BreaksAnyRule, Frees, IsFaultOfFeature}
@@ -96,7 +96,7 @@ module _ (bytes : List ℕ) (Shown : Fault → Type 0) (IsBroken : Breaks) (thei
       (by_parts fault).1 (inr (tile, is, inr (record { layer = layer; feature = feature; layer_record = layer_record; feature_record = it; there = there; broken = broken })))
 
   -- so each of a tile's first faults is the first with its subject, or a free one
-  pub each_of_tile : (IsFree : Frees) (tile : TileRecord) (fault : Fault) → IsTile bytes tile → IsFirstFault IsFree IsBroken tile fault → IsFirstOfItsSubject Shown fault ⊎ (IsFree fault × Shown fault)
+  pub each_of_tile : (IsFree : Frees) (tile : TileRecord) (fault : Fault) → IsTile bytes tile → IsFirstOfPart IsFree IsBroken tile fault → IsFirstOfItsSubject Shown fault ⊎ (IsFree fault × Shown fault)
   each_of_tile IsFree tile fault is (first_of_layer layer first) = inl (first_of_its_layer tile layer fault is first)
   each_of_tile IsFree tile fault is (first_of_feature layer feature layer_record it there (of_least first)) = inl (first_of_its_feature tile layer feature layer_record it fault is there first)
   each_of_tile IsFree tile fault is (first_of_feature layer feature layer_record it there (of_free free holds none)) =
@@ -162,7 +162,7 @@ module _ (search : Search) (profile : Profile) (bytes : List ℕ) where
         | inr broken ↦ absurd (no_fault_of_tile bytes broken.0 fault broken.1 least.holds)
       ]
 
-      in_order : AreInOrder (fault ∷ [])
+      in_order : AreFaultsInOrder (fault ∷ [])
       in_order at zero it other less there its = absurd (omega arith)
       in_order at (suc later) it other less there its = absurd (none-some other its)
 

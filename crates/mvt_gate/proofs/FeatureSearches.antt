@@ -20,7 +20,7 @@ use Rattle.mvt_tile.specs.FreeFaults.{of_least, of_free}
 use Rattle.mvt_rules.specs.Tile.{FeatureRecord}
 use Rattle.mvt_gate.proofs.FeatureFaults.{least_of_found, place_in, reportable_of_cause, valid_of_none}
 use Rattle.mvt_gate.proofs.PolygonParts.{edge_in_whole, meeting_of_its_edge}
-use Rattle.mvt_gate.specs.Calls.Polygons.{IsFeatureAnswerFor, IsFirstOfRingsFor, IsReportable, fault_of_cause, rings_at}
+use Rattle.mvt_gate.specs.Calls.Polygons.{IsFeatureAnswerFor, IsFirstOfRingsFor, IsReportable, cause_fault, rings_at}
 use Rattle.mvt_gate.specs.declared.polygons.PolygonPlace.{PolygonPlace}
 use Rattle.mvt_gate.specs.declared.quick.Search.{Search}
 use Rattle.mvt_gate.specs.declared.quick.Search.TheVariants.{Least, Quick}
@@ -35,7 +35,7 @@ begins_alike profile it layer feature fault (hole_in_hole number hole vertex oth
 begins_alike profile it layer feature fault (in_polygon number vertex other of) = ComesFirst-reflexive (2 ∷ layer ∷ feature ∷ [])
 
 -- a meeting of any polygon may be named
-meeting_is_free : (parts : List (List Position)) (place : PolygonPlace) (cause : FeatureCause) → IsPolygonOf parts place.polygon (rings_at place) → IsMeetingCause parts (rings_at place) cause → IsFirstOfRingsFor Quick Feature parts place.layer place.feature (fault_of_cause place cause)
+meeting_is_free : (parts : List (List Position)) (place : PolygonPlace) (cause : FeatureCause) → IsPolygonOf parts place.polygon (rings_at place) → IsMeetingCause parts (rings_at place) cause → IsFirstOfRingsFor Quick Feature parts place.layer place.feature (cause_fault place cause)
 meeting_is_free parts place (Meeting found) of_it is = λ it has.
     of_free tt
     (meeting place.polygon (edge_in_whole 0 found.first_ring found.first_edge) (edge_in_whole 0 found.second_ring found.second_edge) found.point.x found.point.y found.point.w
@@ -46,7 +46,7 @@ meeting_is_free parts place (Apart found) of_it is = absurd is
 
 -- the fault that is found is the first of its feature, or such a meeting
 pub least_for : (search : Search) (parts : List (List Position)) (layer feature : ℕ) (fault : FeatureFault) → ArePolygonRings parts → IsFeatureAnswerFor search parts (Some fault)
-    → IsFirstOfRingsFor search Feature parts layer feature (fault_of_cause (place_in layer feature fault) fault.cause)
+    → IsFirstOfRingsFor search Feature parts layer feature (cause_fault (place_in layer feature fault) fault.cause)
 least_for Least parts layer feature fault sound answer = λ it has. of_least (least_of_found parts layer feature fault sound answer it has)
 least_for Quick parts layer feature fault sound (inl first) = λ it has. of_least (least_of_found parts layer feature fault sound first it has)
 least_for Quick parts layer feature fault sound (inr meets) = meeting_is_free parts (place_in layer feature fault) fault.cause (record { sound = sound; there = meets.there }) meets.is

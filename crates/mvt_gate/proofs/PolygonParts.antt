@@ -28,7 +28,7 @@ use Rattle.mvt_polygon.specs.declared.nesting.NestFault.{NestFault}
 use Rattle.mvt_polygon.specs.declared.nesting.NestFault.TheVariants.{Outside, InHole}
 use Rattle.mvt_gate.proofs.PolygonFaults.{HasGoodHoles, IsFirstHole, in_hole_is_least, outside_is_least}
 use Rattle.mvt_gate.proofs.PolygonWalk.{begins_in_turn}
-use Rattle.mvt_gate.specs.Calls.Polygons.{AreValidBefore, AreWithin, IsFirstOfRings, fault_of_hole, rings_at}
+use Rattle.mvt_gate.specs.Calls.Polygons.{AreValidBefore, AreWithin, IsFirstOfRings, hole_fault, rings_at}
 use Rattle.mvt_gate.specs.declared.polygons.PolygonPlace.{PolygonPlace}
 
 -- Rings
@@ -282,7 +282,7 @@ hole_within parts place (InHole ring vertex other) within least =
 -- where no edges meet wrongly, it is the first fault of the feature
 pub first_hole_is_least : (profile : Profile) (parts : List (List Position)) (place : PolygonPlace) (fault : NestFault) → place.after ≤ length parts → IsPolygonOf parts place.polygon (rings_at place)
     → AreValidBefore profile parts place.polygon → AreApartBy profile parts (rings_at place) → IsFirstNestFault (part_of parts (rings_at place)) fault
-    → IsFirstOfRings profile parts place.layer place.feature (fault_of_hole place fault)
+    → IsFirstOfRings profile parts place.layer place.feature (hole_fault place fault)
 first_hole_is_least profile parts place (Outside ring vertex) within of_it valid apart least =
     outside_is_least profile parts place.layer place.feature place.polygon (place.exterior + ring) vertex (rings_at place) of_it valid apart
     (outside_in_whole parts (rings_at place) ring vertex within least.holds) (outside_is_first parts (rings_at place) ring vertex within least)

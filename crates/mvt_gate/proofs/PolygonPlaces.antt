@@ -22,7 +22,7 @@ use Rattle.mvt_polygon.specs.declared.nesting.NestFault.{NestFault}
 use Rattle.mvt_gate.proofs.PolygonFaults.{HasGoodHoles, meeting_is_least}
 use Rattle.mvt_gate.proofs.PolygonParts.{meeting_within, apart_in_whole, enclosed_in_whole, edge_in_whole, meeting_in_whole, hole_within, first_hole_is_least}
 use Rattle.mvt_gate.proofs.PolygonWalk.{HasPassed, polygon_here, one_passed, all_passed}
-use Rattle.mvt_gate.specs.Calls.Polygons.{IsFirstOfRings, AreValidBefore, AreWithin, IsRingWithin, fault_of_hole, fault_of_meeting, rings_at}
+use Rattle.mvt_gate.specs.Calls.Polygons.{IsFirstOfRings, AreValidBefore, AreWithin, IsRingWithin, hole_fault, meeting_fault, rings_at}
 use Rattle.mvt_gate.specs.declared.polygons.PolygonPlace.{PolygonPlace}
 
 -- the rings of the polygon, as a slice of the feature's
@@ -50,7 +50,7 @@ meeting_is_within rings place found within meets =
 
 -- it is the first fault of its feature
 pub least_of_meeting : (profile : Profile) (rings : List (Vec Position Global)) (place : PolygonPlace) (found : Meeting) → place.after ≤ length rings → IsPolygonOf (rings_of rings) place.polygon (rings_at place)
-    → AreValidBefore profile (rings_of rings) place.polygon → IsMeetingOf (Own rings place) found → IsFirstOfRings profile (rings_of rings) place.layer place.feature (fault_of_meeting place found)
+    → AreValidBefore profile (rings_of rings) place.polygon → IsMeetingOf (Own rings place) found → IsFirstOfRings profile (rings_of rings) place.layer place.feature (meeting_fault place found)
 least_of_meeting profile rings place found within of_it valid meets =
     meeting_is_least profile (rings_of rings) place.layer place.feature place.polygon (edge_in_whole place.exterior found.first_ring found.first_edge) (edge_in_whole place.exterior found.second_ring found.second_edge)
     found.point.x found.point.y found.point.w valid
@@ -88,7 +88,7 @@ hole_is_within rings place fault within least = hole_within (rings_of rings) pla
 -- where no edges meet wrongly, it is the first fault of its feature
 pub least_of_hole : (profile : Profile) (rings : List (Vec Position Global)) (place : PolygonPlace) (fault : NestFault) → place.after ≤ length rings → IsPolygonOf (rings_of rings) place.polygon (rings_at place)
     → AreValidBefore profile (rings_of rings) place.polygon → AreApartBy profile (rings_of rings) (rings_at place) → IsFirstNestFault (Own rings place) fault
-    → IsFirstOfRings profile (rings_of rings) place.layer place.feature (fault_of_hole place fault)
+    → IsFirstOfRings profile (rings_of rings) place.layer place.feature (hole_fault place fault)
 least_of_hole profile rings place fault within of_it valid apart least =
     first_hole_is_least profile (rings_of rings) place fault (within_rings rings place within) of_it valid apart (first_in_part rings place fault least)
 

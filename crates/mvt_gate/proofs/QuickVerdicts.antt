@@ -12,7 +12,7 @@ use Rattle.mvt_fault.specs.declared.profile.Profile.TheVariants.{Polygon, Featur
 use Rattle.mvt_tile.proofs.RuleFaults.FreeFaults.{least_or_holds, least_unless_free}
 use Rattle.mvt_tile.specs.FreeFaults.{of_least, of_free}
 use Rattle.mvt_gate.specs.FaultList.{HasNoMeetingIn, subject_of}
-use Rattle.mvt_gate.specs.Quick.{IsFreeBy, IsMeeting, IsQuickFaultBy}
+use Rattle.mvt_gate.specs.Quick.{IsFreeBy, HasMeetingCode, IsQuickFaultBy}
 use Rattle.mvt_gate.specs.Verdict.{IsQuickVerdictBy, IsVerdictBy, IsVerdictFor}
 use Rattle.mvt_gate.specs.declared.quick.Search.{Search}
 use Rattle.mvt_gate.specs.declared.quick.Search.TheVariants.{Least, Quick}
@@ -26,7 +26,7 @@ quick_is_shown profile bytes fault quick = least_or_holds (IsFreeBy profile) (Sh
 -- The judge's own fault
 
 -- no meeting is true of a feature of which no edges meet
-no_meeting_shown : (bytes : List ℕ) (fault : Fault) → ShowsBy Feature bytes fault → HasNoMeetingIn bytes (subject_of fault) → ¬ IsMeeting fault
+no_meeting_shown : (bytes : List ℕ) (fault : Fault) → ShowsBy Feature bytes fault → HasNoMeetingIn bytes (subject_of fault) → ¬ HasMeetingCode fault
 no_meeting_shown bytes (Meeting layer feature polygon first second x y w) shown apart is =
     apart layer feature shown.0 shown.1 refl shown.2 shown.3.0 shown.3.1 (number_of first) (number_of second) (record { x = x; y = y; w = w }) shown.3.2.meets
 no_meeting_shown bytes fault shown apart is = is

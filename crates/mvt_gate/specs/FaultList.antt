@@ -5,7 +5,7 @@ use Rattle.mvt_fault.specs.Place.{ComesFirst, place_of}
 use Rattle.mvt_fault.specs.declared.fault.Fault.{Fault}
 use Rattle.mvt_fault.specs.declared.fault.Fault.TheVariants.{Wire, Version, Name, Tag, Command, Ring, Meeting, Outside, HoleInHole, InPolygon}
 use Rattle.mvt_fault.specs.declared.profile.Profile.{Profile}
-use Rattle.mvt_tile.specs.FirstFaults.{AreInOrder, OneOf}
+use Rattle.mvt_tile.specs.FirstFaults.{AreFaultsInOrder, OneOf}
 use Rattle.mvt_rules.specs.Tile.{FeatureRecord, LayerRecord}
 use Rattle.mvt_gate.specs.Quick.{HasNoMeeting, IsFreeBy}
 use Rattle.mvt_gate.specs.declared.quick.Search.{Search}
@@ -50,4 +50,4 @@ IsListedFor Quick profile bytes fault = IsFirstOfItsSubject (ShowsBy profile byt
 pub record AreFaultsFor (search : Search) (profile : Profile) (bytes : List ℕ) (faults : List Fault) : Type 0 where
   pub each : (at : ℕ) (fault : Fault) → slice_get faults at ≡ Some fault → IsListedFor search profile bytes fault
   pub every : (fault : Fault) → ShowsBy profile bytes fault → OneOf faults (λ first. subject_of first ≡ subject_of fault)
-  pub in_order : AreInOrder faults
+  pub in_order : AreFaultsInOrder faults

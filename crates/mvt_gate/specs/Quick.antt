@@ -19,14 +19,14 @@ abbrev pub HasNoMeeting : FeatureRecord → Type 0
 HasNoMeeting feature_record = (rings : List (List Position)) → HasRings feature_record.kind feature_record.geometry rings → AreAllApart rings
 
 -- the fault is a meeting
-abbrev pub IsMeeting : Fault → Type 0
-IsMeeting (Meeting layer feature polygon first second x y w) = Unit {0}
-IsMeeting _ = ⊥
+abbrev pub HasMeetingCode : Fault → Type 0
+HasMeetingCode (Meeting layer feature polygon first second x y w) = Unit {0}
+HasMeetingCode _ = ⊥
 
 -- where polygons are kept apart, any meeting may be named in place of the first fault
 abbrev pub IsFreeBy : Profile → Fault → Type 0
 IsFreeBy profiles.Polygon = λ fault. ⊥
-IsFreeBy profiles.Feature = IsMeeting
+IsFreeBy profiles.Feature = HasMeetingCode
 
 -- Of all faults that are true of the bytes, the first; or such a meeting, where no fault that is true is of an earlier layer or
 -- feature.

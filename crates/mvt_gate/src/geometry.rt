@@ -7,7 +7,7 @@ ghost use Rattle.mvt_fault.specs.declared.profile.Profile.{Profile};
 ghost use Rattle.mvt_fault.specs.declared.profile.Profile.TheVariants as profiles;
 ghost use Rattle.mvt_plane.specs.Commands.Figure.{polygon};
 ghost use Rattle.mvt_plane.specs.FeatureGeometry.{HasFigure, type_number};
-ghost use Rattle.mvt_tile.specs.FeatureBytes.{Shows};
+ghost use Rattle.mvt_tile.specs.FeatureBytes.{Encodes};
 ghost use Rattle.mvt_tile.specs.FreeFaults.{IsLeastOr};
 ghost use Rattle.mvt_tile.specs.View.{kind_number};
 ghost use Rattle.mvt_rules.specs.Tile.{FeatureRecord};
@@ -57,12 +57,12 @@ impl GeometryRule {
     ) -> Result<(), AllocError>
         requires { found.old ≡ None }
         ensures none { IfOk result (λ _. IfNone found.new ((it : FeatureRecord)
-            → Shows feature.now it → (fault : Fault)
+            → Encodes feature.now it → (fault : Fault)
             → ¬ IsFaultOfGeometryBy profile it layer ordinal fault)) }
         ensures kept { IfOk result (λ _. IfNone found.new ((it : FeatureRecord)
-            → Shows feature.now it → IsValidGeometryBy profile it)) }
+            → Encodes feature.now it → IsValidGeometryBy profile it)) }
         ensures found { IfOk result (λ _. IfSome found.new (λ fault. (it : FeatureRecord)
-            → Shows feature.now it
+            → Encodes feature.now it
             → IsLeastOr (IsFreeFor search profile)
             (IsFaultOfGeometryBy profile it layer ordinal) fault)) }
     {
@@ -100,11 +100,11 @@ impl GeometryRule {
         layer: usize,
         ordinal: usize,
     ) -> Result<Option<Fault>, AllocError>
-        requires { (it : FeatureRecord) → Shows feature.now it → it.kind ≡ type_number polygon }
+        requires { (it : FeatureRecord) → Encodes feature.now it → it.kind ≡ type_number polygon }
         ensures kept { IfOk result (λ found. IfNone found ((it : FeatureRecord)
-            → Shows feature.now it → IsValidGeometryBy profile it)) }
+            → Encodes feature.now it → IsValidGeometryBy profile it)) }
         ensures found { IfOk result (λ found. IfSome found (λ fault. (it : FeatureRecord)
-            → Shows feature.now it
+            → Encodes feature.now it
             → IsLeastOr (IsFreeFor search profile)
             (IsFaultOfGeometryBy profile it layer ordinal) fault)) }
     {

@@ -9,7 +9,7 @@ ghost use Rattle.mvt_plane.specs.Commands.Figure.{polygon};
 ghost use Rattle.mvt_plane.specs.FeatureGeometry.{HasRings, type_number};
 ghost use Rattle.mvt_sweep.specs.Rings.{rings_of, AreProperRings};
 ghost use Rattle.mvt_rules.specs.Ring.{ArePolygonRings};
-ghost use Rattle.mvt_gate.specs.Calls.Polygons.{IsFirstOfRings, IsFirstOfRingsFor, AreValidBefore, AreWithin, IsRingWithin, fault_of_hole, fault_of_meeting, rings_at};
+ghost use Rattle.mvt_gate.specs.Calls.Polygons.{IsFirstOfRings, IsFirstOfRingsFor, AreValidBefore, AreWithin, IsRingWithin, hole_fault, meeting_fault, rings_at};
 
 mod apart;
 
@@ -131,7 +131,7 @@ fn polygon_fault(
 fn meeting_fault(place: PolygonPlace, meeting: Meeting) -> Fault
     requires first { IsRingWithin place meeting.first_ring }
     requires second { IsRingWithin place meeting.second_ring }
-    ensures { result ≡ fault_of_meeting place meeting }
+    ensures { result ≡ meeting_fault place meeting }
 {
     Fault::Meeting {
         layer: place.layer,
@@ -154,7 +154,7 @@ fn meeting_fault(place: PolygonPlace, meeting: Meeting) -> Fault
 /// The fault of a hole that was found among the rings of the polygon alone.
 fn hole_fault(place: PolygonPlace, fault: NestFault) -> Fault
     requires { AreWithin place fault }
-    ensures { result ≡ fault_of_hole place fault }
+    ensures { result ≡ hole_fault place fault }
 {
     match fault {
         NestFault::Outside { ring, vertex } => Fault::Outside {

@@ -9,7 +9,7 @@ use Rattle.mvt_gate.specs.declared.quick.Search.TheVariants.{Least}
 use Rattle.mvt_tile.proofs.RuleFaults.FreeFaults.{first_by_taken}
 use Rattle.mvt_rules.specs.Tile.{TileRecord, IsTile}
 use Rattle.mvt_mender.proofs.MendableFaults.{later_than_tags, of_one}
-use Rattle.mvt_mender.specs.Calls.Features.{ArePlacesOf, AreInTurn, HaveFeatures, IsAt, IsInFront, MayBeMended}
+use Rattle.mvt_mender.specs.Calls.Features.{ArePlacesOf, AreInTurn, HaveFeatures, IsOfPlace, IsInFront, MayBeMended}
 use Rattle.mvt_mender.specs.declared.place.FeaturePlace.{FeaturePlace}
 
 -- of two places of faults of features, the first is of an earlier feature or of the same
@@ -21,7 +21,7 @@ in_order layer feature its other rest more (inr (same, inr (again, inl less))) =
 in_order layer feature its other rest more (inr (same, inr (again, inr (third, last)))) = inr (again, third)
 
 -- so are faults that may be mended
-in_front : (place other : FeaturePlace) (fault another : Fault) → MayBeMended fault → MayBeMended another → IsAt place fault → IsAt other another → ComesFirst (place_of fault) (place_of another)
+in_front : (place other : FeaturePlace) (fault another : Fault) → MayBeMended fault → MayBeMended another → IsOfPlace place fault → IsOfPlace other another → ComesFirst (place_of fault) (place_of another)
     → subject_of fault ≢ subject_of another → IsInFront place other.layer other.feature
 in_front place other fault another may its is also first differ =
     let one = later_than_tags fault may in

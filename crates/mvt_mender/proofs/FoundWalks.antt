@@ -1,7 +1,7 @@
 -- One more feature of a layer was passed, or all of them, or one more layer.
 use Rattle.std.proofs.Common.{◌≡◌, ◌≢◌, ℕ, ◌+◌, List, [], ◌∷◌, ◌++◌, length, slice_get, Some, refl, subst}
 use Rattle.mvt_tile.proofs.WireFaults.CleanWalk.{CleanWalk-more, CleanWalk-other}
-use Rattle.mvt_tile.specs.FeatureBytes.{Shows}
+use Rattle.mvt_tile.specs.FeatureBytes.{Encodes}
 use Rattle.mvt_tile.specs.declared.feature_bytes.FeatureBytes.{FeatureBytes}
 use Rattle.mvt_wire.specs.Field.{Entry}
 use Rattle.mvt_wire.specs.Payload.{Span, span_of}
@@ -27,9 +27,9 @@ module _ (bytes : List ℕ) (places : List FeaturePlace) (in_turn : AreInTurn pl
     }
 
     -- a feature at the next place
-    pub walk_pushed : (it : FeatureBytes) → slice_get places (length found) ≡ Some (record { layer = layer; feature = feature }) → ((feature_record : FeatureRecord) → IsFeature bytes inner feature_record → Shows it feature_record)
+    pub walk_pushed : (it : FeatureBytes) → slice_get places (length found) ≡ Some (record { layer = layer; feature = feature }) → ((feature_record : FeatureRecord) → IsFeature bytes inner feature_record → Encodes it feature_record)
         → IsLayerWalk bytes places span layer before new (feature + 1) (found ++ it ∷ [])
-    walk_pushed it here shows = record {
+    walk_pushed it here encodes = record {
       passed = CleanWalk-more walk.passed given own inner there tt;
       so_far = λ tile layer_record is in_tile its begun.
           let next = next_feature walk.passed given own inner there layer_record its in
@@ -37,7 +37,7 @@ module _ (bytes : List ℕ) (places : List FeaturePlace) (in_turn : AreInTurn pl
             layer_record = layer_record;
             feature_record = next.0;
             there = record { tile = tile; is = is; there = record { in_tile = in_tile; in_layer = next.1 } };
-            shows = shows next.0 next.2;
+            encodes = encodes next.0 next.2;
           });
     }
 

@@ -10,9 +10,9 @@ use Rattle.mvt_gate.specs.FaultList.{AreFaultsFor, of_feature}
 use Rattle.mvt_gate.specs.declared.quick.Search.TheVariants.{Least}
 use Rattle.mvt_plane.specs.Commands.Figure.{polygon}
 use Rattle.mvt_plane.specs.FeatureGeometry.{type_number}
-use Rattle.mvt_splice.specs.Splice.{AreInOrder, IsBefore}
+use Rattle.mvt_splice.specs.Splice.{AreChangesInOrder, IsBefore}
 use Rattle.mvt_splice.specs.declared.change.Change.{Change}
-use Rattle.mvt_tile.specs.FeatureBytes.{Shows}
+use Rattle.mvt_tile.specs.FeatureBytes.{Encodes}
 use Rattle.mvt_tile.specs.declared.feature_bytes.FeatureBytes.{FeatureBytes}
 use Rattle.mvt_wire.proofs.Encoding.Payloads.{slice_get-last}
 use Rattle.mvt_wire.proofs.Parts.EmbeddedSpans.{slice_get-some}
@@ -27,10 +27,10 @@ use Rattle.mvt_mender.specs.declared.mending.WhatChanged.TheVariants.{Mended, Dr
 use Rattle.mvt_mender.specs.declared.place.FeaturePlace.{FeaturePlace}
 
 -- what became of a feature's bytes became of its record
-changed_from : (profile : Profile) (drop : Bool) (feature : FeatureBytes) (it : FeatureRecord) (what : WhatChanged) (geometry : Option (Vec ℕ Global)) → Shows feature it → it.kind ≡ type_number polygon
+changed_from : (profile : Profile) (drop : Bool) (feature : FeatureBytes) (it : FeatureRecord) (what : WhatChanged) (geometry : Option (Vec ℕ Global)) → Encodes feature it → it.kind ≡ type_number polygon
     → IsMadeOf profile drop feature what geometry → IsChangedTo profile drop it what geometry
-changed_from profile drop feature it (Mended mended) geometry shows kind (numbers, is, made) = (kind, (numbers, is, made it shows))
-changed_from profile drop feature it Dropped geometry shows kind made = made
+changed_from profile drop feature it (Mended mended) geometry encodes kind (numbers, is, made) = (kind, (numbers, is, made it encodes))
+changed_from profile drop feature it Dropped geometry encodes kind made = made
 
 module _ (profile : Profile) (drop : Bool) (bytes : List ℕ) (places : List FeaturePlace) (features : List FeatureBytes) (found : AreAllFound bytes places features)
     (told : List FeatureChange) (made : List Change) (all : AreMade profile drop places features (length features) told made) where
@@ -65,7 +65,7 @@ module _ (profile : Profile) (drop : Bool) (bytes : List ℕ) (places : List Fea
       }
 
   -- they are in the order of their features
-  pub made_in_order : AreInTurn places → AreInOrder made
+  pub made_in_order : AreInTurn places → AreChangesInOrder made
   made_in_order in_turn i j d less within =
       let first = get_or made i d in
       let second = get_or made j d in
@@ -98,7 +98,7 @@ module _ (profile : Profile) (drop : Bool) (bytes : List ℕ) (places : List Fea
           feature_record = stands.feature_record;
           there = subst (λ (n : ℕ). IsFeatureIn bytes one.layer n stands.layer_record stands.feature_record) (sym is.told_feature)
               (subst (λ (n : ℕ). IsFeatureIn bytes n its.place.feature stands.layer_record stands.feature_record) (sym is.told_layer) stands.there);
-          changed = changed_from profile drop its.feature stands.feature_record one.what change.geometry stands.shows (polygons at its.feature stands.feature_record its.there stands.shows) is.made;
+          changed = changed_from profile drop its.feature stands.feature_record one.what change.geometry stands.encodes (polygons at its.feature stands.feature_record its.there stands.encodes) is.made;
         }
 
     pub each_told : Each (IsChangeOf profile drop bytes) told made

@@ -8,7 +8,7 @@ use Rattle.mvt_fault.specs.declared.profile.Profile.{Profile}
 use Rattle.mvt_gate.specs.FaultList.{AreFaultsFor}
 use Rattle.mvt_gate.specs.declared.quick.Search.TheVariants.{Least}
 use Rattle.mvt_splice.proofs.SplicedTiles.ValidSplices.{spliced_is_valid}
-use Rattle.mvt_splice.specs.Splice.{AreInOrder, IsSpliced}
+use Rattle.mvt_splice.specs.Splice.{AreChangesInOrder, IsSpliced}
 use Rattle.mvt_splice.specs.declared.change.Change.{Change}
 use Rattle.mvt_tile.specs.declared.feature_bytes.FeatureBytes.{FeatureBytes}
 use Rattle.mvt_rules.specs.Tile.{Each, TileRecord, IsTile}
@@ -55,7 +55,7 @@ module _ (profile : Profile) (drop : Bool) (bytes : List ℕ) (faults : List Fau
 
   module _ (told : List FeatureChange) (made : List Change) (all : AreMade profile drop places features (length features) told made) where
     -- the changes are in order
-    pub in_order : AreInOrder made
+    pub in_order : AreChangesInOrder made
     in_order = made_in_order profile drop bytes places features found told made all (in_turn profile bytes faults list places of)
 
     -- the tile with the changes is valid

@@ -11,7 +11,7 @@ use Rattle.mvt_gate.specs.declared.quick.Search.TheVariants.{Least}
 use Rattle.mvt_plane.specs.Commands.Figure.{polygon}
 use Rattle.mvt_plane.specs.FeatureGeometry.{type_number}
 use Rattle.mvt_tile.proofs.RuleFaults.FreeFaults.{first_by_taken}
-use Rattle.mvt_tile.specs.FeatureBytes.{Shows}
+use Rattle.mvt_tile.specs.FeatureBytes.{Encodes}
 use Rattle.mvt_tile.specs.declared.feature_bytes.FeatureBytes.{FeatureBytes}
 use Rattle.mvt_rules.specs.Tile.{FeatureRecord}
 use Rattle.mvt_mender.proofs.Lists.{present, within_or_end}
@@ -58,23 +58,23 @@ module _ (profile : Profile) (bytes : List ℕ) (faults : List Fault) (list : Ar
     module _ (features : List FeatureBytes) (found : AreAllFound bytes places features) where
       -- a fault of a feature of polygons is mended
       pub of_polygons_mendable : (at : ℕ) (fault : Fault) (it : FeatureBytes) → slice_get faults at ≡ Some fault → slice_get features at ≡ Some it
-          → ((feature_record : FeatureRecord) → Shows it feature_record → feature_record.kind ≡ type_number polygon) → IsMendable bytes fault
+          → ((feature_record : FeatureRecord) → Encodes it feature_record → feature_record.kind ≡ type_number polygon) → IsMendable bytes fault
       of_polygons_mendable at fault it there here kind =
           let (place, its, stands) = found.each at it here in
           let (other, also, may, is) = of.each at place its in
           let one : other ≡ fault = same_Some other fault (sym also ∙ there) in
           subst (IsMendable bytes) one
-          (is_mendable bytes place.layer place.feature other may is (stands.layer_record, stands.feature_record, stands.there, kind stands.feature_record stands.shows))
+          (is_mendable bytes place.layer place.feature other may is (stands.layer_record, stands.feature_record, stands.there, kind stands.feature_record stands.encodes))
 
       -- one of another feature isn't
       other_kind : (at : ℕ) (fault : Fault) (it : FeatureBytes) → slice_get faults at ≡ Some fault → slice_get features at ≡ Some it
-          → ((feature_record : FeatureRecord) → Shows it feature_record → ¬ (feature_record.kind ≡ type_number polygon)) → ¬ IsMendable bytes fault
+          → ((feature_record : FeatureRecord) → Encodes it feature_record → ¬ (feature_record.kind ≡ type_number polygon)) → ¬ IsMendable bytes fault
       other_kind at fault it there here kind mendable =
           let (place, its, stands) = found.each at it here in
           let (other, also, may, is) = of.each at place its in
           let one : other ≡ fault = same_Some other fault (sym also ∙ there) in
           let first = list.each at fault there in
-          kind stands.feature_record stands.shows
+          kind stands.feature_record stands.encodes
           (kind_is_polygon profile bytes place.layer place.feature stands.layer_record stands.feature_record stands.there fault first.holds (subst (λ (f : Fault). subject_of f ≡ of_feature place.layer place.feature) one is) mendable)
 
       -- so the first of another kind, or the first after all of them, is the least
@@ -83,11 +83,11 @@ module _ (profile : Profile) (bytes : List ℕ) (faults : List Fault) (list : Ar
           least_other first.at fault first.here not_it
           (λ earlier it less there.
           let (feature, here) = present features earlier (omega (arith, first.within)) in
-          of_polygons_mendable earlier it feature there here (λ feature_record shows. first.before earlier feature feature_record less here shows))
+          of_polygons_mendable earlier it feature there here (λ feature_record encodes. first.before earlier feature feature_record less here encodes))
         where
           not_it : ¬ IsMendable bytes fault
           not_it = elim (within_or_end features first.at first.within) [
-            | inl (it, here) ↦ other_kind first.at fault it first.here here (λ feature_record shows. first.other it feature_record here shows)
+            | inl (it, here) ↦ other_kind first.at fault it first.here here (λ feature_record encodes. first.other it feature_record here encodes)
             | inr at_end ↦ λ mendable.
                 let end : length places ≡ first.at = omega (arith, found.count) in
                 of.stop fault (ap (slice_get faults) end ∙ first.here) (may_be bytes fault mendable)
@@ -98,4 +98,4 @@ module _ (profile : Profile) (bytes : List ℕ) (faults : List Fault) (list : Ar
       each_mendable polygons same at fault there =
           let within = slice_get_within faults at fault there in
           let (it, here) = present features at (omega arith) in
-          of_polygons_mendable at fault it there here (λ feature_record shows. polygons at it feature_record here shows)
+          of_polygons_mendable at fault it there here (λ feature_record encodes. polygons at it feature_record here encodes)

@@ -3,7 +3,7 @@ use Rattle.std.proofs.Common.{◌≡◌, ℕ, List, ◌++◌, codes, decimal, Re
 use Rattle.std.specs.Result.{is_ok}
 use Rattle.serde_json.proofs.OnLiterals.{serde_json_on_literals}
 use Rattle.serde_json.specs.Written.{compact_text}
-use Rattle.mvt_fault.specs.Text.{digits, whole}
+use Rattle.mvt_fault.specs.Text.{digits, whole_number}
 use Rattle.mvt_engine.specs.Dump.{list_data}
 use Rattle.mvt_mender.specs.Report.{change_data, mended_data, pair_data, report_text}
 use Rattle.mvt_mender.specs.declared.mending.FeatureChange.{FeatureChange}
@@ -20,9 +20,9 @@ pub mended_pushed : {E : Type 0} (result : Result (Unit {0}) E) (layer feature :
     → t3 ≡ t2 ++ (codes ",\"crossings\":" ++ (decimal mended.crossings ++ (codes ",\"cuts\":" ++ decimal mended.cuts)))
     → t4 ≡ t3 ++ (codes ",\"feature\":" ++ (decimal feature ++ (codes ",\"layer\":" ++ decimal layer)))
     → t5 ≡ t4 ++ codes ",\"polygons\":"
-    → t6 ≡ t5 ++ compact_text (pair_data (whole mended.before.polygons) (whole mended.after.polygons))
+    → t6 ≡ t5 ++ compact_text (pair_data (whole_number mended.before.polygons) (whole_number mended.after.polygons))
     → t7 ≡ t6 ++ codes ",\"vertices\":"
-    → t8 ≡ t7 ++ compact_text (pair_data (whole mended.before.vertices) (whole mended.after.vertices))
+    → t8 ≡ t7 ++ compact_text (pair_data (whole_number mended.before.vertices) (whole_number mended.after.vertices))
     → t9 ≡ (if is_ok result then t8 ++ codes ",\"what\":\"mended\"}" else t8)
     → OnOk result (t9 ≡ t0 ++ compact_text (mended_data layer feature mended))
 unfolding serde_json_on_literals

@@ -16,7 +16,7 @@ use Rattle.mvt_splice.specs.FeatureFaults.{IsOfFeature, AreRightTags}
 use Rattle.mvt_splice.specs.Splice.{Fate, fate_in, fate_of}
 use Rattle.mvt_splice.specs.SplicedTile.{IsValidAfter, IsValidOnceSpliced}
 use Rattle.mvt_splice.specs.declared.change.Change.{Change}
-use Rattle.mvt_tile.specs.FeatureBytes.{Shows}
+use Rattle.mvt_tile.specs.FeatureBytes.{Encodes}
 use Rattle.mvt_tile.specs.declared.feature_bytes.FeatureBytes.{FeatureBytes}
 use Rattle.mvt_rules.specs.Rules.{IsFeatureOf}
 use Rattle.mvt_rules.specs.Tile.{FeatureRecord, LayerRecord, TileRecord, IsTile}
@@ -46,12 +46,12 @@ named_subject layer feature (InPolygon its other number vertex another) named = 
 
 -- what is left of a feature is valid, by what became of it
 made_right : (profile : Profile) (drop : Bool) (layer_record : LayerRecord) (it : FeatureRecord) (feature : FeatureBytes) (what : WhatChanged) (geometry : Option (Vec ℕ Global)) → AreRightTags layer_record it
-    → it.kind ≡ type_number polygon → Shows feature it → IsMadeOf profile drop feature what geometry → IsValidAfter profile (fate_of geometry) layer_record it
-made_right profile drop layer_record it feature (Mended mended) geometry tags kind shows (numbers, is, made) =
-    let new = made it shows in
+    → it.kind ≡ type_number polygon → Encodes feature it → IsMadeOf profile drop feature what geometry → IsValidAfter profile (fate_of geometry) layer_record it
+made_right profile drop layer_record it feature (Mended mended) geometry tags kind encodes (numbers, is, made) =
+    let new = made it encodes in
     subst (λ (g : Option (Vec ℕ Global)). IsValidAfter profile (fate_of g) layer_record it) (sym is)
     (rings_are_valid_after profile layer_record it numbers.items new.new_rings tags kind new.spelled new.valid)
-made_right profile drop layer_record it feature Dropped geometry tags kind shows (asked, is) =
+made_right profile drop layer_record it feature Dropped geometry tags kind encodes (asked, is) =
     subst (λ (g : Option (Vec ℕ Global)). IsValidAfter profile (fate_of g) layer_record it) (sym is) tt
 
 module _ (profile : Profile) (drop : Bool) (bytes : List ℕ) (faults : List Fault) (list : AreFaultsFor Least profile bytes faults) (places : List FeaturePlace) (of : ArePlacesOf faults places)
@@ -90,8 +90,8 @@ module _ (profile : Profile) (drop : Bool) (bytes : List ℕ) (faults : List Fau
         let moved : IsFeatureIn bytes layer feature stands.layer_record stands.feature_record = subst (λ (n : ℕ). IsFeatureIn bytes layer n stands.layer_record stands.feature_record) ordinal
         (subst (λ (n : ℕ). IsFeatureIn bytes n its.place.feature stands.layer_record stands.feature_record) in_layer stands.there) in
         let same = one_feature bytes layer feature stands.layer_record layer_record stands.feature_record it moved in_bytes in
-        let shows : Shows its.feature it = subst (Shows its.feature) same.1 stands.shows in
-        made_right profile drop layer_record it its.feature its.one.what one.change.geometry good_tags (polygons one.at its.feature it its.there shows) shows its.is.made
+        let encodes : Encodes its.feature it = subst (Encodes its.feature) same.1 stands.encodes in
+        made_right profile drop layer_record it its.feature its.one.what one.change.geometry good_tags (polygons one.at its.feature it its.there encodes) encodes its.is.made
 
     -- so what is left of each feature is valid
     right : IsValidAfter profile (fate_in made layer feature) layer_record it

@@ -6,7 +6,7 @@ use Rattle.mvt_fault.specs.Place.{IsLeast}
 use Rattle.mvt_fault.specs.declared.fault.Fault.{Fault}
 use Rattle.mvt_fault.specs.declared.profile.Profile.{Profile}
 use Rattle.mvt_gate.specs.FaultList.{IsFirstOfItsSubject}
-use Rattle.mvt_splice.specs.Splice.{AreInOrder, IsSpliced}
+use Rattle.mvt_splice.specs.Splice.{AreChangesInOrder, IsSpliced}
 use Rattle.mvt_splice.specs.declared.change.Change.{Change}
 use Rattle.mvt_rules.specs.Tile.{Each, TileRecord, IsTile}
 use Rattle.mvt_mender.specs.Changed.{IsChangeOf}
@@ -24,7 +24,7 @@ pub record IsMendedTo (profile : Profile) (drop : Bool) (bytes : List ℕ) (mend
   pub mendable : AreAllMendable profile bytes
   pub valid : ValidBy profile mended.bytes.items
   pub changes : List Change
-  pub in_order : AreInOrder changes
+  pub in_order : AreChangesInOrder changes
   pub spliced : IsSpliced changes bytes mended.bytes.items
   pub each : Each (IsChangeOf profile drop bytes) mended.changes.items changes
 

@@ -3,7 +3,7 @@ use Rattle.std.specs.Prelude.{ℕ, List, [], ◌∷◌, ◌++◌, true, codes}
 use Rattle.serde_json.specs.Data.{Data, boolean, string, array, object, member, no_members}
 use Rattle.serde_json.specs.View.{items_of}
 use Rattle.serde_json.specs.Written.{compact_text}
-use Rattle.mvt_fault.specs.Text.{digits, whole}
+use Rattle.mvt_fault.specs.Text.{digits, whole_number}
 use Rattle.mvt_engine.specs.Dump.{list_data}
 use Rattle.mvt_mender.specs.declared.mending.FeatureChange.{FeatureChange}
 use Rattle.mvt_mender.specs.declared.mending.MendedFeature.{MendedFeature}
@@ -18,20 +18,20 @@ pair_data before after = array (items_of (before ∷ after ∷ []))
 abbrev pub mended_data : ℕ → ℕ → MendedFeature → Data
 mended_data layer feature mended =
     object (member (codes "area") (pair_data (digits mended.before.doubled_area) (digits mended.after.doubled_area))
-    (member (codes "crossings") (whole mended.crossings)
-    (member (codes "cuts") (whole mended.cuts)
-    (member (codes "feature") (whole feature)
-    (member (codes "layer") (whole layer)
-    (member (codes "polygons") (pair_data (whole mended.before.polygons) (whole mended.after.polygons))
-    (member (codes "vertices") (pair_data (whole mended.before.vertices) (whole mended.after.vertices))
+    (member (codes "crossings") (whole_number mended.crossings)
+    (member (codes "cuts") (whole_number mended.cuts)
+    (member (codes "feature") (whole_number feature)
+    (member (codes "layer") (whole_number layer)
+    (member (codes "polygons") (pair_data (whole_number mended.before.polygons) (whole_number mended.after.polygons))
+    (member (codes "vertices") (pair_data (whole_number mended.before.vertices) (whole_number mended.after.vertices))
     (member (codes "what") (string (codes "mended"))
     no_members))))))))
 
 -- a feature that was left out
 abbrev pub dropped_data : ℕ → ℕ → Data
 dropped_data layer feature =
-    object (member (codes "feature") (whole feature)
-    (member (codes "layer") (whole layer)
+    object (member (codes "feature") (whole_number feature)
+    (member (codes "layer") (whole_number layer)
     (member (codes "what") (string (codes "dropped"))
     no_members)))
 

@@ -5,7 +5,7 @@ ghost use Rattle.mvt_draw.specs.Geometry.{figure_of};
 ghost use Rattle.mvt_plane.specs.Commands.Figure.{polygon, rings};
 ghost use Rattle.mvt_plane.specs.FeatureGeometry.{HasRings, type_number};
 ghost use Rattle.mvt_plane.specs.Position.{Position};
-ghost use Rattle.mvt_tile.specs.FeatureBytes.{Shows};
+ghost use Rattle.mvt_tile.specs.FeatureBytes.{Encodes};
 ghost use Rattle.mvt_sweep.specs.Rings.{rings_of};
 ghost use Rattle.mvt_rules.specs.Tile.{FeatureRecord};
 ghost use Rattle.mvt_mender.specs.Calls.Steps.{IsNewGeometry};
@@ -40,7 +40,7 @@ pub(crate) fn mend_feature(
     work: &mut Work,
 ) -> Result<Option<NewGeometry>, AllocError>
     ensures { IfOk result (λ found. IfSome found (λ new. (it : FeatureRecord)
-        → Shows feature.now it
+        → Encodes feature.now it
         → IsMendedGeometry profile it.geometry new.numbers.items new.mended)) }
 {
     let numbers = list_of(alloc, feature.geometry())?;

@@ -1,6 +1,6 @@
 //! Which faults are mended.
 ghost use Rattle.std.specs.Prelude.{IfOk, IfNone, IfSome};
-ghost use Rattle.mvt_mender.specs.Calls.Features.{ArePlacesOf, IsAt, MayBeMended};
+ghost use Rattle.mvt_mender.specs.Calls.Features.{ArePlacesOf, IsOfPlace, MayBeMended};
 
 use crate::place::FeaturePlace;
 use mvt_fault::{CommandCode, Fault};
@@ -24,7 +24,7 @@ pub(crate) fn places_of(alloc: Global, faults: &[Fault]) -> Result<Vec<FeaturePl
 
 /// The feature of a fault that may be mended, or None of one that isn't, whatever its feature is.
 fn place_of_mendable(fault: &Fault) -> Option<FeaturePlace>
-    ensures place { IfSome result (λ place. MayBeMended fault.now × IsAt place fault.now) }
+    ensures place { IfSome result (λ place. MayBeMended fault.now × IsOfPlace place fault.now) }
     ensures none { IfNone result (¬ MayBeMended fault.now) }
 {
     match *fault {

@@ -5,7 +5,7 @@ ghost use Rattle.mvt_gate.specs.FaultList.{AreFaultsFor};
 ghost use Rattle.mvt_gate.specs.declared.quick.Search.TheVariants.{Least};
 ghost use Rattle.mvt_plane.specs.Commands.Figure.{polygon};
 ghost use Rattle.mvt_plane.specs.FeatureGeometry.{type_number};
-ghost use Rattle.mvt_tile.specs.FeatureBytes.{Shows};
+ghost use Rattle.mvt_tile.specs.FeatureBytes.{Encodes};
 ghost use Rattle.mvt_rules.specs.Tile.{FeatureRecord};
 ghost use Rattle.mvt_mender.specs.Calls.Features.{AreAllFound, ArePlacesOf, AreOfPolygons, IsFirstOther};
 ghost use Rattle.mvt_mender.specs.Mending.{IsMendingBy};
@@ -196,9 +196,9 @@ fn other_fault(faults: &[Fault], features: &[FeatureBytes<'_>]) -> Option<Fault>
 
 /// Whether a feature is of the type of polygons.
 fn is_of_polygons(feature: &FeatureBytes<'_>) -> bool
-    ensures yes { IsTrue result → (it : FeatureRecord) → Shows feature.now it
+    ensures yes { IsTrue result → (it : FeatureRecord) → Encodes feature.now it
         → it.kind ≡ type_number polygon }
-    ensures no { IsFalse result → (it : FeatureRecord) → Shows feature.now it
+    ensures no { IsFalse result → (it : FeatureRecord) → Encodes feature.now it
         → it.kind ≢ type_number polygon }
 {
     match feature.kind() {

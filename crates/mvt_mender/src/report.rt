@@ -1,7 +1,7 @@
 //! The text that tells what mending changed.
 ghost use Rattle.std.specs.Prelude.{◌≡◌, ◌++◌, codes, decimal, IfOk, OnOk, string_bytes};
 ghost use Rattle.serde_json.specs.Written.{compact_text};
-ghost use Rattle.mvt_fault.specs.Text.{digits, whole};
+ghost use Rattle.mvt_fault.specs.Text.{digits, whole_number};
 ghost use Rattle.mvt_mender.specs.Report.{change_data, dropped_data, mended_data, pair_data, report_text};
 
 use crate::mending::{FeatureChange, MendedFeature, WhatChanged};
@@ -95,7 +95,7 @@ fn push_ordinals(text: &mut String, feature: usize, layer: usize) -> Result<(), 
 /// Writes a number before and after.
 fn push_pair(text: &mut String, before: usize, after: usize) -> Result<(), AllocError>
     ensures { OnOk result (string_bytes text.new
-        ≡ string_bytes text.old ++ compact_text (pair_data (whole before) (whole after))) }
+        ≡ string_bytes text.old ++ compact_text (pair_data (whole_number before) (whole_number after))) }
 {
     write!(text, "[{before},{after}]")
 }

@@ -11,7 +11,7 @@ ghost use Rattle.mvt_status.specs.Counts.{bits};
 use crate::nesting::NestFault;
 use crate::nesting::noted::fault_of_holes;
 use mvt_plane::{Count, Point};
-use mvt_sweep::{Meeting, Swept, meeting_in_ring, sweep_rings};
+use mvt_sweep::{Meeting, Swept, self_intersection, sweep_rings};
 use std::alloc::{AllocError, Global};
 
 #[cfg(test)]
@@ -33,12 +33,12 @@ pub enum PolygonFault {
 /// its line comes to a ring, the edges below say which rings are around it. A polygon of one ring
 /// has no holes, so nothing is noted of it; if it has at most 16 edges, all pairs are checked, and
 /// it is swept over only where more than three pairs for each edge need a test. So of n vertices it
-/// makes at most 3 * n tests of two edges, n * (2 * bits(n) + 10) comparisons of an edge with a
-/// vertex or with another edge, and n * 20 * bits(n) visits of the status's nodes, as `count` has
-/// it, also where rings are many. Of t turn vertices, as `find_meeting` has them, it makes at most
-/// 9 * n + t * 2 * bits(n) comparisons and t * 12 * bits(n) visits. It makes a test at least where
-/// it finds a meeting, and else n comparisons. The only error is that memory was refused, or that
-/// there are 2^32 vertices or more.
+/// makes at most 3 * n tests of two edges, n * (2 * bits(n) + 10) probes, which compare an edge
+/// with a vertex or with another edge, and n * 20 * bits(n) visits of the status's nodes, as
+/// `count` has it, also where rings are many. Of t turn vertices, as `find_meeting` has them, it
+/// makes at most 9 * n + t * 2 * bits(n) probes and t * 12 * bits(n) visits. It makes a test at
+/// least where it finds a meeting, and else n probes. The only error is that memory was refused, or
+/// that there are 2^32 vertices or more.
 pub fn check_polygon(
     alloc: Global,
     rings: &[Vec<Point>],
@@ -56,7 +56,7 @@ pub fn check_polygon(
         IsCounted (vertex_count (rings_of rings.now)) count.old count.new (meeting_in found)) }
 {
     if rings.len() == 1 {
-        return Ok(fault_of_meeting(meeting_in_ring(alloc, rings, count)?));
+        return Ok(meeting_as_fault(self_intersection(alloc, rings, count)?));
     }
     check_with_holes(alloc, rings, count)
 }
@@ -78,12 +78,12 @@ fn check_with_holes(
 {
     Ok(match sweep_rings(alloc, rings, count)? {
         Swept::Meets(meeting) => Some(PolygonFault::Meeting(meeting)),
-        Swept::Clear(notes) => fault_of_nesting(fault_of_holes(rings, &notes, count)),
+        Swept::Clear(notes) => nesting_as_fault(fault_of_holes(rings, &notes, count)),
     })
 }
 
 /// The fault where a meeting was found.
-fn fault_of_meeting(found: Option<Meeting>) -> Option<PolygonFault>
+fn meeting_as_fault(found: Option<Meeting>) -> Option<PolygonFault>
     ensures { result ≡ option_map faults.Meeting found }
 {
     match found {
@@ -93,7 +93,7 @@ fn fault_of_meeting(found: Option<Meeting>) -> Option<PolygonFault>
 }
 
 /// The fault where a hole was found that isn't where it should be.
-fn fault_of_nesting(found: Option<NestFault>) -> Option<PolygonFault>
+fn nesting_as_fault(found: Option<NestFault>) -> Option<PolygonFault>
     ensures { result ≡ option_map faults.Nesting found }
 {
     match found {

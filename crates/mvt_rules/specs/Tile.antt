@@ -1,4 +1,4 @@
--- The record that a tile's bytes spell (Mapbox Vector Tile Specification 2.1, section 4). Its fields are filters of
+-- The record that a tile's bytes encode (Mapbox Vector Tile Specification 2.1, section 4). Its fields are filters of
 -- the field lists of its messages.
 use Rattle.std.specs.Prelude.{◌≡◌, ℕ, ◌==◌, ◌≤◌, Bool, true, false, not, List, [], ◌∷◌, filter, All, ℤ, Option, Some, unwrap_or, is_some, IsUtf8, slice_get}
 use Rattle.std.specs.Int.{cast_signed, w64}

@@ -34,9 +34,9 @@ abbrev pub changes_to : Vec ℕ Global → List Change
 changes_to numbers = record { layer = 0; feature = 1; geometry = Some numbers } ∷ record { layer = 0; feature = 2; geometry = None } ∷ []
 
 -- a feature of polygons
-abbrev pub feature_of : List ℕ → FeatureRecord
-feature_of geometry = record { id = None; tags = []; kind = 3; geometry = geometry }
+abbrev pub example_feature : List ℕ → FeatureRecord
+example_feature geometry = record { id = None; tags = []; kind = 3; geometry = geometry }
 
 -- the layer "a" of such features
-abbrev pub tile_of : List FeatureRecord → TileRecord
-tile_of features = record { layers = record { version = 2; name = 97 ∷ []; features = features; keys = []; values = []; extent = 4096 } ∷ [] }
+abbrev pub example_tile : List FeatureRecord → TileRecord
+example_tile features = record { layers = record { version = 2; name = 97 ∷ []; features = features; keys = []; values = []; extent = 4096 } ∷ [] }

@@ -1,9 +1,9 @@
 -- What became of a tile's bytes where the geometries of some features were exchanged and other features were left out
--- (Mapbox Vector Tile Specification 2.1, sections 4.1 and 4.2). A message is the spellings of its fields, joined one after
+-- (Mapbox Vector Tile Specification 2.1, sections 4.1 and 4.2). A message is the encodings of its fields, joined one after
 -- another; all but the fields that are told here keep their bytes and their order.
 use Rattle.std.specs.Prelude.{◌≡◌, ℕ, suc, ◌<◌, ◌⊎◌, ◌==◌, ◌&&◌, not, if◌then◌else◌, List, [], ◌∷◌, ◌++◌, filter, AllPairs, Option, Some, None, Vec}
 use Rattle.std.specs.declared.alloc.Global.{Global}
-use Rattle.mvt_wire.specs.Field.{delimited, Entry, IsFieldSpelling}
+use Rattle.mvt_wire.specs.Field.{delimited, Entry, IsFieldEncoding}
 use Rattle.mvt_wire.specs.Number.{States}
 use Rattle.mvt_wire.specs.Payload.{bytes_in}
 use Rattle.mvt_splice.specs.declared.change.Change.{Change}
@@ -33,10 +33,10 @@ abbrev pub IsBefore : Change → ℕ → ℕ → Type 0
 IsBefore change layer feature = (change.layer < layer) ⊎ ((change.layer ≡ layer) × (change.feature < feature))
 
 -- the changes are in the order of their features, and no two are about one
-abbrev pub AreInOrder : List Change → Type 0
-AreInOrder changes = AllPairs (λ change later. IsBefore change later.layer later.feature) changes
+abbrev pub AreChangesInOrder : List Change → Type 0
+AreChangesInOrder changes = AllPairs (λ change later. IsBefore change later.layer later.feature) changes
 
--- a field with the bytes that spell it; its places are counted from the first of them
+-- a field with the bytes that encode it; its places are counted from the first of them
 pub record Piece : Type 0 where
   pub bytes : List ℕ
   pub field : Entry
@@ -46,14 +46,14 @@ abbrev pub bytes_of : List Piece → List ℕ
 bytes_of [] = []
 bytes_of (piece ∷ pieces) = piece.bytes ++ bytes_of pieces
 
--- each piece is one field's spelling
-abbrev pub AreSpelled : List Piece → Type 0
-AreSpelled [] = Unit {0}
-AreSpelled (piece ∷ pieces) = IsFieldSpelling piece.bytes piece.field × AreSpelled pieces
+-- each piece is one field's encoding
+abbrev pub AreEncoded : List Piece → Type 0
+AreEncoded [] = Unit {0}
+AreEncoded (piece ∷ pieces) = IsFieldEncoding piece.bytes piece.field × AreEncoded pieces
 
 -- the bytes are a message of these fields
 pub record IsPieced (bytes : List ℕ) (pieces : List Piece) : Type 0 where
-  pub spelled : AreSpelled pieces
+  pub encoded : AreEncoded pieces
   pub joined : bytes ≡ bytes_of pieces
 
 -- the message that a field embeds, where it has this number and wire type 2
@@ -66,7 +66,7 @@ ordinal_after None ordinal = ordinal
 ordinal_after (Some message) ordinal = suc ordinal
 
 -- the field of the number and wire type 2 has this payload
-pub record Embeds (field_number : ℕ) (payload : List ℕ) (field : Entry) : Type 0 where
+pub record HasPayload (field_number : ℕ) (payload : List ℕ) (field : Entry) : Type 0 where
   pub numbered : field.number ≡ field_number
   pub place : ℕ
   pub content : field.content ≡ delimited place payload
@@ -93,7 +93,7 @@ pub record IsRedrawn (geometry before after : List ℕ) : Type 0 where
 abbrev pub Becomes : Fate → List ℕ → Piece → List Piece → Type 0
 Becomes stays message piece after = after ≡ piece ∷ []
 Becomes (redrawn geometry) message piece after =
-    (drawn : Piece) × (message_after : List ℕ) × (after ≡ drawn ∷ []) × Embeds 2 message_after drawn.field × IsRedrawn geometry message message_after
+    (drawn : Piece) × (message_after : List ℕ) × (after ≡ drawn ∷ []) × HasPayload 2 message_after drawn.field × IsRedrawn geometry message message_after
 Becomes dropped message piece after = after ≡ []
 
 -- what became of a field of a layer: one that is no feature is as it was
@@ -121,7 +121,7 @@ pub record IsSplicedLayer (fates : ℕ → Fate) (before after : List ℕ) : Typ
 abbrev pub BecomesInTile : (ℕ → Fate) → Option (List ℕ) → Piece → Piece → Type 0
 BecomesInTile fates None piece after = after ≡ piece
 BecomesInTile fates (Some message) piece after =
-    (message_after : List ℕ) × Embeds 3 message_after after.field × IsSplicedLayer fates message message_after
+    (message_after : List ℕ) × HasPayload 3 message_after after.field × IsSplicedLayer fates message message_after
     × (((feature : ℕ) → fates feature ≡ stays) → after ≡ piece)
 
 -- what became of the fields of a tile, the first layer of which has this ordinal

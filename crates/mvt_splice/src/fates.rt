@@ -1,14 +1,14 @@
 //! Which change is about a feature, by one walk over the changes in the order of their features.
 ghost use Rattle.std.specs.Prelude.{◌≡◌, ◌↔◌, ℕ, IfNone, IfSome, IsTrue};
-ghost use Rattle.mvt_splice.specs.Splice.{Fate, fate_in, fate_of, AreInOrder, IsBefore};
-ghost use Rattle.mvt_splice.specs.Calls.Fates.{AreLeft, BeginFrom};
+ghost use Rattle.mvt_splice.specs.Splice.{Fate, fate_in, fate_of, AreChangesInOrder, IsBefore};
+ghost use Rattle.mvt_splice.specs.Calls.Fates.{AreChangesLeft, BeginFrom};
 
 use crate::change::Change;
 
 /// Whether changes are in the order of their features, by layer and then by feature, and no two are
 /// about one feature.
 pub fn are_in_order(changes: &[Change]) -> bool
-    ensures { IsTrue result ↔ AreInOrder changes.now }
+    ensures { IsTrue result ↔ AreChangesInOrder changes.now }
 {
     'seen: for i in 1..changes.len() {
         let change = &changes[i];
@@ -22,8 +22,8 @@ pub fn are_in_order(changes: &[Change]) -> bool
 /// The changes without those at the front that are about earlier features than the one of these
 /// ordinals.
 pub(crate) fn changes_from(changes: &[Change], layer: usize, feature: usize) -> &[Change]
-    requires { AreInOrder changes.now }
-    ensures left { AreLeft changes.now layer feature result.now }
+    requires { AreChangesInOrder changes.now }
+    ensures left { AreChangesLeft changes.now layer feature result.now }
     ensures begin { BeginFrom result.now layer feature }
 {
     let mut first = 0;
@@ -42,7 +42,7 @@ fn is_before(change: &Change, layer: usize, feature: usize) -> bool
 
 /// The change about a feature, of changes of which none is about an earlier one.
 pub(crate) fn change_of(changes: &[Change], layer: usize, feature: usize) -> Option<&Change>
-    requires in_order { AreInOrder changes.now }
+    requires in_order { AreChangesInOrder changes.now }
     requires begin { BeginFrom changes.now layer feature }
     ensures there { IfSome result (λ change.
         fate_in changes.now layer feature ≡ fate_of change.now.geometry) }
@@ -58,7 +58,7 @@ pub(crate) fn change_of(changes: &[Change], layer: usize, feature: usize) -> Opt
 
 /// Whether there is a change in a layer, of changes of which none is about an earlier layer.
 pub(crate) fn has_change_in(changes: &[Change], layer: usize) -> bool
-    requires in_order { AreInOrder changes.now }
+    requires in_order { AreChangesInOrder changes.now }
     requires begin { BeginFrom changes.now layer 0 }
     ensures some { IsTrue result → ¬ ((feature : ℕ) → fate_in changes.now layer feature ≡ Fate.stays) }
     ensures none { ¬ IsTrue result → (feature : ℕ) → fate_in changes.now layer feature ≡ Fate.stays }

@@ -1,9 +1,9 @@
 //! A layer's message with changes to its features.
 ghost use Rattle.std.specs.Prelude.{List, IfOk, OnOk};
-ghost use Rattle.mvt_splice.specs.Splice.{Piece, fate_in, AreInOrder, Becomes, IsSplicedLayer};
+ghost use Rattle.mvt_splice.specs.Splice.{Piece, fate_in, AreChangesInOrder, Becomes, IsSplicedLayer};
 ghost use Rattle.mvt_splice.specs.Calls.Fates.{BeginFrom};
 ghost use Rattle.mvt_splice.specs.Calls.Messages.{IsFeatureMessage, IsLayerMessage};
-ghost use Rattle.mvt_splice.specs.Calls.Writing.{Spells, Writes};
+ghost use Rattle.mvt_splice.specs.Calls.Writing.{EncodesPiece, WritesFields};
 
 use crate::change::Change;
 use crate::fates::{change_of, changes_from};
@@ -23,7 +23,7 @@ pub(crate) fn spliced_layer(
     layer: usize,
 ) -> Result<Vec<u8>, AllocError>
     requires whole { IsLayerMessage message.now }
-    requires in_order { AreInOrder changes.now }
+    requires in_order { AreChangesInOrder changes.now }
     ensures { IfOk result (λ out.
         IsSplicedLayer (fate_in changes.now layer) message.now out.items) }
 {
@@ -32,14 +32,14 @@ pub(crate) fn spliced_layer(
     let mut feature = 0;
     let mut fields = Fields::new(message, 0, message.len());
     'walk: while let Some(field) = fields.next_whole() {
-        let spelling = &message[field.at..fields.at()];
+        let encoding = &message[field.at..fields.at()];
         if field.number == FEATURES {
             left = changes_from(left, layer, feature);
             let feature_message = bytes_in(field.body);
             add_feature(
                 alloc,
                 &mut out,
-                spelling,
+                encoding,
                 feature_message,
                 left,
                 layer,
@@ -47,32 +47,32 @@ pub(crate) fn spliced_layer(
             )?;
             feature += 1;
         } else {
-            out.extend_from_slice(spelling)?;
+            out.extend_from_slice(encoding)?;
         }
     }
     Ok(out)
 }
 
 /// Writes what becomes of the feature with these ordinals, which has this message, and whose field
-/// is spelled so. No change is about an earlier feature. The only error is that memory was refused.
+/// is encoded so. No change is about an earlier feature. The only error is that memory was refused.
 fn add_feature(
     alloc: Global,
     out: &mut Vec<u8>,
-    spelling: &[u8],
+    encoding: &[u8],
     message: &[u8],
     changes: &[Change],
     layer: usize,
     feature: usize,
 ) -> Result<(), AllocError>
     requires whole { IsFeatureMessage message.now }
-    requires in_order { AreInOrder changes.now }
+    requires in_order { AreChangesInOrder changes.now }
     requires begin { BeginFrom changes.now layer feature }
-    ensures { OnOk result ((piece : Piece) → Spells spelling.now piece → (after : List Piece)
-        × Writes after out.old.items out.new.items
+    ensures { OnOk result ((piece : Piece) → EncodesPiece encoding.now piece → (after : List Piece)
+        × WritesFields after out.old.items out.new.items
         × Becomes (fate_in changes.now layer feature) message.now piece after) }
 {
     let Some(change) = change_of(changes, layer, feature) else {
-        out.extend_from_slice(spelling)?;
+        out.extend_from_slice(encoding)?;
         return Ok(());
     };
     let Some(numbers) = &change.geometry else {

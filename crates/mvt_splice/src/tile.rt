@@ -1,10 +1,10 @@
 //! A tile's bytes with changes to its features.
 ghost use Rattle.std.specs.Prelude.{◌≡◌, Some, ◌∷◌, [], IfOk, OnOk};
 ghost use Rattle.mvt_rules.specs.Tile.{TileRecord, IsTile};
-ghost use Rattle.mvt_splice.specs.Splice.{Piece, fate_in, message_in, AreInOrder, BecomesInTile, IsSpliced};
+ghost use Rattle.mvt_splice.specs.Splice.{Piece, fate_in, message_in, AreChangesInOrder, BecomesInTile, IsSpliced};
 ghost use Rattle.mvt_splice.specs.Calls.Fates.{BeginFrom};
 ghost use Rattle.mvt_splice.specs.Calls.Messages.{IsLayerMessage};
-ghost use Rattle.mvt_splice.specs.Calls.Writing.{Spells, Writes};
+ghost use Rattle.mvt_splice.specs.Calls.Writing.{EncodesPiece, WritesFields};
 
 use crate::change::Change;
 use crate::fates::{changes_from, has_change_in};
@@ -26,7 +26,7 @@ use std::alloc::{AllocError, Global};
 /// Time and memory are linear in the sizes of both. The only error is that memory was refused.
 pub fn splice(alloc: Global, bytes: &[u8], changes: &[Change]) -> Result<Vec<u8>, AllocError>
     requires tile { (tile : TileRecord) × IsTile bytes.now tile }
-    requires in_order { AreInOrder changes.now }
+    requires in_order { AreChangesInOrder changes.now }
     ensures spliced { IfOk result (λ out. IsSpliced changes.now bytes.now out.items) }
     ensures unchanged { IfOk result (λ out. changes.now ≡ [] → out.items ≡ bytes.now) }
 {
@@ -35,39 +35,39 @@ pub fn splice(alloc: Global, bytes: &[u8], changes: &[Change]) -> Result<Vec<u8>
     let mut layer = 0;
     let mut fields = Fields::new(bytes, 0, bytes.len());
     'walk: while let Some(field) = fields.next_whole() {
-        let spelling = &bytes[field.at..fields.at()];
+        let encoding = &bytes[field.at..fields.at()];
         if field.number == LAYERS {
             left = changes_from(left, layer, 0);
             let message = bytes_in(field.body);
-            add_layer(alloc, &mut out, spelling, message, left, layer)?;
+            add_layer(alloc, &mut out, encoding, message, left, layer)?;
             layer += 1;
         } else {
-            out.extend_from_slice(spelling)?;
+            out.extend_from_slice(encoding)?;
         }
     }
     Ok(out)
 }
 
 /// Writes what becomes of the layer with this ordinal, which has this message, and whose field is
-/// spelled so. No change is about an earlier layer. The only error is that memory was refused.
+/// encoded so. No change is about an earlier layer. The only error is that memory was refused.
 fn add_layer(
     alloc: Global,
     out: &mut Vec<u8>,
-    spelling: &[u8],
+    encoding: &[u8],
     message: &[u8],
     changes: &[Change],
     layer: usize,
 ) -> Result<(), AllocError>
     requires whole { IsLayerMessage message.now }
-    requires in_order { AreInOrder changes.now }
+    requires in_order { AreChangesInOrder changes.now }
     requires begin { BeginFrom changes.now layer 0 }
-    ensures { OnOk result ((piece : Piece) → Spells spelling.now piece
+    ensures { OnOk result ((piece : Piece) → EncodesPiece encoding.now piece
         → message_in 3 piece.field ≡ Some message.now → (after : Piece)
-        × Writes (after ∷ []) out.old.items out.new.items
+        × WritesFields (after ∷ []) out.old.items out.new.items
         × BecomesInTile (fate_in changes.now layer) (Some message.now) piece after) }
 {
     if !has_change_in(changes, layer) {
-        out.extend_from_slice(spelling)?;
+        out.extend_from_slice(encoding)?;
         return Ok(());
     }
     let spliced = spliced_layer(alloc, message, changes, layer)?;

@@ -2,8 +2,8 @@
 //! "Message Structure").
 ghost use Rattle.std.specs.Prelude.{◌≡◌, ◌∷◌, [], ◌≤◌, ◌<◌, length, IfOk, OnOk};
 ghost use Rattle.mvt_wire.specs.Number.{VarintList};
-ghost use Rattle.mvt_splice.specs.Splice.{Piece, Embeds};
-ghost use Rattle.mvt_splice.specs.Calls.Writing.{WritesVarint, Writes};
+ghost use Rattle.mvt_splice.specs.Splice.{Piece, HasPayload};
+ghost use Rattle.mvt_splice.specs.Calls.Writing.{WritesVarint, WritesFields};
 
 use std::alloc::{AllocError, Global};
 
@@ -47,8 +47,8 @@ pub(crate) fn add_delimited(
 ) -> Result<(), AllocError>
     requires first { 1 ≤ number }
     requires last { number < 16 }
-    ensures { OnOk result ((piece : Piece) × Embeds number payload.now piece.field
-        × Writes (piece ∷ []) out.old.items out.new.items) }
+    ensures { OnOk result ((piece : Piece) × HasPayload number payload.now piece.field
+        × WritesFields (piece ∷ []) out.old.items out.new.items) }
 {
     add_varint(out, u64::from(number * 8 + DELIMITED))?;
     add_varint(out, payload.len() as u64)?;

@@ -33,7 +33,7 @@ pub(crate) fn split_in<F: Fn(usize) -> bool>(edges: &[usize], below: &F, count: 
     from
 }
 
-/// Counts so many comparisons.
+/// Counts so many probes.
 #[inline(always)]
 fn probe_all(count: &mut Count, many: u64)
     ensures counted { AddsAtMost many 0 count.old count.new }

@@ -20,7 +20,7 @@ pub struct Split {
 /// A list of numbers of edges, which a sweep keeps in their order along its line. `count` counts
 /// the work of each call. No call tests two edges for a common point, and only `split_point` and
 /// `split_around` compare edges with a position. A call visits at most twice as many nodes, and
-/// makes at most twice as many comparisons, as the length of the list at the call has binary digits
+/// makes at most twice as many probes, as the length of the list at the call has binary digits
 /// (`bits`). `replace` may visit twice as many nodes as the others, `split_around` and `remove_two`
 /// three times as many, and `insert_two` three times as many as the others of a list with one edge
 /// more.

@@ -18,7 +18,7 @@ pub record AddsWork (tests probes visits : ℕ) (before after : Counted) : Type 
   pub no_fewer_probes : before.probes ≤ after.probes
   pub no_fewer_visits : before.visits ≤ after.visits
 
--- what is counted at least: a test, where a meeting was found, and else so many comparisons
+-- what is counted at least: a test, where a meeting was found, and else so many probes
 abbrev pub IsCounted : {T : Type 0} → ℕ → Counted → Counted → Option T → Type 0
 IsCounted probes before after None = raised probes before.probes ≤ after.probes
 IsCounted probes before after (Some it) = ticked before.tests ≤ after.tests

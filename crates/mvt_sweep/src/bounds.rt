@@ -1,7 +1,7 @@
 //! The least and the greatest coordinates of edges and rings.
 ghost use Rattle.std.specs.Prelude.{◌<◌, ◌≤◌, ◌↔◌, IsTrue, length};
 ghost use Rattle.mvt_plane.specs.Position.{Position};
-ghost use Rattle.mvt_sweep.specs.Bounds.{AreBoundsOf, AreBoundsOfPolygon, AreBoundsApart, IsWithin};
+ghost use Rattle.mvt_sweep.specs.Bounds.{AreBoundsOf, AreBoundsOfPolygon, AreBoundsApart, IsInBounds};
 ghost use Rattle.mvt_sweep.specs.Rings.{rings_of, AreProperRings};
 
 use mvt_plane::{Edge, Point};
@@ -23,7 +23,7 @@ impl Bounds {
     /// Those of a position.
     #[inline]
     fn at(position: Point) -> Bounds
-        ensures { IsWithin result position }
+        ensures { IsInBounds result position }
     {
         Bounds {
             left: position.x(),
@@ -36,8 +36,8 @@ impl Bounds {
     /// Those of an edge.
     #[inline]
     pub fn of_edge(edge: &Edge) -> Bounds
-        ensures begin { IsWithin result edge.now.a }
-        ensures end { IsWithin result edge.now.b }
+        ensures begin { IsInBounds result edge.now.a }
+        ensures end { IsInBounds result edge.now.b }
     {
         Bounds::at(edge.a).with(edge.b)
     }
@@ -67,7 +67,7 @@ impl Bounds {
 
     /// Those that also have all vertices of a ring within them.
     fn with_all(self, ring: &[Point]) -> Bounds
-        ensures own { (vertex : Position) → IsWithin self vertex → IsWithin result vertex }
+        ensures own { (vertex : Position) → IsInBounds self vertex → IsInBounds result vertex }
         ensures more { AreBoundsOf ring.now result }
     {
         let mut bounds = self;
@@ -80,8 +80,8 @@ impl Bounds {
     /// Those that also have this position within them.
     #[inline]
     fn with(self, position: Point) -> Bounds
-        ensures own { (vertex : Position) → IsWithin self vertex → IsWithin result vertex }
-        ensures more { IsWithin result position }
+        ensures own { (vertex : Position) → IsInBounds self vertex → IsInBounds result vertex }
+        ensures more { IsInBounds result position }
     {
         Bounds {
             left: self.left.min(position.x()),
@@ -104,7 +104,7 @@ impl Bounds {
 
     /// Whether the position is within them.
     pub fn contain(&self, position: Point) -> bool
-        ensures { IsTrue result ↔ IsWithin self.now position }
+        ensures { IsTrue result ↔ IsInBounds self.now position }
     {
         self.left <= position.x()
             && position.x() <= self.right

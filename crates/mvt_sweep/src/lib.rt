@@ -9,6 +9,6 @@ mod proper;
 mod sweep;
 
 pub use bounds::Bounds;
-pub use meeting::{Meeting, find_meeting, find_meeting_with, meeting_in_ring};
+pub use meeting::{Meeting, find_meeting, find_meeting_with, self_intersection};
 pub use proper::are_proper;
 pub use sweep::{RingNotes, Swept, sweep_rings};

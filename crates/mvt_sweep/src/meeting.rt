@@ -39,13 +39,13 @@ pub struct Meeting {
 /// neighbours in a ring, or None where there are no such edges (Mapbox Vector Tile Specification
 /// 2.1, section 4.3.4.4). Each ring is to have three vertices or more, none at the position of the
 /// next one. `count` counts the work: of n vertices at most 3 * n tests of two edges, n * (2 *
-/// bits(n) + 2) comparisons of an edge with a vertex and n * 20 * bits(n) nodes of the status that
-/// are visited, where bits(n) is the number of n's binary digits; none of its numbers falls. Only
-/// at turn vertices the status is searched and changed: both neighbours of such a vertex in its
-/// ring come before it by x and then y, or both after it. So of t turn vertices there are at most n
-/// + t * 2 * bits(n) comparisons and t * 12 * bits(n) visits. Where a meeting is found, there is a
-/// test at least, and where none is, n comparisons. The edges are swept over. The only error is
-/// that memory was refused, or that there are 2^32 vertices or more.
+/// bits(n) + 2) probes, which compare an edge with a vertex, and n * 20 * bits(n) nodes of the
+/// status that are visited, where bits(n) is the number of n's binary digits; none of its numbers
+/// falls. Only at turn vertices the status is searched and changed: both neighbours of such a
+/// vertex in its ring come before it by x and then y, or both after it. So of t turn vertices there
+/// are at most n + t * 2 * bits(n) probes and t * 12 * bits(n) visits. Where a meeting is found,
+/// there is a test at least, and where none is, n probes. The edges are swept over. The only error
+/// is that memory was refused, or that there are 2^32 vertices or more.
 pub fn find_meeting(
     alloc: Global,
     rings: &[Vec<Point>],
@@ -119,10 +119,10 @@ fn meeting_by_sweep<S: Status>(
     )
 }
 
-/// The meeting of two edges of the only ring, as `find_meeting` answers. Of few edges all pairs are
-/// looked at, with no memory and no sweep unless too many of them need a test. So comparisons are up
-/// to 9 * n in place of n, beside those at turn vertices.
-pub fn meeting_in_ring(
+/// A self-intersection of the only ring: a meeting of two of its edges, as `find_meeting` answers.
+/// Of few edges all pairs are looked at, with no memory and no sweep unless too many of them need a
+/// test. So probes are up to 9 * n in place of n, beside those at turn vertices.
+pub fn self_intersection(
     alloc: Global,
     rings: &[Vec<Point>],
     count: &mut Count,

@@ -1,4 +1,4 @@
--- The first fault of a tile's spelling.
+-- The first fault of a tile's encoding.
 pub mod Causes
 pub mod CleanWalk
 pub mod EmbeddedSpans

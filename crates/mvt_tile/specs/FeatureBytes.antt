@@ -5,8 +5,8 @@ use Rattle.mvt_rules.specs.Tile.{FeatureRecord}
 use Rattle.mvt_tile.specs.View.{kind_number}
 use Rattle.mvt_tile.specs.declared.feature_bytes.FeatureBytes.{FeatureBytes}
 
--- these bytes are those of the feature
-pub record Shows (feature : FeatureBytes) (feature_record : FeatureRecord) : Type 0 where
+-- these bytes encode the feature of this record
+pub record Encodes (feature : FeatureBytes) (feature_record : FeatureRecord) : Type 0 where
   pub id : feature_record.id ≡ feature.parts.id
   pub kind : feature_record.kind ≡ kind_number feature.parts.kind
   pub tags : NumbersLeft (walk_at feature.bytes.now 2 feature.parts.tags.at feature.parts.tags.end) feature_record.tags None

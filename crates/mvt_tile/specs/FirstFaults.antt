@@ -6,7 +6,7 @@ use Rattle.mvt_fault.specs.declared.fault.Fault.{Fault}
 use Rattle.mvt_rules.specs.Rules.{IsFeatureOf}
 use Rattle.mvt_rules.specs.Tile.{FeatureRecord, LayerRecord, TileRecord}
 use Rattle.mvt_tile.specs.FreeFaults.{IsLeastOr}
-use Rattle.mvt_tile.specs.RuleFaults.{Breaks, Frees, Keeps, IsFaultOfFeature, IsSound}
+use Rattle.mvt_tile.specs.RuleFaults.{Breaks, Frees, Keeps, IsFaultOfFeature, IsSoundFeature}
 
 -- the fault is of this layer, by its place: of two layers of one name, of the second
 abbrev pub IsOfLayer : ℕ → Fault → Type 0
@@ -18,20 +18,20 @@ pub record IsFaultOfLayer (tile : TileRecord) (layer : ℕ) (fault : Fault) : Ty
   pub of_layer : IsOfLayer layer fault
 
 -- the fault is the first of a layer, or the first of a feature, or a free one of it
-pub data IsFirstFault (IsFree : Frees) (IsBroken : Breaks) (tile : TileRecord) (fault : Fault) : Type 0 where
-  of_layer : (layer : ℕ) → IsLeast (IsFaultOfLayer tile layer) fault → IsFirstFault IsFree IsBroken tile fault
+pub data IsFirstOfPart (IsFree : Frees) (IsBroken : Breaks) (tile : TileRecord) (fault : Fault) : Type 0 where
+  of_layer : (layer : ℕ) → IsLeast (IsFaultOfLayer tile layer) fault → IsFirstOfPart IsFree IsBroken tile fault
   of_feature : (layer feature : ℕ) (layer_record : LayerRecord) (feature_record : FeatureRecord) → IsFeatureOf tile layer feature layer_record feature_record
-      → IsLeastOr IsFree (IsFaultOfFeature IsBroken layer_record feature_record layer feature) fault → IsFirstFault IsFree IsBroken tile fault
+      → IsLeastOr IsFree (IsFaultOfFeature IsBroken layer_record feature_record layer feature) fault → IsFirstOfPart IsFree IsBroken tile fault
 
 -- the first place comes before the second by the first three numbers, which say of which layer or feature it is
-pub record ComesBefore (place other : List ℕ) : Type 0 where
+pub record IsOfEarlierPart (place other : List ℕ) : Type 0 where
   pub first : ComesFirst (take 3 place) (take 3 other)
   pub differ : take 3 place ≢ take 3 other
 
 -- the faults stand in the order of their places, and no feature has two
-abbrev pub AreInOrder : List Fault → Type 0
-AreInOrder faults = (at later : ℕ) (fault other : Fault) → at < later → slice_get faults at ≡ Some fault → slice_get faults later ≡ Some other
-    → ComesBefore (place_of fault) (place_of other)
+abbrev pub AreFaultsInOrder : List Fault → Type 0
+AreFaultsInOrder faults = (at later : ℕ) (fault other : Fault) → at < later → slice_get faults at ≡ Some fault → slice_get faults later ≡ Some other
+    → IsOfEarlierPart (place_of fault) (place_of other)
 
 -- this holds of one of the faults
 abbrev pub OneOf : List Fault → (Fault → Type 0) → Type 0
@@ -39,9 +39,9 @@ OneOf faults Holds = (at : ℕ) × (fault : Fault) × (slice_get faults at ≡ S
 
 -- the first fault of each layer and of each feature that has one, in the order of their places, and no others
 pub record AreFirstFaults (IsFree : Frees) (IsBroken : Breaks) (IsKept : Keeps) (tile : TileRecord) (faults : List Fault) : Type 0 where
-  pub each : (at : ℕ) (fault : Fault) → slice_get faults at ≡ Some fault → IsFirstFault IsFree IsBroken tile fault
-  pub in_order : AreInOrder faults
+  pub each : (at : ℕ) (fault : Fault) → slice_get faults at ≡ Some fault → IsFirstOfPart IsFree IsBroken tile fault
+  pub in_order : AreFaultsInOrder faults
   pub layers : (layer : ℕ) (fault : Fault) → IsFaultOfLayer tile layer fault → OneOf faults (IsLeast (IsFaultOfLayer tile layer))
   -- a feature that has none keeps the rules
   pub features : (layer feature : ℕ) (layer_record : LayerRecord) (feature_record : FeatureRecord) → IsFeatureOf tile layer feature layer_record feature_record
-      → OneOf faults (IsLeastOr IsFree (IsFaultOfFeature IsBroken layer_record feature_record layer feature)) ⊎ IsSound IsBroken IsKept layer_record feature_record layer feature
+      → OneOf faults (IsLeastOr IsFree (IsFaultOfFeature IsBroken layer_record feature_record layer feature)) ⊎ IsSoundFeature IsBroken IsKept layer_record feature_record layer feature

@@ -1,6 +1,6 @@
 -- The rules between a tile's parts, and a further one on its features.
 use Rattle.std.specs.Prelude.{◌≡◌, ℕ, ◌≤◌, ◌⊎◌, List, ◌∷◌}
-use Rattle.mvt_rules.specs.Parts.TrueFaults.{BreaksRule, FeatureFault, IsFaultOfTags, OneFeatureHas}
+use Rattle.mvt_rules.specs.Parts.TrueFaults.{BreaksRule, FeatureFaultRelation, IsFaultOfTags, OneFeatureHas}
 use Rattle.mvt_fault.specs.declared.fault.Fault.{Fault}
 use Rattle.mvt_rules.specs.Rules.{IsFeatureOf}
 use Rattle.mvt_rules.specs.Tile.{FeatureRecord, LayerRecord, TileRecord}
@@ -31,10 +31,10 @@ pub record KeepsRules (IsKept : Keeps) (tile : TileRecord) : Type 0 where
   pub features : (layer feature : ℕ) (layer_record : LayerRecord) (feature_record : FeatureRecord) → IsFeatureOf tile layer feature layer_record feature_record → IsKept feature_record
 
 -- the feature has this fault, of its tags or of the further rule
-abbrev pub IsFaultOfFeature : Breaks → FeatureFault
+abbrev pub IsFaultOfFeature : Breaks → FeatureFaultRelation
 IsFaultOfFeature IsBroken layer_record feature_record layer feature fault = IsFaultOfTags layer_record feature_record layer feature fault ⊎ IsBroken feature_record layer feature fault
 
 -- the feature has no fault, neither of its tags nor of the further rule, and keeps that rule
-pub record IsSound (IsBroken : Breaks) (IsKept : Keeps) (layer_record : LayerRecord) (feature_record : FeatureRecord) (layer feature : ℕ) : Type 0 where
+pub record IsSoundFeature (IsBroken : Breaks) (IsKept : Keeps) (layer_record : LayerRecord) (feature_record : FeatureRecord) (layer feature : ℕ) : Type 0 where
   pub faultless : (fault : Fault) → ¬ IsFaultOfFeature IsBroken layer_record feature_record layer feature fault
   pub kept : IsKept feature_record

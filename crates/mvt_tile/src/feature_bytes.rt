@@ -28,14 +28,14 @@ pub struct FeatureBytes<'a> {
 }
 
 impl<'a> FeatureBytes<'a> {
-    ghost use Rattle.mvt_tile.specs.FeatureBytes.{Shows};
+    ghost use Rattle.mvt_tile.specs.FeatureBytes.{Encodes};
 
     /// The feature that a part of the bytes holds.
     #[inline(never)]
     pub fn new(part: Part<'a>) -> FeatureBytes<'a>
         requires { (feature_record : FeatureRecord) × Holds IsFeature part feature_record }
         ensures { (feature_record : FeatureRecord) → Holds IsFeature part.entry feature_record
-            → Shows result feature_record }
+            → Encodes result feature_record }
     {
         let mut parts = FeatureParts::none(part.from);
         let mut fields = Fields::new(part.bytes, part.from, part.to);
@@ -48,7 +48,7 @@ impl<'a> FeatureBytes<'a> {
 
     /// The feature's id, any number of 64 bits, where it has one (section 4.2).
     pub(crate) fn id(&self) -> Option<u64>
-        ensures { (feature_record : FeatureRecord) → Shows self.now feature_record
+        ensures { (feature_record : FeatureRecord) → Encodes self.now feature_record
             → result ≡ feature_record.id }
     {
         self.parts.id
@@ -56,7 +56,7 @@ impl<'a> FeatureBytes<'a> {
 
     /// What the feature's geometry is (section 4.3.4).
     pub fn kind(&self) -> Kind
-        ensures { (feature_record : FeatureRecord) → Shows self.now feature_record
+        ensures { (feature_record : FeatureRecord) → Encodes self.now feature_record
             → kind_number result ≡ feature_record.kind }
     {
         self.parts.kind
@@ -65,7 +65,7 @@ impl<'a> FeatureBytes<'a> {
     /// The index of a key, that of its value, and so on (section 4.4), of all the feature's fields
     /// of tags.
     pub(crate) fn tags(&self) -> WholeNumbers<'a>
-        ensures all { (feature_record : FeatureRecord) → Shows self.now feature_record
+        ensures all { (feature_record : FeatureRecord) → Encodes self.now feature_record
             → AreLeft result feature_record.tags }
         ensures few { most_bytes result < 2 ^ 63 }
     {
@@ -75,7 +75,7 @@ impl<'a> FeatureBytes<'a> {
     /// Whether the feature has no tags.
     #[inline(always)]
     pub(crate) fn has_no_tag(&self) -> bool
-        ensures { result ≡ true → (feature_record : FeatureRecord) → Shows self.now feature_record
+        ensures { result ≡ true → (feature_record : FeatureRecord) → Encodes self.now feature_record
             → feature_record.tags ≡ [] }
     {
         self.parts.tags.at == self.parts.tags.last
@@ -83,8 +83,8 @@ impl<'a> FeatureBytes<'a> {
 
     /// Command and parameter integers (section 4.3), of all the feature's geometry fields.
     pub fn geometry(&self) -> WholeNumbers<'a>
-        ensures shows { (feature_record : FeatureRecord) × Shows self.now feature_record }
-        ensures all { (feature_record : FeatureRecord) → Shows self.now feature_record
+        ensures encodes { (feature_record : FeatureRecord) × Encodes self.now feature_record }
+        ensures all { (feature_record : FeatureRecord) → Encodes self.now feature_record
             → AreLeft result feature_record.geometry }
         ensures few { most_bytes result < 2 ^ 63 }
     {

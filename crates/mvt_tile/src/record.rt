@@ -58,11 +58,11 @@ pub enum Value<'a> {
     Float(&'a [u8]),
     /// `double_value`: eight bytes, as they are in the tile.
     Double(&'a [u8]),
-    /// `int_value`, spelled in two's complement.
+    /// `int_value`, encoded in two's complement.
     Int(i64),
     /// `uint_value`.
     Uint(u64),
-    /// `sint_value`, spelled as a zigzag number.
+    /// `sint_value`, encoded as a zigzag number.
     Sint(i64),
     /// `bool_value`: false where its varint is 0.
     Bool(bool),

@@ -27,10 +27,10 @@ mod tags;
 mod tests;
 
 pub use faults::rule_faults;
-use features::FeatureRoom;
+use features::FeatureBuffer;
 pub use features::FeatureRule;
 use layer_rules::LayerRules;
-use layer_scan::check_layer;
+use layer_scan::find_in_layer;
 pub use layers::check_layers;
 use mvt_fault::Fault;
 use mvt_wire::field_number::LAYERS;
@@ -100,14 +100,14 @@ fn walk_layers<'a, R: FeatureRule>(
     ensures finds { OnOk result ((tile : TileRecord) → IsTile bytes.now tile
         → passed layers.new ≡ length tile.layers → FindsInTile R.IsFree R.IsBroken R.IsKept tile found.new) }
 {
-    let mut room = FeatureRoom::new(alloc);
+    let mut buffer = FeatureBuffer::new(alloc);
     let mut layer_index = 0;
     let mut fields = Fields::new(bytes, 0, bytes.len());
     'walk: while let Some(field) = fields.next_whole() {
         if field.number == LAYERS {
             let (from, to) = payload_span(field.body);
             let part = Part { bytes, from, to };
-            let summary = check_layer(part, rule, layer_index, &mut room, found)?;
+            let summary = find_in_layer(part, rule, layer_index, &mut buffer, found)?;
             if !layers.note(summary.version, summary.name)? {
                 return Ok(());
             }

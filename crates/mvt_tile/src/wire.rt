@@ -59,13 +59,13 @@ pub fn wire_fault(bytes: &[u8]) -> Option<Fault>
 struct Layers;
 
 impl EmbeddedCheck for Layers {
-    ghost use Rattle.mvt_tile.specs.Calls.Embedded.{IsFaultless, IsFirstOf};
+    ghost use Rattle.mvt_tile.specs.Calls.Embedded.{IsFaultlessLayer, IsFirstOfLayer};
 
     type Found = Fault;
 
-    ghost IsClean = { λ _. IsFaultless };
+    ghost IsClean = { λ _. IsFaultlessLayer };
 
-    ghost IsFound = { λ _. IsFirstOf };
+    ghost IsFound = { λ _. IsFirstOfLayer };
 
     fn check(&self, part: Part<'_>, ordinal: usize) -> Option<Fault> {
         layer_fault(part, ordinal)

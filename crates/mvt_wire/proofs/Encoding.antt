@@ -2,7 +2,7 @@
 pub mod Ascii
 pub mod Defects
 pub mod Entries
-pub mod FieldSpellings
+pub mod FieldEncodings
 pub mod Groups
 pub mod Messages
 pub mod PackedLists

@@ -19,7 +19,7 @@ pub IsWalking-more : (bytes : List ℕ) (from : ℕ) (old new : Walk) (entries :
 IsWalking-more bytes from old new entries entry so_far given = record {
   same_bytes = given.same_bytes ∙ so_far.same_bytes;
   passed = FieldList-push bytes from entries old.at new.at entry so_far.passed given.here
-      (subst (λ (list : List ℕ). IsField list new.at entry) so_far.same_bytes given.spelled);
+      (subst (λ (list : List ℕ). IsField list new.at entry) so_far.same_bytes given.encoded);
 }
 
 -- a defect at the place of the walk is one of the message
@@ -80,7 +80,7 @@ IsAt-whole walk bytes at begins = begins ∙ ap (λ (list : List ℕ). record { 
 pub GivesField-at : (bytes : List ℕ) (at : ℕ) (old new : Walk) (entry : Entry) → IsAt old bytes at → GivesField old new entry → GivesField (record { bytes = bytes; at = at }) (record { bytes = bytes; at = new.at }) entry
 GivesField-at bytes at old new entry begins given =
     let here : GivesField (record { bytes = bytes; at = at }) new entry = subst (λ (walk : Walk). GivesField walk new entry) (IsAt-whole old bytes at begins) given in
-    record { left = here.left; here = here.here; spelled = here.spelled; further = here.further; within = here.within; same_bytes = refl }
+    record { left = here.left; here = here.here; encoded = here.encoded; further = here.further; within = here.within; same_bytes = refl }
 
 -- where bytes are left
 pub not_over : (bytes : List ℕ) (at : ℕ) (old new : Walk) → IsAt old bytes at → at < length bytes → IsOver old new → ⊥

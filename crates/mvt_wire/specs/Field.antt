@@ -1,7 +1,7 @@
 -- Fields (Protocol Buffers encoding, "Message Structure"). All places are offsets in one byte list, which ends
 -- where the message ends.
 use Rattle.std.specs.Prelude.{◌≡◌, ℕ, ◌+◌, ◌*◌, ◌^◌, ◌<◌, ◌≤◌, ◌⊎◌, List, length, slice_range, drop}
-use Rattle.mvt_wire.specs.Varint.{SpellsVarint, VarintDefect}
+use Rattle.mvt_wire.specs.Varint.{EncodesVarint, VarintDefect}
 use Rattle.mvt_wire.specs.declared.cause.WireCode.{WireCode}
 use Rattle.mvt_wire.specs.declared.cause.WireCode.TheVariants.{BadNumber, BadWireType, PastEnd}
 use Rattle.mvt_wire.specs.declared.cause.WireCause.{WireCause}
@@ -41,34 +41,34 @@ wire_type_of (eight_bytes part) = 1
 wire_type_of (delimited from part) = 2
 wire_type_of (four_bytes part) = 5
 
--- the bytes from one place up to another spell the field key: eight times the number, and the wire type
+-- the bytes from one place up to another encode the field key: eight times the number, and the wire type
 pub record IsKey (bytes : List ℕ) (from to field_number wire_type : ℕ) : Type 0 where
-  pub spelled : SpellsVarint bytes from to (field_number * 8 + wire_type)
+  pub encoded : EncodesVarint bytes from to (field_number * 8 + wire_type)
   pub below_limit : field_number * 8 + wire_type < 2 ^ 32
   pub numbered : 1 ≤ field_number
   pub low_bits : wire_type < 8
 
--- The payload is spelled from one place up to another.
+-- The payload is encoded from one place up to another.
 abbrev pub IsPayload : List ℕ → ℕ → ℕ → Content → Type 0
 -- a varint
-IsPayload bytes from to (varint value at) = (at ≡ from) × SpellsVarint bytes from to value
+IsPayload bytes from to (varint value at) = (at ≡ from) × EncodesVarint bytes from to value
 -- eight bytes
 IsPayload bytes from to (eight_bytes part) = (to ≡ from + 8) × (to ≤ length bytes) × (part ≡ slice_range bytes from to)
 -- a varint n, and n bytes
 IsPayload bytes from to (delimited start part) =
-    (n : ℕ) × SpellsVarint bytes from start n × (to ≡ start + n) × (to ≤ length bytes) × (part ≡ slice_range bytes start to)
+    (n : ℕ) × EncodesVarint bytes from start n × (to ≡ start + n) × (to ≤ length bytes) × (part ≡ slice_range bytes start to)
 -- four bytes
 IsPayload bytes from to (four_bytes part) = (to ≡ from + 4) × (to ≤ length bytes) × (part ≡ slice_range bytes from to)
 
--- the field is spelled from its own place up to another: its key, and after it its payload
+-- the field is encoded from its own place up to another: its key, and after it its payload
 pub record IsField (bytes : List ℕ) (to : ℕ) (entry : Entry) : Type 0 where
   pub key_end : ℕ
   pub key : IsKey bytes entry.at key_end entry.number (wire_type_of entry.content)
   pub payload : IsPayload bytes key_end to entry.content
 
--- the bytes are one field's spelling, and nothing else
-abbrev pub IsFieldSpelling : List ℕ → Entry → Type 0
-IsFieldSpelling bytes entry = (entry.at ≡ 0) × IsField bytes (length bytes) entry
+-- the bytes are one field's encoding, and nothing else
+abbrev pub IsFieldEncoding : List ℕ → Entry → Type 0
+IsFieldEncoding bytes entry = (entry.at ≡ 0) × IsField bytes (length bytes) entry
 
 -- a wire type that is not read: groups (3 and 4), 6 and 7
 abbrev pub IsRefusedType : ℕ → Type 0
@@ -83,7 +83,7 @@ abbrev pub PayloadEnd : List ℕ → ℕ → ℕ → ℕ → Type 0
 PayloadEnd bytes from wire_type end =
     ((wire_type ≡ 1) × (end ≡ from + 8))
     ⊎ ((wire_type ≡ 5) × (end ≡ from + 4))
-    ⊎ ((wire_type ≡ 2) × ((start n : ℕ) × SpellsVarint bytes from start n × (end ≡ start + n)))
+    ⊎ ((wire_type ≡ 2) × ((start n : ℕ) × EncodesVarint bytes from start n × (end ≡ start + n)))
 
 -- the cause with a code, at a place, about a field number
 abbrev pub cause_at : WireCode → ℕ → ℕ → WireCause
@@ -97,7 +97,7 @@ pub data FieldDefect (bytes : List ℕ) (at : ℕ) (cause : WireCause) : Type 0 
       → cause ≡ cause_at code at 0 → FieldDefect bytes at cause
   -- the key is 2^32 or more, or its field number is 0
   key_out_of_range : (to n : ℕ)
-      → SpellsVarint bytes at to n → (2 ^ 32 ≤ n) ⊎ (n < 8)
+      → EncodesVarint bytes at to n → (2 ^ 32 ≤ n) ⊎ (n < 8)
       → cause ≡ cause_at BadNumber at 0 → FieldDefect bytes at cause
   -- the wire type is 3, 4, 6 or 7
   refused_type : (to field_number wire_type : ℕ)

@@ -1,9 +1,9 @@
 -- Messages: fields one after another (Protocol Buffers encoding, "Message Structure").
 use Rattle.std.specs.Prelude.{◌≡◌, ℕ, ◌+◌, ◌<◌, List, [], ◌∷◌, length}
-use Rattle.mvt_wire.specs.Field.{Content, varint, eight_bytes, delimited, four_bytes, Entry, IsField, IsFieldSpelling, FieldDefect}
+use Rattle.mvt_wire.specs.Field.{Content, varint, eight_bytes, delimited, four_bytes, Entry, IsField, IsFieldEncoding, FieldDefect}
 use Rattle.mvt_wire.specs.declared.cause.WireCause.{WireCause}
 
--- the bytes from one place up to another are the spellings of these fields, one after another
+-- the bytes from one place up to another are the encodings of these fields, one after another
 abbrev pub FieldList : List ℕ → ℕ → List Entry → ℕ → Type 0
 FieldList bytes from [] to = from ≡ to
 FieldList bytes from (entry ∷ entries) to = (entry.at ≡ from) × ((next : ℕ) × IsField bytes next entry × FieldList bytes next entries to)
@@ -19,16 +19,16 @@ content_moved by (eight_bytes part) = eight_bytes part
 content_moved by (delimited from part) = delimited (by + from) part
 content_moved by (four_bytes part) = four_bytes part
 
-abbrev pub moved : ℕ → Entry → Entry
-moved by entry = record { number = entry.number; at = by + entry.at; content = content_moved by entry.content }
+abbrev pub entry_moved : ℕ → Entry → Entry
+entry_moved by entry = record { number = entry.number; at = by + entry.at; content = content_moved by entry.content }
 
--- each piece is one field's spelling, the first of them from a place on and each next one after it
-abbrev pub AreSpellings : ℕ → List (List ℕ) → List Entry → Type 0
-AreSpellings at [] [] = Unit {0}
-AreSpellings at (piece ∷ pieces) (entry ∷ entries) =
-    (spelled : Entry) × IsFieldSpelling piece spelled × (entry ≡ moved at spelled) × AreSpellings (at + length piece) pieces entries
-AreSpellings at [] (entry ∷ entries) = ⊥
-AreSpellings at (piece ∷ pieces) [] = ⊥
+-- each piece is one field's encoding, the first of them from a place on and each next one after it
+abbrev pub AreEncodings : ℕ → List (List ℕ) → List Entry → Type 0
+AreEncodings at [] [] = Unit {0}
+AreEncodings at (piece ∷ pieces) (entry ∷ entries) =
+    (encoded : Entry) × IsFieldEncoding piece encoded × (entry ≡ entry_moved at encoded) × AreEncodings (at + length piece) pieces entries
+AreEncodings at [] (entry ∷ entries) = ⊥
+AreEncodings at (piece ∷ pieces) [] = ⊥
 
 -- after whole fields, and before the end, is a field that has a defect
 pub record HasDefect (bytes : List ℕ) (from : ℕ) (cause : WireCause) : Type 0 where

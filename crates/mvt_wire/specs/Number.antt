@@ -1,6 +1,6 @@
 -- The numbers that the fields of one number state (Protocol Buffers encoding, "Packed Repeated Fields" and "Signed Integers").
 use Rattle.std.specs.Prelude.{◌≡◌, ℕ, ◌+◌, ◌*◌, ◌^◌, ◌<◌, ◌≤◌, List, [], ◌∷◌, ◌++◌, length, drop, All, ℤ, pos, negsuc}
-use Rattle.mvt_wire.specs.Varint.{SpellsVarint, VarintDefect}
+use Rattle.mvt_wire.specs.Varint.{EncodesVarint, VarintDefect}
 use Rattle.mvt_wire.specs.Field.{Content, varint, eight_bytes, delimited, four_bytes, cause_at}
 use Rattle.mvt_wire.specs.declared.cause.WireCode.{WireCode}
 use Rattle.mvt_wire.specs.declared.cause.WireCode.TheVariants.{OutOfRange}
@@ -11,10 +11,10 @@ abbrev pub zigzag : ℤ → ℕ
 zigzag (pos n) = 2 * n
 zigzag (negsuc n) = 2 * n + 1
 
--- the bytes from one place up to another are the spellings of these numbers as varints, one after another
+-- the bytes from one place up to another are the encodings of these numbers as varints, one after another
 abbrev pub VarintList : List ℕ → ℕ → List ℕ → ℕ → Type 0
 VarintList bytes from [] to = from ≡ to
-VarintList bytes from (n ∷ numbers) to = (next : ℕ) × SpellsVarint bytes from next n × VarintList bytes next numbers to
+VarintList bytes from (n ∷ numbers) to = (next : ℕ) × EncodesVarint bytes from next n × VarintList bytes next numbers to
 
 -- the numbers that a field states: the one of a varint, or all those of a packed list
 abbrev pub States : Content → List ℕ → Type 0
@@ -41,5 +41,5 @@ pub data PackedFault (from : ℕ) (part : List ℕ) (field_number : ℕ) (cause 
       → cause ≡ cause_at code (from + at) field_number → PackedFault from part field_number cause
   -- a number begins there that has more than 32 bits
   too_large : (numbers : List ℕ) (at next n : ℕ)
-      → VarintList part 0 numbers at → SpellsVarint part at next n → 2 ^ 32 ≤ n
+      → VarintList part 0 numbers at → EncodesVarint part at next n → 2 ^ 32 ≤ n
       → cause ≡ cause_at OutOfRange (from + at) field_number → PackedFault from part field_number cause

@@ -2,7 +2,7 @@
 -- the first fault (Protocol Buffers encoding, "Packed Repeated Fields"; Mapbox Vector Tile Specification 2.1, sections
 -- 4.2 and 4.3).
 use Rattle.std.specs.Prelude.{◌≡◌, ℕ, ◌+◌, ◌-◌, ◌^◌, ◌<◌, ◌≤◌, false, ◌⊎◌, List, [], ◌∷◌, ◌++◌, length, take, drop, Option, Some, None}
-use Rattle.mvt_wire.specs.Varint.{SpellsVarint, VarintDefect}
+use Rattle.mvt_wire.specs.Varint.{EncodesVarint, VarintDefect}
 use Rattle.mvt_wire.specs.Field.{Content, varint, eight_bytes, delimited, four_bytes, Entry, wire_type_of, IsField, FieldDefect, cause_at}
 use Rattle.mvt_wire.specs.Message.{FieldList, IsMessage}
 use Rattle.mvt_wire.specs.Number.{VarintList, StateTogether, AreSmall, PackedFault}
@@ -71,7 +71,7 @@ abbrev pub StatesAt : Content → ℕ → ℕ → Type 0
 StatesAt (varint value at) place n = (place ≡ at) × (n ≡ value)
 StatesAt (eight_bytes part) place n = ⊥
 StatesAt (delimited from part) place n =
-    (numbers : List ℕ) × (at next : ℕ) × VarintList part 0 numbers at × SpellsVarint part at next n × (place ≡ from + at)
+    (numbers : List ℕ) × (at next : ℕ) × VarintList part 0 numbers at × EncodesVarint part at next n × (place ≡ from + at)
 StatesAt (four_bytes part) place n = ⊥
 
 -- the varint that begins at a place is a number of a field of the number, after any whole fields
@@ -110,14 +110,14 @@ pub record NumberWalk : Type 0 where
 abbrev pub walk_at : List ℕ → ℕ → ℕ → ℕ → NumberWalk
 walk_at bytes field_number varint_at field_at = record { bytes = bytes; field_number = field_number; varint_at = varint_at; field_at = field_at }
 
--- the numbers of 32 bits that the bytes from a place on spell as varints, and the fault after them
+-- the numbers of 32 bits that the bytes from a place on encode as varints, and the fault after them
 pub record StopsVarints (bytes : List ℕ) (from field_number : ℕ) (numbers : List ℕ) (cause : WireCause) : Type 0 where
   pub at : ℕ
   pub before : VarintList bytes from numbers at
   pub small : AreSmall numbers
   pub left : at < length bytes
   pub fault : ((code : WireCode) × VarintDefect code (drop at bytes) × (cause ≡ cause_at code at field_number))
-      ⊎ ((next n : ℕ) × SpellsVarint bytes at next n × (2 ^ 32 ≤ n) × (cause ≡ cause_at OutOfRange at field_number))
+      ⊎ ((next n : ℕ) × EncodesVarint bytes at next n × (2 ^ 32 ≤ n) × (cause ≡ cause_at OutOfRange at field_number))
 
 -- the numbers that a walk has left, and how they end
 pub data NumbersLeft (walk : NumberWalk) (numbers : List ℕ) (ending : Option WireCause) : Type 0 where

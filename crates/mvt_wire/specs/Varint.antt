@@ -8,7 +8,7 @@ abbrev pub sum_of_groups : List ℕ → ℕ
 sum_of_groups [] = 0
 sum_of_groups (byte ∷ bytes) = byte % 128 + 128 * sum_of_groups bytes
 
--- the bytes spell n: one to ten of them, all but the last from 128 on, and n is below 2^64
+-- the bytes encode n: one to ten of them, all but the last from 128 on, and n is below 2^64
 pub record IsVarint (bytes : List ℕ) (n : ℕ) : Type 0 where
   pub present : 0 < length bytes
   pub at_most_ten : length bytes ≤ 10
@@ -17,11 +17,11 @@ pub record IsVarint (bytes : List ℕ) (n : ℕ) : Type 0 where
   pub value : n ≡ sum_of_groups bytes
   pub fits : n < 2 ^ 64
 
--- the bytes from one place up to another spell n
-pub record SpellsVarint (bytes : List ℕ) (from to n : ℕ) : Type 0 where
+-- the bytes from one place up to another encode n
+pub record EncodesVarint (bytes : List ℕ) (from to n : ℕ) : Type 0 where
   pub forward : from < to
   pub within : to ≤ length bytes
-  pub spelling : IsVarint (slice_range bytes from to) n
+  pub encoding : IsVarint (slice_range bytes from to) n
 
 -- the rest of a message or payload is a varint that ends too early: fewer than ten bytes, all from 128 on
 pub record EndsEarly (rest : List ℕ) : Type 0 where

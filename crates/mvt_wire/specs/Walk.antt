@@ -16,11 +16,11 @@ pub record IsOver (old new : Walk) : Type 0 where
   pub unchanged : new ≡ old
 
 -- The field at the place of the walk was given, and the walk is after it. That it goes on, and stays within its
--- bytes, follows from the spelling, and is said for callers.
+-- bytes, follows from the encoding, and is said for callers.
 pub record GivesField (old new : Walk) (entry : Entry) : Type 0 where
   pub left : old.at < length old.bytes
   pub here : entry.at ≡ old.at
-  pub spelled : IsField old.bytes new.at entry
+  pub encoded : IsField old.bytes new.at entry
   pub further : old.at < new.at
   pub within : new.at ≤ length old.bytes
   pub same_bytes : new.bytes ≡ old.bytes

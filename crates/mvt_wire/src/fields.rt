@@ -1,7 +1,7 @@
 ghost use Rattle.std.specs.Prelude.{◌≡◌, ◌+◌, ◌<◌, ◌≤◌, length, take, IfSome, IfNone, IfOk, IfErr};
 ghost use Rattle.mvt_wire.specs.Field.{IsField, IsPayload, FieldDefect, HasLeadingVarint, PayloadEnd, content_of, entry_of, wire_type_of};
-ghost use Rattle.mvt_wire.specs.Calls.Key.{IsKeyOf, number_of};
-ghost use Rattle.mvt_wire.specs.Varint.{SpellsVarint};
+ghost use Rattle.mvt_wire.specs.Calls.Key.{IsKeyOf, wire_type_number};
+ghost use Rattle.mvt_wire.specs.Varint.{EncodesVarint};
 ghost use Rattle.mvt_wire.specs.Walk.{Walk, IsOver, GivesField, FindsDefect, IsDefectOr};
 
 use crate::cause::{WireCause, WireCode};
@@ -114,7 +114,7 @@ pub(crate) fn read_field(bytes: &[u8], at: usize) -> Result<(Field<'_>, usize), 
 fn read_payload(bytes: &[u8], key: Key) -> Result<(Body<'_>, usize), WireCause>
     requires { IsKeyOf bytes.now key }
     ensures wire_type { IfOk result (λ read. wire_type_of (content_of read.0)
-        ≡ number_of key.wire_type) }
+        ≡ wire_type_number key.wire_type) }
     ensures payload { IfOk result (λ read. IsPayload bytes.now key.end read.1 (content_of read.0)) }
     ensures further { IfOk result (λ read. key.end ≤ read.1) }
     ensures within { IfOk result (λ read. read.1 ≤ length bytes.now) }
@@ -146,8 +146,8 @@ fn read_payload(bytes: &[u8], key: Key) -> Result<(Body<'_>, usize), WireCause>
 #[inline(always)]
 fn read_leading(bytes: &[u8], key: Key) -> Result<(u64, usize), WireCause>
     requires key { IsKeyOf bytes.now key }
-    requires leading { HasLeadingVarint (number_of key.wire_type) }
-    ensures varint { IfOk result (λ read. SpellsVarint bytes.now key.end read.1 read.0) }
+    requires leading { HasLeadingVarint (wire_type_number key.wire_type) }
+    ensures varint { IfOk result (λ read. EncodesVarint bytes.now key.end read.1 read.0) }
     ensures defect { IfErr result (λ cause. FieldDefect bytes.now key.at cause) }
 {
     match read_varint(bytes, key.end) {
@@ -165,7 +165,7 @@ fn read_leading(bytes: &[u8], key: Key) -> Result<(u64, usize), WireCause>
 fn payload_end(bytes: &[u8], key: Key, from: usize, size: u64) -> Result<usize, WireCause>
     requires key { IsKeyOf bytes.now key }
     requires within { from ≤ length bytes.now }
-    requires end { PayloadEnd bytes.now key.end (number_of key.wire_type) (from + size) }
+    requires end { PayloadEnd bytes.now key.end (wire_type_number key.wire_type) (from + size) }
     ensures sum { IfOk result (λ end. end ≡ from + size) }
     ensures within { IfOk result (λ end. end ≤ length bytes.now) }
     ensures defect { IfErr result (λ cause. FieldDefect bytes.now key.at cause) }

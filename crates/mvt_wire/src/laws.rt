@@ -3,32 +3,32 @@
 
 ghost use Rattle.std.specs.Prelude.{◌≡◌, ℕ, ◌+◌, ◌-◌, ◌^◌, ◌<◌, ◌≤◌, ◌⊎◌, List, [], ◌∷◌, ◌++◌, length, take, drop, slice_index, Option, Some, None};
 ghost use Rattle.std.specs.List.{concat};
-ghost use Rattle.mvt_wire.specs.Varint.{sum_of_groups, IsVarint, SpellsVarint, VarintDefect};
-ghost use Rattle.mvt_wire.specs.Field.{Entry, IsField, IsFieldSpelling};
-ghost use Rattle.mvt_wire.specs.Message.{FieldList, IsMessage, AreSpellings, HasDefect};
+ghost use Rattle.mvt_wire.specs.Varint.{sum_of_groups, IsVarint, EncodesVarint, VarintDefect};
+ghost use Rattle.mvt_wire.specs.Field.{Entry, IsField, IsFieldEncoding};
+ghost use Rattle.mvt_wire.specs.Message.{FieldList, IsMessage, AreEncodings, HasDefect};
 ghost use Rattle.mvt_wire.specs.Number.{VarintList, AreSmall, PackedFault};
 ghost use Rattle.mvt_wire.specs.Numbers.{IsNumbersFault, NumbersEnd, IsNumberAt, StandBetween, place_of_end};
 ghost use Rattle.mvt_wire.specs.declared.cause.WireCause.{WireCause};
 ghost use Rattle.mvt_wire.specs.declared.cause.WireCode.{WireCode};
 
-/// No spelling of a varint is a proper front of another one (Protocol Buffers encoding, "Base 128
+/// No encoding of a varint is a proper front of another one (Protocol Buffers encoding, "Base 128
 /// Varints").
 pub fn no_varint_begins_another()
-    ensures { (spelling more : List ℕ) (m n : ℕ) → IsVarint spelling m
-        → IsVarint (spelling ++ more) n → more ≡ [] }
+    ensures { (encoding more : List ℕ) (m n : ℕ) → IsVarint encoding m
+        → IsVarint (encoding ++ more) n → more ≡ [] }
 {}
 
 /// At each place is exactly one of a varint and its two defects: that it ends too early, or is
 /// too long.
 pub fn varint_or_defect()
     ensures some { (bytes : List ℕ) (at : ℕ) → at ≤ length bytes →
-        ((to n : ℕ) × SpellsVarint bytes at to n) ⊎ ((code : WireCode)
+        ((to n : ℕ) × EncodesVarint bytes at to n) ⊎ ((code : WireCode)
         × VarintDefect code (drop at bytes)) }
-    ensures one_end { (bytes : List ℕ) (at to end m n : ℕ) → SpellsVarint bytes at to m
-        → SpellsVarint bytes at end n → to ≡ end }
-    ensures one_value { (bytes : List ℕ) (at to end m n : ℕ) → SpellsVarint bytes at to m
-        → SpellsVarint bytes at end n → m ≡ n }
-    ensures not_both { (bytes : List ℕ) (at to n : ℕ) (code : WireCode) → SpellsVarint bytes at to n
+    ensures one_end { (bytes : List ℕ) (at to end m n : ℕ) → EncodesVarint bytes at to m
+        → EncodesVarint bytes at end n → to ≡ end }
+    ensures one_value { (bytes : List ℕ) (at to end m n : ℕ) → EncodesVarint bytes at to m
+        → EncodesVarint bytes at end n → m ≡ n }
+    ensures not_both { (bytes : List ℕ) (at to n : ℕ) (code : WireCode) → EncodesVarint bytes at to n
         → ¬ VarintDefect code (drop at bytes) }
     ensures one_defect { (rest : List ℕ) (code other : WireCode) → VarintDefect code rest
         → VarintDefect other rest → code ≡ other }
@@ -38,9 +38,9 @@ pub fn varint_or_defect()
 /// 64 bits. n groups of seven bits have a value below 128^n (Protocol Buffers encoding, "Base 128
 /// Varints").
 pub fn varint_ends_below_128()
-    ensures last { (bytes : List ℕ) (from to n : ℕ) → SpellsVarint bytes from to n
+    ensures last { (bytes : List ℕ) (from to n : ℕ) → EncodesVarint bytes from to n
         → slice_index bytes (to - 1) < 128 }
-    ensures earlier { (bytes : List ℕ) (from to n : ℕ) → SpellsVarint bytes from to n →
+    ensures earlier { (bytes : List ℕ) (from to n : ℕ) → EncodesVarint bytes from to n →
         (i : ℕ) → from ≤ i → i + 1 < to → 128 ≤ slice_index bytes i }
     ensures ended { (rest : List ℕ) (last n : ℕ) → last < length rest → last ≤ 9 →
         ((i : ℕ) → i < last → 128 ≤ slice_index rest i) → slice_index rest last < 128 →
@@ -49,11 +49,11 @@ pub fn varint_ends_below_128()
         → sum_of_groups (take size rest) < 128 ^ size }
 {}
 
-/// No spelling of a field is a proper front of another one (Protocol Buffers encoding, "Message
+/// No encoding of a field is a proper front of another one (Protocol Buffers encoding, "Message
 /// Structure").
 pub fn no_field_begins_another()
-    ensures { (spelling more : List ℕ) (e f : Entry) → IsFieldSpelling spelling e
-        → IsFieldSpelling (spelling ++ more) f → more ≡ [] }
+    ensures { (encoding more : List ℕ) (e f : Entry) → IsFieldEncoding encoding e
+        → IsFieldEncoding (encoding ++ more) f → more ≡ [] }
 {}
 
 /// A field takes bytes, all of them within its message (Protocol Buffers encoding, "Message
@@ -63,12 +63,12 @@ pub fn field_takes_bytes()
         → (entry.at < to) × (to ≤ length bytes) }
 {}
 
-/// A message is whole exactly where its bytes are spellings of fields, joined one after another.
-pub fn message_joins_spellings()
-    ensures joined { (pieces : List (List ℕ)) (entries : List Entry) → AreSpellings 0 pieces entries
+/// A message is whole exactly where its bytes are encodings of fields, joined one after another.
+pub fn message_joins_encodings()
+    ensures joined { (pieces : List (List ℕ)) (entries : List Entry) → AreEncodings 0 pieces entries
         → IsMessage (concat pieces) 0 entries }
     ensures parted { (bytes : List ℕ) (entries : List Entry) → IsMessage bytes 0 entries →
-        (pieces : List (List ℕ)) × (bytes ≡ concat pieces) × AreSpellings 0 pieces entries }
+        (pieces : List (List ℕ)) × (bytes ≡ concat pieces) × AreEncodings 0 pieces entries }
 {}
 
 /// A message has one field list.

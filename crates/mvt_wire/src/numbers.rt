@@ -1,6 +1,6 @@
 //! A cursor over the numbers of a message's fields of one field number, single or packed.
 ghost use Rattle.std.specs.Prelude.{◌≡◌, ◌↔◌, ℕ, List, [], ◌<◌, ◌≤◌, ◌^◌, length, take, Option, Some, None, IsNone, IfSome, IfNone, IfOk, IfErr};
-ghost use Rattle.mvt_wire.specs.Varint.{SpellsVarint};
+ghost use Rattle.mvt_wire.specs.Varint.{EncodesVarint};
 ghost use Rattle.mvt_wire.specs.Numbers.{NumbersEnd, NumberWalk, walk_at, StopsVarints, NumbersLeft, HasEnded, GivesNumber, EndsNumbers};
 ghost use Rattle.mvt_wire.specs.Calls.Numbers.{LeavesVarints};
 ghost use Rattle.mvt_wire.specs.declared.cause.WireCause.{WireCause};
@@ -199,7 +199,7 @@ fn read_number(bytes: &[u8], field_number: u32, varints: Varints) -> Result<(u32
     requires left { varints.at < varints.end }
     requires within { varints.end ≤ length bytes.now }
     ensures number { IfOk result (λ read.
-        SpellsVarint (take varints.end bytes.now) varints.at read.1 read.0) }
+        EncodesVarint (take varints.end bytes.now) varints.at read.1 read.0) }
     ensures small { IfOk result (λ read. read.0 < 2 ^ 32) }
     ensures fault { IfErr result (λ cause.
         StopsVarints (take varints.end bytes.now) varints.at field_number [] cause) }

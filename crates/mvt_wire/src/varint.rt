@@ -1,5 +1,5 @@
 ghost use Rattle.std.specs.Prelude.{◌≡◌, ℕ, ◌+◌, ◌^◌, ◌<◌, ◌≤◌, ◌⊎◌, length, slice_index, take, drop, IfSome, IfNone, IfOk, IfErr};
-ghost use Rattle.mvt_wire.specs.Varint.{sum_of_groups, IsVarint, SpellsVarint, EndsEarly, IsTooLong, VarintDefect};
+ghost use Rattle.mvt_wire.specs.Varint.{sum_of_groups, IsVarint, EncodesVarint, EndsEarly, IsTooLong, VarintDefect};
 ghost use Rattle.mvt_wire.specs.declared.cause.WireCode.{WireCode};
 
 use crate::cause::WireCode;
@@ -11,8 +11,8 @@ use crate::cause::WireCode;
 #[inline(always)]
 pub fn read_varint(bytes: &[u8], at: usize) -> Result<(u64, usize), WireCode>
     requires { at ≤ length bytes.now }
-    ensures found { IfOk result (λ read. SpellsVarint bytes.now at read.1 read.0) }
-    ensures only { (n to : ℕ) → SpellsVarint bytes.now at to n → result ≡ Ok (n, to) }
+    ensures found { IfOk result (λ read. EncodesVarint bytes.now at read.1 read.0) }
+    ensures only { (n to : ℕ) → EncodesVarint bytes.now at to n → result ≡ Ok (n, to) }
     ensures refused { IfErr result (λ code. VarintDefect code (drop at bytes.now)) }
     ensures refused_only { (code : WireCode) → VarintDefect code (drop at bytes.now)
         → result ≡ Err code }
@@ -31,7 +31,7 @@ pub fn read_varint(bytes: &[u8], at: usize) -> Result<(u64, usize), WireCode>
 #[inline(always)]
 fn short_varint(bytes: &[u8], at: usize) -> Option<(u64, usize)>
     requires { at ≤ length bytes.now }
-    ensures { IfSome result (λ read. SpellsVarint bytes.now at read.1 read.0) }
+    ensures { IfSome result (λ read. EncodesVarint bytes.now at read.1 read.0) }
 {
     let &first = bytes.get(at)?;
     if first < 128 {
@@ -56,7 +56,7 @@ fn middle_varint(bytes: &[u8], at: usize) -> Option<(u64, usize)>
     requires fourth { 128 ≤ slice_index bytes.now (at + 2) → at + 3 < length bytes.now }
     requires fifth { 128 ≤ slice_index bytes.now (at + 2) → 128 ≤ slice_index bytes.now (at + 3)
         → at + 4 < length bytes.now }
-    ensures { IfSome result (λ read. SpellsVarint bytes.now at read.1 read.0) }
+    ensures { IfSome result (λ read. EncodesVarint bytes.now at read.1 read.0) }
 {
     let two = u64::from(bytes[at] % 128) + u64::from(bytes[at + 1] % 128) * 128;
     let three = two + u64::from(bytes[at + 2] % 128) * 16_384;
@@ -78,7 +78,7 @@ fn middle_varint(bytes: &[u8], at: usize) -> Option<(u64, usize)>
 #[inline(always)]
 fn long_varint(bytes: &[u8], at: usize) -> Option<(u64, usize)>
     requires { at ≤ length bytes.now }
-    ensures found { IfSome result (λ read. SpellsVarint bytes.now at read.1 read.0) }
+    ensures found { IfSome result (λ read. EncodesVarint bytes.now at read.1 read.0) }
     ensures refused { IfNone result (EndsEarly (drop at bytes.now)
         ⊎ IsTooLong (drop at bytes.now)) }
 {
@@ -107,15 +107,15 @@ fn varint_size(rest: &[u8]) -> Option<usize>
     None
 }
 
-/// The number that a varint spells.
+/// The number that a varint encodes.
 #[inline(never)]
-fn varint_value(spelling: &[u8]) -> u64
-    requires { sum_of_groups spelling.now < 2 ^ 64 }
-    ensures { result ≡ sum_of_groups spelling.now }
+fn varint_value(encoding: &[u8]) -> u64
+    requires { sum_of_groups encoding.now < 2 ^ 64 }
+    ensures { result ≡ sum_of_groups encoding.now }
 {
     let mut value = 0;
-    for i in (0..spelling.len()).rev() {
-        value = value * 128 + u64::from(spelling[i] % 128);
+    for i in (0..encoding.len()).rev() {
+        value = value * 128 + u64::from(encoding[i] % 128);
     }
     value
 }
@@ -137,7 +137,7 @@ fn varint_defect(rest: &[u8]) -> WireCode
 #[inline(always)]
 pub fn leading_varint(bytes: &[u8], at: usize) -> Option<(u64, usize)>
     requires { at < length bytes.now }
-    ensures found { IfSome result (λ read. SpellsVarint bytes.now at read.1 read.0) }
+    ensures found { IfSome result (λ read. EncodesVarint bytes.now at read.1 read.0) }
     ensures refused { IfNone result (EndsEarly (drop at bytes.now)
         ⊎ IsTooLong (drop at bytes.now)) }
 {
@@ -160,7 +160,7 @@ pub fn leading_varint(bytes: &[u8], at: usize) -> Option<(u64, usize)>
 #[inline(never)]
 fn longer_leading(bytes: &[u8], at: usize) -> Option<(u64, usize)>
     requires { at < length bytes.now }
-    ensures found { IfSome result (λ read. SpellsVarint bytes.now at read.1 read.0) }
+    ensures found { IfSome result (λ read. EncodesVarint bytes.now at read.1 read.0) }
     ensures refused { IfNone result (EndsEarly (drop at bytes.now)
         ⊎ IsTooLong (drop at bytes.now)) }
 {
@@ -171,8 +171,8 @@ fn longer_leading(bytes: &[u8], at: usize) -> Option<(u64, usize)>
 /// a tile.
 #[inline(always)]
 pub(crate) fn whole_varint(bytes: &[u8], at: usize) -> (u64, usize)
-    requires { (n next : ℕ) × SpellsVarint bytes.now at next n }
-    ensures { SpellsVarint bytes.now at result.1 result.0 }
+    requires { (n next : ℕ) × EncodesVarint bytes.now at next n }
+    ensures { EncodesVarint bytes.now at result.1 result.0 }
 {
     let first = bytes[at];
     if first < 128 {
@@ -188,9 +188,9 @@ pub(crate) fn whole_varint(bytes: &[u8], at: usize) -> (u64, usize)
 /// The same for one of three bytes or more.
 #[inline(never)]
 fn longer_varint(bytes: &[u8], at: usize) -> (u64, usize)
-    requires stands { (n next : ℕ) × SpellsVarint bytes.now at next n }
+    requires stands { (n next : ℕ) × EncodesVarint bytes.now at next n }
     requires long { (128 ≤ slice_index bytes.now at) × (128 ≤ slice_index bytes.now (at + 1)) }
-    ensures { SpellsVarint bytes.now at result.1 result.0 }
+    ensures { EncodesVarint bytes.now at result.1 result.0 }
 {
     match middle_varint(bytes, at) {
         Some(read) => read,
@@ -202,8 +202,8 @@ fn longer_varint(bytes: &[u8], at: usize) -> (u64, usize)
 #[cold]
 #[inline(never)]
 fn longest_varint(bytes: &[u8], at: usize) -> (u64, usize)
-    requires { (n next : ℕ) × SpellsVarint bytes.now at next n }
-    ensures { SpellsVarint bytes.now at result.1 result.0 }
+    requires { (n next : ℕ) × EncodesVarint bytes.now at next n }
+    ensures { EncodesVarint bytes.now at result.1 result.0 }
 {
     match long_varint(bytes, at) {
         Some(read) => read,

@@ -7,7 +7,7 @@ use Rattle.mvt_fault.specs.declared.command.CommandCode.{CommandCode}
 use Rattle.mvt_fault.specs.declared.command.CommandCode.TheVariants.{OtherCommand, NoStep}
 use Rattle.mvt_plane.proofs.Spelling.Readers.{leads_on, blamed_there, command_leads, other_command_there, other_count_there, greatest_there, outside_there, stays_inside}
 use Rattle.mvt_plane.specs.Commands.CommandFault.{greatest_parameter, y_of_step, Applies, greatest_y, y_outside, no_step, LeavesRange}
-use Rattle.mvt_plane.specs.Commands.Drawing.{Leg, to_point, to_next, State, points_command, line_command, step_x, step_y, all_drawn, start, least, IsMove, GoesElsewhere, moved, following, next, unzigzag, not_due, not_allowed, IsFirst}
+use Rattle.mvt_plane.specs.Commands.Drawing.{Leg, to_point, to_next, State, points_command, line_command, step_x, step_y, all_drawn, start, least, IsMove, GoesElsewhere, moved, following, next, unzigzag, not_due, not_allowed, IsFirstCode}
 use Rattle.mvt_plane.specs.Commands.Figure.{GeometryType, command_integer, move_to, line_to}
 use Rattle.mvt_plane.specs.Position.{Position, origin, IsCoordinate}
 use Rattle.mvt_plane.specs.Calls.Reading.{StandsAt, IsFaulty}
@@ -113,7 +113,7 @@ y_code_is _ _ _ _ _ (y_outside id from x n leaves) = inr (inl leaves)
 y_code_is _ _ _ _ _ (no_step from) = inr (inr refl)
 
 -- of a LineTo that stays it is the first
-stays_first : (from : ℤ) (x n : ℕ) → x ≡ 0 → n ≡ 0 → IsCoordinate (from +ℤ unzigzag n) → IsFirst (y_of_step line_to from x) n 406
+stays_first : (from : ℤ) (x n : ℕ) → x ≡ 0 → n ≡ 0 → IsCoordinate (from +ℤ unzigzag n) → IsFirstCode (y_of_step line_to from x) n 406
 stays_first from x n none_x none_y inside = record {
   applies = subst (λ (m : ℕ). Applies (y_of_step line_to from m) n 406) (sym none_x) (subst (λ (m : ℕ). Applies (y_of_step line_to from 0) m 406) (sym none_y) (no_step from));
   first = λ code applies. elim (y_code_is line_to from x n code applies) [

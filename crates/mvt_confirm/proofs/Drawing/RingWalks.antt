@@ -113,7 +113,7 @@ closed_where first ring answer decided = (
 -- then the walk gives the measure of this ring
 pub ring_decided : (rings : List (List Position)) (walk : VertexWalk) (first last : Position) (area whole : ℤ) (answer : Bool) → IsAmidRing rings walk first last true area
     → whole ≡ area +ℤ edge_area (record { a = last; b = first }) → (IsTrue answer ↔ (last ≡ first))
-    → (ring : List Position) × (rest : List (List Position)) × (rings ≡ ring ∷ rest) × IsMeasured ring (record { twice_area = whole; is_closed = answer }) × RingsLeft walk rest
+    → (ring : List Position) × (rest : List (List Position)) × (rings ≡ ring ∷ rest) × IsMeasured ring (record { doubled_area = whole; is_closed = answer }) × RingsLeft walk rest
 ring_decided rings walk first last area whole answer amid sum decided =
     let none = amid.left.0 in
     let end : last ≡ cursor first amid.ring = ap (λ (it : List Position). cursor last it) (sym none) ∙ amid.end in

@@ -5,7 +5,7 @@ use Rattle.mvt_plane.specs.Position.{Position}
 use Rattle.mvt_rules.specs.Rules.{IsFeatureOf}
 use Rattle.mvt_rules.specs.Tile.{FeatureRecord, LayerRecord, TileRecord, IsTile}
 use Rattle.mvt_rules.specs.Shows.{OfRings, OfFeature}
-use Rattle.mvt_confirm.specs.Calls.FeatureBytes.{DrawsRings, IsFeatureAt}
+use Rattle.mvt_confirm.specs.Calls.FeatureMessage.{DrawsRings, IsFeatureAt}
 use Rattle.mvt_confirm.specs.declared.message_bytes.MessageBytes.{MessageBytes}
 use Rattle.mvt_rules.proofs.Validity.TileFeatures.{feature_of_this_tile, one_feature_of, one_list_of_rings}
 

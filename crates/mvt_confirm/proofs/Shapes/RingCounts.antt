@@ -82,7 +82,7 @@ ends_decided rings number measure is = (
 )
 
 -- it has no area
-pub area_decided : (rings : List (List Position)) (number : ℕ) (measure : Measure) → IsMeasureOf rings number measure → (measure.twice_area ≡ pos 0) ↔ HasNoArea rings number
+pub area_decided : (rings : List (List Position)) (number : ℕ) (measure : Measure) → IsMeasureOf rings number measure → (measure.doubled_area ≡ pos 0) ↔ HasNoArea rings number
 area_decided rings number measure is = (
   λ none. record { ring = is.ring; there = is.there; none = sym is.decided.area ∙ none },
   λ flat.
@@ -91,7 +91,7 @@ area_decided rings number measure is = (
 )
 
 -- it is a hole, and the first
-pub hole_decided : (rings : List (List Position)) (number : ℕ) (measure : Measure) → IsMeasureOf rings number measure → number ≡ 0 → (measure.twice_area <ℤ pos 0) ↔ BeginsWithHole rings number
+pub hole_decided : (rings : List (List Position)) (number : ℕ) (measure : Measure) → IsMeasureOf rings number measure → number ≡ 0 → (measure.doubled_area <ℤ pos 0) ↔ BeginsWithHole rings number
 hole_decided rings number measure is first = (
   λ negative. record { first = first; ring = is.ring; there = is.there; negative = subst (λ area. area <ℤ pos 0) is.decided.area negative },
   λ hole.

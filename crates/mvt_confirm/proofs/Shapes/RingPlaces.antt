@@ -30,7 +30,7 @@ pub none_counted : (rings : List (List Position)) (last : ℕ) → IsCounted rin
 none_counted rings last = none_yet refl (none_in_nothing rings 0)
 
 -- the measure of a ring decides whether the ring is an exterior
-exterior_decided : (rings : List (List Position)) (number : ℕ) (measure : Measure) → IsMeasureOf rings number measure → (pos 0 <ℤ measure.twice_area) ↔ IsExterior rings number
+exterior_decided : (rings : List (List Position)) (number : ℕ) (measure : Measure) → IsMeasureOf rings number measure → (pos 0 <ℤ measure.doubled_area) ↔ IsExterior rings number
 exterior_decided rings number measure is = (
   λ positive. record { ring = is.ring; there = is.there; positive = subst (λ area. pos 0 <ℤ area) is.decided.area positive },
   λ exterior.
@@ -40,9 +40,9 @@ exterior_decided rings number measure is = (
 
 -- as the code compares its area, where a step gives it
 pub exterior_by_bits : (rings : List (List Position)) (old new : VertexWalk) (number : ℕ) (measure : Measure) → HavePassed rings old number → GivesRing old new measure
-    → FitsSigned w128 measure.twice_area → IsTrue (lt_z (pos 0) (to_z w128 (of_z w128 measure.twice_area))) ↔ IsExterior rings number
+    → FitsSigned w128 measure.doubled_area → IsTrue (lt_z (pos 0) (to_z w128 (of_z w128 measure.doubled_area))) ↔ IsExterior rings number
 exterior_by_bits rings old new number measure so_far given fits =
-    one_with (positive_by_bits measure.twice_area fits) (exterior_decided rings number measure (next_passed rings old new number measure so_far given).0)
+    one_with (positive_by_bits measure.doubled_area fits) (exterior_decided rings number measure (next_passed rings old new number measure so_far given).0)
 
 -- then it is one of the rings
 pub given_within : (rings : List (List Position)) (old new : VertexWalk) (number : ℕ) (measure : Measure) → HavePassed rings old number → GivesRing old new measure → number < length rings

@@ -26,7 +26,7 @@ none_sound rings walk left = record {
 
 -- the next one has none, by its measure
 next_sound : (rings : List (List Position)) (number : ℕ) (measure : Measure) (is_first : Bool) → IsMeasureOf rings number measure → (IsTrue is_first ↔ (number ≡ 0)) → measure.is_closed ≡ false
-    → ¬ (measure.twice_area ≡ pos 0) → ¬ (IsTrue is_first × (measure.twice_area <ℤ pos 0)) → (code : ℕ) → ¬ BreaksRings rings code number
+    → ¬ (measure.doubled_area ≡ pos 0) → ¬ (IsTrue is_first × (measure.doubled_area <ℤ pos 0)) → (code : ℕ) → ¬ BreaksRings rings code number
 next_sound rings number measure is_first decided first apart some no_hole code (ends_at_its_beginning is ends) = true≢false (sym ((ends_decided rings number measure decided).1 ends) ∙ apart)
 next_sound rings number measure is_first decided first apart some no_hole code (no_area is flat) = some ((area_decided rings number measure decided).1 flat)
 next_sound rings number measure is_first decided first apart some no_hole code (begins_with_hole is hole) =
@@ -34,29 +34,29 @@ next_sound rings number measure is_first decided first apart some no_hole code (
 
 -- Of a ring that a step gives, where none before it has a fault
 module _ (rings : List (List Position)) (old new : VertexWalk) (is_first : Bool) (passed : ℕ) (measure : Measure) (sound : AreSound rings old is_first passed) (given : GivesRing old new measure)
-    (fits : FitsSigned w128 measure.twice_area) where
+    (fits : FitsSigned w128 measure.doubled_area) where
   decided : IsMeasureOf rings passed measure
   decided = (next_passed rings old new passed measure sound.so_far given).0
 
   -- it has none either
-  pub one_more_sound : measure.is_closed ≡ false → ¬ (of_z w128 measure.twice_area ≡ 0) → ¬ (IsTrue is_first × IsTrue (lt_z (to_z w128 (of_z w128 measure.twice_area)) (pos 0)))
+  pub one_more_sound : measure.is_closed ≡ false → ¬ (of_z w128 measure.doubled_area ≡ 0) → ¬ (IsTrue is_first × IsTrue (lt_z (to_z w128 (of_z w128 measure.doubled_area)) (pos 0)))
       → AreSound rings new false (passed + 1)
   one_more_sound apart some no_hole = record {
     so_far = (next_passed rings old new passed measure sound.so_far given).1;
     first = (λ holds. absurd (true≢false (sym holds)), λ none. absurd (omega arith));
     sound = below_more _ _ sound.sound (next_sound rings passed measure is_first decided sound.first apart (λ none. some (ap (of_z w128) none))
-        (λ both. no_hole (both.0, (negative_by_bits measure.twice_area fits).1 both.1)));
+        (λ both. no_hole (both.0, (negative_by_bits measure.doubled_area fits).1 both.1)));
   }
 
   -- it ends at its beginning, or has no area
-  pub ends_or_flat : (measure.is_closed ≡ true) ⊎ ((measure.is_closed ≡ false) × (of_z w128 measure.twice_area ≡ 0)) → ¬ ArePolygonRings rings
+  pub ends_or_flat : (measure.is_closed ≡ true) ⊎ ((measure.is_closed ≡ false) × (of_z w128 measure.doubled_area ≡ 0)) → ¬ ArePolygonRings rings
   ends_or_flat (inl closed) able = able.open_ends passed ((ends_decided rings passed measure decided).0 closed)
-  ends_or_flat (inr flat) able = able.areas passed ((area_decided rings passed measure decided).0 ((flat_by_bits measure.twice_area fits).0 (eq-eqb _ _ flat.1)))
+  ends_or_flat (inr flat) able = able.areas passed ((area_decided rings passed measure decided).0 ((flat_by_bits measure.doubled_area fits).0 (eq-eqb _ _ flat.1)))
 
   -- it is the first, and a hole
-  pub first_hole : IsTrue is_first → IsTrue (lt_z (to_z w128 (of_z w128 measure.twice_area)) (pos 0)) → ¬ ArePolygonRings rings
+  pub first_hole : IsTrue is_first → IsTrue (lt_z (to_z w128 (of_z w128 measure.doubled_area)) (pos 0)) → ¬ ArePolygonRings rings
   first_hole first negative able =
-      able.exterior_first passed ((hole_decided rings passed measure decided (sound.first.0 first)).0 ((negative_by_bits measure.twice_area fits).0 negative))
+      able.exterior_first passed ((hole_decided rings passed measure decided (sound.first.0 first)).0 ((negative_by_bits measure.doubled_area fits).0 negative))
 
 -- after the last one, they are the rings of polygons
 pub all_sound : (rings : List (List Position)) (walk : VertexWalk) (is_first : Bool) (passed : ℕ) → AreSound rings walk is_first passed → EndsVertices walk → ArePolygonRings rings

@@ -52,7 +52,7 @@ module _ (Stands : Span → Type 0) where
 -- and so within all the bytes
 pub lies_within : (size : ℕ) (old new : Walk) (entry : Entry) → GivesField old new entry → length old.bytes ≤ size → (span : Span) → span_of entry.content ≡ Some span → (span.from ≤ span.to) × (span.to ≤ size)
 lies_within size old new entry given front span there =
-    let inside = payload_within old.bytes given.spelled.key_end new.at entry.content span given.spelled.payload there in
+    let inside = payload_within old.bytes given.encoded.key_end new.at entry.content span given.encoded.payload there in
     (inside.0, omega (arith, inside.1))
 
 -- a field that embeds a span is as the span is

@@ -42,7 +42,7 @@ module _ (old new : Walk) (entry : Entry) (given : GivesField old new entry) (He
   -- the fields after the one that is given
   following : (held : HasLeft old Here) → (rest : List Entry) × (held.entries ≡ entry ∷ rest) × IsMessage new.bytes new.at rest
   following held =
-      let split = splits old.bytes held.entries old.at new.at entry given.left given.here given.spelled held.whole in
+      let split = splits old.bytes held.entries old.at new.at entry given.left given.here given.encoded held.whole in
       (split.0, split.1, subst (λ (bytes : List ℕ). IsMessage bytes new.at split.0) (sym given.same_bytes) split.2)
 
   -- a field that is given goes before those that are left then
@@ -50,7 +50,7 @@ module _ (old new : Walk) (entry : Entry) (given : GivesField old new entry) (He
   passed Next agree = (
     λ held. record {
       entries = entry ∷ held.entries;
-      whole = (given.here, (new.at, given.spelled, subst (λ (bytes : List ℕ). IsMessage bytes new.at held.entries) given.same_bytes held.whole));
+      whole = (given.here, (new.at, given.encoded, subst (λ (bytes : List ℕ). IsMessage bytes new.at held.entries) given.same_bytes held.whole));
       have = (agree held.entries).0 held.have;
     },
     λ held.

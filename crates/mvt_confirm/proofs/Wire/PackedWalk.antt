@@ -3,7 +3,7 @@ use Rattle.std.proofs.Common.{◌≡◌, ◌≢◌, ℕ, ◌+◌, ◌-◌, ◌<�
 use Rattle.std.proofs.lemmas.Bool.{cases_lt}
 use Rattle.mvt_wire.specs.Field.{cause_at}
 use Rattle.mvt_wire.specs.Number.{VarintList, PackedFault, no_varint, too_large}
-use Rattle.mvt_wire.specs.Varint.{SpellsVarint, VarintDefect}
+use Rattle.mvt_wire.specs.Varint.{EncodesVarint, VarintDefect}
 use Rattle.mvt_wire.specs.declared.cause.WireCause.{WireCause}
 use Rattle.mvt_wire.specs.declared.cause.WireCode.{WireCode}
 use Rattle.mvt_wire.specs.declared.cause.WireCode.TheVariants.{OutOfRange}
@@ -26,27 +26,27 @@ pub record IsPassing (part : List ℕ) (place : ℕ) (code : WireCode) (at : ℕ
   pub ahead : IsAhead part 0 place code → IsAhead part at place code
 
 -- after the first varint, if it isn't at the place
-ahead_more : (part : List ℕ) (at next n place : ℕ) (code : WireCode) → SpellsVarint part at next n → at < place → IsAhead part at place code → IsAhead part next place code
-ahead_more part at next n place code spelled less ahead = by ahead.numbers ahead.before
+ahead_more : (part : List ℕ) (at next n place : ℕ) (code : WireCode) → EncodesVarint part at next n → at < place → IsAhead part at place code → IsAhead part next place code
+ahead_more part at next n place code encoded less ahead = by ahead.numbers ahead.before
   where
     by : (numbers : List ℕ) → VarintList part at numbers place → IsAhead part next place code
     by [] list = absurd (omega arith)
     by (m ∷ numbers) list = record {
       numbers = numbers;
-      before = subst (λ (to : ℕ). VarintList part to numbers place) (one_end part at list.0 next m n list.1 spelled) list.2;
+      before = subst (λ (to : ℕ). VarintList part to numbers place) (one_end part at list.0 next m n list.1 encoded) list.2;
       bad = ahead.bad;
     }
 
-pub IsPassing-more : (part : List ℕ) (place : ℕ) (code : WireCode) (at next n : ℕ) → IsPassing part place code at → at < place → SpellsVarint part at next n → IsPassing part place code next
-IsPassing-more part place code at next n so_far less spelled = record {
+pub IsPassing-more : (part : List ℕ) (place : ℕ) (code : WireCode) (at next n : ℕ) → IsPassing part place code at → at < place → EncodesVarint part at next n → IsPassing part place code next
+IsPassing-more part place code at next n so_far less encoded = record {
   numbers = so_far.numbers ++ n ∷ [];
-  passed = list-push part 0 so_far.numbers at next n so_far.passed spelled;
-  within = spelled.within;
-  ahead = λ ahead. ahead_more part at next n place code spelled less (so_far.ahead ahead);
+  passed = list-push part 0 so_far.numbers at next n so_far.passed encoded;
+  within = encoded.within;
+  ahead = λ ahead. ahead_more part at next n place code encoded less (so_far.ahead ahead);
 }
 
 -- nothing is ahead of the place where no varint stands, but at that place
-no_further : (part : List ℕ) (at place : ℕ) (code : WireCode) → at < place → ((next n : ℕ) → ¬ SpellsVarint part at next n) → ¬ IsAhead part at place code
+no_further : (part : List ℕ) (at place : ℕ) (code : WireCode) → at < place → ((next n : ℕ) → ¬ EncodesVarint part at next n) → ¬ IsAhead part at place code
 no_further part at place code less none ahead = by ahead.numbers ahead.before
   where
     by : (numbers : List ℕ) → VarintList part at numbers place → ⊥
@@ -55,14 +55,14 @@ no_further part at place code less none ahead = by ahead.numbers ahead.before
 
 pub IsPassing-defect : (part : List ℕ) (place : ℕ) (code other : WireCode) (at : ℕ) → IsPassing part place code at → at < place → VarintDefect other (drop at part) → ¬ IsAhead part 0 place code
 IsPassing-defect part place code other at so_far less defect ahead =
-    no_further part at place code less (λ next n spelled. varint_or_defect part at next n other spelled defect) (so_far.ahead ahead)
+    no_further part at place code less (λ next n encoded. varint_or_defect part at next n other encoded defect) (so_far.ahead ahead)
 
 -- the walk went to the end, or past the place
 pub IsPassing-past : (part : List ℕ) (place : ℕ) (code : WireCode) (at : ℕ) → IsPassing part place code at → at ≢ place → (at < place → length part ≤ at) → ¬ IsAhead part 0 place code
 IsPassing-past part place code at so_far other past ahead = elim (cases_lt at place) [
   | inl less ↦
       let end = past less in
-      no_further part at place code less (λ next n spelled. let forward = spelled.forward in let within = spelled.within in omega arith) (so_far.ahead ahead)
+      no_further part at place code less (λ next n encoded. let forward = encoded.forward in let within = encoded.within in omega arith) (so_far.ahead ahead)
   | inr not_less ↦ let there = so_far.ahead ahead in let onward = varints_forward part at place there.numbers there.before in other (omega arith)
 ]
 
@@ -94,7 +94,7 @@ fault_ahead from part field_number cause (no_varint numbers at code list left de
         bad = inl (omega arith, subst (λ (to : ℕ). VarintDefect cause.code (drop to part)) here (subst (λ (c : WireCode). VarintDefect c (drop at part)) (sym (ap (λ (c : WireCause). c.code) is)) defect));
       },
     )
-fault_ahead from part field_number cause (too_large numbers at next n list spelled large is) =
+fault_ahead from part field_number cause (too_large numbers at next n list encoded large is) =
     let place : cause.at ≡ from + at = ap (λ (c : WireCause). c.at) is in
     let here : at ≡ cause.at - from = omega arith in (
       ap (λ (c : WireCause). c.field) is,
@@ -102,7 +102,7 @@ fault_ahead from part field_number cause (too_large numbers at next n list spell
       record {
         numbers = numbers;
         before = subst (λ (to : ℕ). VarintList part 0 numbers to) here list;
-        bad = inr (next, n, subst (λ (to : ℕ). SpellsVarint part to next n) here spelled, large, ap (λ (c : WireCause). c.code) is);
+        bad = inr (next, n, subst (λ (to : ℕ). EncodesVarint part to next n) here encoded, large, ap (λ (c : WireCause). c.code) is);
       },
     )
 

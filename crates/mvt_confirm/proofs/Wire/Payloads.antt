@@ -49,8 +49,8 @@ slice_get-other (x ∷ xs) y (suc i) other = slice_get-other xs y i (λ same. ot
 pub Within-given : (bytes : List ℕ) (end from : ℕ) (old new : Walk) (entries : List Entry) (entry : Entry) (span : Span)
     → IsWalking (take end bytes) from old entries → GivesField old new entry → span_of entry.content ≡ Some span → Within bytes span
 Within-given bytes end from old new entries entry span so_far given there =
-    let spelled : IsField (take end bytes) new.at entry = subst (λ (message : List ℕ). IsField message new.at entry) so_far.same_bytes given.spelled in
-    let inside = payload_within (take end bytes) spelled.key_end new.at entry.content span spelled.payload there in
+    let encoded : IsField (take end bytes) new.at entry = subst (λ (message : List ℕ). IsField message new.at entry) so_far.same_bytes given.encoded in
+    let inside = payload_within (take end bytes) encoded.key_end new.at entry.content span encoded.payload there in
     let shorter = length-take end bytes in
     record { forward = inside.0; inside = omega arith }
 

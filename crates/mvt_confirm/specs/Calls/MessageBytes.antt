@@ -14,5 +14,5 @@ abbrev pub HasFields : MessageBytes → List Entry → Type 0
 HasFields place entries = IsMessage (front place) place.span.from entries
 
 -- a whole message is there, and its fields have a property
-abbrev pub Holds : MessageBytes → (List Entry → Type 0) → Type 0
-Holds place Have = HoldsFields (front place) place.span.from Have
+abbrev pub IsMessageWith : MessageBytes → (List Entry → Type 0) → Type 0
+IsMessageWith place Have = HoldsFields (front place) place.span.from Have

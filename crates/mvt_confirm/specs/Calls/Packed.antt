@@ -1,6 +1,6 @@
 -- What is wrong at a place of a packed list.
 use Rattle.std.specs.Prelude.{◌≡◌, ℕ, ◌^◌, ◌<◌, ◌≤◌, ◌⊎◌, List, length, drop}
-use Rattle.mvt_wire.specs.Varint.{SpellsVarint, VarintDefect}
+use Rattle.mvt_wire.specs.Varint.{EncodesVarint, VarintDefect}
 use Rattle.mvt_wire.specs.declared.cause.WireCode.{WireCode}
 use Rattle.mvt_wire.specs.declared.cause.WireCode.TheVariants.{OutOfRange}
 
@@ -8,4 +8,4 @@ use Rattle.mvt_wire.specs.declared.cause.WireCode.TheVariants.{OutOfRange}
 abbrev pub IsBadAt : List ℕ → ℕ → WireCode → Type 0
 IsBadAt part at code =
     ((at < length part) × VarintDefect code (drop at part))
-    ⊎ ((next n : ℕ) × SpellsVarint part at next n × (2 ^ 32 ≤ n) × (code ≡ OutOfRange))
+    ⊎ ((next n : ℕ) × EncodesVarint part at next n × (2 ^ 32 ≤ n) × (code ≡ OutOfRange))

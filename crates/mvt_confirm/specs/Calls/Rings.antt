@@ -8,7 +8,7 @@ use Rattle.mvt_plane.specs.Geometry.Ring.{doubled_area}
 
 -- this is the ring's doubled area, and whether it is closed
 pub record IsMeasured (ring : List Position) (measure : Measure) : Type 0 where
-  pub area : measure.twice_area ≡ doubled_area ring
+  pub area : measure.doubled_area ≡ doubled_area ring
   pub closed : IsTrue measure.is_closed ↔ IsClosed ring
 
 -- whichever rings were left, this is measured of the first of them, and the others are left

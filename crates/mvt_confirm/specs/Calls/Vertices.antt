@@ -14,12 +14,12 @@ pub record VertexWalk : Type 0 where
   pub left : ℕ
 
 -- the cursor, and these numbers
-abbrev pub course_of : VertexWalk → List ℕ → Course
-course_of walk numbers = record { here = walk.here; left = numbers }
+abbrev pub walk_course : VertexWalk → List ℕ → Course
+walk_course walk numbers = record { here = walk.here; left = numbers }
 
 -- whichever step was ahead, its position is the one that was found, and the numbers after it are left
 abbrev pub TakesStep : VertexWalk → NumberWalk → Option Position → Type 0
-TakesStep old new found = (numbers rest : List ℕ) (to : Position) → NumbersLeft old.numbers numbers None → IsStepAhead (course_of old numbers) to rest → (found ≡ Some to) × NumbersLeft new rest None
+TakesStep old new found = (numbers rest : List ℕ) (to : Position) → NumbersLeft old.numbers numbers None → IsStepAhead (walk_course old numbers) to rest → (found ≡ Some to) × NumbersLeft new rest None
 
 -- What is left of the rings
 

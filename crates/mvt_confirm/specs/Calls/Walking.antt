@@ -38,11 +38,11 @@ abbrev pub AreSmallFrom : List ℕ → ℕ → Type 0
 AreSmallFrom part from = (numbers : List ℕ) × VarintList part from numbers (length part) × AreSmall numbers
 
 -- what a payload of an own wire type says is in the shape's range
-abbrev pub IsInRange : Shape → Content → Type 0
-IsInRange shape (varint value at) = is_out_of_range shape value ≡ false
-IsInRange shape (eight_bytes part) = Unit {0}
-IsInRange shape (delimited from part) = (shape ≡ Text → IsUtf8 part) × (shape ≡ Numbers → AreSmallFrom part 0)
-IsInRange shape (four_bytes part) = Unit {0}
+abbrev pub IsContentInRange : Shape → Content → Type 0
+IsContentInRange shape (varint value at) = is_out_of_range shape value ≡ false
+IsContentInRange shape (eight_bytes part) = Unit {0}
+IsContentInRange shape (delimited from part) = (shape ≡ Text → IsUtf8 part) × (shape ≡ Numbers → AreSmallFrom part 0)
+IsContentInRange shape (four_bytes part) = Unit {0}
 
 -- the fields of a rule's number fit it, and occur as often as allowed
 pub record KeepsRule (rule : FieldRule) (entries : List Entry) : Type 0 where

@@ -5,7 +5,7 @@ ghost use Rattle.mvt_wire.specs.Field.{content_of};
 ghost use Rattle.mvt_wire.specs.Number.{VarintList, AreSmall};
 ghost use Rattle.mvt_rules.specs.Tile.{Fits};
 ghost use Rattle.mvt_wire.specs.declared.schema.Shape.TheVariants as shapes;
-ghost use Rattle.mvt_confirm.specs.Calls.Walking.{AreSmallFrom, IsInRange};
+ghost use Rattle.mvt_confirm.specs.Calls.Walking.{AreSmallFrom, IsContentInRange};
 
 use mvt_wire::{Body, FieldRule, Shape, read_varint, text};
 
@@ -19,7 +19,7 @@ pub(crate) fn fits(rule: FieldRule, body: Body<'_>) -> bool
 
 /// Whether what a payload of an own wire type says is in range.
 fn is_in_range(shape: Shape, body: Body<'_>) -> bool
-    ensures { IsTrue result ↔ IsInRange shape (content_of body.entry) }
+    ensures { IsTrue result ↔ IsContentInRange shape (content_of body.entry) }
 {
     match body {
         Body::Varint { value, .. } => !shape.is_out_of_range(value),

@@ -3,7 +3,7 @@ ghost use Rattle.std.specs.Prelude.{◌≡◌, ◌↔◌, List, ◌∷◌, true,
 ghost use Rattle.mvt_wire.specs.Field.{Entry, entry_of, content_of};
 ghost use Rattle.mvt_wire.specs.Schema.{is_singular, is_required};
 ghost use Rattle.mvt_rules.specs.Tile.{Fits};
-ghost use Rattle.mvt_confirm.specs.Calls.MessageBytes.{Holds};
+ghost use Rattle.mvt_confirm.specs.Calls.MessageBytes.{IsMessageWith};
 ghost use Rattle.mvt_confirm.specs.Calls.Walking.{KeepsRule, KeepsRuleAfter};
 
 use crate::message_bytes::MessageBytes;
@@ -13,7 +13,7 @@ use mvt_wire::{Field, FieldRule, Fields};
 /// Whether the bytes there are a whole message whose fields of the rule's number fit it and occur
 /// as often as allowed. The message is walked once.
 pub(crate) fn keeps_rule(rule: FieldRule, place: &MessageBytes<'_>) -> bool
-    ensures { IsTrue result ↔ Holds place.now (KeepsRule rule) }
+    ensures { IsTrue result ↔ IsMessageWith place.now (KeepsRule rule) }
 {
     let mut fields = Fields::new(place.bytes, place.span.from, place.span.to);
     let mut occurred = false;

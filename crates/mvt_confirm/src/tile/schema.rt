@@ -5,7 +5,7 @@ ghost use Rattle.mvt_wire.specs.Schema.{rules_of};
 ghost use Rattle.mvt_rules.specs.Tile.{KeepsSchema};
 ghost use Rattle.mvt_rules.specs.WireFault.{count_known};
 ghost use Rattle.mvt_wire.specs.declared.schema.Message.TheVariants as messages;
-ghost use Rattle.mvt_confirm.specs.Calls.MessageBytes.{Holds};
+ghost use Rattle.mvt_confirm.specs.Calls.MessageBytes.{IsMessageWith};
 ghost use Rattle.mvt_confirm.specs.Calls.Walking.{KeepsRule, HasOneKnownAfter};
 
 use crate::message_bytes::MessageBytes;
@@ -15,7 +15,7 @@ use mvt_wire::{Field, Fields, Message};
 /// Whether the bytes there are a whole message that keeps its schema. The messages in it aren't
 /// looked into.
 pub(crate) fn keeps_schema(message: Message, place: &MessageBytes<'_>) -> bool
-    ensures { IsTrue result ↔ Holds place.now (KeepsSchema message) }
+    ensures { IsTrue result ↔ IsMessageWith place.now (KeepsSchema message) }
 {
     keeps_rules(message, place) && is_one_if_value(message, place)
 }
@@ -24,14 +24,14 @@ pub(crate) fn keeps_schema(message: Message, place: &MessageBytes<'_>) -> bool
 /// fields that a value knows (section 4.4).
 fn is_one_if_value(message: Message, place: &MessageBytes<'_>) -> bool
     ensures { IsTrue result ↔ (message ≡ messages.Value
-        → Holds place.now (λ entries. count_known messages.Value entries ≡ 1)) }
+        → IsMessageWith place.now (λ entries. count_known messages.Value entries ≡ 1)) }
 {
     message != Message::Value || has_one_known(place)
 }
 
 /// Whether the message keeps each rule of its schema.
 fn keeps_rules(message: Message, place: &MessageBytes<'_>) -> bool
-    ensures { IsTrue result ↔ All (λ rule. Holds place.now (KeepsRule rule)) (rules_of message) }
+    ensures { IsTrue result ↔ All (λ rule. IsMessageWith place.now (KeepsRule rule)) (rules_of message) }
 {
     for &rule in message.rules() {
         if !keeps_rule(rule, place) {
@@ -43,7 +43,7 @@ fn keeps_rules(message: Message, place: &MessageBytes<'_>) -> bool
 
 /// Whether a whole message has just one of the fields that a value knows (section 4.4).
 fn has_one_known(place: &MessageBytes<'_>) -> bool
-    ensures { IsTrue result ↔ Holds place.now (λ entries. count_known messages.Value entries ≡ 1) }
+    ensures { IsTrue result ↔ IsMessageWith place.now (λ entries. count_known messages.Value entries ≡ 1) }
 {
     let mut fields = Fields::new(place.bytes, place.span.from, place.span.to);
     let mut known = false;

@@ -2,10 +2,10 @@
 use Rattle.std.specs.Prelude.{◌≡◌, ℕ, ◌+◌, ◌<◌, ◌≤◌, List, Option, None, Some, drop, length, slice_index}
 
 -- the number at a place of a list, or None where the list ends there
-abbrev pub IsAt : List ℕ → ℕ → Option ℕ → Type 0
-IsAt numbers at None = length numbers ≤ at
-IsAt numbers at (Some number) = (at < length numbers) × (slice_index numbers at ≡ number)
+abbrev pub IsNumberThere : List ℕ → ℕ → Option ℕ → Type 0
+IsNumberThere numbers at None = length numbers ≤ at
+IsNumberThere numbers at (Some number) = (at < length numbers) × (slice_index numbers at ≡ number)
 
 -- of these numbers the one at this place was given last, and those after it are left
 abbrev pub IsGivenAt : (List ℕ → Type 0) → List ℕ → ℕ → ℕ → Type 0
-IsGivenAt Leaves numbers at number = IsAt numbers at (Some number) × Leaves (drop (at + 1) numbers)
+IsGivenAt Leaves numbers at number = IsNumberThere numbers at (Some number) × Leaves (drop (at + 1) numbers)

@@ -2,7 +2,7 @@
 ghost use Rattle.std.specs.Prelude.{◌≡◌, [], ◌++◌, codes, if◌then◌else◌, OnOk, string_bytes};
 ghost use Rattle.serde_json.specs.Data.{Data};
 ghost use Rattle.serde_json.specs.Written.{compact_text};
-ghost use Rattle.mvt_fault.specs.Text.{whole};
+ghost use Rattle.mvt_fault.specs.Text.{whole_number};
 ghost use Rattle.mvt_engine.specs.Dump.{list_data};
 
 use std::alloc::{AllocError, Global};
@@ -53,7 +53,7 @@ fn push_member<P: Part>(
 }
 
 impl Part for u32 {
-    ghost part_data = { whole };
+    ghost part_data = { whole_number };
 
     fn push_to(&self, _alloc: Global, text: &mut String) -> Result<(), AllocError> {
         write!(text, "{self}")

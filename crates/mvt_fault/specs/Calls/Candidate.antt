@@ -8,7 +8,7 @@ use Rattle.mvt_fault.specs.declared.reading.FaultTextError.{FaultTextError}
 use Rattle.mvt_fault.specs.declared.reading.FaultTextError.TheVariants.{Json, Shape, Range, Memory}
 use Rattle.mvt_fault.specs.declared.reading.candidate.Candidate.{Candidate}
 use Rattle.mvt_fault.specs.Reading.{StandsFor, HasShape, IsOutOfRange}
-use Rattle.mvt_fault.specs.Text.{whole, IsInRange}
+use Rattle.mvt_fault.specs.Text.{whole_number, IsInRange}
 
 -- the answer to a value is right; where memory is refused, there is none
 abbrev pub IsAnswerTo : Data → Result Fault FaultTextError → Type 0
@@ -20,7 +20,7 @@ IsAnswerTo d (Err Memory) = ⊤
 
 -- the value has this code
 abbrev pub HasCode : Data → ℕ → Type 0
-HasCode d n = get (codes "code") d ≡ Some (whole n)
+HasCode d n = get (codes "code") d ≡ Some (whole_number n)
 
 -- if the value has a fault's shape, it is the object, and the fault is the one that the object means, where that is in range
 pub record IsCandidate (d : Data) (c : Candidate) : Type 0 where

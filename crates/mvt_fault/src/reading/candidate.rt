@@ -4,7 +4,7 @@ ghost use Rattle.std.specs.Prelude.{◌≡◌, List, ℕ, Some};
 ghost use Rattle.serde_json.specs.Data.{string};
 ghost use Rattle.serde_json.specs.Find.{get};
 ghost use Rattle.serde_json.specs.View.{view};
-ghost use Rattle.mvt_fault.specs.Text.{whole};
+ghost use Rattle.mvt_fault.specs.Text.{whole_number};
 
 use crate::fault::Fault;
 use serde_json::Value;
@@ -21,13 +21,13 @@ pub(super) struct Candidate {
 /// The whole number at the key. Where there is none it is 0, from which the candidate's object
 /// differs.
 pub(super) fn number_at(value: &Value, key: &str) -> u64
-    ensures { (n : ℕ) → get key.now (view value.now) ≡ Some (whole n) → result ≡ n }
+    ensures { (n : ℕ) → get key.now (view value.now) ≡ Some (whole_number n) → result ≡ n }
 {
     value.get(key).and_then(Value::as_u64).unwrap_or(0)
 }
 
 pub(super) fn ordinal_at(value: &Value, key: &str) -> usize
-    ensures { (n : ℕ) → get key.now (view value.now) ≡ Some (whole n) → result ≡ n }
+    ensures { (n : ℕ) → get key.now (view value.now) ≡ Some (whole_number n) → result ≡ n }
 {
     number_at(value, key) as usize
 }

@@ -7,7 +7,7 @@ ghost use Rattle.serde_json.specs.View.{view};
 ghost use Rattle.mvt_fault.specs.Code.{ring_code};
 ghost use Rattle.mvt_fault.specs.Calls.Candidate.{HasCode, IsCandidate};
 ghost use Rattle.mvt_fault.specs.Reading.{HasDecimalForm, IsOutOfRange, StandsFor};
-ghost use Rattle.mvt_fault.specs.Text.{edge_data, meeting_parts, whole, IsInRange};
+ghost use Rattle.mvt_fault.specs.Text.{edge_data, meeting_parts, whole_number, IsInRange};
 
 use super::candidate::{Candidate, ordinal_at};
 use super::decimal::{decimal_at, number_of};
@@ -55,11 +55,11 @@ pub(super) fn meeting_candidate(alloc: Global, value: &Value) -> Result<Candidat
     };
     Ok(Candidate {
         object: written_meeting_object(alloc, id, first, second, &point)?,
-        fault: meeting_fault(id, first, second, &point),
+        fault: meeting_fault_in_range(id, first, second, &point),
     })
 }
 
-fn meeting_fault(
+fn meeting_fault_in_range(
     id: PolygonId,
     first: RingEdge,
     second: RingEdge,
@@ -179,11 +179,11 @@ pub(super) fn in_polygon_candidate(alloc: Global, value: &Value) -> Result<Candi
 }
 
 fn polygon_of(value: &Value) -> PolygonId
-    ensures layer { (n : ℕ) → get (codes "layer") (view value.now) ≡ Some (whole n)
+    ensures layer { (n : ℕ) → get (codes "layer") (view value.now) ≡ Some (whole_number n)
         → result.layer ≡ n }
-    ensures feature { (n : ℕ) → get (codes "feature") (view value.now) ≡ Some (whole n)
+    ensures feature { (n : ℕ) → get (codes "feature") (view value.now) ≡ Some (whole_number n)
         → result.feature ≡ n }
-    ensures polygon { (n : ℕ) → get (codes "polygon") (view value.now) ≡ Some (whole n)
+    ensures polygon { (n : ℕ) → get (codes "polygon") (view value.now) ≡ Some (whole_number n)
         → result.polygon ≡ n }
 {
     PolygonId {

@@ -26,7 +26,7 @@ pub(super) fn wire_candidate(
     let field = number_at(value, "field");
     Ok(Candidate {
         object: wire_object(alloc, code, scope, at, field)?,
-        fault: wire_fault(code, scope, at, field),
+        fault: wire_fault_in_range(code, scope, at, field),
     })
 }
 
@@ -44,7 +44,7 @@ fn scope_of(value: &Value) -> Scope
     }
 }
 
-fn wire_fault(code: WireCode, scope: Scope, at: usize, field: u64) -> Option<Fault>
+fn wire_fault_in_range(code: WireCode, scope: Scope, at: usize, field: u64) -> Option<Fault>
     ensures { MatchOption result (2 ^ 32 ≤ field) (λ f. (f ≡ Fault.Wire code scope at field)
         × (field < 2 ^ 32)) }
 {

@@ -4,7 +4,7 @@ ghost use Rattle.std.specs.Prelude.{◌≡◌, IfOk, OnOk};
 ghost use Rattle.serde_json.specs.Data.{no_members, put as with_member, string};
 ghost use Rattle.serde_json.specs.View.{members_view};
 ghost use Rattle.mvt_fault.specs.Calls.Members.{with_numbers};
-ghost use Rattle.mvt_fault.specs.Text.{whole};
+ghost use Rattle.mvt_fault.specs.Text.{whole_number};
 
 use serde_json::{Map, Value, put};
 use std::alloc::{AllocError, Global};
@@ -30,7 +30,7 @@ fn add_number(
     number: u64,
 ) -> Result<(), AllocError>
     ensures { OnOk result (members_view map.new.entries
-        ≡ with_member key.now (whole number) (members_view map.old.entries)) }
+        ≡ with_member key.now (whole_number number) (members_view map.old.entries)) }
 {
     put(map, alloc, key, Value::from(number))
 }

@@ -2,7 +2,7 @@
 
 ghost use Rattle.std.specs.Prelude.{◌≡◌, IfOk};
 ghost use Rattle.serde_json.specs.View.{view};
-ghost use Rattle.mvt_fault.specs.Text.{version_data, name_data, feature_data};
+ghost use Rattle.mvt_fault.specs.Text.{version_data, name_data, index_data};
 
 use crate::fault::{NAME_CODE, VERSION_CODE};
 use crate::text::members::members_of;
@@ -34,7 +34,7 @@ pub(crate) fn feature_rule_object(
     feature: usize,
     index: usize,
 ) -> Result<Value, AllocError>
-    ensures { IfOk result (λ v. view v ≡ feature_data code layer feature index) }
+    ensures { IfOk result (λ v. view v ≡ index_data code layer feature index) }
 {
     let members = [
         ("code", u64::from(code)),

@@ -13,7 +13,7 @@ use Rattle.std.proofs.lemmas.List.Sorted.{IsPermutation-keeps, ranks_by, sorted_
 use Rattle.std.proofs.lemmas.Option.{slice_get_within, get_or_from_slice_get}
 use Rattle.mvt_fault.proofs.Swaps.{place_before, place_twice, swap_get}
 use Rattle.mvt_plane.proofs.Orders.Order.{le_or_lt}
-use Rattle.mvt_feature.specs.Calls.Cells.{AreNumbered, IsBefore, IsCellOrder, keyed_number}
+use Rattle.mvt_feature.specs.Calls.Cells.{AreNumbered, IsCellBefore, IsCellOrder, keyed_number}
 use Rattle.mvt_sweep.proofs.Chains.ChainParts.{in_longer}
 use Rattle.mvt_feature.proofs.Features.GatheredLists.{IsMarked, get_left, get_right}
 
@@ -110,7 +110,7 @@ second_less a b x y same less =
     ap (λ (ordering : Ordering). ordering_then ordering (int_cmp x y)) first ∙ sym (int_cmp_is x y Less less)
 
 -- what isn't less is the same or greater
-before_of : (one other : ℕ × ℤ × ℕ) → is_lt (pair_cmp (key_of other) (key_of one)) ≡ false → IsBefore one other
+before_of : (one other : ℕ × ℤ × ℕ) → is_lt (pair_cmp (key_of other) (key_of one)) ≡ false → IsCellBefore one other
 before_of one other not_less = elim (cases_order one.0 other.0) [
   | inl same ↦ elim (le_or_lt one.1 other.1) [
     | inl most ↦ inr (same, most)

@@ -17,7 +17,7 @@ use Rattle.mvt_plane.proofs.Insides.InsideAsAWhole.{points_together, whole_insid
 use Rattle.mvt_rules.proofs.Rings.PartsOfRings.{ring_of_part}
 use Rattle.mvt_plane.proofs.Points.RationalPoints.{begin_lies_on}
 use Rattle.mvt_plane.proofs.Rings.RingEdges.{ends_of_edge}
-use Rattle.mvt_feature.specs.Calls.Islands.{LiesIn, IsIslandOf, AreApartByHole}
+use Rattle.mvt_feature.specs.Calls.Islands.{LiesInRing, IsIslandOf, AreApartByHole}
 use Rattle.mvt_sweep.specs.Meeting.{NoMeeting}
 use Rattle.mvt_feature.proofs.Cells.FarApart.{far_rings}
 use Rattle.mvt_sweep.proofs.Vertices.SharedVertices.{nothing_in_common}
@@ -30,7 +30,7 @@ nothing_back : (ring other : List Position) → HaveNothingInCommon ring other �
 nothing_back ring other nothing = λ number another one two point here its_here on_one on_two. nothing another number two one point its_here here on_two on_one
 
 -- each point of a ring's edges is inside the ring that it lies in
-points_inside : (ring around : List Position) → LiesIn ring around → (number : ℕ) (edge : Edge) (point : RationalPoint) → slice_get (edges ring) number ≡ Some edge → LiesOn point edge → IsPointInside point around
+points_inside : (ring around : List Position) → LiesInRing ring around → (number : ℕ) (edge : Edge) (point : RationalPoint) → slice_get (edges ring) number ≡ Some edge → LiesOn point edge → IsPointInside point around
 points_inside ring around lies number edge point here on_edge =
     let ends = ends_of_edge ring number edge here in
     points_together edge around (λ another other its there its_on. lies.clear number another edge other its here there its_on) (whole edge.a) point (begin_lies_on edge) on_edge

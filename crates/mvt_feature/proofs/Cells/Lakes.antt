@@ -9,7 +9,7 @@ use Rattle.mvt_plane.proofs.Orders.Order.{zs}
 use Rattle.mvt_feature.specs.Calls.Cells.{AreCells, AreRefined, AreRingSpans, AreSpansApart, HasRingSpans, span_at}
 use Rattle.mvt_feature.specs.Calls.FeatureParts.{listed_at}
 use Rattle.mvt_feature.specs.Calls.Islands.{AreRingsFarApart}
-use Rattle.mvt_feature.specs.Calls.Lands.{AreFirstCells, AreHeld, AreLakes, AreLakesParted, AreLakesUnmarked, AreLands, Holds, IsHeld, IsLakeOf, IsOnlyLake, IsSingleLakeOf, land_of}
+use Rattle.mvt_feature.specs.Calls.Lands.{AreFirstCells, AreHeld, AreLakes, AreLakesParted, AreLakesUnmarked, AreLands, HoldsHole, IsHeld, IsLakeOf, IsOnlyLake, IsSingleLakeOf, land_of}
 use Rattle.mvt_rules.proofs.Rings.SamePolygons.{one_polygon}
 use Rattle.mvt_polygon.specs.Polygons.{ArePolygons}
 use Rattle.mvt_feature.specs.declared.feature.lakes.Held.{Held}
@@ -28,20 +28,20 @@ of_some Holds_of it hole holds is = subst (λ (its : Option ℕ). IfSome its Hol
 -- Held holes
 
 -- a hole that was held is held after a change of one cell that keeps its holes
-pub still_held : (ring_cells : List ℕ) (held : List Held) (cell hole : ℕ) (it : Held) → cell < length held → (Holds (get_or held cell Empty) hole → Holds it hole) → IsHeld ring_cells held hole
+pub still_held : (ring_cells : List ℕ) (held : List Held) (cell hole : ℕ) (it : Held) → cell < length held → (HoldsHole (get_or held cell Empty) hole → HoldsHole it hole) → IsHeld ring_cells held hole
     → IsHeld ring_cells (set held cell it) hole
 still_held ring_cells held cell hole it within keeps is = elim (cases_eq (get_or ring_cells hole 0) cell) [
   | inl same ↦
-      let before : Holds (get_or held cell Empty) hole = subst (λ (at : ℕ). Holds (get_or held at Empty) hole) same is in
-      subst (λ (at : ℕ). Holds (get_or (set held cell it) at Empty) hole) (sym same)
-      (subst (λ (its : Held). Holds its hole) (sym (get_or-set_same held cell it Empty within)) (keeps before))
-  | inr differ ↦ subst (λ (its : Held). Holds its hole) (sym (get_or-set_other held cell (get_or ring_cells hole 0) it Empty differ)) is
+      let before : HoldsHole (get_or held cell Empty) hole = subst (λ (at : ℕ). HoldsHole (get_or held at Empty) hole) same is in
+      subst (λ (at : ℕ). HoldsHole (get_or (set held cell it) at Empty) hole) (sym same)
+      (subst (λ (its : Held). HoldsHole its hole) (sym (get_or-set_same held cell it Empty within)) (keeps before))
+  | inr differ ↦ subst (λ (its : Held). HoldsHole its hole) (sym (get_or-set_other held cell (get_or ring_cells hole 0) it Empty differ)) is
 ]
 
 -- the one that is added is held
-pub now_held : (ring_cells : List ℕ) (held : List Held) (hole : ℕ) (it : Held) → get_or ring_cells hole 0 < length held → Holds it hole → IsHeld ring_cells (set held (get_or ring_cells hole 0) it) hole
+pub now_held : (ring_cells : List ℕ) (held : List Held) (hole : ℕ) (it : Held) → get_or ring_cells hole 0 < length held → HoldsHole it hole → IsHeld ring_cells (set held (get_or ring_cells hole 0) it) hole
 now_held ring_cells held hole it within is =
-    subst (λ (its : Held). Holds its hole) (sym (get_or-set_same held (get_or ring_cells hole 0) it Empty within)) is
+    subst (λ (its : Held). HoldsHole its hole) (sym (get_or-set_same held (get_or ring_cells hole 0) it Empty within)) is
 
 -- where the land has one hole, that is the only lake
 pub single_lake : (rings : List (List Position)) (it its : PolygonRings) (mark : Bool) (hole : ℕ) → IsSingleLakeOf its mark hole → IsOnlyLake rings it its hole
@@ -166,8 +166,8 @@ only_lake rings polygons cells lands ring_cells held polygon hole mark known has
       far = λ other ring vertices is differ there its_there.
           parted polygon other ring vertices within no_land is
           (λ same.
-          let held_here : Holds (get_or held (get_or ring_cells exterior 0) Empty) other = subst (λ (at : ℕ). Holds (get_or held at Empty) other) (sym same) (all.all land (omega arith) other is) in
-          let one : hole ≡ other = subst (λ (its : Held). Holds its other) lake.only held_here in
+          let held_here : HoldsHole (get_or held (get_or ring_cells exterior 0) Empty) other = subst (λ (at : ℕ). HoldsHole (get_or held at Empty) other) (sym same) (all.all land (omega arith) other is) in
+          let one : hole ≡ other = subst (λ (its : Held). HoldsHole its other) lake.only held_here in
           differ (sym one))
           there its_there;
     }

@@ -16,7 +16,7 @@ use Rattle.mvt_plane.proofs.Insides.InsideParity.{apart, apart_false, false_apar
 use Rattle.mvt_plane.proofs.Orders.Order.{zs, le_or_lt, le_decide, mono_le, mono_lt, mono_le_right}
 use Rattle.mvt_plane.proofs.Orders.Polynomials.{◌⊕◌, ◌⊖◌, ◌⊗◌, identity}
 use Rattle.mvt_plane.proofs.Rings.RingEdges.{ends_of_edge}
-use Rattle.mvt_sweep.specs.Bounds.{AreBoundsOf, IsWithin}
+use Rattle.mvt_sweep.specs.Bounds.{AreBoundsOf, IsInBounds}
 use Rattle.mvt_sweep.specs.declared.bounds.Bounds.{Bounds}
 use Rattle.mvt_sweep.proofs.Notes.RingParities.{alike_tests, none_odd}
 
@@ -33,14 +33,14 @@ at_most {a} {b} none = elim (le_or_lt a b) [ inl most ↦ most | inr more ↦ ab
 -- ---- edges of which none passes over
 
 -- to the left
-left_of : (position : Position) (bounds : Bounds) (edge : Edge) → IsWithin bounds edge.a → IsWithin bounds edge.b → position.x <ℤ bounds.left → ¬ PassesOver position edge
+left_of : (position : Position) (bounds : Bounds) (edge : Edge) → IsInBounds bounds edge.a → IsInBounds bounds edge.b → position.x <ℤ bounds.left → ¬ PassesOver position edge
 left_of position bounds edge from to outside =
     let begins = from.left in
     let ends = to.left in
     apart_by_ends position edge (λ most. absurd (omega (arith, zs)), λ most. absurd (omega (arith, zs)))
 
 -- to the right
-right_of : (position : Position) (bounds : Bounds) (edge : Edge) → IsWithin bounds edge.a → IsWithin bounds edge.b → bounds.right <ℤ position.x → ¬ PassesOver position edge
+right_of : (position : Position) (bounds : Bounds) (edge : Edge) → IsInBounds bounds edge.a → IsInBounds bounds edge.b → bounds.right <ℤ position.x → ¬ PassesOver position edge
 right_of position bounds edge from to outside =
     let begins = from.right in
     let ends = to.right in
@@ -49,7 +49,7 @@ right_of position bounds edge from to outside =
     apart_by_ends position edge (λ _. ended, λ _. begun)
 
 -- above
-above : (position : Position) (bounds : Bounds) (edge : Edge) → IsWithin bounds edge.a → IsWithin bounds edge.b → bounds.high <ℤ position.y → ¬ PassesOver position edge
+above : (position : Position) (bounds : Bounds) (edge : Edge) → IsInBounds bounds edge.a → IsInBounds bounds edge.b → bounds.high <ℤ position.y → ¬ PassesOver position edge
 above position bounds edge from to outside passes =
     let w = passes.point.w in
     let positive = passes.on_edge.positive in
@@ -122,13 +122,13 @@ below position bounds ring are outside inside =
 
 -- a position that no edge passes over is not inside
 by_edges : (position : Position) (bounds : Bounds) (ring : List Position) → AreBoundsOf ring bounds
-    → ((edge : Edge) → IsWithin bounds edge.a → IsWithin bounds edge.b → ¬ PassesOver position edge) → ¬ IsInside position ring
+    → ((edge : Edge) → IsInBounds bounds edge.a → IsInBounds bounds edge.b → ¬ PassesOver position edge) → ¬ IsInside position ring
 by_edges position bounds ring are none =
     none_odd (PassesOver position) (edges ring)
     (λ number edge there. let ends = ends_of_edge ring number edge there in none edge (are _ edge.a ends.0) (are _ edge.b ends.1))
 
 -- a position outside the bounds of a ring isn't inside it
-pub outside_bounds : (position : Position) (bounds : Bounds) (ring : List Position) → AreBoundsOf ring bounds → ¬ IsWithin bounds position → ¬ IsInside position ring
+pub outside_bounds : (position : Position) (bounds : Bounds) (ring : List Position) → AreBoundsOf ring bounds → ¬ IsInBounds bounds position → ¬ IsInside position ring
 outside_bounds position bounds ring are outside inside =
     outside (record {
       left = at_most (λ less. by_edges position bounds ring are (λ edge from to. left_of position bounds edge from to less) inside);
@@ -139,7 +139,7 @@ outside_bounds position bounds ring are outside inside =
 
 -- so where they are those of a polygon's exterior, it isn't inside the polygon
 pub outside_polygon : (rings : List (List Position)) (it : PolygonRings) (position : Position) (bounds : Bounds)
-    → ((exterior : List Position) → slice_get rings it.exterior ≡ Some exterior → AreBoundsOf exterior bounds) → ¬ IsWithin bounds position → ¬ IsInsidePolygon rings it position
+    → ((exterior : List Position) → slice_get rings it.exterior ≡ Some exterior → AreBoundsOf exterior bounds) → ¬ IsInBounds bounds position → ¬ IsInsidePolygon rings it position
 outside_polygon rings it position bounds are outside inside = outside_bounds position bounds inside.around (are inside.around inside.there) outside inside.inside
 
 -- nor is the vertex that has this position

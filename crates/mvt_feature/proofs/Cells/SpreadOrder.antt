@@ -13,7 +13,7 @@ use Rattle.std.proofs.lemmas.List.Sorted.{IsPermutation-keeps, ranks_by, sorted_
 use Rattle.std.proofs.lemmas.Option.{slice_get_within, get_or_from_slice_get}
 use Rattle.mvt_fault.proofs.Swaps.{place_before, place_twice, swap_get}
 use Rattle.mvt_plane.proofs.Orders.Order.{le_or_lt, zs}
-use Rattle.mvt_feature.specs.Calls.Bounds.{AreInOrder, AreReaches, IsNumbering}
+use Rattle.mvt_feature.specs.Calls.Bounds.{AreBoundsInOrder, AreReaches, IsNumbering}
 use Rattle.mvt_sweep.specs.declared.bounds.Bounds.{Bounds}
 use Rattle.mvt_sweep.proofs.Chains.ChainParts.{in_longer}
 use Rattle.mvt_polygon.proofs.PolygonList.{is_last, stays}
@@ -78,7 +78,7 @@ at_least_by_order one other not_less = elim (le_or_lt other one) [
 
 -- a sort by the left sides puts them in order
 pub order_sorted : (bounds : List Bounds) (before order : List (ℤ × ℕ)) → AreNumbered bounds (length bounds) before → IsPermutation before order
-    → IsSortedByKey (λ (pair : ℤ × ℕ). pair.0) int_cmp order → AreInOrder bounds order
+    → IsSortedByKey (λ (pair : ℤ × ℕ). pair.0) int_cmp order → AreBoundsInOrder bounds order
 order_sorted bounds before order is permutation sorted =
     let it = IsPermutation-keeps before (IsNumbering bounds) (numbering bounds before is)
     (λ list one other first second its. numbering_swapped bounds list one other first second its) order permutation in
@@ -93,7 +93,7 @@ order_sorted bounds before order is permutation sorted =
     }
 
 -- those after one that begins further to the right do so too
-pub beyond_from : (bounds : List Bounds) (order : List (ℤ × ℕ)) (middle : ℕ) (right least : ℤ) (its : ℕ) → AreInOrder bounds order → slice_get order middle ≡ Some (least, its) → right <ℤ least
+pub beyond_from : (bounds : List Bounds) (order : List (ℤ × ℕ)) (middle : ℕ) (right least : ℤ) (its : ℕ) → AreBoundsInOrder bounds order → slice_get order middle ≡ Some (least, its) → right <ℤ least
     → (at : ℕ) (left : ℤ) (number : ℕ) → middle ≤ at → slice_get order at ≡ Some (left, number) → right <ℤ left
 beyond_from bounds order middle right least its in_order there beyond at left number following here =
     let most = in_order.sorted middle at least left its number following there here in

@@ -5,7 +5,7 @@ use Rattle.std.specs.Option.{option_or}
 use Rattle.mvt_rules.specs.Polygon.{PolygonRings, IsPolygon}
 use Rattle.mvt_plane.specs.Position.{Position}
 use Rattle.mvt_polygon.specs.Apart.{IsApartFault, IsFirstApartFault}
-use Rattle.mvt_feature.specs.Feature.{IsCause, IsClear, IsFeatureAnswer, IsFirstFault, IsPlaced, rings_in}
+use Rattle.mvt_feature.specs.Feature.{IsFeatureCause, IsClear, IsFeatureAnswer, IsFirstFault, IsPlaced, rings_in}
 use Rattle.mvt_feature.specs.Calls.FeatureParts.{AreAllPlaced, fault_after, IsAfterFront, IsFirstLater, IsFirstMisplaced, IsFront, IsInNoLater, IsMisplacedBy, until_of}
 use Rattle.mvt_sweep.specs.Meeting.{NoMeeting}
 use Rattle.mvt_polygon.specs.Nesting.{IsFirstNestFault}
@@ -83,7 +83,7 @@ fault_in_later rings count ring_count until fault clear found =
     record {
       there = found.there;
       before = λ polygon its earlier is_its. clear_before rings count ring_count until polygon its clear (omega arith) is_its (found.before polygon earlier);
-      is = subst (IsCause rings fault.polygon it) (sym found.cause) (
+      is = subst (IsFeatureCause rings fault.polygon it) (sym found.cause) (
         none_of_its_front rings ring_count it within clear.apart,
         nested_in_all rings ring_count it found.there.further within placed.nested,
         first_in_later rings count ring_count until fault clear found,
@@ -100,7 +100,7 @@ other_before rings count ring_count polygon vertex other are fault =
 
 -- what is wrong with it is the first of its faults
 cause_in_first : (rings : List (List Position)) (count ring_count polygon : ℕ) (it : PolygonRings) (cause : FeatureCause) → AreFirst rings count ring_count → NoMeeting (take ring_count rings) → polygon < count → it.exterior < it.after → it.after ≤ ring_count
-    → IsMisplacedBy (take ring_count rings) polygon it cause → IsCause rings polygon it cause
+    → IsMisplacedBy (take ring_count rings) polygon it cause → IsFeatureCause rings polygon it cause
 cause_in_first rings count ring_count polygon it (Meeting meeting) are none before further within is = absurd is
 cause_in_first rings count ring_count polygon it (Nesting fault) are none before further within is = (
   none_of_its_front rings ring_count it within none,

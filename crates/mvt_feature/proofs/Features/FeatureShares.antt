@@ -7,7 +7,7 @@ use Rattle.mvt_plane.specs.Position.{Position}
 use Rattle.mvt_feature.specs.Calls.Alone.{IsFine, AreFineBefore, IsOwnCause, IsFirstAlone, IsAloneAnswer, earlier_of}
 use Rattle.mvt_rules.specs.Ring.{ArePolygonRings}
 use Rattle.mvt_polygon.specs.Apart.{IsApartFault, IsFirstApartFault}
-use Rattle.mvt_feature.specs.Feature.{front_of, IsPlaced, IsClear, IsCause, rings_in, IsFirstFault, IsFeatureAnswer}
+use Rattle.mvt_feature.specs.Feature.{front_of, IsPlaced, IsClear, IsFeatureCause, rings_in, IsFirstFault, IsFeatureAnswer}
 use Rattle.mvt_feature.specs.Calls.FeatureParts.{listed_at}
 use Rattle.mvt_feature.specs.Calls.Gathered.{cause_moved, fault_moved, IsCauseWithin, IsFaultWithin}
 use Rattle.mvt_feature.specs.Calls.Islands.{AreMarked}
@@ -31,10 +31,10 @@ use Rattle.mvt_feature.proofs.Features.RingCopies.{AreCopies, ring_within, meeti
 -- it has this fault
 pub record HasFault (rings : List (List Position)) (fault : FeatureFault) : Type 0 where
   pub there : IsPolygon rings fault.polygon (rings_in fault)
-  pub is : IsCause rings fault.polygon (rings_in fault) fault.cause
+  pub is : IsFeatureCause rings fault.polygon (rings_in fault) fault.cause
 
 -- a meeting is one of the causes
-cause_of_meeting : (rings : List (List Position)) (polygon : ℕ) (it : PolygonRings) (cause : FeatureCause) → IsMeetingCause rings it cause → IsCause rings polygon it cause
+cause_of_meeting : (rings : List (List Position)) (polygon : ℕ) (it : PolygonRings) (cause : FeatureCause) → IsMeetingCause rings it cause → IsFeatureCause rings polygon it cause
 cause_of_meeting rings polygon it (Meeting meeting) is = is.0
 cause_of_meeting rings polygon it (Nesting fault) is = absurd is
 cause_of_meeting rings polygon it (Apart fault) is = absurd is
@@ -139,7 +139,7 @@ module _ (rings : List (List Position)) (polygons : List (ℕ × ℕ)) (marks : 
       }
 
   -- any cause
-  shared_cause : (polygon : ℕ) (cause : FeatureCause) → polygon < length polygons → IsMarked marks polygon → IsCause own_parts (rank_of marks polygon) (block_of polygons marks polygon) cause
+  shared_cause : (polygon : ℕ) (cause : FeatureCause) → polygon < length polygons → IsMarked marks polygon → IsFeatureCause own_parts (rank_of marks polygon) (block_of polygons marks polygon) cause
       → IsSharedCause polygon (cause_moved own_places own_numbers cause)
   shared_cause polygon (Meeting meeting) within marked is =
       meeting_there (part_of own_parts (front_of (block_of polygons marks polygon))) (part_of rings (front_of (listed_at polygons polygon))) (slice_index own_places) (fronts_copies polygon within marked) meeting is
@@ -167,8 +167,8 @@ module _ (rings : List (List Position)) (polygons : List (ℕ × ℕ)) (marks : 
       let its = ranked rings polygons marks able listed fault.polygon (rings_in fault) is.there in
       let rank = its.rank in
       let number : its.polygon ≡ slice_index own_numbers fault.polygon = sym (ap (slice_index own_numbers) rank ∙ number_at rings polygons marks able listed its.polygon its.within its.marked) in
-      let cause : IsCause own_parts (rank_of marks its.polygon) (block_of polygons marks its.polygon) fault.cause =
-      subst (λ (it : PolygonRings). IsCause own_parts (rank_of marks its.polygon) it fault.cause) its.block (subst (λ (n : ℕ). IsCause own_parts n (rings_in fault) fault.cause) rank is.is) in
+      let cause : IsFeatureCause own_parts (rank_of marks its.polygon) (block_of polygons marks its.polygon) fault.cause =
+      subst (λ (it : PolygonRings). IsFeatureCause own_parts (rank_of marks its.polygon) it fault.cause) its.block (subst (λ (n : ℕ). IsFeatureCause own_parts n (rings_in fault) fault.cause) rank is.is) in
       record {
         within = subst (λ (n : ℕ). n < length polygons) number its.within;
         marked = subst (IsMarked marks) number its.marked;
@@ -186,7 +186,7 @@ module _ (rings : List (List Position)) (polygons : List (ℕ × ℕ)) (marks : 
   shared_answer None is = λ polygon within marked. is (rank_of marks polygon) (block_of polygons marks polygon) (polygon_at rings polygons marks able listed polygon within marked)
 
   -- the numbers that it names are known
-  cause_within : (polygon : ℕ) (cause : FeatureCause) → polygon < length polygons → IsMarked marks polygon → IsCause own_parts (rank_of marks polygon) (block_of polygons marks polygon) cause → IsCauseWithin own_places own_numbers cause
+  cause_within : (polygon : ℕ) (cause : FeatureCause) → polygon < length polygons → IsMarked marks polygon → IsFeatureCause own_parts (rank_of marks polygon) (block_of polygons marks polygon) cause → IsCauseWithin own_places own_numbers cause
   cause_within polygon (Meeting meeting) within marked is =
       let block = block_of polygons marks polygon in
       let fits = block_within rings polygons marks able listed polygon within marked in
@@ -213,8 +213,8 @@ module _ (rings : List (List Position)) (polygons : List (ℕ × ℕ)) (marks : 
       let all = count_of_numbers rings polygons marks able listed in
       let following = total_after marks (λ (n : ℕ). 1) its.polygon (length polygons) its.within its.marked in
       let number : its.polygon ≡ slice_index own_numbers fault.polygon = sym (ap (slice_index own_numbers) rank ∙ number_at rings polygons marks able listed its.polygon its.within its.marked) in
-      let cause : IsCause own_parts (rank_of marks its.polygon) (block_of polygons marks its.polygon) fault.cause =
-      subst (λ (it : PolygonRings). IsCause own_parts (rank_of marks its.polygon) it fault.cause) its.block (subst (λ (n : ℕ). IsCause own_parts n (rings_in fault) fault.cause) rank is.is) in
+      let cause : IsFeatureCause own_parts (rank_of marks its.polygon) (block_of polygons marks its.polygon) fault.cause =
+      subst (λ (it : PolygonRings). IsFeatureCause own_parts (rank_of marks its.polygon) it fault.cause) its.block (subst (λ (n : ℕ). IsFeatureCause own_parts n (rings_in fault) fault.cause) rank is.is) in
       record {
         polygon = omega arith;
         listed = subst (λ (n : ℕ). n < length polygons) number its.within;
@@ -362,7 +362,7 @@ module _ (rings : List (List Position)) (polygons : List (ℕ × ℕ)) (marks : 
 
   -- the cause of a polygon that isn't marked is one of the feature
   own_is : (polygon : ℕ) (it : PolygonRings) (cause : FeatureCause) → polygon < length polygons → IsUnmarked marks polygon → it ≡ listed_at polygons polygon → AreFineBefore rings polygons marks polygon → AreSharedClear polygon
-      → IsOwnCause rings it cause → IsCause rings polygon it cause
+      → IsOwnCause rings it cause → IsFeatureCause rings polygon it cause
   own_is polygon it (Meeting meeting) within unmarked same fine shared is = is
   own_is polygon it (Nesting fault) within unmarked same fine shared is = (
     subst (λ (its : PolygonRings). NoMeeting (part_of rings (front_of its))) (sym same)
@@ -373,7 +373,7 @@ module _ (rings : List (List Position)) (polygons : List (ℕ × ℕ)) (marks : 
 
   -- so is that of a marked one
   shared_is : (polygon : ℕ) (cause : FeatureCause) → polygon < length polygons → IsMarked marks polygon → AreFineBefore rings polygons marks polygon → AreSharedClear polygon
-      → IsSharedCause polygon cause → IsCause rings polygon (listed_at polygons polygon) cause
+      → IsSharedCause polygon cause → IsFeatureCause rings polygon (listed_at polygons polygon) cause
   shared_is polygon (Meeting meeting) within marked fine shared is = is
   shared_is polygon (Nesting fault) within marked fine shared is = (none_from_shared polygon within marked fine shared is.0, is.1)
   shared_is polygon (Apart fault) within marked fine shared is = (none_from_shared polygon within marked fine shared is.0, is.1, is.2)
@@ -395,7 +395,7 @@ module _ (rings : List (List Position)) (polygons : List (ℕ × ℕ)) (marks : 
       record {
         there = subst (IsPolygon rings fault.polygon) (sym first.there) (is_it rings polygons marks able listed fault.polygon within);
         before = λ polygon it less is. all_clear fault.polygon (omega arith) fine first.before polygon it less is;
-        is = subst (λ (it : PolygonRings). IsCause rings fault.polygon it fault.cause) (sym first.there) (shared_is fault.polygon fault.cause within first.marked fine first.before first.is);
+        is = subst (λ (it : PolygonRings). IsFeatureCause rings fault.polygon it fault.cause) (sym first.there) (shared_is fault.polygon fault.cause within first.marked fine first.before first.is);
       }
 
   -- the first of two

@@ -11,7 +11,7 @@ use Rattle.mvt_plane.proofs.Orders.Order.{zs}
 use Rattle.mvt_rules.proofs.Rings.SamePolygons.{same_polygon}
 use Rattle.mvt_polygon.specs.Apart.{IsApartFault}
 use Rattle.mvt_sweep.specs.Bounds.{AreBoundsOf, AreBoundsApart}
-use Rattle.mvt_feature.specs.Calls.Bounds.{AreInOrder, AreLaterBounds, AreNotIn, AreReaches, ComesFirst, IsFirstVertexIn, IsFirstWith}
+use Rattle.mvt_feature.specs.Calls.Bounds.{AreBoundsInOrder, AreLaterBounds, AreNotIn, AreReaches, ComesNoLater, IsFirstVertexIn, IsFirstWith}
 use Rattle.mvt_feature.specs.Calls.FeatureParts.{IsFirstInLater, IsInNoLater, listed_at}
 use Rattle.mvt_polygon.specs.Polygons.{ArePolygons}
 use Rattle.mvt_sweep.specs.Rings.{AreProperRings}
@@ -102,7 +102,7 @@ fault_by_vertex rings polygon other until vertex it its vertices is_it is_its th
 
 -- no fault with the polygon at a place, where its bounds are apart from those of this one
 pub none_at_place : (rings : List (List Position)) (polygons : List (ℕ × ℕ)) (later polygon : ℕ) (it : PolygonRings) (vertices : List Position) (own : Bounds) (bounds : List Bounds)
-    (order : List (ℤ × ℕ)) (place : ℕ) (left : ℤ) (number : ℕ) → ArePolygons rings polygons → AreLaterBounds rings polygons later (length polygons) bounds → AreInOrder bounds order
+    (order : List (ℤ × ℕ)) (place : ℕ) (left : ℤ) (number : ℕ) → ArePolygons rings polygons → AreLaterBounds rings polygons later (length polygons) bounds → AreBoundsInOrder bounds order
     → IsPolygon rings polygon it → slice_get rings it.exterior ≡ Some vertices → AreBoundsOf vertices own → slice_get order place ≡ Some (left, number)
     → ((its : Bounds) → slice_get bounds number ≡ Some its → AreBoundsApart own its) → (vertex : ℕ) → ¬ IsApartFault rings polygon vertex (later + number)
 none_at_place rings polygons later polygon it vertices own bounds order place left number listed all in_order is_it there of_own here apart vertex =
@@ -128,7 +128,7 @@ ends_before own its before position one other =
     omega (arith, zs)
 
 -- so those at a place that begin to the right
-pub apart_after : (own : Bounds) (bounds : List Bounds) (order : List (ℤ × ℕ)) (place : ℕ) (left : ℤ) (number : ℕ) → AreInOrder bounds order → slice_get order place ≡ Some (left, number)
+pub apart_after : (own : Bounds) (bounds : List Bounds) (order : List (ℤ × ℕ)) (place : ℕ) (left : ℤ) (number : ℕ) → AreBoundsInOrder bounds order → slice_get order place ≡ Some (left, number)
     → own.right <ℤ left → (its : Bounds) → slice_get bounds number ≡ Some its → AreBoundsApart own its
 apart_after own bounds order place left number in_order here beyond its at =
     let same = in_order.numbering.keyed place left number its here at in
@@ -150,11 +150,11 @@ apart_here own known bounds number there apart its at = subst (AreBoundsApart ow
 -- One more polygon
 
 -- faults come one after another
-ComesFirst-trans : (one other : ApartFault) (vertex its : ℕ) → ComesFirst one other.vertex other.other → ComesFirst other vertex its → ComesFirst one vertex its
-ComesFirst-trans one other vertex its (inl less) (inl more) = inl (omega arith)
-ComesFirst-trans one other vertex its (inl less) (inr same) = let at = same.0 in inl (omega arith)
-ComesFirst-trans one other vertex its (inr same) (inl more) = let at = same.0 in inl (omega arith)
-ComesFirst-trans one other vertex its (inr same) (inr its_same) =
+ComesNoLater-trans : (one other : ApartFault) (vertex its : ℕ) → ComesNoLater one other.vertex other.other → ComesNoLater other vertex its → ComesNoLater one vertex its
+ComesNoLater-trans one other vertex its (inl less) (inl more) = inl (omega arith)
+ComesNoLater-trans one other vertex its (inl less) (inr same) = let at = same.0 in inl (omega arith)
+ComesNoLater-trans one other vertex its (inr same) (inl more) = let at = same.0 in inl (omega arith)
+ComesNoLater-trans one other vertex its (inr same) (inr its_same) =
     let at = same.0 in
     let most = same.1 in
     let its_at = its_same.0 in
@@ -164,29 +164,29 @@ ComesFirst-trans one other vertex its (inr same) (inr its_same) =
 -- the first one with this polygon, where a vertex of the checked ones is inside
 pub first_of_vertex : (rings : List (List Position)) (polygon other until vertex : ℕ) (found : Option ApartFault) → IsApartFault rings polygon vertex other → vertex < until
     → ((another : ℕ) → another < vertex → ¬ IsApartFault rings polygon another other)
-    → IfSome found (λ known. (another : ℕ) → another < until → ComesFirst (record { vertex = another; other = other }) known.vertex known.other)
+    → IfSome found (λ known. (another : ℕ) → another < until → ComesNoLater (record { vertex = another; other = other }) known.vertex known.other)
     → IsFirstWith rings polygon other found (Some (record { vertex = vertex; other = other }))
 first_of_vertex rings polygon other until vertex found fault less none before = (inr (refl, fault), first, known found before)
   where
-    first : (another : ℕ) → IsApartFault rings polygon another other → ComesFirst (record { vertex = vertex; other = other }) another other
+    first : (another : ℕ) → IsApartFault rings polygon another other → ComesNoLater (record { vertex = vertex; other = other }) another other
     first another its = elim (cases_lt another vertex) [
       | inl earlier ↦ absurd (none another earlier its)
       | inr following ↦ elim (cases_order vertex another) [ inl same ↦ inr (same, omega arith) | inr (inl more) ↦ inl more | inr (inr lesser) ↦ absurd (none another lesser its) ]
     ]
 
-    known : (found : Option ApartFault) → IfSome found (λ known. (another : ℕ) → another < until → ComesFirst (record { vertex = another; other = other }) known.vertex known.other)
-        → IfSome found (λ known. ComesFirst (record { vertex = vertex; other = other }) known.vertex known.other)
+    known : (found : Option ApartFault) → IfSome found (λ known. (another : ℕ) → another < until → ComesNoLater (record { vertex = another; other = other }) known.vertex known.other)
+        → IfSome found (λ known. ComesNoLater (record { vertex = vertex; other = other }) known.vertex known.other)
     known None before = tt
     known (Some it) before = before vertex less
 
 -- and what was found, where none of them is
 pub first_of_found : (rings : List (List Position)) (polygon other until count : ℕ) (found : Option ApartFault) → ((vertex : ℕ) → IsApartFault rings polygon vertex other → vertex < count)
     → ((vertex : ℕ) → vertex < until → ¬ IsApartFault rings polygon vertex other) → IfNone found (until ≡ count)
-    → IfSome found (λ known. (vertex : ℕ) → until ≤ vertex → ComesFirst known vertex other) → IsFirstWith rings polygon other found found
+    → IfSome found (λ known. (vertex : ℕ) → until ≤ vertex → ComesNoLater known vertex other) → IsFirstWith rings polygon other found found
 first_of_found rings polygon other until count None within none all following = (refl, λ vertex fault. let inside = within vertex fault in none vertex (omega arith) fault)
 first_of_found rings polygon other until count (Some known) within none all following = (inl refl, first, inr (refl, omega arith))
   where
-    first : (vertex : ℕ) → IsApartFault rings polygon vertex other → ComesFirst known vertex other
+    first : (vertex : ℕ) → IsApartFault rings polygon vertex other → ComesNoLater known vertex other
     first vertex fault = elim (cases_lt vertex until) [ inl less ↦ absurd (none vertex less fault) | inr more ↦ following vertex (omega arith) ]
 
 -- The polygons from a place of the order on
@@ -196,7 +196,7 @@ pub record IsFirstFrom (rings : List (List Position)) (later polygon : ℕ) (ord
   pub from : later ≤ fault.other
   pub holds : IsApartFault rings polygon fault.vertex fault.other
   pub first : (place : ℕ) (left : ℤ) (number : ℕ) → at ≤ place → slice_get order place ≡ Some (left, number)
-      → (vertex : ℕ) → IsApartFault rings polygon vertex (later + number) → ComesFirst fault vertex (later + number)
+      → (vertex : ℕ) → IsApartFault rings polygon vertex (later + number) → ComesNoLater fault vertex (later + number)
 
 -- the first fault with them, if there is one
 abbrev pub IsFoundFrom : List (List Position) → ℕ → ℕ → List (ℤ × ℕ) → ℕ → Option ApartFault → Type 0
@@ -259,7 +259,7 @@ found_with rings later polygon order at below left number found (Some fault) nex
     | inl more ↦ following found before first.2 place its other (omega arith) there vertex its_fault
     | inr most ↦
         let same = one_number order below place left its number other (omega arith) here there in
-        subst (λ (other : ℕ). ComesFirst fault vertex (later + other)) same (first.1 vertex (subst (λ (other : ℕ). IsApartFault rings polygon vertex (later + other)) (sym same) its_fault))
+        subst (λ (other : ℕ). ComesNoLater fault vertex (later + other)) same (first.1 vertex (subst (λ (other : ℕ). IsApartFault rings polygon vertex (later + other)) (sym same) its_fault))
   ];
 }
   where
@@ -271,12 +271,12 @@ found_with rings later polygon order at below left number found (Some fault) nex
     its_holds None same before = absurd (cc)
     its_holds (Some known) same before = subst (λ (it : ApartFault). IsApartFault rings polygon it.vertex it.other) (same_Some known fault same) before.holds
 
-    following : (found : Option ApartFault) → IsFoundFrom rings later polygon order at found → IfSome found (λ known. ComesFirst fault known.vertex known.other)
+    following : (found : Option ApartFault) → IsFoundFrom rings later polygon order at found → IfSome found (λ known. ComesNoLater fault known.vertex known.other)
         → (place : ℕ) (its : ℤ) (other : ℕ) → at ≤ place → slice_get order place ≡ Some (its, other)
-        → (vertex : ℕ) → IsApartFault rings polygon vertex (later + other) → ComesFirst fault vertex (later + other)
+        → (vertex : ℕ) → IsApartFault rings polygon vertex (later + other) → ComesNoLater fault vertex (later + other)
     following None before its_first place its other from there vertex its_fault = absurd (before place its other from there vertex its_fault)
     following (Some known) before its_first place its other from there vertex its_fault =
-        ComesFirst-trans fault known vertex (later + other) its_first (before.first place its other from there vertex its_fault)
+        ComesNoLater-trans fault known vertex (later + other) its_first (before.first place its other from there vertex its_fault)
 
 -- All polygons
 
@@ -299,7 +299,7 @@ found_whole rings later polygon order at (Some known) none is = record {
 -- so after the last place that was checked, where the reach is to the left
 pub found_beyond_reach : (rings : List (List Position)) (polygons : List (ℕ × ℕ)) (later polygon : ℕ) (it : PolygonRings) (vertices : List Position) (own : Bounds) (bounds : List Bounds)
     (order : List (ℤ × ℕ)) (reaches : List ℤ) (at : ℕ) (reach : ℤ) (found : Option ApartFault) → ArePolygons rings polygons → AreLaterBounds rings polygons later (length polygons) bounds
-    → AreInOrder bounds order → AreReaches bounds order (length order) reaches → IsPolygon rings polygon it → slice_get rings it.exterior ≡ Some vertices → AreBoundsOf vertices own
+    → AreBoundsInOrder bounds order → AreReaches bounds order (length order) reaches → IsPolygon rings polygon it → slice_get rings it.exterior ≡ Some vertices → AreBoundsOf vertices own
     → slice_get reaches (at - 1) ≡ Some reach → reach <ℤ own.left → IsFoundFrom rings later polygon order at found → IsFoundFrom rings later polygon order 0 found
 found_beyond_reach rings polygons later polygon it vertices own bounds order reaches at reach found listed all in_order are is_it there of_own reach_there before is =
     found_whole rings later polygon order at found
@@ -328,7 +328,7 @@ record HasPlace (later other : ℕ) (order : List (ℤ × ℕ)) : Type 0 where
 
 -- there is one of each
 place_of : (rings : List (List Position)) (polygons : List (ℕ × ℕ)) (later polygon vertex other : ℕ) (bounds : List Bounds) (order : List (ℤ × ℕ)) → ArePolygons rings polygons
-    → AreLaterBounds rings polygons later (length polygons) bounds → AreInOrder bounds order → later ≤ other → IsApartFault rings polygon vertex other → HasPlace later other order
+    → AreLaterBounds rings polygons later (length polygons) bounds → AreBoundsInOrder bounds order → later ≤ other → IsApartFault rings polygon vertex other → HasPlace later other order
 place_of rings polygons later polygon vertex other bounds order listed all in_order from fault =
     let within = other_within rings polygons polygon vertex other listed fault in
     let count = all.count in
@@ -337,7 +337,7 @@ place_of rings polygons later polygon vertex other bounds order listed all in_or
 
 -- where nothing is found there is no fault
 pub none_at_all : (rings : List (List Position)) (polygons : List (ℕ × ℕ)) (later polygon : ℕ) (bounds : List Bounds) (order : List (ℤ × ℕ)) (found : Option ApartFault) → ArePolygons rings polygons
-    → AreLaterBounds rings polygons later (length polygons) bounds → AreInOrder bounds order → IsFoundFrom rings later polygon order 0 found → IfNone found (IsInNoLater rings later polygon)
+    → AreLaterBounds rings polygons later (length polygons) bounds → AreBoundsInOrder bounds order → IsFoundFrom rings later polygon order 0 found → IfNone found (IsInNoLater rings later polygon)
 none_at_all rings polygons later polygon bounds order None listed all in_order is = λ vertex other from fault.
     let it = place_of rings polygons later polygon vertex other bounds order listed all in_order from fault in
     is it.place it.left it.number (omega arith) it.here vertex (subst (λ (its : ℕ). IsApartFault rings polygon vertex its) it.same fault)
@@ -345,7 +345,7 @@ none_at_all rings polygons later polygon bounds order (Some fault) listed all in
 
 -- what is found is the first of all
 pub first_of_all : (rings : List (List Position)) (polygons : List (ℕ × ℕ)) (later polygon : ℕ) (bounds : List Bounds) (order : List (ℤ × ℕ)) (found : Option ApartFault) → ArePolygons rings polygons
-    → AreLaterBounds rings polygons later (length polygons) bounds → AreInOrder bounds order → IsFoundFrom rings later polygon order 0 found
+    → AreLaterBounds rings polygons later (length polygons) bounds → AreBoundsInOrder bounds order → IsFoundFrom rings later polygon order 0 found
     → IfSome found (λ fault. IsFirstInLater rings later polygon fault.vertex fault.other)
 first_of_all rings polygons later polygon bounds order None listed all in_order is = tt
 first_of_all rings polygons later polygon bounds order (Some known) listed all in_order is = record {
@@ -353,6 +353,6 @@ first_of_all rings polygons later polygon bounds order (Some known) listed all i
   holds = is.holds;
   first = λ vertex other from fault.
       let it = place_of rings polygons later polygon vertex other bounds order listed all in_order from fault in
-      subst (λ (its : ℕ). ComesFirst known vertex its) (sym it.same)
+      subst (λ (its : ℕ). ComesNoLater known vertex its) (sym it.same)
       (is.first it.place it.left it.number (omega arith) it.here vertex (subst (λ (its : ℕ). IsApartFault rings polygon vertex its) it.same fault));
 }

@@ -38,7 +38,7 @@ own_answer rings polygon it (Some (Meeting meeting)) further within is =
 own_answer rings polygon it (Some (Nesting fault)) further within is = (refl, refl, is)
 own_answer rings polygon it None further within is = record { apart = is.0; nested = is.1 }
 
--- where nothing is found, so many comparisons were made
+-- where nothing is found, so many probes were made
 pub own_least : {T : Type 0} (vertices : ℕ) (before after : Counted) (found : Option PolygonFault) (f : PolygonFault → T) → IsCounted vertices before after (meeting_in found) → IfNone (option_map f found) (raised vertices before.probes ≤ after.probes)
 own_least vertices before after (Some fault) f counted = tt
 own_least vertices before after None f counted = counted

@@ -10,7 +10,7 @@ use Rattle.mvt_feature.specs.Calls.FeatureParts.{AreAllPlaced, fault_after, IsFi
 use Rattle.mvt_feature.specs.Calls.Gathered.{cause_moved, fault_moved, gathered_numbers, gathered_places, gathered_rings}
 use Rattle.mvt_feature.specs.Calls.Islands.{AreMarked}
 use Rattle.mvt_feature.specs.Calls.QuickParts.{IsMeetingFault, IsOfMeeting, IsTogetherAnswer, IsTogetherCause}
-use Rattle.mvt_feature.specs.Feature.{IsCause, IsClear, IsFeatureAnswer, IsFirstFault, front_of, rings_in}
+use Rattle.mvt_feature.specs.Feature.{IsFeatureCause, IsClear, IsFeatureAnswer, IsFirstFault, front_of, rings_in}
 use Rattle.mvt_sweep.specs.Meeting.{IsMeetingOf, NoMeeting, first_of, second_of}
 use Rattle.mvt_rules.specs.Ring.{ArePolygonRings}
 use Rattle.mvt_polygon.specs.Polygons.{ArePolygons}
@@ -52,7 +52,7 @@ same_answer rings (Some fault) none = (λ quick. elim quick [ inl first ↦ firs
 same_answer rings None none = (λ clear. clear, λ clear. clear)
 
 -- a polygon with a fault isn't clear
-not_clear : (rings : List (List Position)) (polygon : ℕ) (it : PolygonRings) (cause : FeatureCause) → IsCause rings polygon it cause → ¬ IsClear rings polygon it
+not_clear : (rings : List (List Position)) (polygon : ℕ) (it : PolygonRings) (cause : FeatureCause) → IsFeatureCause rings polygon it cause → ¬ IsClear rings polygon it
 not_clear rings polygon it (Meeting meeting) is clear = clear.apart (first_of meeting) (second_of meeting) meeting.point is.meets
 not_clear rings polygon it (Nesting fault) is clear = clear.placed.nested fault is.1.holds
 not_clear rings polygon it (Apart fault) is clear = clear.placed.alone fault.vertex fault.other is.2.holds

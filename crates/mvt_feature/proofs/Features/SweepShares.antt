@@ -125,7 +125,7 @@ sweeps_within sweeps alone vertices before after some within first = sweeps_then
 pub one_sweep : (vertices : ℕ) (before after : Counted) → AddsWork (3 * vertices) (vertices * (2 * bits vertices + 10)) (vertices * (20 * bits vertices)) before after → AddsSweeps 1 vertices before after
 one_sweep vertices before after work = work_within (omega arith) (omega arith) (omega arith) work
 
--- comparisons of both
+-- probes of both
 pub raised_then : (alone shared vertices before between after : ℕ) → vertices ≤ alone + shared → raised alone before ≤ between → raised shared between ≤ after → raised vertices before ≤ after
 raised_then alone shared vertices before between after within first second = omega arith
 

@@ -35,7 +35,7 @@ pub record IsNumbering (bounds : List Bounds) (order : List (ℤ × ℕ)) : Type
   pub all : (number : ℕ) → number < length bounds → (at : ℕ) × ((left : ℤ) × (slice_get order at ≡ Some (left, number)))
 
 -- all of these bounds by their numbers, each with its left side, in the order of those
-pub record AreInOrder (bounds : List Bounds) (order : List (ℤ × ℕ)) : Type 0 where
+pub record AreBoundsInOrder (bounds : List Bounds) (order : List (ℤ × ℕ)) : Type 0 where
   pub numbering : IsNumbering bounds order
   pub sorted : (at other : ℕ) (left its : ℤ) (number another : ℕ) → at ≤ other → slice_get order at ≡ Some (left, number) → slice_get order other ≡ Some (its, another)
       → left ≤ℤ its
@@ -49,7 +49,7 @@ pub record AreReaches (bounds : List Bounds) (order : List (ℤ × ℕ)) (to : �
 -- what is kept of the polygons from a number on
 pub record IsSpread (rings : List (List Position)) (polygons : List (ℕ × ℕ)) (later : ℕ) (spread : Spread) : Type 0 where
   pub bounds : AreLaterBounds rings polygons later (length polygons) spread.bounds.items
-  pub order : AreInOrder spread.bounds.items spread.order.items
+  pub order : AreBoundsInOrder spread.bounds.items spread.order.items
   pub reaches : AreReaches spread.bounds.items spread.order.items (length spread.order.items) spread.reaches.items
 
 -- Vertices inside a polygon
@@ -68,12 +68,12 @@ pub record IsFirstVertexIn (rings : List (List Position)) (it : PolygonRings) (v
 -- Faults
 
 -- the fault comes first, or is the one at this vertex with this polygon
-abbrev pub ComesFirst : ApartFault → ℕ → ℕ → Type 0
-ComesFirst fault vertex other = (fault.vertex < vertex) ⊎ ((fault.vertex ≡ vertex) × (fault.other ≤ other))
+abbrev pub ComesNoLater : ApartFault → ℕ → ℕ → Type 0
+ComesNoLater fault vertex other = (fault.vertex < vertex) ⊎ ((fault.vertex ≡ vertex) × (fault.other ≤ other))
 
 -- the first of a fault that was found and all those with one more polygon
 abbrev pub IsFirstWith : List (List Position) → ℕ → ℕ → Option ApartFault → Option ApartFault → Type 0
 IsFirstWith rings polygon other found None = (found ≡ None) × ((vertex : ℕ) → ¬ IsApartFault rings polygon vertex other)
 IsFirstWith rings polygon other found (Some fault) =
     ((found ≡ Some fault) ⊎ ((fault.other ≡ other) × IsApartFault rings polygon fault.vertex other))
-    × ((vertex : ℕ) → IsApartFault rings polygon vertex other → ComesFirst fault vertex other) × IfSome found (λ known. ComesFirst fault known.vertex known.other)
+    × ((vertex : ℕ) → IsApartFault rings polygon vertex other → ComesNoLater fault vertex other) × IfSome found (λ known. ComesNoLater fault known.vertex known.other)

@@ -56,8 +56,8 @@ abbrev pub order_at : List (ℕ × ℤ × ℕ) → ℕ → ℕ × ℤ × ℕ
 order_at order at = slice_index_or order at (0, pos 0, 0)
 
 -- one comes before the other, or has the same cell and least coordinate
-abbrev pub IsBefore : ℕ × ℤ × ℕ → ℕ × ℤ × ℕ → Type 0
-IsBefore one other = (one.0 < other.0) ⊎ ((one.0 ≡ other.0) × (one.1 ≤ℤ other.1))
+abbrev pub IsCellBefore : ℕ × ℤ × ℕ → ℕ × ℤ × ℕ → Type 0
+IsCellBefore one other = (one.0 < other.0) ⊎ ((one.0 ≡ other.0) × (one.1 ≤ℤ other.1))
 
 -- the marked numbers of the first ones, so many of them, each once, in any order
 pub record AreNumbered (spans : List (ℤ × ℤ)) (cells : List ℕ) (marks : List Bool) (count : ℕ) (order : List (ℕ × ℤ × ℕ)) : Type 0 where
@@ -69,7 +69,7 @@ pub record AreNumbered (spans : List (ℤ × ℤ)) (cells : List ℕ) (marks : L
 -- the marked numbers, each once, by their cells and least coordinates
 pub record IsCellOrder (spans : List (ℤ × ℤ)) (cells : List ℕ) (marks : List Bool) (order : List (ℕ × ℤ × ℕ)) : Type 0 where
   pub numbered : AreNumbered spans cells marks (length cells) order
-  pub sorted : (at other : ℕ) (it its : ℕ × ℤ × ℕ) → at ≤ other → slice_get order at ≡ Some it → slice_get order other ≡ Some its → IsBefore it its
+  pub sorted : (at other : ℕ) (it its : ℕ × ℤ × ℕ) → at ≤ other → slice_get order at ≡ Some it → slice_get order other ≡ Some its → IsCellBefore it its
 
 -- Shared cells
 

@@ -44,7 +44,7 @@ abbrev pub middle_of : ℕ → ℕ → ℕ
 middle_of front meets = front + (meets - front) / 2
 
 -- What is counted at least, half by half: of a sweep that finds no meeting, over the rings up to the end of the polygon in the
--- middle, a comparison for each vertex; of one that finds a meeting, of that polygon or of one before it, a test.
+-- middle, a probe for each vertex; of one that finds a meeting, of that polygon or of one before it, a test.
 pub data AreHalves (rings : List (List Position)) (polygons : List (ℕ × ℕ)) (last : ℕ) (before : Counted) : ℕ → ℕ → Counted → Type 0 where
   begun : AreHalves rings polygons last before 0 last before
   clear : (front meets : ℕ) (now next : Counted) → AreHalves rings polygons last before front meets now → front < meets

@@ -21,12 +21,12 @@ use Rattle.mvt_sweep.specs.declared.bounds.Bounds.{Bounds}
 -- Two rings
 
 -- the ring lies in the other one: they have nothing in common, and its vertices are inside
-pub record LiesIn (ring around : List Position) : Type 0 where
+pub record LiesInRing (ring around : List Position) : Type 0 where
   pub clear : HaveNothingInCommon ring around
   pub inside : (number : ℕ) (vertex : Position) → slice_get ring number ≡ Some vertex → IsInside vertex around
 
 -- all vertices of the ring are on one side of the line through the edge, and none is on it
-pub record AreBeside (ring : List Position) (edge : Edge) : Type 0 where
+pub record AreBesideEdge (ring : List Position) (edge : Edge) : Type 0 where
   pub side : Ordering
   pub strictly : ¬ (side ≡ Equal)
   pub each : (number : ℕ) (vertex : Position) → slice_get ring number ≡ Some vertex → side ≡ int_cmp (orientation edge.a edge.b vertex) (pos 0)
@@ -59,7 +59,7 @@ pub record IsIslandOf (rings : List (List Position)) (it its : PolygonRings) : T
   pub is : IsHoleOf its hole
   pub around : List Position
   pub hole_there : slice_get rings hole ≡ Some around
-  pub within : LiesIn ring around
+  pub within : LiesInRing ring around
   pub far : (other : ℕ) (vertices : List Position) → IsHoleOf its other → other ≢ hole → slice_get rings other ≡ Some vertices → AreRingsFarApart ring vertices
   pub vertex : ℕ
   pub position : Position

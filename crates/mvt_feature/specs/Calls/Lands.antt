@@ -67,14 +67,14 @@ AreLakesParted rings polygons cells lands ring_cells = (polygon hole : ℕ) (rin
     → slice_get rings (listed_at polygons polygon).exterior ≡ Some ring → slice_get rings hole ≡ Some vertices → AreRingsFarApart ring vertices
 
 -- the hole is among those that are held
-abbrev pub Holds : Held → ℕ → Type 0
-Holds Empty hole = ⊥
-Holds (One other) hole = other ≡ hole
-Holds Several hole = Unit
+abbrev pub HoldsHole : Held → ℕ → Type 0
+HoldsHole Empty hole = ⊥
+HoldsHole (One other) hole = other ≡ hole
+HoldsHole Several hole = Unit
 
 -- the hole is among those that its cell holds
 abbrev pub IsHeld : List ℕ → List Held → ℕ → Type 0
-IsHeld ring_cells held hole = Holds (slice_index_or held (slice_index ring_cells hole) Empty) hole
+IsHeld ring_cells held hole = HoldsHole (slice_index_or held (slice_index ring_cells hole) Empty) hole
 
 -- all holes of so many polygons are
 pub record AreHeld (polygons : List (ℕ × ℕ)) (ring_cells : List ℕ) (count : ℕ) (held : List Held) : Type 0 where

@@ -68,8 +68,8 @@ pub(super) fn clear_front(
 }
 
 /// Finds these polygons where edges meet, by halves: each sweep goes over the rings up to the end
-/// of the polygon in the middle of those that are left. For each of these sweeps it counts a
-/// comparison for each vertex at least where no edges meet, and else a test.
+/// of the polygon in the middle of those that are left. For each of these sweeps it counts a probe
+/// for each vertex at least where no edges meet, and else a test.
 fn front_before(
     alloc: Global,
     rings: &[Vec<Point>],

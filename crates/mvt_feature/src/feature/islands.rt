@@ -2,7 +2,7 @@
 ghost use Rattle.std.specs.Prelude.{◌≡◌, ◌<◌, ◌≤◌, length, IfNone, IfOk, IfSome, IsTrue};
 ghost use Rattle.mvt_plane.specs.Geometry.Inside.{IsInside};
 ghost use Rattle.mvt_feature.specs.Calls.Cells.{AreCells};
-ghost use Rattle.mvt_feature.specs.Calls.Islands.{AreMarked, IsIslandOf, LiesIn};
+ghost use Rattle.mvt_feature.specs.Calls.Islands.{AreMarked, IsIslandOf, LiesInRing};
 ghost use Rattle.mvt_feature.specs.Calls.Lands.{AreCellsApart, AreFailing, AreFarFromNeighbours, AreLakes, AreLands, AreOfFailing, IsOnlyLake};
 ghost use Rattle.mvt_polygon.specs.Polygons.{ArePolygons};
 ghost use Rattle.mvt_sweep.specs.Rings.{rings_of, AreProperRings};
@@ -126,7 +126,7 @@ fn is_settled(
 /// Whether the ring lies in the hole, and the vertex of the land around is in neither.
 fn is_island(ring: &[Point], around: &[Point], vertex: Point) -> bool
     requires { 0 < length ring.now }
-    ensures within { IsTrue result → LiesIn ring.now around.now }
+    ensures within { IsTrue result → LiesInRing ring.now around.now }
     ensures not_in_hole { IsTrue result → ¬ IsInside vertex around.now }
     ensures not_in_ring { IsTrue result → ¬ IsInside vertex ring.now }
 {

@@ -3,7 +3,7 @@ ghost use Rattle.std.specs.Prelude.{◌≡◌, ◌<◌, ◌≤◌, ◌⊎◌, �
 ghost use Rattle.mvt_rules.specs.Polygon.{IsHoleOf};
 ghost use Rattle.mvt_plane.specs.Position.{Position};
 ghost use Rattle.mvt_feature.specs.Calls.Cells.{AreCells};
-ghost use Rattle.mvt_feature.specs.Calls.Lands.{AreFirstCells, AreHeld, AreLakes, AreLakesParted, AreLakesUnmarked, AreLands, Holds, IsHeld, IsLakeOf, IsSingleLakeOf};
+ghost use Rattle.mvt_feature.specs.Calls.Lands.{AreFirstCells, AreHeld, AreLakes, AreLakesParted, AreLakesUnmarked, AreLands, HoldsHole, IsHeld, IsLakeOf, IsSingleLakeOf};
 ghost use Rattle.mvt_polygon.specs.Polygons.{ArePolygons};
 ghost use Rattle.mvt_sweep.specs.Rings.{rings_of, AreProperRings};
 ghost use Rattle.mvt_feature.specs.declared.feature.lakes.Held.TheVariants.{One};
@@ -26,8 +26,8 @@ enum Held {
 impl Held {
     /// With one hole more.
     fn with(self, hole: usize) -> Held
-        ensures own { Holds result hole }
-        ensures kept { (other : ℕ) → Holds self other → Holds result other }
+        ensures own { HoldsHole result hole }
+        ensures kept { (other : ℕ) → HoldsHole self other → HoldsHole result other }
     {
         match self {
             Held::Empty => Held::One(hole),

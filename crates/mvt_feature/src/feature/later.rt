@@ -4,7 +4,7 @@ ghost use Rattle.mvt_plane.specs.Position.{Position};
 ghost use Rattle.mvt_rules.specs.Ring.{ArePolygonRings};
 ghost use Rattle.mvt_polygon.specs.Apart.{IsApartFault};
 ghost use Rattle.mvt_sweep.specs.Bounds.{AreBoundsOf};
-ghost use Rattle.mvt_feature.specs.Calls.Bounds.{AreNotIn, ComesFirst, IsFirstVertexIn, IsFirstWith, IsSpread};
+ghost use Rattle.mvt_feature.specs.Calls.Bounds.{AreNotIn, ComesNoLater, IsFirstVertexIn, IsFirstWith, IsSpread};
 ghost use Rattle.mvt_feature.specs.Calls.FeatureParts.{IsFirstInLater, IsFirstLater, IsInNoLater, listed_at};
 ghost use Rattle.mvt_polygon.specs.Polygons.{ArePolygons};
 ghost use Rattle.mvt_sweep.specs.Rings.{rings_of, AreProperRings};
@@ -125,9 +125,9 @@ fn first_after(found: Option<ApartFault>, other: usize, vertices: usize) -> usiz
     ensures within { result ≤ vertices }
     ensures none { IfNone found (result ≡ vertices) }
     ensures following { IfSome found (λ fault. (vertex : ℕ) → result ≤ vertex
-        → ComesFirst fault vertex other) }
+        → ComesNoLater fault vertex other) }
     ensures before { IfSome found (λ fault. (vertex : ℕ) → vertex < result
-        → ComesFirst (record { vertex = vertex; other = other }) fault.vertex fault.other) }
+        → ComesNoLater (record { vertex = vertex; other = other }) fault.vertex fault.other) }
 {
     match found {
         Some(fault) => {

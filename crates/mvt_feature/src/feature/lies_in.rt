@@ -5,7 +5,7 @@ ghost use Rattle.mvt_plane.specs.Geometry.Apart.{HaveNothingInCommon};
 ghost use Rattle.mvt_plane.specs.Geometry.Measure.{orientation};
 ghost use Rattle.mvt_plane.specs.Geometry.Ring.{edges};
 ghost use Rattle.mvt_sweep.specs.Bounds.{AreBoundsOf};
-ghost use Rattle.mvt_feature.specs.Calls.Islands.{AreBeside, LiesIn};
+ghost use Rattle.mvt_feature.specs.Calls.Islands.{AreBesideEdge, LiesInRing};
 
 use mvt_plane::{Edge, Point, inside, side};
 use mvt_sweep::Bounds;
@@ -21,7 +21,7 @@ const MOST_NEAR: usize = 8;
 pub(super) fn lies_in(ring: &[Point], around: &[Point], bounds: &Bounds) -> bool
     requires some { 0 < length ring.now }
     requires bounds { AreBoundsOf ring.now bounds.now }
-    ensures { IsTrue result → LiesIn ring.now around.now }
+    ensures { IsTrue result → LiesInRing ring.now around.now }
 {
     inside(ring[0], around) && is_clear(ring, around, bounds)
 }
@@ -67,7 +67,7 @@ fn edge_at(ring: &[Point], number: usize) -> Edge
 /// line.
 fn is_beside(ring: &[Point], edge: &Edge) -> bool
     requires { 0 < length ring.now }
-    ensures { IsTrue result → AreBeside ring.now edge.now }
+    ensures { IsTrue result → AreBesideEdge ring.now edge.now }
 {
     let first = side(edge.a, edge.b, ring[0]);
     for vertex in 0..ring.len() {

@@ -29,7 +29,7 @@ pub(super) enum Passing {
 }
 
 /// What each ring of these polygons is. No edges of their rings meet. Each polygon of more than one
-/// ring is swept over by itself, so as many comparisons as it has vertices are counted at least.
+/// ring is swept over by itself, so as many probes as it has vertices are counted at least.
 pub(super) fn passings(
     alloc: Global,
     rings: &[Vec<Point>],

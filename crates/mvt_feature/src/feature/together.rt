@@ -45,7 +45,7 @@ pub(super) fn check_together(
     let misplaced = first_misplaced(alloc, front_rings, front_polygons, &front.notes, count)?;
     let until = placed_up_to(&misplaced, front.polygons);
     let inside = first_inside_later(alloc, rings, &polygons, front.polygons, until)?;
-    Ok(inside.or(misplaced).or(fault_of_meeting(&polygons, &front)))
+    Ok(inside.or(misplaced).or(following_fault(&polygons, &front)))
 }
 
 /// Up to which polygon none is misplaced, of so many.
@@ -59,7 +59,7 @@ fn placed_up_to(misplaced: &Option<FeatureFault>, polygons: usize) -> usize
 }
 
 /// The fault of the polygon after the front, where its edges meet.
-fn fault_of_meeting(polygons: &[(usize, usize)], front: &Front) -> Option<FeatureFault>
+fn following_fault(polygons: &[(usize, usize)], front: &Front) -> Option<FeatureFault>
     requires { IfSome front.now.meeting (λ _. front.now.polygons < length polygons.now) }
     ensures { result ≡ option_map (fault_after polygons.now front.now.polygons) front.now.meeting }
 {

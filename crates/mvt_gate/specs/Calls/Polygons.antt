@@ -60,17 +60,17 @@ abbrev pub IsRingWithin : PolygonPlace → ℕ → Type 0
 IsRingWithin place ring = place.exterior + ring < place.after
 
 -- the fault of a meeting, with the numbers that the rings have in the feature
-abbrev pub fault_of_meeting : PolygonPlace → Meeting → Fault
-fault_of_meeting place meeting =
+abbrev pub meeting_fault : PolygonPlace → Meeting → Fault
+meeting_fault place meeting =
     faults.Meeting place.layer place.feature place.polygon
     (record { ring = place.exterior + meeting.first_ring; edge = meeting.first_edge })
     (record { ring = place.exterior + meeting.second_ring; edge = meeting.second_edge })
     meeting.point.x meeting.point.y meeting.point.w
 
 -- the fault of a hole, with those numbers
-abbrev pub fault_of_hole : PolygonPlace → NestFault → Fault
-fault_of_hole place (nest_faults.Outside ring vertex) = faults.Outside place.layer place.feature place.polygon (place.exterior + ring) vertex
-fault_of_hole place (nest_faults.InHole ring vertex other) =
+abbrev pub hole_fault : PolygonPlace → NestFault → Fault
+hole_fault place (nest_faults.Outside ring vertex) = faults.Outside place.layer place.feature place.polygon (place.exterior + ring) vertex
+hole_fault place (nest_faults.InHole ring vertex other) =
     faults.HoleInHole place.layer place.feature place.polygon (place.exterior + ring) vertex (place.exterior + other)
 
 -- the rings that such a fault names are the polygon's
@@ -79,8 +79,8 @@ AreWithin place (nest_faults.Outside ring vertex) = IsRingWithin place ring
 AreWithin place (nest_faults.InHole ring vertex other) = IsRingWithin place ring × IsRingWithin place other
 
 -- the fault of a vertex of the polygon's exterior that is inside another polygon
-abbrev pub fault_of_apart : PolygonPlace → ApartFault → Fault
-fault_of_apart place found = faults.InPolygon place.layer place.feature place.polygon found.vertex found.other
+abbrev pub apart_fault : PolygonPlace → ApartFault → Fault
+apart_fault place found = faults.InPolygon place.layer place.feature place.polygon found.vertex found.other
 
 -- One polygon of a feature whose polygons are kept apart
 
@@ -89,10 +89,10 @@ abbrev pub front_place : PolygonPlace → PolygonPlace
 front_place place = record { layer = place.layer; feature = place.feature; polygon = place.polygon; exterior = 0; after = place.after }
 
 -- the fault of what is wrong with the polygon. A meeting has the numbers that its rings have in the feature.
-abbrev pub fault_of_cause : PolygonPlace → FeatureCause → Fault
-fault_of_cause place (causes.Meeting meeting) = fault_of_meeting (front_place place) meeting
-fault_of_cause place (causes.Nesting fault) = fault_of_hole place fault
-fault_of_cause place (causes.Apart found) = fault_of_apart place found
+abbrev pub cause_fault : PolygonPlace → FeatureCause → Fault
+cause_fault place (causes.Meeting meeting) = meeting_fault (front_place place) meeting
+cause_fault place (causes.Nesting fault) = hole_fault place fault
+cause_fault place (causes.Apart found) = apart_fault place found
 
 -- the rings that such a fault names are those up to the polygon's last one
 abbrev pub IsReportable : PolygonPlace → FeatureCause → Type 0

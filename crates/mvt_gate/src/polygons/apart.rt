@@ -4,7 +4,7 @@ ghost use Rattle.mvt_rules.specs.Valid.{AreValidRingsBy};
 ghost use Rattle.mvt_fault.specs.declared.profile.Profile.TheVariants.{Feature};
 ghost use Rattle.mvt_sweep.specs.Rings.{rings_of, AreProperRings};
 ghost use Rattle.mvt_rules.specs.Ring.{ArePolygonRings};
-ghost use Rattle.mvt_gate.specs.Calls.Polygons.{IsFeatureAnswerFor, IsFirstOfRingsFor, IsReportable, fault_of_cause};
+ghost use Rattle.mvt_gate.specs.Calls.Polygons.{IsFeatureAnswerFor, IsFirstOfRingsFor, IsReportable, cause_fault};
 
 use super::{PolygonPlace, hole_fault, meeting_fault};
 use crate::quick::Search;
@@ -64,7 +64,7 @@ fn first_fault(
 /// The fault of what was found wrong with a polygon of a feature.
 fn cause_fault(place: PolygonPlace, cause: FeatureCause) -> Fault
     requires { IsReportable place cause }
-    ensures { result ≡ fault_of_cause place cause }
+    ensures { result ≡ cause_fault place cause }
 {
     match cause {
         FeatureCause::Meeting(meeting) => {

@@ -6,7 +6,7 @@ use Rattle.mvt_fault.specs.declared.fault.Fault.TheVariants.{Wire, Version, Name
 use Rattle.mvt_gate.specs.FaultList.{of_feature, subject_of}
 use Rattle.mvt_plane.specs.Commands.Figure.{polygon}
 use Rattle.mvt_plane.specs.FeatureGeometry.{type_number}
-use Rattle.mvt_tile.specs.FeatureBytes.{Shows}
+use Rattle.mvt_tile.specs.FeatureBytes.{Encodes}
 use Rattle.mvt_tile.specs.declared.feature_bytes.FeatureBytes.{FeatureBytes}
 use Rattle.mvt_rules.specs.Tile.{FeatureRecord, LayerRecord}
 use Rattle.mvt_mender.specs.Mendable.{MayDrawRings}
@@ -26,13 +26,13 @@ MayBeMended (HoleInHole layer feature number ring vertex other) = Unit {0}
 MayBeMended (InPolygon layer feature number vertex other) = Unit {0}
 
 -- the fault is of the feature at this place
-abbrev pub IsAt : FeaturePlace → Fault → Type 0
-IsAt place fault = subject_of fault ≡ of_feature place.layer place.feature
+abbrev pub IsOfPlace : FeaturePlace → Fault → Type 0
+IsOfPlace place fault = subject_of fault ≡ of_feature place.layer place.feature
 
 -- these are the places of the first faults, up to one that isn't mended whatever its feature is
 pub record ArePlacesOf (faults : List Fault) (places : List FeaturePlace) : Type 0 where
   pub few : length places ≤ length faults
-  pub each : (at : ℕ) (place : FeaturePlace) → slice_get places at ≡ Some place → (fault : Fault) × (slice_get faults at ≡ Some fault) × MayBeMended fault × IsAt place fault
+  pub each : (at : ℕ) (place : FeaturePlace) → slice_get places at ≡ Some place → (fault : Fault) × (slice_get faults at ≡ Some fault) × MayBeMended fault × IsOfPlace place fault
   pub stop : (fault : Fault) → slice_get faults (length places) ≡ Some fault → ¬ MayBeMended fault
 
 -- the place is before the feature of these ordinals
@@ -49,7 +49,7 @@ pub record StandsAt (bytes : List ℕ) (place : FeaturePlace) (feature : Feature
   pub layer_record : LayerRecord
   pub feature_record : FeatureRecord
   pub there : IsFeatureIn bytes place.layer place.feature layer_record feature_record
-  pub shows : Shows feature feature_record
+  pub encodes : Encodes feature feature_record
 
 -- at each place stands a feature
 abbrev pub HaveFeatures : List ℕ → List FeaturePlace → Type 0
@@ -67,12 +67,12 @@ pub record AreAllFound (bytes : List ℕ) (places : List FeaturePlace) (found : 
 
 -- each is of the type of polygons
 abbrev pub AreOfPolygons : List FeatureBytes → Type 0
-AreOfPolygons features = (at : ℕ) (it : FeatureBytes) (feature_record : FeatureRecord) → slice_get features at ≡ Some it → Shows it feature_record → feature_record.kind ≡ type_number polygon
+AreOfPolygons features = (at : ℕ) (it : FeatureBytes) (feature_record : FeatureRecord) → slice_get features at ≡ Some it → Encodes it feature_record → feature_record.kind ≡ type_number polygon
 
 -- of the faults of these features, the first whose feature is of another type, or else the first after them
 pub record IsFirstOther (faults : List Fault) (features : List FeatureBytes) (fault : Fault) : Type 0 where
   pub at : ℕ
   pub here : slice_get faults at ≡ Some fault
-  pub before : (earlier : ℕ) (it : FeatureBytes) (feature_record : FeatureRecord) → earlier < at → slice_get features earlier ≡ Some it → Shows it feature_record → feature_record.kind ≡ type_number polygon
-  pub other : (it : FeatureBytes) (feature_record : FeatureRecord) → slice_get features at ≡ Some it → Shows it feature_record → feature_record.kind ≢ type_number polygon
+  pub before : (earlier : ℕ) (it : FeatureBytes) (feature_record : FeatureRecord) → earlier < at → slice_get features earlier ≡ Some it → Encodes it feature_record → feature_record.kind ≡ type_number polygon
+  pub other : (it : FeatureBytes) (feature_record : FeatureRecord) → slice_get features at ≡ Some it → Encodes it feature_record → feature_record.kind ≢ type_number polygon
   pub within : at ≤ length features

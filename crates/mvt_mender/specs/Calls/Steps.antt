@@ -7,7 +7,7 @@ use Rattle.mvt_plane.specs.Commands.Figure.{polygon}
 use Rattle.mvt_plane.specs.FeatureGeometry.{HasRings, type_number}
 use Rattle.mvt_plane.specs.Position.{Position}
 use Rattle.mvt_splice.specs.declared.change.Change.{Change}
-use Rattle.mvt_tile.specs.FeatureBytes.{Shows}
+use Rattle.mvt_tile.specs.FeatureBytes.{Encodes}
 use Rattle.mvt_tile.specs.declared.feature_bytes.FeatureBytes.{FeatureBytes}
 use Rattle.mvt_rules.specs.Tile.{FeatureRecord}
 use Rattle.mvt_mender.specs.Changed.{IsMendedGeometry}
@@ -30,7 +30,7 @@ pub record IsNewGeometry (profile : Profile) (old_rings new_rings : List (List P
 -- what became of a feature is what is told of it: its geometry was exchanged; or it is left out, and the caller asked for that
 abbrev pub IsMadeOf : Profile → Bool → FeatureBytes → WhatChanged → Option (Vec ℕ Global) → Type 0
 IsMadeOf profile drop feature (Mended mended) geometry =
-    (numbers : Vec ℕ Global) × (geometry ≡ Some numbers) × ((it : FeatureRecord) → Shows feature it → IsMendedGeometry profile it.geometry numbers.items mended)
+    (numbers : Vec ℕ Global) × (geometry ≡ Some numbers) × ((it : FeatureRecord) → Encodes feature it → IsMendedGeometry profile it.geometry numbers.items mended)
 IsMadeOf profile drop feature Dropped geometry = (drop ≡ true) × (geometry ≡ None)
 
 -- so it is for the feature at a place

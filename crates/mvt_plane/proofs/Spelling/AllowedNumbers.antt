@@ -6,11 +6,11 @@ use Rattle.mvt_plane.specs.Position.{Position, IsCoordinate}
 use Rattle.mvt_plane.specs.Commands.Figure.{GeometryType, move_to, line_to, close_path, command_integer}
 use Rattle.mvt_plane.specs.Commands.CommandFault.{command, greatest_parameter}
 use Rattle.mvt_plane.proofs.Spelling.FirstCodes.{other_command_first, other_count_first, greatest_x_first, greatest_y_first, x_outside_first, y_outside_first, no_step_first}
-use Rattle.mvt_plane.specs.Commands.Drawing.{Leg, to_point, to_first, to_next, State, points_command, path_command, line_command, close_command, step_x, step_y, all_drawn, due, id_of, least, IsCommand, IsMove, IsAllowed, unzigzag, IsFirst, IsBlamed, not_due, not_allowed}
+use Rattle.mvt_plane.specs.Commands.Drawing.{Leg, to_point, to_first, to_next, State, points_command, path_command, line_command, close_command, step_x, step_y, all_drawn, due, id_of, least, IsCommand, IsMove, IsAllowed, unzigzag, IsFirstCode, IsBlamed, not_due, not_allowed}
 use Rattle.mvt_plane.proofs.Spelling.Readers.{is_parameter, greatest_moves_not, stays_inside}
 
 -- a number isn't the command that is due
-command_blame : (id n : ℕ) → (code : ℕ) × IsFirst (command id) n code
+command_blame : (id n : ℕ) → (code : ℕ) × IsFirstCode (command id) n code
 command_blame id n = elim (cases_eq (n % 8) id) [
   | inl same ↦ (402, other_count_first id n same)
   | inr other ↦ (401, other_command_first id n other)

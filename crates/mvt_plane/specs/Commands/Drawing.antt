@@ -158,14 +158,14 @@ IsSound all_drawn = Unit {0}
 -- Faults
 
 -- the first code that applies to a number
-pub record IsFirst (part : Part) (n code : ℕ) : Type 0 where
+pub record IsFirstCode (part : Part) (n code : ℕ) : Type 0 where
   pub applies : Applies part n code
   pub first : (other : ℕ) → Applies part n other → code ≤ other
 
 -- a code is to blame for a number: nothing is due, or it is the first code that applies to what is due
 pub data IsBlamed (state : State) (n code : ℕ) : Type 0 where
   not_due : due state ≡ None → code ≡ 401 → IsBlamed state n code
-  not_allowed : (part : Part) → due state ≡ Some part → IsFirst part n code → IsBlamed state n code
+  not_allowed : (part : Part) → due state ≡ Some part → IsFirstCode part n code → IsBlamed state n code
 
 -- From a state on, the first number that isn't allowed is at this index, and the code is to blame for it; or the
 -- numbers end at this index where they may not

@@ -133,7 +133,7 @@ fn many_holes(rt: &impl Abort, alloc: Global) -> Vec<Vec<Point>> {
 }
 
 // The last of as many holes is outside. Of 300,007 vertices, a number of 19 binary digits, at most
-// 3 tests, 41 comparisons and 380 visits each.
+// 3 tests, 41 probes and 380 visits each.
 #[test]
 fn last_of_many_holes(rt: HostRuntime) {
     let rings = many_holes(&rt, rt.alloc());

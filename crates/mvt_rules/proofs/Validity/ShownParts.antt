@@ -1,6 +1,6 @@
 -- Shown faults by their parts: the wire, the rules between a tile's parts, and the geometry of each feature.
 use Rattle.std.proofs.Common.{◌↔◌, ◌⊎◌, inl, inr, ℕ, List}
-use Rattle.mvt_rules.specs.Parts.TrueFaults.{IsWireFault, wire, IsFaultOfLayers, version, name, IsFaultOfTags, tag, FeatureFault, OneFeatureHas, BreaksRule}
+use Rattle.mvt_rules.specs.Parts.TrueFaults.{IsWireFault, wire, IsFaultOfLayers, version, name, IsFaultOfTags, tag, FeatureFaultRelation, OneFeatureHas, BreaksRule}
 use Rattle.mvt_fault.specs.declared.profile.Profile.{Profile}
 use Rattle.mvt_fault.specs.declared.fault.Fault.{Fault}
 use Rattle.mvt_fault.specs.declared.fault.Fault.TheVariants.{Wire, Version, Name, Tag, Command, Ring, Meeting, Outside, HoleInHole, InPolygon}
@@ -18,7 +18,7 @@ abbrev ByParts : Profile → List ℕ → Fault → Type 0
 ByParts profile bytes fault = IsWireFault bytes fault ⊎ OfTile bytes (λ tile. BreaksOne profile tile fault)
 
 -- a feature of the bytes has it
-pub one_has : {IsFaultOf : FeatureFault} {tile : TileRecord} {layer feature : ℕ} {layer_record : LayerRecord} {feature_record : FeatureRecord} {fault : Fault}
+pub one_has : {IsFaultOf : FeatureFaultRelation} {tile : TileRecord} {layer feature : ℕ} {layer_record : LayerRecord} {feature_record : FeatureRecord} {fault : Fault}
     → IsFeatureOf tile layer feature layer_record feature_record → IsFaultOf layer_record feature_record layer feature fault → OneFeatureHas IsFaultOf tile fault
 one_has {layer = layer} {feature = feature} {layer_record = layer_record} {feature_record = feature_record} there broken =
     record { layer = layer; feature = feature; layer_record = layer_record; feature_record = feature_record; there = there; broken = broken }

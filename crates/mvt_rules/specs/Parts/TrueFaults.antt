@@ -27,11 +27,11 @@ pub data IsFaultOfTags (layer_record : LayerRecord) (feature_record : FeatureRec
       → IsFaultOfTags layer_record feature_record layer feature (Tag code layer feature index)
 
 -- What is said of a feature of a layer, of their ordinals and of a fault
-abbrev pub FeatureFault : Type 1
-FeatureFault = LayerRecord → FeatureRecord → ℕ → ℕ → Fault → Type 0
+abbrev pub FeatureFaultRelation : Type 1
+FeatureFaultRelation = LayerRecord → FeatureRecord → ℕ → ℕ → Fault → Type 0
 
 -- one of the tile's features has this fault
-pub record OneFeatureHas (IsFaultOf : FeatureFault) (tile : TileRecord) (fault : Fault) : Type 0 where
+pub record OneFeatureHas (IsFaultOf : FeatureFaultRelation) (tile : TileRecord) (fault : Fault) : Type 0 where
   pub layer : ℕ
   pub feature : ℕ
   pub layer_record : LayerRecord

@@ -14,12 +14,12 @@ use Rattle.mvt_plane.specs.Position.{Position}
 use Rattle.mvt_rules.proofs.Tiles.Tiles.{one_tile}
 use Rattle.mvt_wire.specs.Number.{VarintList}
 use Rattle.mvt_rules.specs.Tile.{FeatureRecord, LayerRecord, TileRecord}
-use Rattle.mvt_splice.specs.Examples.{right_way, wrong_way, bytes_before, bytes_after, changes_to, feature_of, tile_of}
+use Rattle.mvt_splice.specs.Examples.{right_way, wrong_way, bytes_before, bytes_after, changes_to, example_feature, example_tile}
 use Rattle.mvt_splice.specs.FeatureFaults.{AreRightTags}
 use Rattle.mvt_splice.specs.Splice.{stays, redrawn, fate_in, Piece, bytes_of, IsRedrawn, IsSplicedLayer, IsSpliced}
 use Rattle.mvt_splice.specs.SplicedTile.{spliced_tile, DrawsSmall, IsValidAfter, IsValidOnceSpliced}
 use Rattle.mvt_splice.proofs.SplicedExamples.KnownTile.{right_nine, wrong_nine, feature_pieces, feature_pieced, layer_pieces, layer_pieced, tile_pieces, tile_pieced, tile_known}
-use Rattle.mvt_splice.proofs.SplicedExamples.SpelledPieces.{number_piece, length_piece, number_spelled, length_spelled, spell_themselves}
+use Rattle.mvt_splice.proofs.SplicedExamples.EncodedPieces.{number_piece, length_piece, number_encoded, length_encoded, encode_themselves}
 use Rattle.mvt_splice.proofs.SplicedTiles.SplicedWholes.{spliced_is_tile}
 use Rattle.mvt_splice.proofs.SplicedTiles.ValidFeatures.{rings_are_valid_after}
 use Rattle.mvt_splice.proofs.SplicedTiles.ValidSplices.{small_after, spliced_is_valid}
@@ -36,7 +36,7 @@ redrawn_known numbers same = record {
   others = refl;
   drawn = length_piece 4 right_way;
   one = refl;
-  numbers = subst (λ (list : List ℕ). VarintList right_way 0 list (length right_way)) (sym same) (spell_themselves right_way right_nine.small);
+  numbers = subst (λ (list : List ℕ). VarintList right_way 0 list (length right_way)) (sym same) (encode_themselves right_way right_nine.small);
 }
 
 -- the layer that is left
@@ -49,11 +49,11 @@ layer_known numbers same = record {
   whole = layer_pieced right_way wrong_way wrong_way right_nine wrong_nine wrong_nine;
   pieces_after = layer_left;
   whole_after = record {
-    spelled = (
-      length_spelled 1 (97 ∷ []) (omega arith) (omega arith) (omega arith),
+    encoded = (
+      length_encoded 1 (97 ∷ []) (omega arith) (omega arith) (omega arith),
       (
-        length_spelled 2 (bytes_of (feature_pieces right_way)) (omega arith) (omega arith) (omega arith),
-        (length_spelled 2 (bytes_of (feature_pieces right_way)) (omega arith) (omega arith) (omega arith), (number_spelled 15 2 (omega arith) (omega arith) (omega arith), tt)),
+        length_encoded 2 (bytes_of (feature_pieces right_way)) (omega arith) (omega arith) (omega arith),
+        (length_encoded 2 (bytes_of (feature_pieces right_way)) (omega arith) (omega arith) (omega arith), (number_encoded 15 2 (omega arith) (omega arith) (omega arith), tt)),
       ),
     );
     joined = refl;
@@ -90,7 +90,7 @@ spliced_known numbers same = record {
   pieces = tile_pieces;
   whole = tile_pieced;
   pieces_after = length_piece 3 (bytes_of layer_left) ∷ [];
-  whole_after = record { spelled = (length_spelled 3 (bytes_of layer_left) (omega arith) (omega arith) (omega arith), tt); joined = refl };
+  whole_after = record { encoded = (length_encoded 3 (bytes_of layer_left) (omega arith) (omega arith) (omega arith), tt); joined = refl };
   layers = (
     length_piece 3 (bytes_of layer_left),
     [],
@@ -108,13 +108,13 @@ spliced_known numbers same = record {
 -- The tile that is left
 
 abbrev tile_before : TileRecord
-tile_before = tile_of (feature_of right_way ∷ feature_of wrong_way ∷ feature_of wrong_way ∷ [])
+tile_before = example_tile (example_feature right_way ∷ example_feature wrong_way ∷ example_feature wrong_way ∷ [])
 
 abbrev tile_after : TileRecord
-tile_after = tile_of (feature_of right_way ∷ feature_of right_way ∷ [])
+tile_after = example_tile (example_feature right_way ∷ example_feature right_way ∷ [])
 
 pub tile_left : (numbers : Vec ℕ Global) → numbers.items ≡ right_way → spliced_tile (fate_in (changes_to numbers)) tile_before ≡ tile_after
-tile_left numbers same = ap (λ (list : List ℕ). tile_of (feature_of right_way ∷ feature_of list ∷ [])) same
+tile_left numbers same = ap (λ (list : List ℕ). example_tile (example_feature right_way ∷ example_feature list ∷ [])) same
 
 -- Its features are valid
 
@@ -150,7 +150,7 @@ rings_known = record {
 }
 
 -- a feature without tags has right ones
-no_tags : (layer_record : LayerRecord) (geometry : List ℕ) → AreRightTags layer_record (feature_of geometry)
+no_tags : (layer_record : LayerRecord) (geometry : List ℕ) → AreRightTags layer_record (example_feature geometry)
 no_tags layer_record geometry OddLength index broken = let odd = broken.odd in omega arith
 no_tags layer_record geometry NoKey index broken = absurd (none_there index broken.key broken.here.here) where
   none_there : (i n : ℕ) → slice_get [] i ≡ Some n → ⊥
@@ -162,24 +162,24 @@ no_tags layer_record geometry Repeated index broken = absurd (none_there index b
   none_there : (i n : ℕ) → slice_get [] i ≡ Some n → ⊥
   none_there i n here = cc
 
-valid_known : (layer_record : LayerRecord) (geometry numbers : List ℕ) → numbers ≡ right_way → IsValidAfter Polygon (redrawn numbers) layer_record (feature_of geometry)
+valid_known : (layer_record : LayerRecord) (geometry numbers : List ℕ) → numbers ≡ right_way → IsValidAfter Polygon (redrawn numbers) layer_record (example_feature geometry)
 valid_known layer_record geometry numbers same =
-    subst (λ (list : List ℕ). IsValidAfter Polygon (redrawn list) layer_record (feature_of geometry)) (sym same)
-    (rings_are_valid_after Polygon layer_record (feature_of geometry) right_way (triangle ∷ []) (no_tags layer_record geometry) refl rings_known triangle_valid)
+    subst (λ (list : List ℕ). IsValidAfter Polygon (redrawn list) layer_record (example_feature geometry)) (sym same)
+    (rings_are_valid_after Polygon layer_record (example_feature geometry) right_way (triangle ∷ []) (no_tags layer_record geometry) refl rings_known triangle_valid)
 
 -- the one layer
 only_layer : (layer : ℕ) (layer_record : LayerRecord) → slice_get tile_before.layers layer ≡ Some layer_record
-    → (layer ≡ 0) × (record { version = 2; name = 97 ∷ []; features = feature_of right_way ∷ feature_of wrong_way ∷ feature_of wrong_way ∷ []; keys = []; values = []; extent = 4096 } ≡ layer_record)
+    → (layer ≡ 0) × (record { version = 2; name = 97 ∷ []; features = example_feature right_way ∷ example_feature wrong_way ∷ example_feature wrong_way ∷ []; keys = []; values = []; extent = 4096 } ≡ layer_record)
 only_layer zero layer_record there = (refl, same_Some _ layer_record there)
 only_layer (suc layer) layer_record there = absurd (cc)
 
 feature_known : (numbers : Vec ℕ Global) → numbers.items ≡ right_way → (layer_record : LayerRecord) (feature : ℕ) (feature_record : FeatureRecord)
-    → slice_get (feature_of right_way ∷ feature_of wrong_way ∷ feature_of wrong_way ∷ []) feature ≡ Some feature_record
+    → slice_get (example_feature right_way ∷ example_feature wrong_way ∷ example_feature wrong_way ∷ []) feature ≡ Some feature_record
     → IsValidAfter Polygon (fate_in (changes_to numbers) 0 feature) layer_record feature_record
 feature_known numbers same layer_record zero feature_record there =
-    subst (IsValidAfter Polygon stays layer_record) (same_Some (feature_of right_way) feature_record there) ((valid_known layer_record right_way right_way refl).1)
+    subst (IsValidAfter Polygon stays layer_record) (same_Some (example_feature right_way) feature_record there) ((valid_known layer_record right_way right_way refl).1)
 feature_known numbers same layer_record (suc zero) feature_record there =
-    subst (IsValidAfter Polygon (redrawn numbers.items) layer_record) (same_Some (feature_of wrong_way) feature_record there) (valid_known layer_record wrong_way numbers.items same)
+    subst (IsValidAfter Polygon (redrawn numbers.items) layer_record) (same_Some (example_feature wrong_way) feature_record there) (valid_known layer_record wrong_way numbers.items same)
 feature_known numbers same layer_record (suc (suc zero)) feature_record there = tt
 feature_known numbers same layer_record (suc (suc (suc feature))) feature_record there = absurd (cc)
 

@@ -9,10 +9,10 @@ use Rattle.mvt_rules.specs.Tile.{IsTile, LayerRecord, FeatureRecord}
 use Rattle.mvt_wire.specs.declared.schema.Message.TheVariants as messages
 use Rattle.mvt_wire.specs.declared.schema.Occurrence.TheVariants.{AnyNumber, AtLeastOnce, Once}
 use Rattle.mvt_wire.specs.declared.schema.Shape.TheVariants.{Embedded, Text, Uint32, GeometryType, Numbers}
-use Rattle.mvt_splice.specs.Examples.{right_way, wrong_way, bytes_before, feature_of, tile_of}
+use Rattle.mvt_splice.specs.Examples.{right_way, wrong_way, bytes_before, example_feature, example_tile}
 use Rattle.mvt_splice.specs.Splice.{Piece, bytes_of, IsPieced}
 use Rattle.mvt_splice.proofs.SplicedExamples.SchemaRules.{schema_by_rules, fits_by, varint_fits, delimited_fits}
-use Rattle.mvt_splice.proofs.SplicedExamples.SpelledPieces.{number_piece, length_piece, number_spelled, length_spelled, spell_themselves}
+use Rattle.mvt_splice.proofs.SplicedExamples.EncodedPieces.{number_piece, length_piece, number_encoded, length_encoded, encode_themselves}
 use Rattle.mvt_splice.proofs.SplicedTiles.LoneMessages.{StatesFeature, StatesFeature-same, StatesLayer, StatesLayer-same, StatesTile, StatesTile-same, FeatureAlone, LayerAlone, joined_states, tile_placed}
 use Rattle.mvt_splice.proofs.SplicedTiles.PiecedMessages.{fields_in}
 
@@ -42,18 +42,18 @@ feature_pieces numbers = number_piece 3 3 ∷ length_piece 4 numbers ∷ []
 pub feature_pieced : (numbers : List ℕ) → AreNine numbers → IsPieced (bytes_of (feature_pieces numbers)) (feature_pieces numbers)
 feature_pieced numbers nine =
     let count = nine.count in
-    record { spelled = (number_spelled 3 3 (omega arith) (omega arith) (omega arith), (length_spelled 4 numbers (omega arith) (omega arith) (omega arith), tt)); joined = refl }
+    record { encoded = (number_encoded 3 3 (omega arith) (omega arith) (omega arith), (length_encoded 4 numbers (omega arith) (omega arith) (omega arith), tt)); joined = refl }
 
-feature_states : (numbers : List ℕ) → AreNine numbers → StatesFeature (fields_in (feature_pieces numbers)) (feature_of numbers)
+feature_states : (numbers : List ℕ) → AreNine numbers → StatesFeature (fields_in (feature_pieces numbers)) (example_feature numbers)
 feature_states numbers nine =
     let small = All-weaker (λ (n : ℕ). n < 128) (λ (n : ℕ). n < 2 ^ 32) (λ n low. omega arith) numbers nine.small in
-    let spelled = spell_themselves numbers nine.small in
+    let encoded = encode_themselves numbers nine.small in
     record {
       keeps = schema_by_rules messages.Feature (fields_in (feature_pieces numbers))
           (All-from_recursion (FitsRule messages.Feature) (fields_in (feature_pieces numbers)) (
             fits_by messages.Feature (number_piece 3 3).field (field_rule 3 GeometryType Once) refl (varint_fits (field_rule 3 GeometryType Once) 3 1 refl refl),
             (
-              fits_by messages.Feature (length_piece 4 numbers).field (field_rule 4 Numbers AtLeastOnce) refl (delimited_fits (field_rule 4 Numbers AtLeastOnce) 2 numbers refl (λ shape. absurd (cc)) (λ shape. (numbers, spelled, small))),
+              fits_by messages.Feature (length_piece 4 numbers).field (field_rule 4 Numbers AtLeastOnce) refl (delimited_fits (field_rule 4 Numbers AtLeastOnce) 2 numbers refl (λ shape. absurd (cc)) (λ shape. (numbers, encoded, small))),
               tt,
             ),
           )) (
@@ -64,12 +64,12 @@ feature_states numbers nine =
       id = refl;
       tags = refl;
       kind = refl;
-      geometry = (numbers, [], spelled, refl, sym (append-nil numbers));
+      geometry = (numbers, [], encoded, refl, sym (append-nil numbers));
     }
 
-pub feature_alone_of : (numbers : List ℕ) → AreNine numbers → FeatureAlone (bytes_of (feature_pieces numbers)) (feature_of numbers)
+pub feature_alone_of : (numbers : List ℕ) → AreNine numbers → FeatureAlone (bytes_of (feature_pieces numbers)) (example_feature numbers)
 feature_alone_of numbers nine =
-    joined_states StatesFeature StatesFeature-same (bytes_of (feature_pieces numbers)) (feature_pieces numbers) (feature_of numbers) (feature_pieced numbers nine) (feature_states numbers nine)
+    joined_states StatesFeature StatesFeature-same (bytes_of (feature_pieces numbers)) (feature_pieces numbers) (example_feature numbers) (feature_pieced numbers nine) (feature_states numbers nine)
 
 -- The layer
 
@@ -97,7 +97,7 @@ embedded_fits payload =
 version_fits : FitsRule messages.Layer (number_piece 15 2).field
 version_fits = fits_by messages.Layer (number_piece 15 2).field (field_rule 15 Uint32 Once) refl (varint_fits (field_rule 15 Uint32 Once) 2 1 refl refl)
 
-layer_states : (first second third : List ℕ) → AreNine first → AreNine second → AreNine third → StatesLayer (fields_in (layer_pieces first second third)) (layer_of (feature_of first ∷ feature_of second ∷ feature_of third ∷ []))
+layer_states : (first second third : List ℕ) → AreNine first → AreNine second → AreNine third → StatesLayer (fields_in (layer_pieces first second third)) (layer_of (example_feature first ∷ example_feature second ∷ example_feature third ∷ []))
 layer_states first second third one two three = record {
   keeps = schema_by_rules messages.Layer (fields_in (layer_pieces first second third))
       (All-from_recursion (FitsRule messages.Layer) (fields_in (layer_pieces first second third)) (
@@ -131,15 +131,15 @@ layer_pieced first second third one two three =
     let second_long = feature_long second two in
     let third_long = feature_long third three in
     record {
-      spelled = (
-        length_spelled 1 (97 ∷ []) (omega arith) (omega arith) (omega arith),
+      encoded = (
+        length_encoded 1 (97 ∷ []) (omega arith) (omega arith) (omega arith),
         (
-          length_spelled 2 (bytes_of (feature_pieces first)) (omega arith) (omega arith) (omega arith),
+          length_encoded 2 (bytes_of (feature_pieces first)) (omega arith) (omega arith) (omega arith),
           (
-            length_spelled 2 (bytes_of (feature_pieces second)) (omega arith) (omega arith) (omega arith),
+            length_encoded 2 (bytes_of (feature_pieces second)) (omega arith) (omega arith) (omega arith),
             (
-              length_spelled 2 (bytes_of (feature_pieces third)) (omega arith) (omega arith) (omega arith),
-              (number_spelled 15 2 (omega arith) (omega arith) (omega arith), tt),
+              length_encoded 2 (bytes_of (feature_pieces third)) (omega arith) (omega arith) (omega arith),
+              (number_encoded 15 2 (omega arith) (omega arith) (omega arith), tt),
             ),
           ),
         ),
@@ -147,9 +147,9 @@ layer_pieced first second third one two three =
       joined = refl;
     }
 
-layer_alone_of : LayerAlone (bytes_of (layer_pieces right_way wrong_way wrong_way)) (layer_of (feature_of right_way ∷ feature_of wrong_way ∷ feature_of wrong_way ∷ []))
+layer_alone_of : LayerAlone (bytes_of (layer_pieces right_way wrong_way wrong_way)) (layer_of (example_feature right_way ∷ example_feature wrong_way ∷ example_feature wrong_way ∷ []))
 layer_alone_of =
-    joined_states StatesLayer StatesLayer-same (bytes_of (layer_pieces right_way wrong_way wrong_way)) (layer_pieces right_way wrong_way wrong_way) (layer_of (feature_of right_way ∷ feature_of wrong_way ∷ feature_of wrong_way ∷ []))
+    joined_states StatesLayer StatesLayer-same (bytes_of (layer_pieces right_way wrong_way wrong_way)) (layer_pieces right_way wrong_way wrong_way) (layer_of (example_feature right_way ∷ example_feature wrong_way ∷ example_feature wrong_way ∷ []))
     (layer_pieced right_way wrong_way wrong_way right_nine wrong_nine wrong_nine) (layer_states right_way wrong_way wrong_way right_nine wrong_nine wrong_nine)
 
 -- The tile
@@ -158,9 +158,9 @@ abbrev pub tile_pieces : List Piece
 tile_pieces = length_piece 3 (bytes_of (layer_pieces right_way wrong_way wrong_way)) ∷ []
 
 pub tile_pieced : IsPieced bytes_before tile_pieces
-tile_pieced = record { spelled = (length_spelled 3 (bytes_of (layer_pieces right_way wrong_way wrong_way)) (omega arith) (omega arith) (omega arith), tt); joined = refl }
+tile_pieced = record { encoded = (length_encoded 3 (bytes_of (layer_pieces right_way wrong_way wrong_way)) (omega arith) (omega arith) (omega arith), tt); joined = refl }
 
-tile_states : StatesTile (fields_in tile_pieces) (tile_of (feature_of right_way ∷ feature_of wrong_way ∷ feature_of wrong_way ∷ []))
+tile_states : StatesTile (fields_in tile_pieces) (example_tile (example_feature right_way ∷ example_feature wrong_way ∷ example_feature wrong_way ∷ []))
 tile_states = record {
   keeps = schema_by_rules messages.Tile (fields_in tile_pieces)
       (All-from_recursion (FitsRule messages.Tile) (fields_in tile_pieces) (
@@ -173,7 +173,7 @@ tile_states = record {
   layers = (layer_alone_of, tt);
 }
 
-pub tile_known : IsTile bytes_before (tile_of (feature_of right_way ∷ feature_of wrong_way ∷ feature_of wrong_way ∷ []))
+pub tile_known : IsTile bytes_before (example_tile (example_feature right_way ∷ example_feature wrong_way ∷ example_feature wrong_way ∷ []))
 tile_known =
-    tile_placed bytes_before (tile_of (feature_of right_way ∷ feature_of wrong_way ∷ feature_of wrong_way ∷ []))
-    (joined_states StatesTile StatesTile-same bytes_before tile_pieces (tile_of (feature_of right_way ∷ feature_of wrong_way ∷ feature_of wrong_way ∷ [])) tile_pieced tile_states)
+    tile_placed bytes_before (example_tile (example_feature right_way ∷ example_feature wrong_way ∷ example_feature wrong_way ∷ []))
+    (joined_states StatesTile StatesTile-same bytes_before tile_pieces (example_tile (example_feature right_way ∷ example_feature wrong_way ∷ example_feature wrong_way ∷ [])) tile_pieced tile_states)

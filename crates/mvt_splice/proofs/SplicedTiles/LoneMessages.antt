@@ -4,7 +4,7 @@ use Rattle.std.proofs.lemmas.Bool.{cases_Bool}
 use Rattle.std.proofs.lemmas.List.{length-take, take_all, take-append-drop}
 use Rattle.std.proofs.lemmas.List.Edits.{length-between}
 use Rattle.mvt_wire.specs.Field.{Content, delimited, Entry, IsPayload}
-use Rattle.mvt_wire.specs.Message.{FieldList, IsMessage, moved}
+use Rattle.mvt_wire.specs.Message.{FieldList, IsMessage, entry_moved}
 use Rattle.mvt_wire.specs.Number.{StateTogether}
 use Rattle.mvt_wire.specs.Schema.{rule_of}
 use Rattle.mvt_wire.specs.Payload.{contents_of, Span, span_of, spans_of, numbers_of, texts_of, bytes_in}
@@ -126,15 +126,15 @@ module _ {R : Type 0} (StatesIt : List Entry → R → Type 0) (same : (before a
   alone_from bytes span part it entries held whole states =
       let found = message_alone bytes span part entries held whole in
       let each : Each IsSameField entries found.0 =
-      subst (λ (list : List Entry). Each IsSameField list found.0) (sym found.1) (fields_back found.0 (map (moved span.from) found.0) (fields_first_moved span.from found.0)) in
+      subst (λ (list : List Entry). Each IsSameField list found.0) (sym found.1) (fields_back found.0 (map (entry_moved span.from) found.0) (fields_first_moved span.from found.0)) in
       record { entries = found.0; whole = found.2; states = same entries found.0 it each states }
 
   -- and the other way round
   placed_from : (bytes : List ℕ) (span : Span) (part : List ℕ) (it : R) → Holds bytes span part → Alone StatesIt part it → (entries : List Entry) × IsMessageAt bytes span entries × StatesIt entries it
   placed_from bytes span part it held alone = (
-    map (moved span.from) alone.entries,
+    map (entry_moved span.from) alone.entries,
     message_placed bytes span part alone.entries held alone.whole,
-    same alone.entries (map (moved span.from) alone.entries) it (fields_first_moved span.from alone.entries) alone.states,
+    same alone.entries (map (entry_moved span.from) alone.entries) it (fields_first_moved span.from alone.entries) alone.states,
   )
 
   -- what a message joined of pieces states is stated by their fields

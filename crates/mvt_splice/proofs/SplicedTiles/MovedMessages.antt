@@ -1,9 +1,9 @@
 -- A message has the same fields wherever its bytes lie; only their places are others.
 use Rattle.std.proofs.Common.{◌≡◌, ℕ, ◌+◌, ◌-◌, ◌*◌, ◌≤◌, List, [], ◌∷◌, length, map, take, drop, slice_range, refl, sym, ◌∙◌, ap, subst, arith, length-drop}
 use Rattle.std.proofs.lemmas.List.{drop-drop, drop-take, length-take-le}
-use Rattle.mvt_wire.specs.Varint.{IsVarint, SpellsVarint}
+use Rattle.mvt_wire.specs.Varint.{IsVarint, EncodesVarint}
 use Rattle.mvt_wire.specs.Field.{Content, varint, delimited, Entry, wire_type_of, IsKey, IsPayload, IsField}
-use Rattle.mvt_wire.specs.Message.{FieldList, IsMessage, content_moved, moved}
+use Rattle.mvt_wire.specs.Message.{FieldList, IsMessage, content_moved, entry_moved}
 use Rattle.mvt_wire.specs.Payload.{Span}
 use Rattle.mvt_rules.specs.Scope.{IsMessageAt}
 use Rattle.mvt_wire.proofs.Encoding.Entries.{entry_at, field_extent}
@@ -20,28 +20,28 @@ wire_type-moved by (varint value at) = refl
 wire_type-moved by content = refl
 
 -- what is in the rest of a list is in the list, further on: a varint, a key, a payload, a field, a list of fields
-SpellsVarint-raised : (bytes : List ℕ) (by from to n : ℕ) → SpellsVarint (drop by bytes) from to n → SpellsVarint bytes (by + from) (by + to) n
-SpellsVarint-raised bytes by from to n spelled =
-    let forward = spelled.forward in
-    let within = spelled.within in
+EncodesVarint-raised : (bytes : List ℕ) (by from to n : ℕ) → EncodesVarint (drop by bytes) from to n → EncodesVarint bytes (by + from) (by + to) n
+EncodesVarint-raised bytes by from to n encoded =
+    let forward = encoded.forward in
+    let within = encoded.within in
     let size = length-drop by bytes in
-    record { forward = omega arith; within = omega arith; spelling = rw (same_part bytes by from to) spelled.spelling }
+    record { forward = omega arith; within = omega arith; encoding = rw (same_part bytes by from to) encoded.encoding }
 
 IsKey-raised : (bytes : List ℕ) (by from to n t : ℕ) → IsKey (drop by bytes) from to n t → IsKey bytes (by + from) (by + to) n t
 IsKey-raised bytes by from to n t k =
-    record { spelled = SpellsVarint-raised bytes by from to _ k.spelled; below_limit = k.below_limit; numbered = k.numbered; low_bits = k.low_bits }
+    record { encoded = EncodesVarint-raised bytes by from to _ k.encoded; below_limit = k.below_limit; numbered = k.numbered; low_bits = k.low_bits }
 
 within-raised : (bytes : List ℕ) (by to : ℕ) → 1 ≤ to → to ≤ length (drop by bytes) → by + to ≤ length bytes
 within-raised bytes by to some within = let size = length-drop by bytes in omega arith
 
 IsPayload-raised : (bytes : List ℕ) (by from to : ℕ) (content : Content) → IsPayload (drop by bytes) from to content → IsPayload bytes (by + from) (by + to) (content_moved by content)
-IsPayload-raised bytes by from to (varint value at) p = (ap (λ (k : ℕ). by + k) p.0, SpellsVarint-raised bytes by from to value p.1)
+IsPayload-raised bytes by from to (varint value at) p = (ap (λ (k : ℕ). by + k) p.0, EncodesVarint-raised bytes by from to value p.1)
 IsPayload-raised bytes by from to (delimited start part) p =
     let forward = p.1.forward in
-    (p.0, SpellsVarint-raised bytes by from start p.0 p.1, omega arith, within-raised bytes by to (omega arith) p.3, p.4 ∙ sym (same_part bytes by start to))
+    (p.0, EncodesVarint-raised bytes by from start p.0 p.1, omega arith, within-raised bytes by to (omega arith) p.3, p.4 ∙ sym (same_part bytes by start to))
 IsPayload-raised bytes by from to content p = (omega arith, within-raised bytes by to (omega arith) p.1, p.2 ∙ sym (same_part bytes by from to))
 
-IsField-raised : (bytes : List ℕ) (by to : ℕ) (e : Entry) → IsField (drop by bytes) to e → IsField bytes (by + to) (moved by e)
+IsField-raised : (bytes : List ℕ) (by to : ℕ) (e : Entry) → IsField (drop by bytes) to e → IsField bytes (by + to) (entry_moved by e)
 IsField-raised bytes by to e field = record {
   key_end = by + field.key_end;
   key = subst (λ (t : ℕ). IsKey bytes (by + e.at) (by + field.key_end) e.number t) (sym (wire_type-moved by e.content))
@@ -49,7 +49,7 @@ IsField-raised bytes by to e field = record {
   payload = IsPayload-raised bytes by field.key_end to e.content field.payload;
 }
 
-FieldList-raised : (bytes : List ℕ) (by from : ℕ) (entries : List Entry) (to : ℕ) → FieldList (drop by bytes) from entries to → FieldList bytes (by + from) (map (moved by) entries) (by + to)
+FieldList-raised : (bytes : List ℕ) (by from : ℕ) (entries : List Entry) (to : ℕ) → FieldList (drop by bytes) from entries to → FieldList bytes (by + from) (map (entry_moved by) entries) (by + to)
 FieldList-raised bytes by from [] to list = ap (λ (k : ℕ). by + k) list
 FieldList-raised bytes by from (entry ∷ entries) to list =
     (ap (λ (k : ℕ). by + k) list.0, (by + list.1.0, IsField-raised bytes by list.1.0 entry list.1.1, FieldList-raised bytes by list.1.0 entries to list.1.2))
@@ -59,18 +59,18 @@ told_from : (by k : ℕ) → by ≤ k → k ≡ by + (k - by)
 told_from by k h = omega arith
 
 -- and what is in a list from a place on is in its rest
-SpellsVarint-lowered : (bytes : List ℕ) (by from to n : ℕ) → SpellsVarint bytes (by + from) to n → SpellsVarint (drop by bytes) from (to - by) n
-SpellsVarint-lowered bytes by from to n spelled =
-    let forward = spelled.forward in
-    let within = spelled.within in
+EncodesVarint-lowered : (bytes : List ℕ) (by from to n : ℕ) → EncodesVarint bytes (by + from) to n → EncodesVarint (drop by bytes) from (to - by) n
+EncodesVarint-lowered bytes by from to n encoded =
+    let forward = encoded.forward in
+    let within = encoded.within in
     let size = length-drop by bytes in
     let part : slice_range bytes (by + from) to ≡ slice_range (drop by bytes) from (to - by) =
     ap (λ (k : ℕ). slice_range bytes (by + from) k) (told_from by to (omega arith)) ∙ same_part bytes by from (to - by) in
-    record { forward = omega arith; within = omega arith; spelling = subst (λ (part : List ℕ). IsVarint part n) part spelled.spelling }
+    record { forward = omega arith; within = omega arith; encoding = subst (λ (part : List ℕ). IsVarint part n) part encoded.encoding }
 
 IsPayload-lowered : (bytes : List ℕ) (by from to : ℕ) (content : Content) → IsPayload bytes (by + from) to content → (c : Content) × (content ≡ content_moved by c) × IsPayload (drop by bytes) from (to - by) c
 IsPayload-lowered bytes by from to (varint value at) p =
-    (varint value from, ap (λ (k : ℕ). varint value k) p.0, (refl, SpellsVarint-lowered bytes by from to value p.1))
+    (varint value from, ap (λ (k : ℕ). varint value k) p.0, (refl, EncodesVarint-lowered bytes by from to value p.1))
 IsPayload-lowered bytes by from to (delimited start part) p =
     let size = length-drop by bytes in
     let forward = p.1.forward in
@@ -80,26 +80,26 @@ IsPayload-lowered bytes by from to (delimited start part) p =
     ap (λ (k : ℕ). slice_range bytes k to) begin ∙ ap (λ (k : ℕ). slice_range bytes (by + (start - by)) k) place ∙ same_part bytes by (start - by) (to - by) in (
       delimited (start - by) part,
       ap (λ (k : ℕ). delimited k part) begin,
-      (p.0, SpellsVarint-lowered bytes by from start p.0 p.1, omega arith, omega arith, p.4 ∙ same),
+      (p.0, EncodesVarint-lowered bytes by from start p.0 p.1, omega arith, omega arith, p.4 ∙ same),
     )
 IsPayload-lowered bytes by from to content p =
     let size = length-drop by bytes in
     let place : to ≡ by + (to - by) = told_from by to (omega arith) in
     (content, refl, (omega arith, omega arith, p.2 ∙ ap (λ (k : ℕ). slice_range bytes (by + from) k) place ∙ same_part bytes by from (to - by)))
 
-IsField-lowered : (bytes : List ℕ) (by to : ℕ) (e : Entry) → by ≤ e.at → IsField bytes to e → (u : Entry) × (e ≡ moved by u) × IsField (drop by bytes) (to - by) u
+IsField-lowered : (bytes : List ℕ) (by to : ℕ) (e : Entry) → by ≤ e.at → IsField bytes to e → (u : Entry) × (e ≡ entry_moved by u) × IsField (drop by bytes) (to - by) u
 IsField-lowered bytes by to e following field =
     let k = field.key in
-    let forward = k.spelled.forward in
+    let forward = k.encoded.forward in
     let at : e.at ≡ by + (e.at - by) = told_from by e.at following in
     let end : field.key_end ≡ by + (field.key_end - by) = told_from by field.key_end (omega arith) in
     let payload : IsPayload bytes (by + (field.key_end - by)) to e.content = subst (λ (k : ℕ). IsPayload bytes k to e.content) end field.payload in
     let found = IsPayload-lowered bytes by (field.key_end - by) to e.content payload in
     let type : wire_type_of e.content ≡ wire_type_of found.0 = ap wire_type_of found.1 ∙ wire_type-moved by found.0 in
-    let spelled : SpellsVarint bytes (by + (e.at - by)) field.key_end (e.number * 8 + wire_type_of e.content) =
-    subst (λ (k : ℕ). SpellsVarint bytes k field.key_end (e.number * 8 + wire_type_of e.content)) at k.spelled in
+    let encoded : EncodesVarint bytes (by + (e.at - by)) field.key_end (e.number * 8 + wire_type_of e.content) =
+    subst (λ (k : ℕ). EncodesVarint bytes k field.key_end (e.number * 8 + wire_type_of e.content)) at k.encoded in
     let key : IsKey (drop by bytes) (e.at - by) (field.key_end - by) e.number (wire_type_of e.content) = record {
-      spelled = SpellsVarint-lowered bytes by (e.at - by) field.key_end _ spelled;
+      encoded = EncodesVarint-lowered bytes by (e.at - by) field.key_end _ encoded;
       below_limit = k.below_limit;
       numbered = k.numbered;
       low_bits = k.low_bits;
@@ -114,7 +114,7 @@ IsField-lowered bytes by to e following field =
     )
 
 FieldList-lowered : (bytes : List ℕ) (by from : ℕ) (entries : List Entry) (to : ℕ) → by ≤ from → FieldList bytes from entries to
-    → (alone : List Entry) × (entries ≡ map (moved by) alone) × FieldList (drop by bytes) (from - by) alone (to - by)
+    → (alone : List Entry) × (entries ≡ map (entry_moved by) alone) × FieldList (drop by bytes) (from - by) alone (to - by)
 FieldList-lowered bytes by from [] to following list = ([], refl, ap (λ (k : ℕ). k - by) list)
 FieldList-lowered bytes by from (entry ∷ entries) to following list =
     let here : entry.at ≡ from = list.0 in
@@ -122,8 +122,8 @@ FieldList-lowered bytes by from (entry ∷ entries) to following list =
     let extent = field_extent bytes next entry list.1.1 in
     let found = IsField-lowered bytes by next entry (omega arith) list.1.1 in
     let rest = FieldList-lowered bytes by next entries to (omega arith) list.1.2 in
-    let head : entry ≡ moved by found.0 = found.1 in
-    let tail : entries ≡ map (moved by) rest.0 = rest.1 in
+    let head : entry ≡ entry_moved by found.0 = found.1 in
+    let tail : entries ≡ map (entry_moved by) rest.0 = rest.1 in
     let place : entry.at ≡ by + found.0.at = ap (λ (e : Entry). e.at) head in
     (found.0 ∷ rest.0, (cc), (omega arith, (next - by, found.2, rest.2)))
 
@@ -141,7 +141,7 @@ rest_of_front bytes span part held =
 
 -- a message in the bytes is a message by itself
 pub message_alone : (bytes : List ℕ) (span : Span) (part : List ℕ) (entries : List Entry) → Holds bytes span part → IsMessageAt bytes span entries
-    → (alone : List Entry) × (entries ≡ map (moved span.from) alone) × IsMessage part 0 alone
+    → (alone : List Entry) × (entries ≡ map (entry_moved span.from) alone) × IsMessage part 0 alone
 message_alone bytes span part entries held whole =
     let forward = held.forward in
     let front = take span.to bytes in
@@ -156,7 +156,7 @@ message_alone bytes span part entries held whole =
     (found.0, found.1, subst (λ (list : List ℕ). FieldList list 0 found.0 (length part)) rest list)
 
 -- and a message by itself is one wherever its bytes lie
-pub message_placed : (bytes : List ℕ) (span : Span) (part : List ℕ) (alone : List Entry) → Holds bytes span part → IsMessage part 0 alone → IsMessageAt bytes span (map (moved span.from) alone)
+pub message_placed : (bytes : List ℕ) (span : Span) (part : List ℕ) (alone : List Entry) → Holds bytes span part → IsMessage part 0 alone → IsMessageAt bytes span (map (entry_moved span.from) alone)
 message_placed bytes span part alone held whole =
     let forward = held.forward in
     let front = take span.to bytes in
@@ -168,5 +168,5 @@ message_placed bytes span part alone held whole =
     let list = FieldList-raised front span.from 0 alone (length part) list in
     let begin : span.from + 0 ≡ span.from = omega arith in
     let end : span.from + length part ≡ length front = omega arith in
-    let list = subst (λ (from : ℕ). FieldList front from (map (moved span.from) alone) (span.from + length part)) begin list in
-    subst (λ (to : ℕ). FieldList front span.from (map (moved span.from) alone) to) end list
+    let list = subst (λ (from : ℕ). FieldList front from (map (entry_moved span.from) alone) (span.from + length part)) begin list in
+    subst (λ (to : ℕ). FieldList front span.from (map (entry_moved span.from) alone) to) end list

@@ -2,7 +2,7 @@
 use Rattle.std.proofs.Common.{◌≡◌, ℕ, ◌+◌, ◌==◌, Bool, List, [], ◌∷◌, map, filter, All, Some, is_some, refl, sym, ◌∙◌, ap, subst, arith}
 use Rattle.std.proofs.lemmas.List.Elements.{All-nil, All-cons, All-head, All-tail}
 use Rattle.mvt_wire.specs.Field.{Content, varint, eight_bytes, delimited, four_bytes, Entry, wire_type_of}
-use Rattle.mvt_wire.specs.Message.{content_moved, moved}
+use Rattle.mvt_wire.specs.Message.{content_moved, entry_moved}
 use Rattle.mvt_wire.specs.Number.{States, StateTogether}
 use Rattle.mvt_wire.specs.Schema.{rule_of, is_own}
 use Rattle.mvt_wire.specs.Payload.{fields_of, contents_of, number_in, bytes_in, numbers_of, texts_of, count_of}
@@ -120,10 +120,10 @@ Says-same n before after value same (says_truth k at here is said) =
 
 -- Fields
 
-pub field_moved : (by other : ℕ) (entry : Entry) → IsSameField (moved by entry) (moved other entry)
+pub field_moved : (by other : ℕ) (entry : Entry) → IsSameField (entry_moved by entry) (entry_moved other entry)
 field_moved by other entry = record { number = refl; payload = payload_moved by other entry.content }
 
-pub field_first_moved : (by : ℕ) (entry : Entry) → IsSameField entry (moved by entry)
+pub field_first_moved : (by : ℕ) (entry : Entry) → IsSameField entry (entry_moved by entry)
 field_first_moved by entry = record { number = refl; payload = payload_first_moved by entry.content }
 
 pub field_back : (before after : Entry) → IsSameField before after → IsSameField after before
@@ -138,11 +138,11 @@ FitsRule-same message before after same fits rule known =
 
 -- Lists of fields
 
-pub fields_moved : (by other : ℕ) (entries : List Entry) → Each IsSameField (map (moved by) entries) (map (moved other) entries)
+pub fields_moved : (by other : ℕ) (entries : List Entry) → Each IsSameField (map (entry_moved by) entries) (map (entry_moved other) entries)
 fields_moved by other [] = tt
 fields_moved by other (entry ∷ entries) = (field_moved by other entry, fields_moved by other entries)
 
-pub fields_first_moved : (by : ℕ) (entries : List Entry) → Each IsSameField entries (map (moved by) entries)
+pub fields_first_moved : (by : ℕ) (entries : List Entry) → Each IsSameField entries (map (entry_moved by) entries)
 fields_first_moved by [] = tt
 fields_first_moved by (entry ∷ entries) = (field_first_moved by entry, fields_first_moved by entries)
 

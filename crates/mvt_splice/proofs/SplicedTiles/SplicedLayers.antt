@@ -18,7 +18,7 @@ use Rattle.mvt_wire.specs.declared.schema.Occurrence.TheVariants.{AnyNumber}
 use Rattle.mvt_wire.specs.declared.schema.Shape.TheVariants.{Embedded, Text, Numbers}
 use Rattle.mvt_wire.proofs.Encoding.Payloads.{contents_of-append}
 use Rattle.mvt_wire.proofs.Parts.Contents.{contents_of-own, contents_of-other}
-use Rattle.mvt_splice.specs.Splice.{Fate, stays, redrawn, dropped, Piece, message_in, ordinal_after, Embeds, Becomes, BecomesInLayer, AreInLayer, IsSplicedLayer}
+use Rattle.mvt_splice.specs.Splice.{Fate, stays, redrawn, dropped, Piece, message_in, ordinal_after, HasPayload, Becomes, BecomesInLayer, AreInLayer, IsSplicedLayer}
 use Rattle.mvt_splice.specs.SplicedTile.{feature_after, features_after, layer_after}
 use Rattle.mvt_splice.proofs.SplicedTiles.LoneMessages.{StatesLayer, StatesLayer-same, FeatureAlone, ValueAlone, LayerAlone, pieces_state, joined_states}
 use Rattle.mvt_splice.proofs.SplicedTiles.OtherFields.{fields_but, same_contents_of, KeepsSchema-but}
@@ -39,7 +39,7 @@ embedding n field message is = elim (cases_Bool (field.number == n)) [
   | inr other ↦ let none : message_in n field ≡ None = cond-false (field.number == n) (bytes_in field.content) None other in absurd (cc)
 ]
 
-pub embedded : (n : ℕ) (field : Entry) (message : List ℕ) → Embeds n message field → message_in n field ≡ Some message
+pub embedded : (n : ℕ) (field : Entry) (message : List ℕ) → HasPayload n message field → message_in n field ≡ Some message
 embedded n field message embeds = cond-true (field.number == n) (bytes_in field.content) None (eq-eqb field.number n embeds.numbered) ∙ ap bytes_in embeds.content
 
 -- the fields of pieces that haven't a number, and the texts of those that have it
@@ -85,7 +85,7 @@ embedded_content_fits rule place payload shape = record {
   packed = λ from part other is. let no : Embedded ≡ Numbers = sym shape ∙ other in absurd (cc);
 }
 
-pub embedded_fits : (message : Message) (n : ℕ) (payload : List ℕ) (field : Entry) → rule_of message n ≡ Some (field_rule n Embedded AnyNumber) → Embeds n payload field → FitsRule message field
+pub embedded_fits : (message : Message) (n : ℕ) (payload : List ℕ) (field : Entry) → rule_of message n ≡ Some (field_rule n Embedded AnyNumber) → HasPayload n payload field → FitsRule message field
 embedded_fits message n payload field ruled embeds rule known =
     let one : field_rule n Embedded AnyNumber ≡ rule = same_Some (field_rule n Embedded AnyNumber) rule (sym ruled ∙ ap (rule_of message) (sym embeds.numbered) ∙ known) in
     subst (Fits rule) (sym embeds.content) (embedded_content_fits rule embeds.place payload (sym (ap (λ (r : FieldRule). r.shape) one)))

@@ -1,9 +1,9 @@
--- The spelling of a field that lies between other bytes.
+-- The encoding of a field that lies between other bytes.
 use Rattle.std.proofs.Common.{◌≡◌, ℕ, ◌+◌, ◌-◌, ◌*◌, ◌≤◌, List, ◌++◌, length, drop, slice_range, refl, sym, ◌∙◌, ap, subst, arith, length-append}
 use Rattle.std.proofs.lemmas.List.{drop-drop, drop_at}
-use Rattle.mvt_wire.specs.Varint.{IsVarint, SpellsVarint}
-use Rattle.mvt_wire.specs.Field.{Content, varint, delimited, Entry, wire_type_of, IsKey, IsPayload, IsField, IsFieldSpelling}
-use Rattle.mvt_wire.specs.Message.{content_moved, moved}
+use Rattle.mvt_wire.specs.Varint.{IsVarint, EncodesVarint}
+use Rattle.mvt_wire.specs.Field.{Content, varint, delimited, Entry, wire_type_of, IsKey, IsPayload, IsField, IsFieldEncoding}
+use Rattle.mvt_wire.specs.Message.{content_moved, entry_moved}
 use Rattle.mvt_wire.proofs.Encoding.Entries.{entry_at, slice_range-append, payload_extent}
 
 -- a part of a list is the same part, further on, of the list after others
@@ -22,19 +22,19 @@ wire_type-moved by content = refl
 told_from : (by k : ℕ) → by ≤ k → k ≡ by + (k - by)
 told_from by k h = omega arith
 
-SpellsVarint-following : (front bytes : List ℕ) (from to n : ℕ) → SpellsVarint (front ++ bytes) (length front + from) to n → SpellsVarint bytes from (to - length front) n
-SpellsVarint-following front bytes from to n spelled =
-    let forward = spelled.forward in
-    let within = spelled.within in
+EncodesVarint-following : (front bytes : List ℕ) (from to n : ℕ) → EncodesVarint (front ++ bytes) (length front + from) to n → EncodesVarint bytes from (to - length front) n
+EncodesVarint-following front bytes from to n encoded =
+    let forward = encoded.forward in
+    let within = encoded.within in
     let longer = length-append front bytes in
     let place : to ≡ length front + (to - length front) = told_from (length front) to (omega arith) in
     let part : slice_range (front ++ bytes) (length front + from) to ≡ slice_range bytes from (to - length front) =
     ap (λ (k : ℕ). slice_range (front ++ bytes) (length front + from) k) place ∙ slice_range-prepend front bytes from (to - length front) in
-    record { forward = omega arith; within = omega arith; spelling = subst (λ (part : List ℕ). IsVarint part n) part spelled.spelling }
+    record { forward = omega arith; within = omega arith; encoding = subst (λ (part : List ℕ). IsVarint part n) part encoded.encoding }
 
 IsPayload-following : (front bytes : List ℕ) (from to : ℕ) (content : Content) → IsPayload (front ++ bytes) (length front + from) to content → (c : Content) × (content ≡ content_moved (length front) c) × IsPayload bytes from (to - length front) c
 IsPayload-following front bytes from to (varint value at) p =
-    (varint value from, ap (λ (k : ℕ). varint value k) p.0, (refl, SpellsVarint-following front bytes from to value p.1))
+    (varint value from, ap (λ (k : ℕ). varint value k) p.0, (refl, EncodesVarint-following front bytes from to value p.1))
 IsPayload-following front bytes from to (delimited start part) p =
     let longer = length-append front bytes in
     let begin : start ≡ length front + (start - length front) = told_from (length front) start (omega arith) in
@@ -44,7 +44,7 @@ IsPayload-following front bytes from to (delimited start part) p =
     ∙ slice_range-prepend front bytes (start - length front) (to - length front) in (
       delimited (start - length front) part,
       ap (λ (k : ℕ). delimited k part) begin,
-      (p.0, SpellsVarint-following front bytes from start p.0 p.1, omega arith, omega arith, p.4 ∙ same),
+      (p.0, EncodesVarint-following front bytes from start p.0 p.1, omega arith, omega arith, p.4 ∙ same),
     )
 IsPayload-following front bytes from to content p =
     let longer = length-append front bytes in
@@ -52,7 +52,7 @@ IsPayload-following front bytes from to content p =
     (content, refl, (omega arith, omega arith, p.2 ∙ ap (λ (k : ℕ). slice_range (front ++ bytes) (length front + from) k) place ∙ slice_range-prepend front bytes from (to - length front)))
 
 -- a field after a front of the list is a field of the rest, with its places counted from there
-IsField-following : (front bytes : List ℕ) (to : ℕ) (e : Entry) → length front ≤ e.at → IsField (front ++ bytes) to e → (u : Entry) × (e ≡ moved (length front) u) × IsField bytes (to - length front) u
+IsField-following : (front bytes : List ℕ) (to : ℕ) (e : Entry) → length front ≤ e.at → IsField (front ++ bytes) to e → (u : Entry) × (e ≡ entry_moved (length front) u) × IsField bytes (to - length front) u
 IsField-following front bytes to e following field =
     let k = field.key in
     let at : e.at ≡ length front + (e.at - length front) = told_from (length front) e.at following in
@@ -60,10 +60,10 @@ IsField-following front bytes to e following field =
     let payload : IsPayload (front ++ bytes) (length front + (field.key_end - length front)) to e.content = subst (λ (k : ℕ). IsPayload (front ++ bytes) k to e.content) end field.payload in
     let found = IsPayload-following front bytes (field.key_end - length front) to e.content payload in
     let type : wire_type_of e.content ≡ wire_type_of found.0 = ap wire_type_of found.1 ∙ wire_type-moved (length front) found.0 in
-    let spelled : SpellsVarint (front ++ bytes) (length front + (e.at - length front)) field.key_end (e.number * 8 + wire_type_of e.content) =
-    subst (λ (k : ℕ). SpellsVarint (front ++ bytes) k field.key_end (e.number * 8 + wire_type_of e.content)) at k.spelled in
+    let encoded : EncodesVarint (front ++ bytes) (length front + (e.at - length front)) field.key_end (e.number * 8 + wire_type_of e.content) =
+    subst (λ (k : ℕ). EncodesVarint (front ++ bytes) k field.key_end (e.number * 8 + wire_type_of e.content)) at k.encoded in
     let key : IsKey bytes (e.at - length front) (field.key_end - length front) e.number (wire_type_of e.content) = record {
-      spelled = SpellsVarint-following front bytes (e.at - length front) field.key_end _ spelled;
+      encoded = EncodesVarint-following front bytes (e.at - length front) field.key_end _ encoded;
       below_limit = k.below_limit;
       numbered = k.numbered;
       low_bits = k.low_bits;
@@ -77,29 +77,29 @@ IsField-following front bytes to e following field =
       },
     )
 
-SpellsVarint-within : (bytes more : List ℕ) (from to n : ℕ) → to ≤ length bytes → SpellsVarint (bytes ++ more) from to n → SpellsVarint bytes from to n
-SpellsVarint-within bytes more from to n within spelled =
-    let forward = spelled.forward in
+EncodesVarint-within : (bytes more : List ℕ) (from to n : ℕ) → to ≤ length bytes → EncodesVarint (bytes ++ more) from to n → EncodesVarint bytes from to n
+EncodesVarint-within bytes more from to n within encoded =
+    let forward = encoded.forward in
     let ordered : from ≤ to = omega arith in
-    record { forward = forward; within = within; spelling = subst (λ (part : List ℕ). IsVarint part n) (slice_range-append bytes more from to ordered within) spelled.spelling }
+    record { forward = forward; within = within; encoding = subst (λ (part : List ℕ). IsVarint part n) (slice_range-append bytes more from to ordered within) encoded.encoding }
 
 IsPayload-within : (bytes more : List ℕ) (from to : ℕ) (content : Content) → to ≤ length bytes → IsPayload (bytes ++ more) from to content → IsPayload bytes from to content
-IsPayload-within bytes more from to (varint value at) within p = (p.0, SpellsVarint-within bytes more from to value within p.1)
+IsPayload-within bytes more from to (varint value at) within p = (p.0, EncodesVarint-within bytes more from to value within p.1)
 IsPayload-within bytes more from to (delimited start part) within p =
     let ordered : start ≤ to = omega arith in
-    (p.0, SpellsVarint-within bytes more from start p.0 (omega arith) p.1, p.2, within, p.4 ∙ slice_range-append bytes more start to ordered within)
+    (p.0, EncodesVarint-within bytes more from start p.0 (omega arith) p.1, p.2, within, p.4 ∙ slice_range-append bytes more start to ordered within)
 IsPayload-within bytes more from to content within p =
     let ordered : from ≤ to = omega arith in (p.0, within, p.2 ∙ slice_range-append bytes more from to ordered within)
 
 -- a field that ends within a front of the list is a field of the front
 IsField-within : (bytes more : List ℕ) (to : ℕ) (e : Entry) → to ≤ length bytes → IsField (bytes ++ more) to e → IsField bytes to e
 IsField-within bytes more to e within field =
-    let extent = payload_extent (bytes ++ more) field.key_end to e.content field.key.spelled.within field.payload in
+    let extent = payload_extent (bytes ++ more) field.key_end to e.content field.key.encoded.within field.payload in
     let inside : field.key_end ≤ length bytes = omega arith in
     record {
       key_end = field.key_end;
       key = record {
-        spelled = SpellsVarint-within bytes more e.at field.key_end _ inside field.key.spelled;
+        encoded = EncodesVarint-within bytes more e.at field.key_end _ inside field.key.encoded;
         below_limit = field.key.below_limit;
         numbered = field.key.numbered;
         low_bits = field.key.low_bits;
@@ -107,16 +107,16 @@ IsField-within bytes more to e within field =
       payload = IsPayload-within bytes more field.key_end to e.content within field.payload;
     }
 
--- what a field after other bytes and before others is moved from is its spelling
-spelled_alone : (by : ℕ) (piece rest : List ℕ) (entry spelled : Entry) → entry.at ≡ by → entry ≡ moved by spelled → IsField (piece ++ rest) (length piece) spelled → IsFieldSpelling piece spelled
-spelled_alone by piece rest entry spelled start told field =
-    let places : entry.at ≡ by + spelled.at = ap (λ (entry : Entry). entry.at) told in
-    (omega arith, IsField-within piece rest (length piece) spelled (omega arith) field)
+-- what a field after other bytes and before others is moved from is its encoding
+encoded_alone : (by : ℕ) (piece rest : List ℕ) (entry encoded : Entry) → entry.at ≡ by → entry ≡ entry_moved by encoded → IsField (piece ++ rest) (length piece) encoded → IsFieldEncoding piece encoded
+encoded_alone by piece rest entry encoded start told field =
+    let places : entry.at ≡ by + encoded.at = ap (λ (entry : Entry). entry.at) told in
+    (omega arith, IsField-within piece rest (length piece) encoded (omega arith) field)
 
--- a field after other bytes and before others has a spelling, which is moved after the former
-pub spelling_between : (front piece rest : List ℕ) (entry : Entry) → entry.at ≡ length front → IsField (front ++ (piece ++ rest)) (length front + length piece) entry → (spelled : Entry) × IsFieldSpelling piece spelled × (entry ≡ moved (length front) spelled)
-spelling_between front piece rest entry start field =
+-- a field after other bytes and before others has an encoding, which is moved after the former
+pub encoding_between : (front piece rest : List ℕ) (entry : Entry) → entry.at ≡ length front → IsField (front ++ (piece ++ rest)) (length front + length piece) entry → (encoded : Entry) × IsFieldEncoding piece encoded × (entry ≡ entry_moved (length front) encoded)
+encoding_between front piece rest entry start field =
     let found = IsField-following front (piece ++ rest) (length front + length piece) entry (omega arith) field in
     let width : length front + length piece - length front ≡ length piece = omega arith in
-    let spelled : IsField (piece ++ rest) (length piece) found.0 = subst (λ (to : ℕ). IsField (piece ++ rest) to found.0) width found.2 in
-    (found.0, spelled_alone (length front) piece rest entry found.0 start found.1 spelled, found.1)
+    let encoded : IsField (piece ++ rest) (length piece) found.0 = subst (λ (to : ℕ). IsField (piece ++ rest) to found.0) width found.2 in
+    (found.0, encoded_alone (length front) piece rest entry found.0 start found.1 encoded, found.1)

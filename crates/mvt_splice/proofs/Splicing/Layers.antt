@@ -5,9 +5,9 @@ use Rattle.mvt_wire.specs.Payload.{bytes_in}
 use Rattle.mvt_wire.specs.Walk.{Walk, IsOver, GivesField}
 use Rattle.mvt_splice.specs.Splice.{Fate, stays, Piece, IsPieced, message_in, ordinal_after, Becomes, BecomesInLayer, AreInLayer, IsSplicedLayer}
 use Rattle.mvt_splice.specs.Calls.Messages.{IsLayerMessage}
-use Rattle.mvt_splice.specs.Calls.Writing.{Spells, Writes}
+use Rattle.mvt_splice.specs.Calls.Writing.{EncodesPiece, WritesFields}
 use Rattle.mvt_splice.proofs.Splicing.Pieces.{IsPieceAt, pieced_whole}
-use Rattle.mvt_splice.proofs.Splicing.Walks.{HasPassed, HasPassed-none, HasPassed-more, HasPassed-over, piece_given, message_in-own, message_in-other, IsPieced-more, IsPieced-none, Writes-copy, ordinal_through, ordinal_through-push, few_ordinals}
+use Rattle.mvt_splice.proofs.Splicing.Walks.{HasPassed, HasPassed-none, HasPassed-more, HasPassed-over, piece_given, message_in-own, message_in-other, IsPieced-more, IsPieced-none, WritesFields-copy, ordinal_through, ordinal_through-push, few_ordinals}
 
 pub record IsSplicing (fates : ℕ → Fate) (message out : List ℕ) (walk : Walk) (feature : ℕ) : Type 0 where
   pub entries : List Entry
@@ -45,7 +45,7 @@ AreInLayer-push fates ordinal (earlier ∷ pieces) after piece first fields beco
 
 module _ {fates : ℕ → Fate} {message out : List ℕ} {old new : Walk} {feature : ℕ} (so_far : IsSplicing fates message out old feature) where
   module _ {entry : Entry} (given : GivesField old new entry) (longer : List ℕ) where
-    further : (piece : Piece) → IsPieceAt message old.at new.at entry piece → (first : List Piece) → Writes first out longer → (o : Option (List ℕ)) → message_in 2 piece.field ≡ o → BecomesInLayer (fates feature) o piece first
+    further : (piece : Piece) → IsPieceAt message old.at new.at entry piece → (first : List Piece) → WritesFields first out longer → (o : Option (List ℕ)) → message_in 2 piece.field ≡ o → BecomesInLayer (fates feature) o piece first
         → IsSplicing fates message longer new (ordinal_after o feature)
     further piece is first writes o there becomes =
         let at_ordinal : BecomesInLayer (fates (ordinal_through 2 0 so_far.pieces)) (message_in 2 piece.field) piece first =
@@ -66,14 +66,14 @@ module _ {fates : ℕ → Fate} {message out : List ℕ} {old new : Walk} {featu
         }
 
     -- a field that is no feature was copied
-    pub IsSplicing-other : entry.number ≢ 2 → (spelling : List ℕ) → ((piece : Piece) → IsPieceAt message old.at new.at entry piece → Spells spelling piece) → longer ≡ out ++ spelling → IsSplicing fates message longer new feature
-    IsSplicing-other other spelling spells copied =
+    pub IsSplicing-other : entry.number ≢ 2 → (encoding : List ℕ) → ((piece : Piece) → IsPieceAt message old.at new.at entry piece → EncodesPiece encoding piece) → longer ≡ out ++ encoding → IsSplicing fates message longer new feature
+    IsSplicing-other other encoding encodes copied =
         let found = piece_given {new = new} so_far.passed given in
-        further found.0 found.1 (found.0 ∷ []) (Writes-copy out longer spelling found.0 (spells found.0 found.1) copied) None (message_in-other found.1 2 other) refl
+        further found.0 found.1 (found.0 ∷ []) (WritesFields-copy out longer encoding found.0 (encodes found.0 found.1) copied) None (message_in-other found.1 2 other) refl
 
     -- what became of a feature was written
     pub IsSplicing-feature : (part : List ℕ) → entry.number ≡ 2 → bytes_in entry.content ≡ Some part
-        → ((piece : Piece) → IsPieceAt message old.at new.at entry piece → (after : List Piece) × Writes after out longer × Becomes (fates feature) part piece after)
+        → ((piece : Piece) → IsPieceAt message old.at new.at entry piece → (after : List Piece) × WritesFields after out longer × Becomes (fates feature) part piece after)
         → IsSplicing fates message longer new (suc feature)
     IsSplicing-feature part own embeds added =
         let found = piece_given {new = new} so_far.passed given in

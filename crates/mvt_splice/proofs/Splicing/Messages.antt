@@ -9,7 +9,7 @@ use Rattle.std.proofs.lemmas.List.Elements.{All-nil, All-cons, All-head, All-tai
 use Rattle.mvt_confirm.specs.Calls.Walking.{HoldsMessage, HoldsLayer}
 use Rattle.mvt_confirm.proofs.Wire.WholeTiles.{layers_hold}
 use Rattle.mvt_wire.specs.Field.{Content, varint, eight_bytes, delimited, four_bytes, Entry, wire_type_of, IsPayload}
-use Rattle.mvt_wire.specs.Message.{FieldList, IsMessage, content_moved, moved}
+use Rattle.mvt_wire.specs.Message.{FieldList, IsMessage, content_moved, entry_moved}
 use Rattle.mvt_wire.specs.Schema.{field_rule, rule_of, is_own}
 use Rattle.mvt_wire.specs.Payload.{Span, span_of, spans_of, bytes_in, count_of}
 use Rattle.mvt_rules.specs.Tile.{Fits, TileRecord, IsTile}
@@ -32,7 +32,7 @@ bytes_in-moved by (eight_bytes part) = refl
 bytes_in-moved by (delimited from part) = refl
 bytes_in-moved by (four_bytes part) = refl
 
-EmbedsWhole-moved : (field_number : ℕ) (Holds : List ℕ → Type 0) (by other : ℕ) (entry : Entry) → EmbedsWhole field_number Holds (moved by entry) → EmbedsWhole field_number Holds (moved other entry)
+EmbedsWhole-moved : (field_number : ℕ) (Holds : List ℕ → Type 0) (by other : ℕ) (entry : Entry) → EmbedsWhole field_number Holds (entry_moved by entry) → EmbedsWhole field_number Holds (entry_moved other entry)
 EmbedsWhole-moved field_number Holds by other entry embeds = λ own.
     let found = embeds own in
     (found.0, bytes_in-moved other entry.content ∙ sym (bytes_in-moved by entry.content) ∙ found.1, found.2)
@@ -74,7 +74,7 @@ module _ (bytes : List ℕ) (end : ℕ) (message : Message) (field_number : ℕ)
             let field = list.1.1 in
             let same : spans_of field_number (entry ∷ entries) ≡ cons_option (span_of entry.content) (spans_of field_number entries) =
             ap (filter_map span_of) (contents_of-own field_number entry entries (eq-eqb entry.number field_number own)) in
-            let one = embedded_one field.key_end list.1.0 entry.content (spans_of field_number entries) field.key.spelled.within field.payload type (subst (All Stands) same stand) in
+            let one = embedded_one field.key_end list.1.0 entry.content (spans_of field_number entries) field.key.encoded.within field.payload type (subst (All Stands) same stand) in
             All-cons (EmbedsWhole field_number Holds) entry entries (λ also. one.0) (embedded list.1.0 to entries list.1.2 later one.1)
         | inr other ↦
             let same : spans_of field_number (entry ∷ entries) ≡ spans_of field_number entries =

@@ -3,8 +3,8 @@ use Rattle.std.proofs.Common.{◌≡◌, ◌≢◌, ℕ, suc, ◌+◌, ◌<◌, 
 use Rattle.std.proofs.lemmas.List.{get_or-take, get_or_default, length-take, length-take-le, take_more}
 use Rattle.std.proofs.lemmas.List.Quantifiers.{all_pairs_push}
 use Rattle.std.proofs.lemmas.Bool.{cases_lt, ne_eqb, eq-eqb, cond-true, cond-false}
-use Rattle.mvt_splice.specs.Splice.{stays, fate_of, fate_in, IsBefore, AreInOrder}
-use Rattle.mvt_splice.specs.Calls.Fates.{IsFrom, AreLeft}
+use Rattle.mvt_splice.specs.Splice.{stays, fate_of, fate_in, IsBefore, AreChangesInOrder}
+use Rattle.mvt_splice.specs.Calls.Fates.{IsFrom, AreChangesLeft}
 use Rattle.mvt_splice.specs.declared.change.Change.{Change}
 
 -- the change is about a later feature
@@ -52,21 +52,21 @@ after_before change later layer feature (inl less) (inr more) = inl (omega arith
 after_before change later layer feature (inr less) (inl more) = inl (omega arith)
 after_before change later layer feature (inr less) (inr more) = inr (omega arith, omega arith)
 
-pub AreInOrder-tail : (change : Change) (changes : List Change) → AreInOrder (change ∷ changes) → AreInOrder changes
-AreInOrder-tail change changes in_order = λ i j d less within. in_order (suc i) (suc j) d (omega arith) (omega arith)
+pub AreChangesInOrder-tail : (change : Change) (changes : List Change) → AreChangesInOrder (change ∷ changes) → AreChangesInOrder changes
+AreChangesInOrder-tail change changes in_order = λ i j d less within. in_order (suc i) (suc j) d (omega arith) (omega arith)
 
 -- where the first change is about a later feature, so are all
-pub fate_none : (change : Change) (changes : List Change) (layer feature : ℕ) → IsAfter change layer feature → AreInOrder (change ∷ changes) → fate_in (change ∷ changes) layer feature ≡ stays
+pub fate_none : (change : Change) (changes : List Change) (layer feature : ℕ) → IsAfter change layer feature → AreChangesInOrder (change ∷ changes) → fate_in (change ∷ changes) layer feature ≡ stays
 fate_none change [] layer feature after in_order = fate_passed change [] layer feature (not_about_after change layer feature after)
 fate_none change (next ∷ changes) layer feature after in_order =
     let later = after_before change next layer feature after (in_order 0 1 change (omega arith) (omega arith)) in
     fate_passed change (next ∷ changes) layer feature (not_about_after change layer feature after)
-    ∙ fate_none next changes layer feature later (AreInOrder-tail change (next ∷ changes) in_order)
+    ∙ fate_none next changes layer feature later (AreChangesInOrder-tail change (next ∷ changes) in_order)
 
 -- a change about an earlier feature is passed
-pub AreLeft-tail : (changes : List Change) (layer feature : ℕ) (change : Change) (left : List Change) → AreLeft changes layer feature (change ∷ left) → IsBefore change layer feature → AreLeft changes layer feature left
-AreLeft-tail changes layer feature change left are before = record {
-  in_order = AreInOrder-tail change left are.in_order;
+pub AreChangesLeft-tail : (changes : List Change) (layer feature : ℕ) (change : Change) (left : List Change) → AreChangesLeft changes layer feature (change ∷ left) → IsBefore change layer feature → AreChangesLeft changes layer feature left
+AreChangesLeft-tail changes layer feature change left are before = record {
+  in_order = AreChangesInOrder-tail change left are.in_order;
   same = λ other_layer other_feature from.
       sym (fate_passed change left other_layer other_feature (not_about_before change other_layer other_feature (before_from change layer feature other_layer other_feature before from)))
       ∙ are.same other_layer other_feature from;
@@ -78,9 +78,9 @@ fate_told (Some numbers) same = cc
 fate_told None same = cc
 
 -- what is left from a feature on, for all later ones
-pub AreLeft-later : (changes left further : List Change) (layer feature later_layer later_feature : ℕ) → AreLeft changes layer feature left → IsFrom later_layer later_feature layer feature
-    → AreLeft left later_layer later_feature further → AreLeft changes later_layer later_feature further
-AreLeft-later changes left further layer feature later_layer later_feature are later more = record {
+pub AreChangesLeft-later : (changes left further : List Change) (layer feature later_layer later_feature : ℕ) → AreChangesLeft changes layer feature left → IsFrom later_layer later_feature layer feature
+    → AreChangesLeft left later_layer later_feature further → AreChangesLeft changes later_layer later_feature further
+AreChangesLeft-later changes left further layer feature later_layer later_feature are later more = record {
   in_order = more.in_order;
   same = λ other_layer other_feature from. more.same other_layer other_feature from ∙ are.same other_layer other_feature (transitive later from);
 } where
@@ -95,8 +95,8 @@ pub IsFrom-own : (layer feature : ℕ) → IsFrom layer feature layer feature
 IsFrom-own layer feature = inr (refl, omega arith)
 
 -- all changes are left at first
-pub AreLeft-all : (changes : List Change) (layer feature : ℕ) → AreInOrder changes → AreLeft changes layer feature changes
-AreLeft-all changes layer feature in_order = record { in_order = in_order; same = λ other_layer other_feature from. refl }
+pub AreChangesLeft-all : (changes : List Change) (layer feature : ℕ) → AreChangesInOrder changes → AreChangesLeft changes layer feature changes
+AreChangesLeft-all changes layer feature in_order = record { in_order = in_order; same = λ other_layer other_feature from. refl }
 
 -- the first of changes, and those after it
 first_of_all : (changes : List Change) (change : Change) → Some change ≡ slice_get changes 0 → (rest : List Change) × (changes ≡ change ∷ rest)
@@ -111,10 +111,10 @@ module _ (changes : List Change) (change : Change) (is : Some change ≡ slice_g
       ap (λ (list : List Change). fate_in list layer feature) parts.1 ∙ fate_first change parts.0 layer feature own also
 
   -- earlier features stay
-  pub fate_before_first : (layer feature : ℕ) → AreInOrder changes → IsAfter change layer feature → fate_in changes layer feature ≡ stays
+  pub fate_before_first : (layer feature : ℕ) → AreChangesInOrder changes → IsAfter change layer feature → fate_in changes layer feature ≡ stays
   fate_before_first layer feature in_order after =
       let parts = first_of_all changes change is in
-      ap (λ (list : List Change). fate_in list layer feature) parts.1 ∙ fate_none change parts.0 layer feature after (subst AreInOrder parts.1 in_order)
+      ap (λ (list : List Change). fate_in list layer feature) parts.1 ∙ fate_none change parts.0 layer feature after (subst AreChangesInOrder parts.1 in_order)
 
 -- a change about no earlier feature, and not about this one
 pub after_in_layer : (change : Change) (layer feature : ℕ) → (IsBefore change layer feature → ⊥) → change.layer ≡ layer → (change.feature ≡ feature → ⊥) → IsAfter change layer feature
@@ -130,9 +130,9 @@ after_layer change layer feature place not other = elim (cases_lt layer change.l
 ]
 
 -- what is left from a feature on is left from a later one on
-pub AreLeft-on : (changes left : List Change) (layer feature later_layer later_feature : ℕ) → AreLeft changes layer feature left → IsFrom later_layer later_feature layer feature → AreLeft changes later_layer later_feature left
-AreLeft-on changes left layer feature later_layer later_feature are later =
-    AreLeft-later changes left left layer feature later_layer later_feature are later (AreLeft-all left later_layer later_feature are.in_order)
+pub AreChangesLeft-on : (changes left : List Change) (layer feature later_layer later_feature : ℕ) → AreChangesLeft changes layer feature left → IsFrom later_layer later_feature layer feature → AreChangesLeft changes later_layer later_feature left
+AreChangesLeft-on changes left layer feature later_layer later_feature are later =
+    AreChangesLeft-later changes left left layer feature later_layer later_feature are later (AreChangesLeft-all left later_layer later_feature are.in_order)
 
 before_before : (change next : Change) (layer feature : ℕ) → IsBefore change next.layer next.feature → IsBefore next layer feature → IsBefore change layer feature
 before_before change next layer feature (inl less) (inl more) = inl (omega arith)
@@ -141,14 +141,14 @@ before_before change next layer feature (inr less) (inl more) = inl (omega arith
 before_before change next layer feature (inr less) (inr more) = inr (omega arith, omega arith)
 
 -- one change alone is in order
-pub AreInOrder-one : (changes : List Change) → AreInOrder (take 1 changes)
-AreInOrder-one changes i j d less within = absurd (let few = length-take 1 changes in omega arith)
+pub AreChangesInOrder-one : (changes : List Change) → AreChangesInOrder (take 1 changes)
+AreChangesInOrder-one changes i j d less within = absurd (let few = length-take 1 changes in omega arith)
 
 -- a change after the last one
-pub AreInOrder-push : (changes : List Change) (i : ℕ) (last change : Change) → 1 ≤ i → i < length changes → last ≡ get_or changes (i - 1) last → change ≡ get_or changes i change
-    → AreInOrder (take i changes) → IsBefore last change.layer change.feature → AreInOrder (take (i + 1) changes)
-AreInOrder-push changes i last change some within is there in_order before =
-    subst AreInOrder (sym (take_more changes i change within ∙ ap (λ (it : Change). take i changes ++ it ∷ []) (sym there)))
+pub AreChangesInOrder-push : (changes : List Change) (i : ℕ) (last change : Change) → 1 ≤ i → i < length changes → last ≡ get_or changes (i - 1) last → change ≡ get_or changes i change
+    → AreChangesInOrder (take i changes) → IsBefore last change.layer change.feature → AreChangesInOrder (take (i + 1) changes)
+AreChangesInOrder-push changes i last change some within is there in_order before =
+    subst AreChangesInOrder (sym (take_more changes i change within ∙ ap (λ (it : Change). take i changes ++ it ∷ []) (sym there)))
     (all_pairs_push (λ earlier later. IsBefore earlier later.layer later.feature) (take i changes) change in_order each) where
       size : length (take i changes) ≡ i
       size = length-take-le i changes (omega arith)

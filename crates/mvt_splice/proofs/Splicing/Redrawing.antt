@@ -8,11 +8,11 @@ use Rattle.mvt_wire.specs.Payload.{count_of}
 use Rattle.mvt_wire.specs.Walk.{Walk, IsOver, GivesField}
 use Rattle.mvt_rules.proofs.Tiles.Schemas.{count_of-append}
 use Rattle.mvt_wire.proofs.Walking.{IsWalking-over}
-use Rattle.mvt_splice.specs.Splice.{Piece, Embeds, IsPieced, geometry_of, others_of, IsRedrawn}
+use Rattle.mvt_splice.specs.Splice.{Piece, HasPayload, IsPieced, geometry_of, others_of, IsRedrawn}
 use Rattle.mvt_splice.specs.Calls.Messages.{IsFeatureMessage}
-use Rattle.mvt_splice.specs.Calls.Writing.{Spells, Writes}
+use Rattle.mvt_splice.specs.Calls.Writing.{EncodesPiece, WritesFields}
 use Rattle.mvt_splice.proofs.Splicing.Pieces.{IsPieceAt}
-use Rattle.mvt_splice.proofs.Splicing.Walks.{HasPassed, HasPassed-none, HasPassed-more, HasPassed-over, piece_given, IsPieced-more, IsPieced-none, Writes-copy}
+use Rattle.mvt_splice.proofs.Splicing.Walks.{HasPassed, HasPassed-none, HasPassed-more, HasPassed-over, piece_given, IsPieced-more, IsPieced-none, WritesFields-copy}
 
 -- whether the new geometry was written: no field of the old one was passed before
 abbrev pub IsDrawn : List ℕ → Bool → List Entry → List Piece → Type 0
@@ -85,8 +85,8 @@ module _ {numbers message out : List ℕ} {old new : Walk} {is_drawn : Bool} (so
     piece_number piece is = ap (λ (e : Entry). e.number) is.told
 
     -- a field that states no geometry was copied
-    pub IsRedrawing-other : entry.number ≢ 4 → (longer spelling : List ℕ) → ((piece : Piece) → IsPieceAt message old.at new.at entry piece → Spells spelling piece) → longer ≡ out ++ spelling → IsRedrawing numbers message longer new is_drawn
-    IsRedrawing-other other longer spelling spells copied =
+    pub IsRedrawing-other : entry.number ≢ 4 → (longer encoding : List ℕ) → ((piece : Piece) → IsPieceAt message old.at new.at entry piece → EncodesPiece encoding piece) → longer ≡ out ++ encoding → IsRedrawing numbers message longer new is_drawn
+    IsRedrawing-other other longer encoding encodes copied =
         let found = piece_given {new = new} so_far.passed given in
         let piece = found.0 in
         let also : piece.field.number ≢ 4 = λ own. other (piece_number piece found.1 ∙ own) in
@@ -95,7 +95,7 @@ module _ {numbers message out : List ℕ} {old new : Walk} {is_drawn : Bool} (so
           pieces = so_far.pieces ++ piece ∷ [];
           passed = HasPassed-more so_far.passed given piece found.1;
           pieces_after = so_far.pieces_after ++ piece ∷ [];
-          written = IsPieced-more out longer so_far.pieces_after (piece ∷ []) so_far.written (Writes-copy out longer spelling piece (spells piece found.1) copied);
+          written = IsPieced-more out longer so_far.pieces_after (piece ∷ []) so_far.written (WritesFields-copy out longer encoding piece (encodes piece found.1) copied);
           others = others_of-other so_far.pieces_after piece also ∙ ap (λ (list : List Piece). list ++ piece ∷ []) so_far.others ∙ sym (others_of-other so_far.pieces piece also);
           drawn = drawn_still numbers is_drawn so_far.entries entry so_far.pieces_after piece other also so_far.drawn;
         }
@@ -117,7 +117,7 @@ module _ {numbers message out : List ℕ} {old new : Walk} {is_drawn : Bool} (so
         }
 
     -- in place of the first one the new geometry was written
-    pub IsRedrawing-drawn : entry.number ≡ 4 → is_drawn ≡ false → (longer packed : List ℕ) → VarintList packed 0 numbers (length packed) → (first : Piece) → Embeds 4 packed first.field → Writes (first ∷ []) out longer → IsRedrawing numbers message longer new true
+    pub IsRedrawing-drawn : entry.number ≡ 4 → is_drawn ≡ false → (longer packed : List ℕ) → VarintList packed 0 numbers (length packed) → (first : Piece) → HasPayload 4 packed first.field → WritesFields (first ∷ []) out longer → IsRedrawing numbers message longer new true
     IsRedrawing-drawn own fresh longer packed list first embeds writes =
         let found = piece_given {new = new} so_far.passed given in
         let piece = found.0 in

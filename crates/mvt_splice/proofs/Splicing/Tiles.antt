@@ -5,11 +5,11 @@ use Rattle.std.proofs.lemmas.Bool.{cases_eq, eq-eqb, ne_eqb, cond-true, cond-fal
 use Rattle.mvt_wire.specs.Field.{Content, delimited, Entry}
 use Rattle.mvt_wire.specs.Payload.{bytes_in}
 use Rattle.mvt_wire.specs.Walk.{Walk, IsOver, GivesField}
-use Rattle.mvt_splice.specs.Splice.{Fate, stays, fate_in, bytes_of, Piece, Embeds, IsPieced, message_in, ordinal_after, BecomesInTile, AreInTile, IsSpliced}
-use Rattle.mvt_splice.specs.Calls.Writing.{Spells, Writes}
+use Rattle.mvt_splice.specs.Splice.{Fate, stays, fate_in, bytes_of, Piece, HasPayload, IsPieced, message_in, ordinal_after, BecomesInTile, AreInTile, IsSpliced}
+use Rattle.mvt_splice.specs.Calls.Writing.{EncodesPiece, WritesFields}
 use Rattle.mvt_splice.specs.declared.change.Change.{Change}
 use Rattle.mvt_splice.proofs.Splicing.Pieces.{IsPieceAt}
-use Rattle.mvt_splice.proofs.Splicing.Walks.{HasPassed, HasPassed-none, HasPassed-more, HasPassed-over, piece_given, message_in-own, message_in-other, IsPieced-more, IsPieced-none, Writes-copy, ordinal_through, ordinal_through-push, few_ordinals}
+use Rattle.mvt_splice.proofs.Splicing.Walks.{HasPassed, HasPassed-none, HasPassed-more, HasPassed-over, piece_given, message_in-own, message_in-other, IsPieced-more, IsPieced-none, WritesFields-copy, ordinal_through, ordinal_through-push, few_ordinals}
 
 pub record IsSplicingTile (changes : List Change) (message out : List ℕ) (walk : Walk) (layer : ℕ) : Type 0 where
   pub entries : List Entry
@@ -47,7 +47,7 @@ AreInTile-push changes ordinal (earlier ∷ pieces) after piece first fields bec
 
 module _ {changes : List Change} {message out : List ℕ} {old new : Walk} {layer : ℕ} (so_far : IsSplicingTile changes message out old layer) where
   module _ {entry : Entry} (given : GivesField old new entry) (longer : List ℕ) where
-    further : (piece : Piece) → IsPieceAt message old.at new.at entry piece → (first : Piece) → Writes (first ∷ []) out longer → (o : Option (List ℕ)) → message_in 3 piece.field ≡ o → BecomesInTile (fate_in changes layer) o piece first
+    further : (piece : Piece) → IsPieceAt message old.at new.at entry piece → (first : Piece) → WritesFields (first ∷ []) out longer → (o : Option (List ℕ)) → message_in 3 piece.field ≡ o → BecomesInTile (fate_in changes layer) o piece first
         → IsSplicingTile changes message longer new (ordinal_after o layer)
     further piece is first writes o there becomes =
         let at_ordinal : BecomesInTile (fate_in changes (ordinal_through 3 0 so_far.pieces)) (message_in 3 piece.field) piece first =
@@ -68,14 +68,14 @@ module _ {changes : List Change} {message out : List ℕ} {old new : Walk} {laye
         }
 
     -- a field that is no layer was copied
-    pub IsSplicingTile-other : entry.number ≢ 3 → (spelling : List ℕ) → ((piece : Piece) → IsPieceAt message old.at new.at entry piece → Spells spelling piece) → longer ≡ out ++ spelling → IsSplicingTile changes message longer new layer
-    IsSplicingTile-other other spelling spells copied =
+    pub IsSplicingTile-other : entry.number ≢ 3 → (encoding : List ℕ) → ((piece : Piece) → IsPieceAt message old.at new.at entry piece → EncodesPiece encoding piece) → longer ≡ out ++ encoding → IsSplicingTile changes message longer new layer
+    IsSplicingTile-other other encoding encodes copied =
         let found = piece_given {new = new} so_far.passed given in
-        further found.0 found.1 found.0 (Writes-copy out longer spelling found.0 (spells found.0 found.1) copied) None (message_in-other found.1 3 other) refl
+        further found.0 found.1 found.0 (WritesFields-copy out longer encoding found.0 (encodes found.0 found.1) copied) None (message_in-other found.1 3 other) refl
 
     -- what became of a layer was written
     pub IsSplicingTile-layer : (part : List ℕ) → entry.number ≡ 3 → bytes_in entry.content ≡ Some part
-        → ((piece : Piece) → IsPieceAt message old.at new.at entry piece → message_in 3 piece.field ≡ Some part → (after : Piece) × Writes (after ∷ []) out longer × BecomesInTile (fate_in changes layer) (Some part) piece after)
+        → ((piece : Piece) → IsPieceAt message old.at new.at entry piece → message_in 3 piece.field ≡ Some part → (after : Piece) × WritesFields (after ∷ []) out longer × BecomesInTile (fate_in changes layer) (Some part) piece after)
         → IsSplicingTile changes message longer new (suc layer)
     IsSplicingTile-layer part own embeds added =
         let found = piece_given {new = new} so_far.passed given in
@@ -98,8 +98,8 @@ delimited_in : (content : Content) (message : List ℕ) → bytes_in content ≡
 delimited_in (delimited place part) message there = (place, let same : part ≡ message = cc in ap (delimited place) same)
 delimited_in content message there = absurd (cc)
 
-pub Embeds-in : (field_number : ℕ) (field : Entry) (message : List ℕ) → message_in field_number field ≡ Some message → Embeds field_number message field
-Embeds-in field_number field message there = elim (cases_eq field.number field_number) [
+pub HasPayload-in : (field_number : ℕ) (field : Entry) (message : List ℕ) → message_in field_number field ≡ Some message → HasPayload field_number message field
+HasPayload-in field_number field message there = elim (cases_eq field.number field_number) [
   | inl own ↦
       let here : bytes_in field.content ≡ Some message = sym (cond-true (field.number == field_number) (bytes_in field.content) None (eq-eqb field.number field_number own)) ∙ there in
       let found = delimited_in field.content message here in

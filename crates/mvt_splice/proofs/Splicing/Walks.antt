@@ -6,27 +6,27 @@ use Rattle.mvt_wire.specs.Field.{Entry, IsField}
 use Rattle.mvt_wire.specs.Payload.{bytes_in}
 use Rattle.mvt_wire.specs.Walk.{Walk, IsOver, GivesField}
 use Rattle.mvt_wire.proofs.Walking.{IsWalking, IsWalking-none, IsWalking-more}
-use Rattle.mvt_splice.specs.Splice.{Piece, bytes_of, AreSpelled, IsPieced, message_in, ordinal_after}
-use Rattle.mvt_splice.specs.Calls.Writing.{Writes, Spells}
+use Rattle.mvt_splice.specs.Splice.{Piece, bytes_of, AreEncoded, IsPieced, message_in, ordinal_after}
+use Rattle.mvt_splice.specs.Calls.Writing.{WritesFields, EncodesPiece}
 use Rattle.mvt_splice.proofs.Splicing.Messages.{bytes_in-moved}
-use Rattle.mvt_splice.proofs.Splicing.Pieces.{bytes_of-append, bytes_of-push, AreSpelled-append, IsPieceAt, piece_at}
+use Rattle.mvt_splice.proofs.Splicing.Pieces.{bytes_of-append, bytes_of-push, AreEncoded-append, IsPieceAt, piece_at}
 
 -- the fields that were passed, and their pieces
 pub record HasPassed (message : List ℕ) (walk : Walk) (entries : List Entry) (pieces : List Piece) : Type 0 where
   pub walking : IsWalking message 0 walk entries
   pub passed : take walk.at message ≡ bytes_of pieces
-  pub spelled : AreSpelled pieces
+  pub encoded : AreEncoded pieces
 
 -- none at first
 pub HasPassed-none : (message : List ℕ) (walk : Walk) → walk ≡ record { bytes = take (length message) message; at = 0 } → HasPassed message walk [] []
 HasPassed-none message walk begins =
     let is : walk ≡ record { bytes = message; at = 0 } = begins ∙ ap (λ (list : List ℕ). record { bytes = list; at = 0 }) (take-length message) in
-    record { walking = IsWalking-none is; passed = ap (λ (w : Walk). take w.at message) is; spelled = tt }
+    record { walking = IsWalking-none is; passed = ap (λ (w : Walk). take w.at message) is; encoded = tt }
 
 module _ {message : List ℕ} {old new : Walk} {entries : List Entry} {pieces : List Piece} (so_far : HasPassed message old entries pieces) where
   -- the field that was given is a piece
   pub piece_given : {entry : Entry} → GivesField old new entry → (piece : Piece) × IsPieceAt message old.at new.at entry piece
-  piece_given {entry} given = piece_at message old.at new.at entry given.here (subst (λ (list : List ℕ). IsField list new.at entry) so_far.walking.same_bytes given.spelled)
+  piece_given {entry} given = piece_at message old.at new.at entry given.here (subst (λ (list : List ℕ). IsField list new.at entry) so_far.walking.same_bytes given.encoded)
 
   -- it was passed too
   pub HasPassed-more : {entry : Entry} → GivesField old new entry → (piece : Piece) → IsPieceAt message old.at new.at entry piece → HasPassed message new (entries ++ entry ∷ []) (pieces ++ piece ∷ [])
@@ -37,19 +37,19 @@ module _ {message : List ℕ} {old new : Walk} {entries : List Entry} {pieces : 
       record {
         walking = IsWalking-more message 0 old new entries entry so_far.walking given;
         passed = longer ∙ ap (λ (front : List ℕ). front ++ slice_range message old.at new.at) so_far.passed ∙ ap (λ (last : List ℕ). bytes_of pieces ++ last) (sym is.same) ∙ sym (bytes_of-push pieces piece);
-        spelled = AreSpelled-append pieces (piece ∷ []) so_far.spelled (is.spelled, tt);
+        encoded = AreEncoded-append pieces (piece ∷ []) so_far.encoded (is.encoded, tt);
       }
 
   -- after the last field all were passed
   pub HasPassed-over : IsOver old new → IsPieced message pieces
   HasPassed-over over =
       let end : old.at ≡ length message = over.at_end ∙ ap length so_far.walking.same_bytes in
-      record { spelled = so_far.spelled; joined = sym (take-length message) ∙ ap (λ (n : ℕ). take n message) (sym end) ∙ so_far.passed }
+      record { encoded = so_far.encoded; joined = sym (take-length message) ∙ ap (λ (n : ℕ). take n message) (sym end) ∙ so_far.passed }
 
 -- the bytes between a field's places are its piece
-pub Spells-read : {message : List ℕ} {from next : ℕ} {entry : Entry} {piece : Piece} → IsPieceAt message from next entry piece → (start stop : ℕ) → start ≡ from → stop ≡ next → Spells (slice_range message start stop) piece
-Spells-read {message} {from} {next} is start stop begins ends = record {
-  spelled = is.spelled;
+pub EncodesPiece-read : {message : List ℕ} {from next : ℕ} {entry : Entry} {piece : Piece} → IsPieceAt message from next entry piece → (start stop : ℕ) → start ≡ from → stop ≡ next → EncodesPiece (slice_range message start stop) piece
+EncodesPiece-read {message} {from} {next} is start stop begins ends = record {
+  encoded = is.encoded;
   same = ap (λ (place : ℕ). slice_range message place stop) begins ∙ ap (λ (place : ℕ). slice_range message from place) ends ∙ sym is.same;
 }
 
@@ -67,25 +67,25 @@ message_in-other {piece = piece} is field_number other =
     (ne_eqb piece.field.number field_number (λ own. other (ap (λ (e : Entry). e.number) is.told ∙ own)))
 
 -- fields that were written after others
-pub IsPieced-more : (out longer : List ℕ) (pieces first : List Piece) → IsPieced out pieces → Writes first out longer → IsPieced longer (pieces ++ first)
+pub IsPieced-more : (out longer : List ℕ) (pieces first : List Piece) → IsPieced out pieces → WritesFields first out longer → IsPieced longer (pieces ++ first)
 IsPieced-more out longer pieces first written more = record {
-  spelled = AreSpelled-append pieces first written.spelled more.spelled;
+  encoded = AreEncoded-append pieces first written.encoded more.encoded;
   joined = more.longer ∙ ap (λ (front : List ℕ). front ++ bytes_of first) written.joined ∙ sym (bytes_of-append pieces first);
 }
 
 -- a field that was copied
-pub Writes-copy : (out longer spelling : List ℕ) (piece : Piece) → Spells spelling piece → longer ≡ out ++ spelling → Writes (piece ∷ []) out longer
-Writes-copy out longer spelling piece spells copied = record {
-  spelled = (spells.spelled, tt);
-  longer = copied ∙ ap (λ (last : List ℕ). out ++ last) (spells.same ∙ sym (append-nil piece.bytes));
+pub WritesFields-copy : (out longer encoding : List ℕ) (piece : Piece) → EncodesPiece encoding piece → longer ≡ out ++ encoding → WritesFields (piece ∷ []) out longer
+WritesFields-copy out longer encoding piece encodes copied = record {
+  encoded = (encodes.encoded, tt);
+  longer = copied ∙ ap (λ (last : List ℕ). out ++ last) (encodes.same ∙ sym (append-nil piece.bytes));
 }
 
 -- none was written
-pub Writes-none : (out : List ℕ) → Writes [] out out
-Writes-none out = record { spelled = tt; longer = sym (append-nil out) }
+pub WritesFields-none : (out : List ℕ) → WritesFields [] out out
+WritesFields-none out = record { encoded = tt; longer = sym (append-nil out) }
 
 pub IsPieced-none : IsPieced [] []
-IsPieced-none = record { spelled = tt; joined = refl }
+IsPieced-none = record { encoded = tt; joined = refl }
 
 -- the ordinal that is next after pieces
 abbrev pub ordinal_through : ℕ → ℕ → List Piece → ℕ

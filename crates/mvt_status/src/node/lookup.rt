@@ -92,7 +92,7 @@ pub(crate) fn split_of<F: Fn(usize) -> bool>(side: &Side, below: &F, count: &mut
     }
 }
 
-/// Counts a visit and a comparison for each level that a search went down.
+/// Counts a visit and a probe for each level that a search went down.
 #[inline(always)]
 fn pass(count: &mut Count, levels: u64)
     ensures counted { AddsAtMost levels levels count.old count.new }

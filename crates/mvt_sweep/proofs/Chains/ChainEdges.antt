@@ -4,7 +4,7 @@ use Rattle.std.proofs.lemmas.Bool.Decides.{nat_tests}
 use Rattle.std.proofs.lemmas.Grind.{common_steps}
 use Rattle.std.proofs.lemmas.List.{drop-map, length-replicate, map-append, take-map}
 use Rattle.std.proofs.Math.Seq.{drop-append_seam, take-append_seam}
-use Rattle.mvt_sweep.specs.Calls.Chain.{Each, Has, Head, Joined, Ordered}
+use Rattle.mvt_sweep.specs.Calls.Chain.{EachOne, Has, Head, Joined, Ordered}
 use Rattle.mvt_sweep.specs.Calls.Chains.{AreChains, edge_beside, edge_of, edges_of, no_link, outside_of}
 use Rattle.mvt_sweep.specs.Calls.SweepVertices.{sweep_count}
 use Rattle.mvt_sweep.specs.declared.sweep.chains.Chains.{Chains}
@@ -33,11 +33,11 @@ no_chains vertices chains count none numbers links many below above =
 -- Members
 
 -- what is true of each edge is so of each chain's
-pub each_of_map : (P : ℕ → Type 0) (f : ℕ → ℕ) (list : List ℕ) → Each P (map f list) → Each (λ (it : ℕ). P (f it)) list
+pub each_of_map : (P : ℕ → Type 0) (f : ℕ → ℕ) (list : List ℕ) → EachOne P (map f list) → EachOne (λ (it : ℕ). P (f it)) list
 each_of_map P f [] all = all
 each_of_map P f (first ∷ rest) all = (all.0, each_of_map P f rest all.1)
 
-pub each_map : (P : ℕ → Type 0) (f : ℕ → ℕ) (list : List ℕ) → Each (λ (it : ℕ). P (f it)) list → Each P (map f list)
+pub each_map : (P : ℕ → Type 0) (f : ℕ → ℕ) (list : List ℕ) → EachOne (λ (it : ℕ). P (f it)) list → EachOne P (map f list)
 each_map P f [] all = all
 each_map P f (first ∷ rest) all = (all.0, each_map P f rest all.1)
 
@@ -52,7 +52,7 @@ pub differ_by_edges : (f : ℕ → ℕ) (list : List ℕ) → Ordered (λ (one o
 differ_by_edges f [] differ = differ
 differ_by_edges f (first ∷ rest) differ = (others rest differ.0, differ_by_edges f rest differ.1)
   where
-    others : (rest : List ℕ) → Each (λ (that : ℕ). f first ≢ that) (map f rest) → Each (λ (that : ℕ). first ≢ that) rest
+    others : (rest : List ℕ) → EachOne (λ (that : ℕ). f first ≢ that) (map f rest) → EachOne (λ (that : ℕ). first ≢ that) rest
     others [] all = all
     others (that ∷ rest) all = ((λ same. all.0 (ap f same)), others rest all.1)
 
@@ -120,27 +120,27 @@ beside_none : (chains : Chains) → edge_beside chains (outside_of chains) ≡ N
 beside_none chains = grind (arith, nat_tests)
 
 -- the last one of a front was tested
-pub joined_by_last : (R : ℕ → ℕ → Type 0) (chains : Chains) (front back : List ℕ) → Each (λ (it : ℕ). it ≢ outside_of chains) front
+pub joined_by_last : (R : ℕ → ℕ → Type 0) (chains : Chains) (front back : List ℕ) → EachOne (λ (it : ℕ). it ≢ outside_of chains) front
     → IfSome (edge_beside chains (last_of (outside_of chains) front)) (λ below. Head R below back) → Joined R (edges_of chains front) back
 joined_by_last R chains [] back inside holds = tt
 joined_by_last R chains (chain ∷ []) back inside holds = subst (λ (edge : Option ℕ). IfSome edge (λ below. Head R below back)) (beside_there chains chain inside.0) holds
 joined_by_last R chains (chain ∷ next ∷ rest) back inside holds = joined_by_last R chains (next ∷ rest) back inside.1 holds
 
 -- and the first one of a back
-pub head_by_first : (R : ℕ → ℕ → Type 0) (chains : Chains) (back : List ℕ) (it : ℕ) → Each (λ (it : ℕ). it ≢ outside_of chains) back
+pub head_by_first : (R : ℕ → ℕ → Type 0) (chains : Chains) (back : List ℕ) (it : ℕ) → EachOne (λ (it : ℕ). it ≢ outside_of chains) back
     → IfSome (edge_beside chains (first_of back (outside_of chains))) (R it) → Head R it (edges_of chains back)
 head_by_first R chains [] it inside holds = tt
 head_by_first R chains (chain ∷ rest) it inside holds = subst (λ (edge : Option ℕ). IfSome edge (R it)) (beside_there chains chain inside.0) holds
 
 -- what is true of each edge is so of the last one
-pub last_holds : (P : ℕ → Type 0) (chains : Chains) (front : List ℕ) → Each (λ (it : ℕ). it ≢ outside_of chains) front → Each P (edges_of chains front)
+pub last_holds : (P : ℕ → Type 0) (chains : Chains) (front : List ℕ) → EachOne (λ (it : ℕ). it ≢ outside_of chains) front → EachOne P (edges_of chains front)
     → IfSome (edge_beside chains (last_of (outside_of chains) front)) P
 last_holds P chains [] inside all = subst (λ (edge : Option ℕ). IfSome edge P) (sym (beside_none chains)) tt
 last_holds P chains (chain ∷ []) inside all = subst (λ (edge : Option ℕ). IfSome edge P) (sym (beside_there chains chain inside.0)) all.0
 last_holds P chains (chain ∷ next ∷ rest) inside all = last_holds P chains (next ∷ rest) inside.1 all.1
 
 -- and of the first one
-pub first_holds : (P : ℕ → Type 0) (chains : Chains) (back : List ℕ) → Each (λ (it : ℕ). it ≢ outside_of chains) back → Each P (edges_of chains back)
+pub first_holds : (P : ℕ → Type 0) (chains : Chains) (back : List ℕ) → EachOne (λ (it : ℕ). it ≢ outside_of chains) back → EachOne P (edges_of chains back)
     → IfSome (edge_beside chains (first_of back (outside_of chains))) P
 first_holds P chains [] inside all = subst (λ (edge : Option ℕ). IfSome edge P) (sym (beside_none chains)) tt
 first_holds P chains (chain ∷ rest) inside all = subst (λ (edge : Option ℕ). IfSome edge P) (sym (beside_there chains chain inside.0)) all.0

@@ -1,7 +1,7 @@
 -- Lists of numbers along which a next number leads on, and a previous number leads back.
 use Rattle.std.proofs.Common.{◌≡◌, ◌≢◌, ◌⊎◌, inl, inr, ℕ, zero, suc, ◌≤◌, List, [], ◌∷◌, ◌++◌, length, take, refl, sym, ◌∙◌, arith}
 use Rattle.std.specs.Option.{unwrap_or}
-use Rattle.mvt_sweep.specs.Calls.Chain.{Each, Has, Ordered}
+use Rattle.mvt_sweep.specs.Calls.Chain.{EachOne, Has, Ordered}
 use Rattle.mvt_sweep.specs.Calls.Chains.{LeadsBack, LeadsOn}
 use Rattle.mvt_sweep.proofs.Chains.ChainParts.{each_has}
 use Rattle.mvt_status.specs.Split.{before}
@@ -68,7 +68,7 @@ back_after previous first [] back last leads = leads
 back_after previous first (number ∷ front) back last leads = back_after previous number front back last leads.1
 
 -- to another number from the first of a list
-pub back_to : (previous other : ℕ → ℕ) (first start : ℕ) (list : List ℕ) (last : ℕ) → Ordered (λ (one that : ℕ). one ≢ that) list → Each (λ (it : ℕ). it ≢ last) list
+pub back_to : (previous other : ℕ → ℕ) (first start : ℕ) (list : List ℕ) (last : ℕ) → Ordered (λ (one that : ℕ). one ≢ that) list → EachOne (λ (it : ℕ). it ≢ last) list
     → other (first_of list last) ≡ start → ((it : ℕ) → Has list it ⊎ (it ≡ last) → it ≢ first_of list last → other it ≡ previous it) → LeadsBack previous first list last
     → LeadsBack other start list last
 back_to previous other first start [] last differ apart same alike leads = same

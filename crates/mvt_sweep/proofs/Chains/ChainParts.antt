@@ -2,24 +2,24 @@
 use Rattle.std.proofs.Common.{◌≡◌, ◌≢◌, ℕ, zero, suc, ◌+◌, ◌-◌, ◌<◌, Bool, true, false, ◌⊎◌, inl, inr, List, [], ◌∷◌, ◌++◌, All, drop, length, slice_get, slice_index, Some, take, refl, sym, ap, subst, ◌∙◌, arith, length-append, length-drop, length-take, take-append-drop}
 use Rattle.std.proofs.lemmas.List.{drop_more, get_or_append_left, get_or-append_right, get_or-take, get_or-drop}
 use Rattle.std.proofs.lemmas.Option.{none-some, same_Some}
-use Rattle.mvt_sweep.specs.Calls.Chain.{Has, Each, Head, Chain, Joined, Ordered}
+use Rattle.mvt_sweep.specs.Calls.Chain.{Has, EachOne, Head, Chain, Joined, Ordered}
 use Rattle.mvt_status.specs.Split.{IsSplit}
 
 -- What is of each
 
 -- what is true of each is true of one
-pub each_has : (P : ℕ → Type 0) (xs : List ℕ) (it : ℕ) → Each P xs → Has xs it → P it
+pub each_has : (P : ℕ → Type 0) (xs : List ℕ) (it : ℕ) → EachOne P xs → Has xs it → P it
 each_has P [] it all has = absurd has
 each_has P (first ∷ rest) it all (inl same) = subst P same all.0
 each_has P (first ∷ rest) it all (inr more) = each_has P rest it all.1 more
 
 -- and is shown one by one
-pub each_by_has : (P : ℕ → Type 0) (xs : List ℕ) → ((it : ℕ) → Has xs it → P it) → Each P xs
+pub each_by_has : (P : ℕ → Type 0) (xs : List ℕ) → ((it : ℕ) → Has xs it → P it) → EachOne P xs
 each_by_has P [] each = tt
 each_by_has P (first ∷ rest) each = (each first (inl refl), each_by_has P rest (λ it has. each it (inr has)))
 
 -- the library says it so
-pub each_all : (P : ℕ → Type 0) (xs : List ℕ) → Each P xs → All P xs
+pub each_all : (P : ℕ → Type 0) (xs : List ℕ) → EachOne P xs → All P xs
 each_all P [] all place default within = absurd (omega arith)
 each_all P (first ∷ rest) all zero default within = all.0
 each_all P (first ∷ rest) all (suc place) default within = each_all P rest all.1 place default (omega arith)
@@ -161,7 +161,7 @@ joined_last R (first ∷ next ∷ rest) back (suc at) within head = joined_last 
 
 -- a front of which this is true and a rest of which it isn't are a split for a test of it
 pub split_of_parts : (P : ℕ → Type 0) (answers : ℕ → Bool → Type 0) (front rest : List ℕ) → ((it : ℕ) (answer : Bool) → answers it answer → P it → answer ≡ true)
-    → ((it : ℕ) (answer : Bool) → answers it answer → ¬ P it → answer ≡ false) → Each P front → Each (λ (it : ℕ). ¬ P it) rest → IsSplit answers (front ++ rest) (length front)
+    → ((it : ℕ) (answer : Bool) → answers it answer → ¬ P it → answer ≡ false) → EachOne P front → EachOne (λ (it : ℕ). ¬ P it) rest → IsSplit answers (front ++ rest) (length front)
 split_of_parts P answers front rest holds fails each none = record {
   within = omega (arith, length-append front rest);
   front = λ i before answer is.
@@ -183,7 +183,7 @@ place_of_has (first ∷ rest) it (inr more) = let following = place_of_has rest 
 -- and a split point is one of such parts, where each has an answer
 pub parts_of_split : (P : ℕ → Type 0) (answers : ℕ → Bool → Type 0) (xs : List ℕ) (point : ℕ)
     → ((it : ℕ) → Has xs it → (answer : Bool) × answers it answer × (answer ≡ true → P it) × (answer ≡ false → ¬ P it)) → IsSplit answers xs point
-    → Each P (take point xs) × Each (λ (it : ℕ). ¬ P it) (drop point xs)
+    → EachOne P (take point xs) × EachOne (λ (it : ℕ). ¬ P it) (drop point xs)
 parts_of_split P answers xs point each split = (
   each_by_has P (take point xs) (λ it has.
       let place = place_of_has (take point xs) it has in

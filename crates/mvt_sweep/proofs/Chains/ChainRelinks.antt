@@ -1,7 +1,7 @@
 -- The neighbours of chains where two of them begin or end.
 use Rattle.std.proofs.Common.{◌≡◌, ◌≢◌, ◌==◌, ◌⊎◌, inl, inr, cond, ℕ, List, [], ◌∷◌, ◌++◌, refl, sym, ◌∙◌, ap, arith}
 use Rattle.std.proofs.lemmas.Bool.Decides.{nat_tests}
-use Rattle.mvt_sweep.specs.Calls.Chain.{Each, Has, Ordered}
+use Rattle.mvt_sweep.specs.Calls.Chain.{EachOne, Has, Ordered}
 use Rattle.mvt_sweep.specs.Calls.Chains.{LeadsBack, LeadsOn}
 use Rattle.mvt_sweep.proofs.Chains.ChainLinks.{back_after, back_new, back_to, first_of, has_last, last_of, leads_after, leads_first, leads_from, leads_new}
 use Rattle.mvt_sweep.proofs.Chains.ChainParts.{each_by_has}
@@ -38,7 +38,7 @@ first_apart outside front (first ∷ rest) it parts has same = parts.apart it fi
 outside_first : (outside : ℕ) (front back : List ℕ) → ArePartsInside outside front back → Ordered (λ (one that : ℕ). one ≢ that) (outside ∷ front)
 outside_first outside front back parts = (each_by_has (λ (that : ℕ). outside ≢ that) front (λ it has same. parts.front_inside it has (sym same)), parts.front_differ)
 
-back_apart : (outside : ℕ) (front back : List ℕ) → ArePartsInside outside front back → Each (λ (it : ℕ). it ≢ outside) back
+back_apart : (outside : ℕ) (front back : List ℕ) → ArePartsInside outside front back → EachOne (λ (it : ℕ). it ≢ outside) back
 back_apart outside front back parts = each_by_has (λ (it : ℕ). it ≢ outside) back parts.back_inside
 
 leads_rest : (next : ℕ → ℕ) (first number : ℕ) (rest : List ℕ) (last : ℕ) → LeadsOn next first (number ∷ rest) last → LeadsOn next number rest last

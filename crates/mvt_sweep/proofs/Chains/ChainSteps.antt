@@ -5,7 +5,7 @@ use Rattle.std.proofs.lemmas.List.{get_or-set_other, get_or-set_same, length-map
 use Rattle.mvt_plane.specs.Geometry.Measure.{key_of}
 use Rattle.mvt_plane.specs.Position.{Position}
 use Rattle.mvt_plane.proofs.Orders.Order.{zs}
-use Rattle.mvt_sweep.specs.Calls.Chain.{Each, Has, Ordered}
+use Rattle.mvt_sweep.specs.Calls.Chain.{EachOne, Has, Ordered}
 use Rattle.mvt_sweep.specs.Calls.Chains.{AreChains, IsChain, LeadsBack, LeadsOn, above_of, below_of, edge_beside, edge_of, edges_of, no_link, outside_of}
 use Rattle.mvt_sweep.specs.Calls.SweepVertices.{sweep_count, plan_of}
 use Rattle.mvt_sweep.specs.Calls.Sweep.{IsCut, IsEvent, IsSwept, PassesOn, Tested}
@@ -57,7 +57,7 @@ pub chains_differ : (vertices : SweepVertices) (chains : Chains) (list : List �
 chains_differ vertices chains list key swept = differ_by_edges (edge_of chains) list (swept_differ (plan_of vertices) key (edges_of chains list) (plan_of_vertices vertices) swept)
 
 -- and none is what is outside
-pub chains_inside : (vertices : SweepVertices) (chains : Chains) (list : List ℕ) → AreChains vertices chains list → Each (λ (it : ℕ). it ≢ outside_of chains) list
+pub chains_inside : (vertices : SweepVertices) (chains : Chains) (list : List ℕ) → AreChains vertices chains list → EachOne (λ (it : ℕ). it ≢ outside_of chains) list
 chains_inside vertices chains list are = each_by_has (λ (it : ℕ). it ≢ outside_of chains) list (λ it has. apart it (are.each it has).within)
   where
     apart : (it : ℕ) → it < sweep_count vertices → it ≢ outside_of chains
@@ -65,7 +65,7 @@ chains_inside vertices chains list are = each_by_has (λ (it : ℕ). it ≢ outs
 
 -- they and their edges are known
 pub chains_known : (vertices : SweepVertices) (chains : Chains) (list : List ℕ) (key : ℤ) → AreChains vertices chains list → IsSwept (plan_of vertices) key (edges_of chains list)
-    → Each (λ (chain : ℕ). (chain < outside_of chains) × (edge_of chains chain < sweep_count vertices)) list
+    → EachOne (λ (chain : ℕ). (chain < outside_of chains) × (edge_of chains chain < sweep_count vertices)) list
 chains_known vertices chains list key are swept =
     each_by_has (λ (chain : ℕ). (chain < outside_of chains) × (edge_of chains chain < sweep_count vertices)) list
     (λ it has. (less it (are.each it has).within, (swept.active (edge_of chains it) (has_edge (edge_of chains) list it has)).known))
@@ -218,7 +218,7 @@ edges_pass vertices before after list key vertex ending beginning are swept even
     let in_list = λ (l : List ℕ) (n : ℕ) (has : Has (it.front ++ it.chain ∷ it.back) n). subst (λ (m : List ℕ). Has m n) (sym it.whole) has in
     let differ = ordered_parts (λ (one other : ℕ). one ≢ other) it.front (it.chain ∷ it.back)
     (subst (Ordered (λ (one other : ℕ). one ≢ other)) it.whole (chains_differ vertices before list key swept)) in
-    let inside = subst (Each (λ (n : ℕ). n ≢ outside)) it.whole (chains_inside vertices before list are) in
+    let inside = subst (EachOne (λ (n : ℕ). n ≢ outside)) it.whole (chains_inside vertices before list are) in
     let front : map g it.front ≡ map f it.front = edges_alike f g it.front (λ n has.
     on.others n (differ.2 n it.chain has (inl refl)) (unused.no_chain n (in_list list n (has_left it.front (it.chain ∷ it.back) n has)))) in
     let back : map g it.back ≡ map f it.back = edges_alike f g it.back (λ n has.
@@ -238,17 +238,17 @@ edges_pass vertices before after list key vertex ending beginning are swept even
 -- What is beside the chain
 
 -- no number of these is more
-pub last_within : (most first : ℕ) (list : List ℕ) → first ≤ most → Each (λ (n : ℕ). n ≤ most) list → last_of first list ≤ most
+pub last_within : (most first : ℕ) (list : List ℕ) → first ≤ most → EachOne (λ (n : ℕ). n ≤ most) list → last_of first list ≤ most
 last_within most first [] within all = within
 last_within most first (number ∷ rest) within all = last_within most number rest all.0 all.1
 
-pub first_within : (most : ℕ) (list : List ℕ) → Each (λ (n : ℕ). n ≤ most) list → first_of list most ≤ most
+pub first_within : (most : ℕ) (list : List ℕ) → EachOne (λ (n : ℕ). n ≤ most) list → first_of list most ≤ most
 first_within most [] all = omega arith
 first_within most (number ∷ rest) all = all.0
 
 -- all chains are numbers of the list
 pub chains_within : (vertices : SweepVertices) (chains : Chains) (list part : List ℕ) → AreChains vertices chains list → ((it : ℕ) → Has part it → Has list it)
-    → Each (λ (n : ℕ). n ≤ outside_of chains) part
+    → EachOne (λ (n : ℕ). n ≤ outside_of chains) part
 chains_within vertices chains list part are of_list = each_by_has (λ (n : ℕ). n ≤ outside_of chains) part (λ it has. less it (are.each it (of_list it has)).within)
   where
     less : (it : ℕ) → it < sweep_count vertices → it ≤ outside_of chains

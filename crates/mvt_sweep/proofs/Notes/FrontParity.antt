@@ -9,7 +9,7 @@ use Rattle.mvt_plane.specs.declared.geometry.edge.Edge.{Edge}
 use Rattle.mvt_plane.proofs.Insides.EdgeParity.{middle_swapped, odd}
 use Rattle.mvt_plane.proofs.Insides.InsideParity.{apart, apart_assoc, false_apart, no_truth}
 use Rattle.mvt_plane.proofs.Rings.RingEdges.{count_of_edges}
-use Rattle.mvt_sweep.specs.Calls.Chain.{Has, Each, Ordered}
+use Rattle.mvt_sweep.specs.Calls.Chain.{Has, EachOne, Ordered}
 use Rattle.mvt_sweep.specs.Work.{vertex_count}
 use Rattle.mvt_sweep.specs.Calls.RingsBelow.{is_odd_number}
 use Rattle.mvt_sweep.proofs.Chains.ChainParts.{each_has}
@@ -87,7 +87,7 @@ is_in [] number = false
 is_in (first ∷ rest) number = apart (first == number) (is_in rest number)
 
 -- what isn't in the list isn't counted
-not_in : (xs : List ℕ) (number : ℕ) → Each (λ (other : ℕ). number ≢ other) xs → is_in xs number ≡ false
+not_in : (xs : List ℕ) (number : ℕ) → EachOne (λ (other : ℕ). number ≢ other) xs → is_in xs number ≡ false
 not_in [] number apart_all = refl
 not_in (first ∷ rest) number apart_all =
     ap (λ (here : Bool). apart here (is_in rest number)) (ne_eqb first number (λ same. apart_all.0 (sym same))) ∙ false_apart _ ∙ not_in rest number apart_all.1
@@ -115,7 +115,7 @@ has_by_in (first ∷ rest) number there = either (has_by_in rest number) (cases_
     either further (inr (inr more)) = following further (λ same. omega arith)
 
 -- the list's length is an odd number where an odd number of the row is in it
-pub odd_of_list : (xs : List ℕ) (many : ℕ) → Each (λ (number : ℕ). number < many) xs → is_odd_number (length xs) ≡ odd_from (is_in xs) 0 many
+pub odd_of_list : (xs : List ℕ) (many : ℕ) → EachOne (λ (number : ℕ). number < many) xs → is_odd_number (length xs) ≡ odd_from (is_in xs) 0 many
 odd_of_list [] many known = sym (odd_of_none 0 many)
 odd_of_list (first ∷ rest) many known =
     let less : first < many = known.0 in

@@ -13,7 +13,7 @@ use Rattle.mvt_sweep.specs.declared.sweep.step.Step.{Step}
 use Rattle.mvt_sweep.specs.declared.sweep.step.Step.TheVariants.{Meets}
 use Rattle.mvt_status.specs.Counts.{raised}
 
--- so many comparisons were made before a last test, which found what is answered
+-- so many probes were made before a last test, which found what is answered
 pub counted_by : {T : Type 0} (probes : ℕ) (before between after : Counted) (found : Option T) → before.tests ≤ between.tests → raised probes before.probes ≤ after.probes
     → IfSome found (λ _. ticked between.tests ≤ after.tests) → IsCounted probes before after found
 counted_by probes before between after None fewer least tested = least

@@ -7,7 +7,7 @@ use Rattle.std.proofs.lemmas.Map.Steps.{length-le_from_distinct_below}
 use Rattle.std.proofs.lemmas.Map.Views.{Contains-from_any}
 use Rattle.std.specs.List.{AllByRecursion, IsDistinct}
 use Rattle.mvt_plane.specs.Counted.{Counted}
-use Rattle.mvt_sweep.specs.Calls.Chain.{Each, Ordered}
+use Rattle.mvt_sweep.specs.Calls.Chain.{EachOne, Ordered}
 use Rattle.mvt_sweep.specs.Work.{AddsWork}
 use Rattle.mvt_sweep.specs.Calls.Sweep.{Plan, IsPlan, IsSwept}
 use Rattle.mvt_sweep.proofs.Chains.ChainParts.{each_all}
@@ -24,12 +24,12 @@ unfolding IsDistinct
 distinct [] apart = tt
 distinct (edge ∷ rest) apart = (others rest apart.0, distinct rest apart.1)
   where
-    others : (rest : List ℕ) → Each (λ (that : ℕ). edge ≢ that) rest → AllByRecursion (λ (that : ℕ). eqb edge that ≡ false) rest
+    others : (rest : List ℕ) → EachOne (λ (that : ℕ). edge ≢ that) rest → AllByRecursion (λ (that : ℕ). eqb edge that ≡ false) rest
     others [] apart = tt
     others (that ∷ rest) apart = (ne_eqb edge that apart.0, others rest apart.1)
 
 -- distinct numbers below a bound are at most so many
-few_below : (bound : ℕ) (edges : List ℕ) → Each (λ (edge : ℕ). edge < bound) edges → Ordered (λ (a b : ℕ). a ≢ b) edges → length edges ≤ bound
+few_below : (bound : ℕ) (edges : List ℕ) → EachOne (λ (edge : ℕ). edge < bound) edges → Ordered (λ (a b : ℕ). a ≢ b) edges → length edges ≤ bound
 few_below bound edges within apart =
     length-le_from_distinct_below edges bound (distinct edges apart)
     (λ it found. All-contains (λ (edge : ℕ). edge < bound) edges it (each_all (λ (edge : ℕ). edge < bound) edges within) (Contains-from_any eqb-true it edges found))

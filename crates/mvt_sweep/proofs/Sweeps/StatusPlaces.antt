@@ -6,7 +6,7 @@ use Rattle.std.proofs.lemmas.List.{length-append, length-take-le, length-drop}
 use Rattle.std.proofs.lemmas.Option.{slice_get-get_or}
 use Rattle.mvt_plane.specs.Geometry.Measure.{key_of}
 use Rattle.mvt_plane.specs.Position.{Position}
-use Rattle.mvt_sweep.specs.Calls.Chain.{Has, Each, Head, Joined}
+use Rattle.mvt_sweep.specs.Calls.Chain.{Has, EachOne, Head, Joined}
 use Rattle.mvt_status.specs.Split.{before}
 use Rattle.mvt_sweep.specs.Calls.Sweep.{Plan, IsPlan, Tested, IsSwept, IsEvent, BothBegin, BothEnd, IsCut}
 use Rattle.mvt_sweep.proofs.Chains.ChainParts.{each_by_has, take_drop, joined_last}
@@ -36,16 +36,16 @@ joined_before_place R edges back at front within is holds = there at within (sub
         joined_last R edges back at (omega arith) (subst (λ (found : Option ℕ). IfSome found (λ below. Head R below back)) (slice_get-get_or edges at 0 (omega arith)) holds)
 
 -- what is true of each edge is so of the one after a place
-pub each_after : (P : ℕ → Type 0) (edges : List ℕ) (at : ℕ) (following : Option ℕ) → Each P edges → following ≡ slice_get edges at → IfSome following P
+pub each_after : (P : ℕ → Type 0) (edges : List ℕ) (at : ℕ) (following : Option ℕ) → EachOne P edges → following ≡ slice_get edges at → IfSome following P
 each_after P edges at following all is = subst (λ (found : Option ℕ). IfSome found P) (sym is) (there edges at all)
   where
-    there : (edges : List ℕ) (at : ℕ) → Each P edges → IfSome (slice_get edges at) P
+    there : (edges : List ℕ) (at : ℕ) → EachOne P edges → IfSome (slice_get edges at) P
     there [] at all = tt
     there (first ∷ rest) zero all = all.0
     there (first ∷ rest) (suc at) all = there rest at all.1
 
 -- and of the one before it
-pub each_before : (P : ℕ → Type 0) (edges : List ℕ) (at : ℕ) (front : Option ℕ) → Each P edges → front ≡ before edges at → IfSome front P
+pub each_before : (P : ℕ → Type 0) (edges : List ℕ) (at : ℕ) (front : Option ℕ) → EachOne P edges → front ≡ before edges at → IfSome front P
 each_before P edges zero front all is = subst (λ (found : Option ℕ). IfSome found P) (sym is) tt
 each_before P edges (suc at) front all is = each_after P edges at front all is
 
@@ -68,12 +68,12 @@ tested_after plan edges at edge following is both = head_after (Tested plan) edg
 -- Edges of the status
 
 -- all are edges of the plan
-pub all_known : (plan : Plan) (key : ℤ) (edges : List ℕ) → IsSwept plan key edges → Each (λ (edge : ℕ). edge < plan.count) edges
+pub all_known : (plan : Plan) (key : ℤ) (edges : List ℕ) → IsSwept plan key edges → EachOne (λ (edge : ℕ). edge < plan.count) edges
 all_known plan key edges swept = each_by_has (λ (edge : ℕ). edge < plan.count) edges (λ it has. (swept.active it has).known)
 
 -- and none of them begins in the next vertex
 pub others_known : (plan : Plan) (key : ℤ) (vertex : Position) (edges fewer : List ℕ) (beginning : ℕ) → IsSwept plan key edges → key <ℤ key_of vertex → (plan.segment beginning).low ≡ vertex
-    → ((it : ℕ) → Has fewer it → Has edges it) → Each (λ (other : ℕ). (other < plan.count) × (other ≢ beginning)) fewer
+    → ((it : ℕ) → Has fewer it → Has edges it) → EachOne (λ (other : ℕ). (other < plan.count) × (other ≢ beginning)) fewer
 others_known plan key vertex edges fewer beginning swept later begins among =
     let early : key_of (plan.segment beginning).low ≤ℤ key → ⊥ = λ begun.
     let there : key_of vertex ≤ℤ key = subst (λ (low : Position). key_of low ≤ℤ key) begins begun in

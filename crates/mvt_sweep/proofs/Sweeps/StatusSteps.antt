@@ -16,7 +16,7 @@ few_between plan key place lower upper edges is_plan within swept =
     let longer = length-insert edges place upper within in
     omega (arith, length-insert (insert edges place upper) place lower (omega arith))
 
--- the work of all: a turn, a comparison's worth of a place, two tests beside it, and two edges put in
+-- the work of all: a turn, a probe's worth of a place, two tests beside it, and two edges put in
 pub work_of_begin : (edges vertices : ℕ) (start turned untested placed under over done : Counted) → suc edges ≤ vertices → AddsWork 0 1 0 start turned → untested ≡ turned
     → AddsWork 0 (2 * bits vertices) (6 * bits vertices) untested placed → AddsWork 1 0 0 placed under → AddsWork 1 0 0 under over
     → AddsAtMost 0 (6 * bits (suc edges)) over done → AddsWork 2 (1 + 1 * (2 * bits vertices)) (1 * (12 * bits vertices)) start done

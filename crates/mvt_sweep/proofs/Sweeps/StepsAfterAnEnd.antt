@@ -9,7 +9,7 @@ use Rattle.mvt_plane.specs.Counted.{Counted}
 use Rattle.mvt_sweep.specs.Work.{IsCounted}
 use Rattle.mvt_sweep.specs.Calls.VertexOrder.{IsSweptOver}
 use Rattle.mvt_sweep.specs.Calls.SweepVertices.{IsMeetingAt, sweep_vertex_at, sweep_count, next_at, position_at, previous_at}
-use Rattle.mvt_sweep.specs.Calls.Steps.{after_an_end, EndsAnEdge, HasBegun, IsStep, met_by}
+use Rattle.mvt_sweep.specs.Calls.Steps.{after_an_end, EndsAnEdge, HasBegun, IsSweepStep, met_by}
 use Rattle.mvt_sweep.specs.declared.sweep.vertices.SweepVertices.{SweepVertices}
 use Rattle.mvt_sweep.specs.declared.sweep.vertices.Pair.{Pair}
 use Rattle.mvt_sweep.specs.declared.sweep.step.Step.{Step}
@@ -55,24 +55,24 @@ an_end_from_later vertices number within test =
 
 -- so the step goes on, or comes to a meeting
 pub step_after_an_end : (vertices : SweepVertices) (number : ℕ) (before after : List ℕ) (answer : Option Pair) → IfNone answer (IsSweptOver vertices number after) → IfSome answer (IsMeetingAt vertices)
-    → EndsAnEdge vertices number → IsStep vertices number before after (after_an_end answer)
+    → EndsAnEdge vertices number → IsSweepStep vertices number before after (after_an_end answer)
 step_after_an_end vertices number before after None none some an_end = (none, an_end)
 step_after_an_end vertices number before after (Some pair) none some an_end = some
 
 -- where both edges of the vertex began, the line went over it
 pub stepped_begins : (vertices : SweepVertices) (number : ℕ) (before after : List ℕ) (place : Split) (step : Step) (begun : Option Split) (count more : Counted) → step ≡ Begins place → begun ≡ Some place
-    → IsStep vertices number before after step → IsCounted 1 count more (met_by step)
+    → IsSweepStep vertices number before after step → IsCounted 1 count more (met_by step)
     → IsSweptOver vertices number after × HasBegun vertices number before begun × raised 1 count.probes ≤ more.probes
 stepped_begins vertices number before after place step begun count more same begins is least =
-    let told = subst (IsStep vertices number before after) same is in
+    let told = subst (IsSweepStep vertices number before after) same is in
     (told.0, subst (HasBegun vertices number before) (sym begins) told.1, subst (λ (it : Step). IsCounted 1 count more (met_by it)) same least)
 
 -- and where an edge ended
 pub stepped_ends : (vertices : SweepVertices) (number : ℕ) (before after : List ℕ) (step : Step) (begun : Option Split) (count more : Counted) → step ≡ Ends → begun ≡ None
-    → IsStep vertices number before after step → IsCounted 1 count more (met_by step)
+    → IsSweepStep vertices number before after step → IsCounted 1 count more (met_by step)
     → IsSweptOver vertices number after × HasBegun vertices number before begun × raised 1 count.probes ≤ more.probes
 stepped_ends vertices number before after step begun count more same ends is least =
-    let told = subst (IsStep vertices number before after) same is in
+    let told = subst (IsSweepStep vertices number before after) same is in
     (told.0, subst (HasBegun vertices number before) (sym ends) told.1, subst (λ (it : Step). IsCounted 1 count more (met_by it)) same least)
 
 -- what holds where no meeting is returned

@@ -5,7 +5,7 @@ use Rattle.mvt_plane.specs.Calls.EdgeOrder.{IsEndOf}
 use Rattle.mvt_plane.specs.Geometry.EdgeOrder.{gap, reach}
 use Rattle.mvt_plane.specs.Geometry.Measure.{key_of, orientation}
 use Rattle.mvt_plane.specs.Position.{Position}
-use Rattle.mvt_sweep.specs.Calls.Chain.{Has, Each, Head, Chain, Joined, Ordered}
+use Rattle.mvt_sweep.specs.Calls.Chain.{Has, EachOne, Head, Chain, Joined, Ordered}
 use Rattle.mvt_sweep.specs.Calls.Sweep.{Plan, IsPlan, Tested, After, IsActive, IsPast, IsSwept, IsEvent, IsUnder, IsSlab}
 use Rattle.mvt_plane.proofs.Orders.Order.{zs, le_or_lt}
 use Rattle.mvt_sweep.proofs.Chains.ChainParts.{each_has, has_left, has_right, has_either, chain_join, ordered_parts, chain_by_ordered, chain_map}
@@ -28,8 +28,8 @@ pub record IsReady (plan : Plan) (key : ℤ) (vertex : Position) (first second :
   pub plan_holds : IsPlan plan
   pub event : IsEvent plan key vertex first second
   pub swept : IsSwept plan key (front ++ (gone ++ back))
-  pub below : Each (IsUnder plan vertex) front
-  pub others : Each (λ (edge : ℕ). ¬ IsUnder plan vertex edge) back
+  pub below : EachOne (IsUnder plan vertex) front
+  pub others : EachOne (λ (edge : ℕ). ¬ IsUnder plan vertex edge) back
   pub change : IsChange plan vertex gone new
   pub touch : ℕ
   pub touch_known : touch < plan.count

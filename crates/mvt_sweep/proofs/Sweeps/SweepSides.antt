@@ -6,7 +6,7 @@ use Rattle.mvt_plane.specs.Calls.EdgeOrder.{IsEndOf, Reaches}
 use Rattle.mvt_plane.specs.Geometry.Measure.{key_of, orientation}
 use Rattle.mvt_plane.specs.Position.{Position}
 use Rattle.mvt_plane.specs.Geometry.RationalPoint.{whole}
-use Rattle.mvt_sweep.specs.Calls.Chain.{Has, Each, Head, Ordered}
+use Rattle.mvt_sweep.specs.Calls.Chain.{Has, EachOne, Head, Ordered}
 use Rattle.mvt_sweep.specs.Calls.Sweep.{Plan, IsPlan, Tested, IsActive, IsSwept, IsEvent, IsUnder, IsSlab}
 use Rattle.mvt_plane.proofs.Orders.Order.{zs, le_or_lt, sign_cases, mul_pos, mul_neg_pos, mul_nonneg, factor_neg, mul_nonpos_nonneg}
 use Rattle.mvt_plane.proofs.Orders.Polynomials.{unknown, ◌⊖◌, ◌⊗◌, constant, ring}
@@ -112,7 +112,7 @@ ending_active plan key vertex first second edge is_plan event known ends =
 
 -- the first edge that isn't below the vertex ends in it, where any other does
 pub first_ends : (plan : Plan) (key : ℤ) (vertex : Position) (first second head edge : ℕ) (back : List ℕ) → IsPlan plan → IsEvent plan key vertex first second → IsActive plan key head
-    → ¬ IsUnder plan vertex head → Each (IsSlab plan key vertex head) back → edge < plan.count → (plan.segment edge).high ≡ vertex → (head ≡ edge) ⊎ Has back edge
+    → ¬ IsUnder plan vertex head → EachOne (IsSlab plan key vertex head) back → edge < plan.count → (plan.segment edge).high ≡ vertex → (head ≡ edge) ⊎ Has back edge
     → key_of (plan.segment head).high ≡ key_of vertex
 first_ends plan key vertex first second head edge back is_plan event active others slabs known ends (inl same) =
     subst (λ (it : ℕ). key_of (plan.segment it).high ≡ key_of vertex) (sym same) (ap key_of ends)
@@ -128,7 +128,7 @@ first_ends plan key vertex first second head edge back is_plan event active othe
 
 -- an edge that ends in the vertex isn't among those below
 pub end_in_rest : (plan : Plan) (key : ℤ) (vertex : Position) (first second edge : ℕ) (front rest : List ℕ) → IsPlan plan → IsSwept plan key (front ++ rest)
-    → IsEvent plan key vertex first second → Each (IsUnder plan vertex) front → edge < plan.count → (plan.segment edge).high ≡ vertex → Has rest edge
+    → IsEvent plan key vertex first second → EachOne (IsUnder plan vertex) front → edge < plan.count → (plan.segment edge).high ≡ vertex → Has rest edge
 end_in_rest plan key vertex first second edge front rest is_plan swept event below known ends =
     elim (has_either front rest edge (swept.whole edge (ending_active plan key vertex first second edge is_plan event known (ap key_of ends)))) [
       | inl in_front ↦
@@ -178,7 +178,7 @@ passes_by plan key vertex touch edge is_plan later touch_known at_touch tested b
 -- the first of those that aren't below the vertex and go on is above it, if it was tested against an edge of the
 -- vertex; so are all
 pub above : (plan : Plan) (key : ℤ) (vertex : Position) (touch : ℕ) (back : List ℕ) → IsPlan plan → key <ℤ key_of vertex → touch < plan.count → IsEndOf vertex (plan.segment touch)
-    → Head (Tested plan) touch back → Each (λ (edge : ℕ). ¬ IsUnder plan vertex edge) back → Ordered (IsSlab plan key vertex) back
+    → Head (Tested plan) touch back → EachOne (λ (edge : ℕ). ¬ IsUnder plan vertex edge) back → Ordered (IsSlab plan key vertex) back
     → ((edge : ℕ) → Has back edge → IsActive plan key edge) → ((edge : ℕ) → Has back edge → IsActive plan (key_of vertex) edge)
     → (edge : ℕ) → Has back edge → orientation (plan.segment edge).low (plan.segment edge).high vertex <ℤ pos 0
 above plan key vertex touch [] is_plan later touch_known at_touch tested others slabs before following edge here = absurd here

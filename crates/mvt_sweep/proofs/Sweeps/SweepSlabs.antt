@@ -6,7 +6,7 @@ use Rattle.mvt_plane.specs.Calls.EdgeOrder.{edge_along, IsEndOf, Reaches, key_at
 use Rattle.mvt_plane.specs.Geometry.Measure.{key_of, orientation}
 use Rattle.mvt_plane.specs.Position.{Position}
 use Rattle.mvt_plane.specs.Geometry.RationalPoint.{RationalPoint, LiesOn, IsAt}
-use Rattle.mvt_sweep.specs.Calls.Chain.{Has, Each, Ordered}
+use Rattle.mvt_sweep.specs.Calls.Chain.{Has, EachOne, Ordered}
 use Rattle.mvt_sweep.specs.Calls.Sweep.{Plan, IsPlan, IsWrong, Tested, After, IsActive, IsPast, IsSwept, IsEvent, IsUnder, IsCut, IsSlab}
 use Rattle.mvt_plane.proofs.Orders.Order.{zs, le_or_lt, compare_ℤ, is_zero, mul_pos, cancel_le, cancel_lt, cancel_eq, cancel_zero, factor_nonneg, factor_pos, antisym_ℤ}
 use Rattle.mvt_plane.proofs.Orders.Polynomials.{unknown, constant, negated, ◌⊕◌, ◌⊖◌, ◌⊗◌, given, ring_from}
@@ -169,7 +169,7 @@ swept_differ plan key edges is_plan swept =
 
 -- an order in which a test fails after each at which it fails has the split
 split_ordered : (P : ℕ → Type 0) (edges : List ℕ) → ((edge : ℕ) → P edge ⊎ ¬ P edge) → Ordered (λ (one other : ℕ). P other → P one) edges
-    → (front : List ℕ) × (rest : List ℕ) × (edges ≡ front ++ rest) × Each P front × Each (λ (edge : ℕ). ¬ P edge) rest
+    → (front : List ℕ) × (rest : List ℕ) × (edges ≡ front ++ rest) × EachOne P front × EachOne (λ (edge : ℕ). ¬ P edge) rest
 split_ordered P [] test ordered = ([], [], refl, tt, tt)
 split_ordered P (edge ∷ following) test ordered = elim (test edge) [
   | inl is ↦

@@ -5,7 +5,7 @@ use Rattle.mvt_plane.specs.Calls.EdgeOrder.{MeetOnlyAt, key_at}
 use Rattle.mvt_plane.specs.Geometry.Measure.{key_of, orientation}
 use Rattle.mvt_plane.specs.Position.{Position}
 use Rattle.mvt_plane.specs.Geometry.RationalPoint.{RationalPoint}
-use Rattle.mvt_sweep.specs.Calls.Chain.{Has, Each, Head, Joined}
+use Rattle.mvt_sweep.specs.Calls.Chain.{Has, EachOne, Head, Joined}
 use Rattle.mvt_sweep.specs.Calls.Sweep.{Plan, IsPlan, IsWrong, Tested, After, IsSwept, IsEvent, BothBegin, PassesOn, BothEnd, IsUnder, IsCut, IsSlab}
 use Rattle.mvt_plane.proofs.Orders.Order.{zs, mono_le_right, mono_lt_right}
 use Rattle.mvt_sweep.proofs.Chains.ChainParts.{has_right, chain_front, chain_back, chain_join, ordered_parts}
@@ -78,7 +78,7 @@ pass_found plan key vertex ending beginning edges front rest is_plan swept event
     let now : IsSwept plan key (front ++ rest) = subst (IsSwept plan key) cut.whole swept in
     found rest now cut.others (end_in_rest plan key vertex ending beginning ending front rest is_plan now event cut.below event.first_known passes.ends)
   where
-    found : (rest : List ℕ) → IsSwept plan key (front ++ rest) → Each (λ (edge : ℕ). ¬ IsUnder plan vertex edge) rest → Has rest ending → (back : List ℕ) × (rest ≡ ending ∷ back)
+    found : (rest : List ℕ) → IsSwept plan key (front ++ rest) → EachOne (λ (edge : ℕ). ¬ IsUnder plan vertex edge) rest → Has rest ending → (back : List ℕ) × (rest ≡ ending ∷ back)
     found [] now others there = absurd there
     found (head ∷ back) now others there =
         let active = now.active head (has_right front (head ∷ back) head (inl refl)) in
@@ -95,7 +95,7 @@ pass_found plan key vertex ending beginning edges front rest is_plan swept event
 
 -- after the one of two that end comes the other
 other_found : (plan : Plan) (key : ℤ) (vertex : Position) (one other head : ℕ) (front back : List ℕ) → IsPlan plan → IsSwept plan key (front ++ head ∷ back)
-    → IsEvent plan key vertex one other → (plan.segment other).high ≡ vertex → Each (λ (edge : ℕ). ¬ IsUnder plan vertex edge) back → head ≡ one → Has (head ∷ back) other
+    → IsEvent plan key vertex one other → (plan.segment other).high ≡ vertex → EachOne (λ (edge : ℕ). ¬ IsUnder plan vertex edge) back → head ≡ one → Has (head ∷ back) other
     → (tail : List ℕ) × (head ∷ back ≡ one ∷ other ∷ tail)
 other_found plan key vertex one other head front back is_plan now event ends others is_one (inl is_other) = absurd (event.differ (sym is_one ∙ is_other))
 other_found plan key vertex one other head front [] is_plan now event ends others is_one (inr there) = absurd there
@@ -119,7 +119,7 @@ end_found plan key vertex first second edges front rest is_plan swept event endi
     found rest now cut.others (end_in_rest plan key vertex first second first front rest is_plan now event cut.below event.first_known ending.first_ends)
     (end_in_rest plan key vertex second first second front rest is_plan now back cut.below event.second_known ending.second_ends)
   where
-    found : (rest : List ℕ) → IsSwept plan key (front ++ rest) → Each (λ (edge : ℕ). ¬ IsUnder plan vertex edge) rest → Has rest first → Has rest second
+    found : (rest : List ℕ) → IsSwept plan key (front ++ rest) → EachOne (λ (edge : ℕ). ¬ IsUnder plan vertex edge) rest → Has rest first → Has rest second
         → (back : List ℕ) × ((rest ≡ first ∷ second ∷ back) ⊎ (rest ≡ second ∷ first ∷ back))
     found [] now others first_there second_there = absurd first_there
     found (head ∷ back) now others first_there second_there =

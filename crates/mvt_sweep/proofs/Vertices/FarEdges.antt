@@ -4,7 +4,7 @@ use Rattle.mvt_plane.proofs.Orders.Order.{zs, le_or_lt, mono_le_right, mono_lt_r
 use Rattle.mvt_plane.specs.Position.{Position}
 use Rattle.mvt_plane.specs.Geometry.RationalPoint.{RationalPoint, LiesOn, IsBetween}
 use Rattle.mvt_plane.specs.declared.geometry.edge.Edge.{Edge}
-use Rattle.mvt_sweep.specs.Bounds.{IsWithin, AreBoundsApart}
+use Rattle.mvt_sweep.specs.Bounds.{IsInBounds, AreBoundsApart}
 use Rattle.mvt_sweep.specs.declared.bounds.Bounds.{Bounds}
 
 -- a positive factor of both sides
@@ -59,15 +59,15 @@ common_number low high its_low its_high w z positive one other =
     ]
 
 -- a point of an edge within bounds, by its x and by its y
-x_spanned : (bounds : Bounds) (edge : Edge) (point : RationalPoint) → IsWithin bounds edge.a → IsWithin bounds edge.b → LiesOn point edge → IsSpanned bounds.left bounds.right point.w point.x
+x_spanned : (bounds : Bounds) (edge : Edge) (point : RationalPoint) → IsInBounds bounds edge.a → IsInBounds bounds edge.b → LiesOn point edge → IsSpanned bounds.left bounds.right point.w point.x
 x_spanned bounds edge point from to on = spanned bounds.left bounds.right edge.a.x edge.b.x point.w point.x on.positive from.left from.right to.left to.right on.x_between
 
 -- by its y
-y_spanned : (bounds : Bounds) (edge : Edge) (point : RationalPoint) → IsWithin bounds edge.a → IsWithin bounds edge.b → LiesOn point edge → IsSpanned bounds.low bounds.high point.w point.y
+y_spanned : (bounds : Bounds) (edge : Edge) (point : RationalPoint) → IsInBounds bounds edge.a → IsInBounds bounds edge.b → LiesOn point edge → IsSpanned bounds.low bounds.high point.w point.y
 y_spanned bounds edge point from to on = spanned bounds.low bounds.high edge.a.y edge.b.y point.w point.y on.positive from.low from.high to.low to.high on.y_between
 
 -- edges within bounds that are apart have no point in common
-pub no_common_point : (one other : Bounds) (first second : Edge) (point : RationalPoint) → AreBoundsApart one other → IsWithin one first.a → IsWithin one first.b → IsWithin other second.a → IsWithin other second.b
+pub no_common_point : (one other : Bounds) (first second : Edge) (point : RationalPoint) → AreBoundsApart one other → IsInBounds one first.a → IsInBounds one first.b → IsInBounds other second.a → IsInBounds other second.b
     → LiesOn point first → ¬ LiesOn point second
 no_common_point one other first second point apart first_a first_b second_a second_b on_first on_second =
     let x = common_number one.left one.right other.left other.right point.w point.x on_first.positive (x_spanned one first point first_a first_b on_first) (x_spanned other second point second_a second_b on_second) in

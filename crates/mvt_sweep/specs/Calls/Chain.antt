@@ -7,9 +7,9 @@ Has [] number = ⊥
 Has (first ∷ rest) number = (first ≡ number) ⊎ Has rest number
 
 -- this is true of each
-abbrev pub Each : (ℕ → Type 0) → List ℕ → Type 0
-Each P [] = ⊤
-Each P (first ∷ rest) = P first × Each P rest
+abbrev pub EachOne : (ℕ → Type 0) → List ℕ → Type 0
+EachOne P [] = ⊤
+EachOne P (first ∷ rest) = P first × EachOne P rest
 
 -- the relation holds between it and the first one, if there is one
 abbrev pub Head : (ℕ → ℕ → Type 0) → ℕ → List ℕ → Type 0
@@ -30,4 +30,4 @@ Joined R (first ∷ next ∷ rest) back = Joined R (next ∷ rest) back
 -- the relation holds between each and all after it
 abbrev pub Ordered : (ℕ → ℕ → Type 0) → List ℕ → Type 0
 Ordered R [] = ⊤
-Ordered R (first ∷ rest) = Each (R first) rest × Ordered R rest
+Ordered R (first ∷ rest) = EachOne (R first) rest × Ordered R rest

@@ -5,7 +5,7 @@ use Rattle.mvt_sweep.specs.Calls.SweepVertices.{sweep_count, edge_at, plan_of}
 use Rattle.mvt_sweep.specs.Calls.Sweep.{Tested}
 use Rattle.mvt_sweep.specs.declared.bounds.Bounds.{Bounds}
 use Rattle.mvt_sweep.specs.declared.sweep.vertices.SweepVertices.{SweepVertices}
-use Rattle.mvt_sweep.specs.Bounds.{IsWithin}
+use Rattle.mvt_sweep.specs.Bounds.{IsInBounds}
 
 -- how many pairs so many edges have
 unfoldable pub pairs_of : ℕ → ℕ
@@ -43,8 +43,8 @@ pub data AreHeightsApart (one other : Edge) : Type 0 where
 
 -- both ends of the edge are within the bounds
 pub record AreEndsWithin (bounds : Bounds) (edge : Edge) : Type 0 where
-  pub begin : IsWithin bounds edge.a
-  pub end : IsWithin bounds edge.b
+  pub begin : IsInBounds bounds edge.a
+  pub end : IsInBounds bounds edge.b
 
 -- the bounds of so many edges, by their numbers
 pub record AreEdgeBounds (vertices : SweepVertices) (many : ℕ) (list : List Bounds) : Type 0 where

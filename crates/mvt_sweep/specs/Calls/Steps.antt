@@ -36,10 +36,10 @@ met_by (Begins place) = None
 met_by Ends = None
 
 -- the step over the vertex came to this
-abbrev pub IsStep : SweepVertices → ℕ → List ℕ → List ℕ → Step → Type 0
-IsStep vertices number before after (Meets pair) = IsMeetingAt vertices pair
-IsStep vertices number before after (Begins place) = IsSweptOver vertices number after × IsBegun vertices number place before
-IsStep vertices number before after Ends = IsSweptOver vertices number after × EndsAnEdge vertices number
+abbrev pub IsSweepStep : SweepVertices → ℕ → List ℕ → List ℕ → Step → Type 0
+IsSweepStep vertices number before after (Meets pair) = IsMeetingAt vertices pair
+IsSweepStep vertices number before after (Begins place) = IsSweptOver vertices number after × IsBegun vertices number place before
+IsSweepStep vertices number before after Ends = IsSweptOver vertices number after × EndsAnEdge vertices number
 
 -- What is noted on the way
 

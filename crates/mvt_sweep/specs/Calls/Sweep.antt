@@ -7,7 +7,7 @@ use Rattle.mvt_plane.specs.Calls.EdgeOrder.{edge_along, IsEndOf, MeetOnlyAt, key
 use Rattle.mvt_plane.specs.Geometry.Measure.{key_of, orientation}
 use Rattle.mvt_plane.specs.Position.{Position}
 use Rattle.mvt_plane.specs.Geometry.RationalPoint.{RationalPoint}
-use Rattle.mvt_sweep.specs.Calls.Chain.{Has, Each, Chain}
+use Rattle.mvt_sweep.specs.Calls.Chain.{Has, EachOne, Chain}
 
 -- What is swept over
 
@@ -105,8 +105,8 @@ IsUnder plan vertex edge = pos 0 <ℤ orientation (plan.segment edge).low (plan.
 -- the edges come apart into those below the vertex and the others
 pub record IsCut (plan : Plan) (vertex : Position) (edges front rest : List ℕ) : Type 0 where
   pub whole : edges ≡ front ++ rest
-  pub below : Each (IsUnder plan vertex) front
-  pub others : Each (λ (edge : ℕ). ¬ IsUnder plan vertex edge) rest
+  pub below : EachOne (IsUnder plan vertex) front
+  pub others : EachOne (λ (edge : ℕ). ¬ IsUnder plan vertex edge) rest
 
 -- The edges keep their order up to the next vertex, where only those that end or begin in it may come together
 pub record IsSlab (plan : Plan) (key : ℤ) (vertex : Position) (first second : ℕ) : Type 0 where

@@ -2,7 +2,7 @@
 ghost use Rattle.std.specs.Prelude.{◌<◌, ◌≤◌};
 ghost use Rattle.mvt_sweep.specs.Rings.{rings_of, AreProperRings};
 
-use super::{Meeting, find_meeting, find_meeting_with, meeting_in_ring};
+use super::{Meeting, find_meeting, find_meeting_with, self_intersection};
 use crate::proper::are_proper;
 use mvt_plane::{Count, Point};
 use mvt_status::{TreeStatus, VecStatus};
@@ -68,7 +68,7 @@ fn found_at(
 fn found_in_ring(rt: &impl Abort, alloc: Global, ring: &[(i32, i32)]) -> Option<Meeting> {
     let rings = rings_at(rt, alloc, &[ring]);
     assert!(rt; rings.len() == 1 && are_proper(&rings));
-    meeting_in_ring(alloc, &rings, &mut Count::new()).expect(rt, "memory")
+    self_intersection(alloc, &rings, &mut Count::new()).expect(rt, "memory")
 }
 
 /// Whether a meeting is found in rings through these coordinates in each way, or where `is_clear`

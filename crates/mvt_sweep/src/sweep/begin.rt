@@ -6,7 +6,7 @@ ghost use Rattle.mvt_sweep.specs.Calls.Chains.{AreChains, edge_in, edges_of, out
 ghost use Rattle.mvt_sweep.specs.Calls.VertexOrder.{AddsStep, IsNextVertex};
 ghost use Rattle.mvt_sweep.specs.Work.{AddsWork, IsCounted};
 ghost use Rattle.mvt_sweep.specs.Calls.SweepVertices.{IsMeetingAt, sweep_count, plan_of, position_at, previous_at, turn_at};
-ghost use Rattle.mvt_sweep.specs.Calls.Steps.{IsStep, met_by};
+ghost use Rattle.mvt_sweep.specs.Calls.Steps.{IsSweepStep, met_by};
 ghost use Rattle.mvt_sweep.specs.Calls.Sweep.{BeginThere, BothBegin, Tested};
 
 use crate::sweep::chains::Chains;
@@ -33,7 +33,7 @@ pub(crate) fn begin<S: Status>(
         (edges_of chains.old (S.edges status.old)) }
     requires begin { BeginThere (plan_of vertices.now) (position_at vertices.now number)
         (previous_at vertices.now number) number }
-    ensures step { IfOk result (IsStep vertices.now number
+    ensures step { IfOk result (IsSweepStep vertices.now number
         (edges_of chains.old (S.edges status.old)) (edges_of chains.new (S.edges status.new))) }
     ensures chains { IfOk result (λ step.
         IfNone (met_by step) (AreChains vertices.now chains.new (S.edges status.new))) }

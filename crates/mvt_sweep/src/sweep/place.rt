@@ -1,7 +1,7 @@
 //! The place of a vertex among the chains that the line of a sweep meets.
 ghost use Rattle.std.specs.Prelude.{◌≡◌, ◌↔◌, ◌*◌, ◌<◌, ◌≤◌, IfSome, IsTrue, List, ℕ, drop, length, take};
 ghost use Rattle.mvt_plane.specs.Counted.{ticked};
-ghost use Rattle.mvt_sweep.specs.Calls.Chain.{Each};
+ghost use Rattle.mvt_sweep.specs.Calls.Chain.{EachOne};
 ghost use Rattle.mvt_sweep.specs.Calls.Chains.{AreChains, edge_of, edges_of, outside_of};
 ghost use Rattle.mvt_sweep.specs.Work.{AddsWork};
 ghost use Rattle.mvt_sweep.specs.Calls.SweepVertices.{sweep_count, plan_of, position_at};
@@ -27,7 +27,7 @@ pub(crate) fn place_of<S: Status>(
     count: &mut Count,
 ) -> Split
     requires number { number < sweep_count vertices.now }
-    requires known { Each (λ chain. (chain < outside_of chains.now)
+    requires known { EachOne (λ chain. (chain < outside_of chains.now)
         × (edge_of chains.now chain < sweep_count vertices.now)) (S.edges status.now) }
     requires few { length (S.edges status.now) ≤ sweep_count vertices.now }
     requires cut { (front : List ℕ) × (rest : List ℕ)
@@ -57,7 +57,7 @@ pub(crate) fn place_of<S: Status>(
 
 /// The same, where the vertex may well be above all chains or below all: it is compared with the
 /// highest and the lowest one first. Of few chains, and of more than half as many as there are
-/// vertices, the comparisons would not pay, or be more than are promised.
+/// vertices, the probes would not pay, or be more than are promised.
 pub(crate) fn place_from_outside<S: Status>(
     vertices: &SweepVertices,
     number: usize,
@@ -67,7 +67,7 @@ pub(crate) fn place_from_outside<S: Status>(
 ) -> Split
     requires number { number < sweep_count vertices.now }
     requires chains { AreChains vertices.now chains.now (S.edges status.now) }
-    requires known { Each (λ chain. (chain < outside_of chains.now)
+    requires known { EachOne (λ chain. (chain < outside_of chains.now)
         × (edge_of chains.now chain < sweep_count vertices.now)) (S.edges status.now) }
     requires few { length (S.edges status.now) ≤ sweep_count vertices.now }
     requires cut { (front : List ℕ) × (rest : List ℕ)
@@ -92,7 +92,7 @@ pub(crate) fn place_from_outside<S: Status>(
     place_of(vertices, number, chains, status, count)
 }
 
-/// Where the vertex is among chains, if it is above all or below all. At most two comparisons.
+/// Where the vertex is among chains, if it is above all or below all. At most two probes.
 fn place_outside<S: Status>(
     vertices: &SweepVertices,
     number: usize,
@@ -102,7 +102,7 @@ fn place_outside<S: Status>(
 ) -> Option<Split>
     requires number { number < sweep_count vertices.now }
     requires chains { AreChains vertices.now chains.now (S.edges status.now) }
-    requires known { Each (λ chain. (chain < outside_of chains.now)
+    requires known { EachOne (λ chain. (chain < outside_of chains.now)
         × (edge_of chains.now chain < sweep_count vertices.now)) (S.edges status.now) }
     requires some { 0 < length (S.edges status.now) }
     requires cut { (front : List ℕ) × (rest : List ℕ)

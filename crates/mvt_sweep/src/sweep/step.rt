@@ -4,7 +4,7 @@ ghost use Rattle.mvt_sweep.specs.Calls.Chains.{AreChains, edges_of};
 ghost use Rattle.mvt_sweep.specs.Calls.VertexOrder.{AddsStep, IsNextVertex, turns_here};
 ghost use Rattle.mvt_sweep.specs.Work.{IsCounted};
 ghost use Rattle.mvt_sweep.specs.Calls.SweepVertices.{sweep_count, previous_at};
-ghost use Rattle.mvt_sweep.specs.Calls.Steps.{after_an_end, IsStep, met_by};
+ghost use Rattle.mvt_sweep.specs.Calls.Steps.{after_an_end, IsSweepStep, met_by};
 
 use crate::sweep::begin::begin;
 use crate::sweep::chains::Chains;
@@ -38,7 +38,7 @@ pub(crate) fn go_over<S: Status>(
     requires chains { AreChains vertices.now chains.old (S.edges status.old) }
     requires next { IsNextVertex vertices.now number (previous_at vertices.now number) number
         (edges_of chains.old (S.edges status.old)) }
-    ensures step { IfOk result (IsStep vertices.now number
+    ensures step { IfOk result (IsSweepStep vertices.now number
         (edges_of chains.old (S.edges status.old)) (edges_of chains.new (S.edges status.new))) }
     ensures chains { IfOk result (λ step.
         IfNone (met_by step) (AreChains vertices.now chains.new (S.edges status.new))) }

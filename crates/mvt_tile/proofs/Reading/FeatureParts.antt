@@ -7,7 +7,7 @@ use Rattle.mvt_rules.specs.Tile.{FeatureRecord, IsFeature}
 use Rattle.mvt_wire.specs.Walk.{Walk, IsOver}
 use Rattle.mvt_rules.proofs.Tiles.SmallNumbers.{tags_end, geometry_end}
 use Rattle.mvt_wire.proofs.Walking.{IsWalking, IsWalking-over}
-use Rattle.mvt_tile.specs.FeatureBytes.{Shows}
+use Rattle.mvt_tile.specs.FeatureBytes.{Encodes}
 use Rattle.mvt_tile.specs.Calls.FeatureBytes.{GivesParts}
 use Rattle.mvt_wire.specs.NumberSources.{StandIn, StandBefore}
 use Rattle.mvt_tile.specs.Calls.Reading.{last_of}
@@ -91,8 +91,8 @@ module _ {bytes : List ℕ} {span : Span} {feature : FeatureRecord} (is : IsFeat
       (subst (λ (fields : List Entry). GivesParts message span.from fields walk.at parts) (IsWalking-over is.entries walking is.whole over) gives)
 
   -- and those of the feature
-  pub Shows-all : (shown : FeatureBytes) → shown.bytes.now ≡ message → shown.parts ≡ parts → Shows shown feature
-  Shows-all shown same_bytes same_parts = record {
+  pub Encodes-all : (shown : FeatureBytes) → shown.bytes.now ≡ message → shown.parts ≡ parts → Encodes shown feature
+  Encodes-all shown same_bytes same_parts = record {
     id = is.id ∙ sym (only (numbers_of 1 is.entries) (few_picked number_in 1 is.entries (is.keeps.at_most 1 _ refl refl))) ∙ rw same_parts (sym all.id);
     kind = rw same_parts (sym (all.kind ∙ ap (last_of 0) is.kind));
     tags = rw (same_bytes, same_parts) (left_whole message span.from 2 parts.tags feature.tags all.tags (tags_end bytes span feature is));
@@ -106,7 +106,7 @@ module _ {bytes : List ℕ} {span : Span} {feature : FeatureRecord} (is : IsFeat
   geometry_lies = StandIn-whole message span.from 4 parts.geometry feature.geometry all.geometry (geometry_end bytes span feature is)
 
 -- the bytes of a feature show one
-pub shown : (feature : FeatureBytes) → (it : FeatureRecord) × Shows feature it
+pub shown : (feature : FeatureBytes) → (it : FeatureRecord) × Encodes feature it
 shown feature =
     let tags = all_in feature.bytes.now 2 feature.parts.tags feature.tags_stand in
     let geometry = all_in feature.bytes.now 4 feature.parts.geometry feature.geometry_stands in

@@ -14,7 +14,7 @@ use Rattle.mvt_fault.specs.declared.tag.TagCode.{TagCode}
 use Rattle.mvt_fault.specs.declared.tag.TagCode.TheVariants.{OddLength, NoKey, NoValue, Repeated}
 use Rattle.mvt_rules.proofs.Tiles.PairedLists.{each_here, each_there}
 use Rattle.mvt_tile.specs.FreeFaults.{IsLeastOr}
-use Rattle.mvt_tile.specs.RuleFaults.{Breaks, Frees, Keeps, IsAfterTags, IsFaultOfFeature, IsSound}
+use Rattle.mvt_tile.specs.RuleFaults.{Breaks, Frees, Keeps, IsAfterTags, IsFaultOfFeature, IsSoundFeature}
 use Rattle.mvt_tile.specs.Calls.FeatureRules.{IsFaultInLayer, AllSoundInLayer, AllSound, FindsInFeature}
 use Rattle.mvt_wire.specs.Embedded.{AreClean}
 use Rattle.mvt_tile.specs.Calls.RuleFaults.{AreAfterTags, IsFirstTagFault, IsLike}
@@ -27,7 +27,7 @@ use Rattle.mvt_tile.proofs.RuleFaults.TagFaults.{IsLeast-first, no_tag_broken}
 -- the feature in a span is sound, in each layer of which so much is known
 abbrev pub IsGoodFeature : Breaks → Keeps → List ℕ → (LayerRecord → Type 0) → ℕ → ℕ → Span → Type 0
 IsGoodFeature IsBroken IsKept bytes IsKnown layer ordinal span =
-    (it : FeatureRecord) → IsFeature bytes span it → (layer_record : LayerRecord) → IsKnown layer_record → IsSound IsBroken IsKept layer_record it layer ordinal
+    (it : FeatureRecord) → IsFeature bytes span it → (layer_record : LayerRecord) → IsKnown layer_record → IsSoundFeature IsBroken IsKept layer_record it layer ordinal
 
 -- it has this one as its first fault, or a free one
 abbrev pub IsFirstOfFeature : Frees → Breaks → List ℕ → (LayerRecord → Type 0) → ℕ → Fault → ℕ → Span → Type 0

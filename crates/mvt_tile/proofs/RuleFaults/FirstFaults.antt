@@ -8,14 +8,14 @@ use Rattle.mvt_fault.specs.Place.{ComesFirst, IsLeast, place_of}
 use Rattle.mvt_rules.specs.Parts.TrueFaults.{IsFaultOfLayers, OneFeatureHas}
 use Rattle.mvt_fault.specs.declared.fault.Fault.{Fault}
 use Rattle.mvt_fault.proofs.Places.{ComesFirst-antisymmetric, ComesFirst-reflexive, ComesFirst-transitive}
-use Rattle.mvt_tile.specs.FirstFaults.{AreFirstFaults, AreInOrder, ComesBefore, IsFaultOfLayer, IsFirstFault, IsOfLayer, of_layer, of_feature, OneOf}
+use Rattle.mvt_tile.specs.FirstFaults.{AreFirstFaults, AreFaultsInOrder, IsOfEarlierPart, IsFaultOfLayer, IsFirstOfPart, IsOfLayer, of_layer, of_feature, OneOf}
 use Rattle.mvt_tile.specs.FreeFaults.{IsLeastOr, of_least}
 use Rattle.mvt_tile.specs.RuleFaults.{Breaks, Frees, Keeps, BreaksAnyRule, KeepsRules, IsFaultOfFeature}
 use Rattle.mvt_tile.specs.Calls.Gathered.{AreGatheredLayers, AreGatheredTo, TileFeature}
 use Rattle.mvt_tile.specs.Calls.RuleFaults.{AreAfterTags}
 use Rattle.mvt_tile.proofs.RuleFaults.FeatureFaults.{place_at}
 use Rattle.mvt_tile.proofs.RuleFaults.FreeFaults.{first_by_taken, least_or_holds, lifted, take_first}
-use Rattle.mvt_tile.proofs.RuleFaults.Gathered.{ComesBefore-same, OneOf-some}
+use Rattle.mvt_tile.proofs.RuleFaults.Gathered.{IsOfEarlierPart-same, OneOf-some}
 use Rattle.mvt_tile.proofs.RuleFaults.RuleOrder.{by_part, of_feature as its_feature}
 use Rattle.mvt_tile.proofs.RuleFaults.LayerNames.{place_of_layer}
 
@@ -35,11 +35,11 @@ in_second {X} (first ∷ xs) ys after x there =
     ap (slice_get (first ∷ (xs ++ ys))) same ∙ in_second xs ys after x there
 
 -- what comes before by its first numbers does
-before_whole : (place other : List ℕ) → ComesBefore place other → ComesFirst place other
+before_whole : (place other : List ℕ) → IsOfEarlierPart place other → ComesFirst place other
 before_whole place other before = first_by_taken 3 place other before.first before.differ
 
 -- of two places the one with the lesser first number comes before
-by_first_number : (x y : ℕ) (xs ys : List ℕ) → x < y → ComesBefore (x ∷ xs) (y ∷ ys)
+by_first_number : (x y : ℕ) (xs ys : List ℕ) → x < y → IsOfEarlierPart (x ∷ xs) (y ∷ ys)
 by_first_number x y xs ys less = record {
   first = inl less;
   differ = λ same. let heads : x ≡ y = cc same in absurd (omega (arith, heads, less));
@@ -48,7 +48,7 @@ by_first_number x y xs ys less = record {
 module _ (IsFree : Frees) (IsBroken : Breaks) (IsKept : Keeps) (tile : TileRecord) where
   -- the faults of all layers and those of all features
   module _ (after_tags : AreAfterTags IsBroken) (layers features : List Fault) (of_layers : AreGatheredLayers tile (length tile.layers) layers) (of_features : AreGatheredTo IsFree IsBroken IsKept tile (length tile.layers) 0 features) where
-    each_first : (at : ℕ) (fault : Fault) → slice_get (layers ++ features) at ≡ Some fault → IsFirstFault IsFree IsBroken tile fault
+    each_first : (at : ℕ) (fault : Fault) → slice_get (layers ++ features) at ≡ Some fault → IsFirstOfPart IsFree IsBroken tile fault
     each_first at fault there = elim (in_either layers features at fault there) [
       | inl here ↦ let known = of_layers.each at fault here in of_layer known.0 known.2
       | inr further ↦
@@ -57,7 +57,7 @@ module _ (IsFree : Frees) (IsBroken : Breaks) (IsKept : Keeps) (tile : TileRecor
           of_feature it.layer it.feature it.layer_record it.feature_record it.there known.2
     ]
 
-    in_order : AreInOrder (layers ++ features)
+    in_order : AreFaultsInOrder (layers ++ features)
     in_order at later one other before there further = elim (in_either layers features at one there) [
       | inl here ↦ elim (in_either layers features later other further) [
         | inl following ↦ of_layers.in_order at later one other before here following
@@ -66,7 +66,7 @@ module _ (IsFree : Frees) (IsBroken : Breaks) (IsKept : Keeps) (tile : TileRecor
             let also = of_features.each after.0 other after.2 in
             let it = also.0 in
             let place = place_at IsBroken after_tags it.layer_record it.feature_record it.layer it.feature other (least_or_holds IsFree (IsFaultOfFeature IsBroken it.layer_record it.feature_record it.layer it.feature) other also.2) in
-            ComesBefore-same _ _ _ _ known.2.holds.of_layer.1 place.1 (by_first_number 1 2 _ _ (omega arith))
+            IsOfEarlierPart-same _ _ _ _ known.2.holds.of_layer.1 place.1 (by_first_number 1 2 _ _ (omega arith))
       ]
       | inr here ↦
           let here_is = here.1 in
@@ -100,7 +100,7 @@ module _ (IsFree : Frees) (IsBroken : Breaks) (IsKept : Keeps) (tile : TileRecor
     }
 
   -- a first fault is a fault
-  pub first_is_fault : (fault : Fault) → IsFirstFault IsFree IsBroken tile fault → BreaksAnyRule IsBroken tile fault
+  pub first_is_fault : (fault : Fault) → IsFirstOfPart IsFree IsBroken tile fault → BreaksAnyRule IsBroken tile fault
   first_is_fault fault (of_layer layer first) = inl (inl first.holds.broken)
   first_is_fault fault (of_feature layer feature layer_record feature_record there first) = elim (least_or_holds IsFree (IsFaultOfFeature IsBroken layer_record feature_record layer feature) fault first) [
     | inl of_tags ↦ inl (inr (record { layer = layer; feature = feature; layer_record = layer_record; feature_record = feature_record; there = there; broken = of_tags }))
@@ -228,7 +228,7 @@ module _ (IsFree : Frees) (IsBroken : Breaks) (IsKept : Keeps) (tile : TileRecor
   pub first_of_all : AreAfterTags IsBroken → (faults : List Fault) → AreFirstFaults IsFree IsBroken IsKept tile faults → (fault : Fault) → slice_get faults 0 ≡ Some fault → IsLeastOr IsFree (BreaksAnyRule IsBroken tile) fault
   first_of_all after_tags faults are fault there = of_part (are.each 0 fault there)
     where
-      of_part : IsFirstFault IsFree IsBroken tile fault → IsLeastOr IsFree (BreaksAnyRule IsBroken tile) fault
+      of_part : IsFirstOfPart IsFree IsBroken tile fault → IsLeastOr IsFree (BreaksAnyRule IsBroken tile) fault
       of_part (of_layer layer first) = of_least (of_all_layers after_tags faults are fault there layer first.holds)
       of_part (of_feature layer feature layer_record feature_record is first) = of_its_feature after_tags faults are fault there layer feature layer_record feature_record is first
 

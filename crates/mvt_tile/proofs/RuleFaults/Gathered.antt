@@ -8,9 +8,9 @@ use Rattle.mvt_wire.proofs.Encoding.Payloads.{slice_get-last}
 use Rattle.mvt_wire.proofs.Parts.EmbeddedSpans.{slice_get-some, slice_get-push}
 use Rattle.mvt_fault.specs.Place.{place_of}
 use Rattle.mvt_fault.specs.declared.fault.Fault.{Fault}
-use Rattle.mvt_tile.specs.FirstFaults.{ComesBefore, OneOf}
+use Rattle.mvt_tile.specs.FirstFaults.{IsOfEarlierPart, OneOf}
 use Rattle.mvt_tile.specs.FreeFaults.{IsLeastOr}
-use Rattle.mvt_tile.specs.RuleFaults.{Breaks, Frees, Keeps, IsFaultOfFeature, IsSound}
+use Rattle.mvt_tile.specs.RuleFaults.{Breaks, Frees, Keeps, IsFaultOfFeature, IsSoundFeature}
 use Rattle.mvt_tile.specs.Calls.Gathered.{AreGathered, TileFeature, IsInFront, AreGatheredTo}
 use Rattle.mvt_tile.specs.Calls.RuleFaults.{AreAfterTags}
 use Rattle.mvt_tile.proofs.RuleFaults.FeatureFaults.{place_at}
@@ -42,7 +42,7 @@ module _ {Part : Type 0} (IsOf : Part → Fault → Type 0) (IsFree IsPassed IsN
 
   -- or one that has a fault, after those of the parts in front of it
   module _ (part : Part) (next : IsNext part) (fault : Fault) (first : IsOf part fault) where
-    pub AreGathered-pushed : ((it : Part) → IsNext it → IsPassed it ⊎ IsOf it fault) → ((it : Part) (other : Fault) → IsPassed it → IsOf it other → ComesBefore (place_of other) (place_of fault))
+    pub AreGathered-pushed : ((it : Part) → IsNext it → IsPassed it ⊎ IsOf it fault) → ((it : Part) (other : Fault) → IsPassed it → IsOf it other → IsOfEarlierPart (place_of other) (place_of fault))
         → AreGathered IsOf IsFree IsNext (faults ++ fault ∷ [])
     AreGathered-pushed parted ahead = record {
       each = λ at other there. elim (slice_get-push faults fault at other there) [
@@ -59,7 +59,7 @@ module _ {Part : Type 0} (IsOf : Part → Fault → Type 0) (IsFree IsPassed IsN
         | inr last ↦ elim (slice_get-push faults fault at one there) [
           | inl here ↦
               let known = so_far.each at one here in
-              subst (λ (it : Fault). ComesBefore (place_of one) (place_of it)) (sym last.1) (ahead known.0 one known.1 known.2)
+              subst (λ (it : Fault). IsOfEarlierPart (place_of one) (place_of it)) (sym last.1) (ahead known.0 one known.1 known.2)
           | inr also ↦ let at_is = also.0 in let later_is = last.0 in absurd (omega (arith, at_is, later_is, before))
         ]
       ];
@@ -73,11 +73,11 @@ module _ {Part : Type 0} (IsOf : Part → Fault → Type 0) (IsFree IsPassed IsN
     }
 
 -- the order of two places is that of what they are
-pub ComesBefore-same : (place other one another : List ℕ) → place ≡ one → other ≡ another → ComesBefore one another → ComesBefore place other
-ComesBefore-same place other one another is also ordered = subst (λ (list : List ℕ). ComesBefore list other) (sym is) (subst (ComesBefore one) (sym also) ordered)
+pub IsOfEarlierPart-same : (place other one another : List ℕ) → place ≡ one → other ≡ another → IsOfEarlierPart one another → IsOfEarlierPart place other
+IsOfEarlierPart-same place other one another is also ordered = subst (λ (list : List ℕ). IsOfEarlierPart list other) (sym is) (subst (IsOfEarlierPart one) (sym also) ordered)
 
 -- the place of a feature in front comes before
-in_front : (layer feature later_layer later : ℕ) (xs ys : List ℕ) → (layer < later_layer) ⊎ ((layer ≡ later_layer) × (feature < later)) → ComesBefore (2 ∷ layer ∷ feature ∷ xs) (2 ∷ later_layer ∷ later ∷ ys)
+in_front : (layer feature later_layer later : ℕ) (xs ys : List ℕ) → (layer < later_layer) ⊎ ((layer ≡ later_layer) × (feature < later)) → IsOfEarlierPart (2 ∷ layer ∷ feature ∷ xs) (2 ∷ later_layer ∷ later ∷ ys)
 in_front layer feature later_layer later xs ys (inl less) = record {
   first = inr (refl, inl less);
   differ = λ same. let heads : layer ≡ later_layer = cc same in absurd (omega (arith, heads, less));
@@ -128,10 +128,10 @@ module _ (IsFree : Frees) (IsBroken : Breaks) (IsKept : Keeps) (tile : TileRecor
 
     module _ (faults : List Fault) (so_far : AreGatheredTo IsFree IsBroken IsKept tile layer feature faults) where
       -- a sound feature was passed
-      pub gathered_kept : IsSound IsBroken IsKept layer_record feature_record layer feature → AreGatheredTo IsFree IsBroken IsKept tile layer (feature + 1) faults
+      pub gathered_kept : IsSoundFeature IsBroken IsKept layer_record feature_record layer feature → AreGatheredTo IsFree IsBroken IsKept tile layer (feature + 1) faults
       gathered_kept sound =
           AreGathered-kept {Part = TileFeature tile} _ _ (IsInFront layer feature) (IsInFront layer (feature + 1)) further faults so_far
-          (parted (λ l f list record_of. IsSound IsBroken IsKept list record_of l f) sound)
+          (parted (λ l f list record_of. IsSoundFeature IsBroken IsKept list record_of l f) sound)
 
       -- or one with a fault
       pub gathered_pushed : AreAfterTags IsBroken → (fault : Fault) → IsLeastOr IsFree (IsFaultOfFeature IsBroken layer_record feature_record layer feature) fault → AreGatheredTo IsFree IsBroken IsKept tile layer (feature + 1) (faults ++ fault ∷ [])
@@ -142,7 +142,7 @@ module _ (IsFree : Frees) (IsBroken : Breaks) (IsKept : Keeps) (tile : TileRecor
           (λ it other front broken.
           let one = place_at IsBroken after_tags it.layer_record it.feature_record it.layer it.feature other (least_or_holds IsFree (IsFaultOfFeature IsBroken it.layer_record it.feature_record it.layer it.feature) other broken) in
           let here = place_at IsBroken after_tags layer_record feature_record layer feature fault (least_or_holds IsFree (IsFaultOfFeature IsBroken layer_record feature_record layer feature) fault first) in
-          ComesBefore-same _ _ _ _ one.1 here.1 (in_front it.layer it.feature layer feature one.0 here.0 front))
+          IsOfEarlierPart-same _ _ _ _ one.1 here.1 (in_front it.layer it.feature layer feature one.0 here.0 front))
 
   -- all features of a layer were passed
   module _ (layer : ℕ) (layer_record : LayerRecord) (there : slice_get tile.layers layer ≡ Some layer_record) where

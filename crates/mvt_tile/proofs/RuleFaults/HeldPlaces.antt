@@ -10,7 +10,7 @@ use Rattle.std.specs.Option.{option_map}
 use Rattle.mvt_tile.specs.Advice.{KeyAt, IdAt}
 use Rattle.mvt_tile.specs.Calls.Equal.{AreFirstPlaces, HavePlaces, HeldAt, held_value}
 use Rattle.mvt_tile.specs.Calls.Gathered.{NameAt}
-use Rattle.mvt_tile.specs.Calls.Names.{key_of}
+use Rattle.mvt_tile.specs.Calls.Names.{name_key}
 use Rattle.mvt_tile.specs.declared.first_places.Held.{Held}
 use Rattle.mvt_tile.specs.declared.rules.summary.LayerSummary.{LayerSummary}
 use Rattle.mvt_tile.proofs.RuleFaults.Names.{IsNaming, AreGrouped, compare_keyed, grouped_by_sort}
@@ -79,11 +79,11 @@ module _ (bound : ℕ) (items : List Held) (places : HavePlaces bound items) whe
 
 -- a key of a layer is held with the number of its first bytes
 abbrev pub KeyHeldAt : LayerRecord → ℕ → List ℕ → Type 0
-KeyHeldAt layer_record = Through (λ key. key_of key ∷ key) (KeyAt layer_record)
+KeyHeldAt layer_record = Through (λ key. name_key key ∷ key) (KeyAt layer_record)
 
 -- and so is the name of a layer
 abbrev pub NameHeldAt : List LayerSummary → ℕ → List ℕ → Type 0
-NameHeldAt summaries = Through (λ name. key_of name ∷ name) (NameAt summaries)
+NameHeldAt summaries = Through (λ name. name_key name ∷ name) (NameAt summaries)
 
 -- an id is held as a number alone
 abbrev pub IdHeldAt : LayerRecord → ℕ → List ℕ → Type 0

@@ -15,11 +15,11 @@ use Rattle.mvt_fault.specs.declared.fault.Fault.{Fault}
 use Rattle.mvt_fault.specs.declared.fault.Fault.TheVariants.{Version, Name}
 use Rattle.mvt_fault.proofs.Places.{ComesFirst-reflexive}
 use Rattle.mvt_tile.specs.Advice.{IsRepetition}
-use Rattle.mvt_tile.specs.FirstFaults.{ComesBefore, IsFaultOfLayer, IsOfLayer}
+use Rattle.mvt_tile.specs.FirstFaults.{IsOfEarlierPart, IsFaultOfLayer, IsOfLayer}
 use Rattle.mvt_tile.specs.Calls.Gathered.{AreGatheredLayers, AreSummaries, NameAt}
 use Rattle.mvt_tile.specs.Calls.RuleFaults.{IsSummary}
 use Rattle.mvt_tile.specs.declared.rules.summary.LayerSummary.{LayerSummary}
-use Rattle.mvt_tile.proofs.RuleFaults.Gathered.{AreGathered-none, AreGathered-kept, AreGathered-pushed, ComesBefore-same}
+use Rattle.mvt_tile.proofs.RuleFaults.Gathered.{AreGathered-none, AreGathered-kept, AreGathered-pushed, IsOfEarlierPart-same}
 use Rattle.mvt_tile.proofs.RuleFaults.LayerNames.{by_layer, name_numbers, version_numbers}
 
 -- what the code reads of a place where there is no summary
@@ -215,9 +215,9 @@ module _ (tile : TileRecord) where
     layers_pushed fault first =
         AreGathered-pushed (λ it. IsLeast (IsFaultOfLayer tile it)) _ (λ it. it < layer) (λ it. it < layer + 1) (λ it before. omega (arith, before)) faults so_far
         layer (omega arith) fault first (parted (λ it. IsLeast (IsFaultOfLayer tile it) fault) first)
-        (λ it other before broken. ComesBefore-same _ _ _ _ broken.holds.of_layer.1 first.holds.of_layer.1 (earlier it broken.holds.of_layer.0 first.holds.of_layer.0 before))
+        (λ it other before broken. IsOfEarlierPart-same _ _ _ _ broken.holds.of_layer.1 first.holds.of_layer.1 (earlier it broken.holds.of_layer.0 first.holds.of_layer.0 before))
       where
-        earlier : (it : ℕ) (xs ys : List ℕ) → it < layer → ComesBefore (1 ∷ it ∷ xs) (1 ∷ layer ∷ ys)
+        earlier : (it : ℕ) (xs ys : List ℕ) → it < layer → IsOfEarlierPart (1 ∷ it ∷ xs) (1 ∷ layer ∷ ys)
         earlier it xs ys before = record {
           first = inr (refl, inl before);
           differ = λ same. let heads : it ≡ layer = cc same in absurd (omega (arith, heads, before));

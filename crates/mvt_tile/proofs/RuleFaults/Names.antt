@@ -90,7 +90,7 @@ module _ {X : Type 0} (name : X → List ℕ) (ordinal : X → ℕ) (At : ℕ �
     pub together : (at middle other : ℕ) (x z y : X) → at ≤ middle → middle ≤ other → slice_get xs at ≡ Some x → slice_get xs middle ≡ Some z → slice_get xs other ≡ Some y
         → name x ≡ name y → name x ≡ name z
 
-  module _ (key : X → ℕ) (key_of : List ℕ → ℕ) where
+  module _ (key : X → ℕ) (name_key : List ℕ → ℕ) where
     keyed_total : IsTotalOrder (compare_keyed key name ordinal)
     keyed_total = then_total (on_total key nat_cmp_total) (then_total (on_total name nat_list_cmp_total) (on_total ordinal nat_cmp_total))
 
@@ -104,22 +104,22 @@ module _ {X : Type 0} (name : X → List ℕ) (ordinal : X → ℕ) (At : ℕ �
         rw (here, further) at (sorted_far (λ (x y : X). is_lt (compare_keyed key name ordinal x y)) (ranks_by keyed_total (λ (x : X). x)) xs sorted at other x following within)
 
     -- those of one name have one key
-    pub one_key : (xs : List X) → All (λ (x : X). key x ≡ key_of (name x)) xs → (at other : ℕ) (x y : X) → slice_get xs at ≡ Some x → slice_get xs other ≡ Some y → name x ≡ name y → key x ≡ key y
-    one_key xs keyed at other x y there elsewhere same = its at x there ∙ ap key_of same ∙ sym (its other y elsewhere)
+    pub one_key : (xs : List X) → All (λ (x : X). key x ≡ name_key (name x)) xs → (at other : ℕ) (x y : X) → slice_get xs at ≡ Some x → slice_get xs other ≡ Some y → name x ≡ name y → key x ≡ key y
+    one_key xs keyed at other x y there elsewhere same = its at x there ∙ ap name_key same ∙ sym (its other y elsewhere)
       where
-        its : (at : ℕ) (x : X) → slice_get xs at ≡ Some x → key x ≡ key_of (name x)
-        its at x there = subst (λ (it : X). key it ≡ key_of (name it)) (get_or_from_slice_get xs at x x there)
-            (All-get_or (λ (it : X). key it ≡ key_of (name it)) xs at x (slice_get_within xs at x there) keyed)
+        its : (at : ℕ) (x : X) → slice_get xs at ≡ Some x → key x ≡ name_key (name x)
+        its at x there = subst (λ (it : X). key it ≡ name_key (name it)) (get_or_from_slice_get xs at x x there)
+            (All-get_or (λ (it : X). key it ≡ name_key (name it)) xs at x (slice_get_within xs at x there) keyed)
 
     -- so names that are the same are neighbours, and those of one name in the order of their ordinals
-    pub grouped_by_sort : (before xs : List X) → IsNaming before → All (λ (x : X). key x ≡ key_of (name x)) before → IsPermutation before xs → IsSorted (compare_keyed key name ordinal) xs → AreGrouped xs
+    pub grouped_by_sort : (before xs : List X) → IsNaming before → All (λ (x : X). key x ≡ name_key (name x)) before → IsPermutation before xs → IsSorted (compare_keyed key name ordinal) xs → AreGrouped xs
     grouped_by_sort before xs it keyed permutation sorted = record { naming = naming; rising = rising; together = together }
       where
         naming : IsNaming xs
         naming = IsPermutation-keeps before IsNaming it naming_swapped xs permutation
 
         same_key : (at other : ℕ) (x y : X) → slice_get xs at ≡ Some x → slice_get xs other ≡ Some y → name x ≡ name y → key x ≡ key y
-        same_key = one_key xs (All-permutation (λ (x : X). key x ≡ key_of (name x)) before xs permutation keyed)
+        same_key = one_key xs (All-permutation (λ (x : X). key x ≡ name_key (name x)) before xs permutation keyed)
 
         rising : (at other : ℕ) (x y : X) → at < other → slice_get xs at ≡ Some x → slice_get xs other ≡ Some y → name x ≡ name y → ordinal x < ordinal y
         rising at other x y ahead there elsewhere same =

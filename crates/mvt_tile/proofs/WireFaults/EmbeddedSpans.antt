@@ -60,4 +60,4 @@ module _ {message : List ℕ} {from : ℕ} {old new : Walk} {entries : List Entr
 -- it lies within the bytes
 pub LiesIn-given : (bytes : List ℕ) (end : ℕ) {from : ℕ} {old new : Walk} {entries : List Entry} {entry : Entry} → IsWalking (take end bytes) from old entries → GivesField old new entry → LiesIn bytes entry
 LiesIn-given bytes end {new = new} {entry = entry} so_far given =
-    LiesIn-field bytes end new.at entry (subst (λ (message : List ℕ). IsField message new.at entry) so_far.same_bytes given.spelled)
+    LiesIn-field bytes end new.at entry (subst (λ (message : List ℕ). IsField message new.at entry) so_far.same_bytes given.encoded)

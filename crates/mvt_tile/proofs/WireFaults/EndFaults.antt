@@ -9,7 +9,7 @@ use Rattle.mvt_wire.specs.declared.schema.Message.{Message}
 use Rattle.mvt_wire.specs.declared.schema.Message.TheVariants.{Value}
 use Rattle.mvt_fault.specs.Place.{ComesFirst}
 use Rattle.mvt_tile.specs.Calls.Least.{cause_place, IsLeastCause}
-use Rattle.mvt_tile.specs.Calls.FieldScan.{Passes, IsMissing}
+use Rattle.mvt_tile.specs.Calls.FieldScan.{HasScanned, IsMissing}
 use Rattle.mvt_tile.specs.declared.wire.scan.FieldScan.{FieldScan}
 use Rattle.mvt_tile.proofs.WireFaults.Causes.{same_cause}
 
@@ -35,14 +35,14 @@ UnseenOrNotOne message scan end cause =
 not_true : (b : Bool) → ¬ (b ≡ true) → b ≡ false
 not_true b never = elim (cases_Bool b) [ inl is ↦ absurd (never is) | inr is ↦ is ]
 
-unseen_or_not_one : (message : Message) (scan : FieldScan) (entries : List Entry) (end : ℕ) (cause : WireCause) → Passes message scan entries → EndFault message entries end cause → UnseenOrNotOne message scan end cause
+unseen_or_not_one : (message : Message) (scan : FieldScan) (entries : List Entry) (end : ℕ) (cause : WireCause) → HasScanned message scan entries → EndFault message entries end cause → UnseenOrNotOne message scan end cause
 unseen_or_not_one message scan entries end cause passes (missing field_number rule known required absent is) =
     inl (field_number, record { rule = rule; known = known; required = required; absent = passes.occurred field_number rule known ∙ absent }, is)
 unseen_or_not_one message scan entries end cause passes (not_one value count is) =
     inr (value, not_true (scan.known && not scan.several) (λ one. count (one_known (count_known message entries) scan.known scan.several (passes.known value) (passes.several value) one)), is)
 
 -- the least missing number is the first fault at the end
-pub Missing-first : (message : Message) (scan : FieldScan) (entries : List Entry) (end field_number : ℕ) → IsMissing message scan field_number → ((other : ℕ) → IsMissing message scan other → field_number ≤ other) → Passes message scan entries
+pub Missing-first : (message : Message) (scan : FieldScan) (entries : List Entry) (end field_number : ℕ) → IsMissing message scan field_number → ((other : ℕ) → IsMissing message scan other → field_number ≤ other) → HasScanned message scan entries
     → IsLeastCause (EndFault message entries end) (cause_at Missing end field_number)
 Missing-first message scan entries end field_number here least passes = record {
   holds = missing field_number here.rule here.known here.required (sym (passes.occurred field_number here.rule here.known) ∙ here.absent) refl;
@@ -60,7 +60,7 @@ Missing-first message scan entries end field_number here least passes = record {
 }
 
 -- where no number is missing, and a value has just one of its fields, there is none
-pub EndFault-none : (message : Message) (scan : FieldScan) (entries : List Entry) (end : ℕ) → ((field_number : ℕ) → ¬ IsMissing message scan field_number) → (message ≡ Value → (scan.known && not scan.several) ≡ true) → Passes message scan entries
+pub EndFault-none : (message : Message) (scan : FieldScan) (entries : List Entry) (end : ℕ) → ((field_number : ℕ) → ¬ IsMissing message scan field_number) → (message ≡ Value → (scan.known && not scan.several) ≡ true) → HasScanned message scan entries
     → (cause : WireCause) → ¬ EndFault message entries end cause
 EndFault-none message scan entries end none one passes cause fault = elim (unseen_or_not_one message scan entries end cause passes fault) [
   | inl unseen ↦ none unseen.0 unseen.1

@@ -30,5 +30,5 @@ payload_place bytes at key_end to (four_bytes part) forward p = tt
 pub IsPlaced-field : (bytes : List ℕ) (next : ℕ) (entry : Entry) → IsField bytes next entry → IsPlaced entry next
 IsPlaced-field bytes next entry field = record {
   forward = (field_extent bytes next entry field).0;
-  payload = payload_place bytes entry.at field.key_end next entry.content field.key.spelled.forward field.payload;
+  payload = payload_place bytes entry.at field.key_end next entry.content field.key.encoded.forward field.payload;
 }

@@ -10,10 +10,10 @@ use Rattle.mvt_wire.specs.declared.schema.Message.{Message}
 use Rattle.mvt_wire.specs.declared.schema.Message.TheVariants.{Value}
 use Rattle.mvt_tile.specs.Calls.Least.{IsLeastCause}
 use Rattle.mvt_tile.proofs.WireFaults.FieldPlaces.{IsPlaced}
-use Rattle.mvt_tile.specs.Calls.FieldScan.{was_seen, Passes, IsFirstFault}
+use Rattle.mvt_tile.specs.Calls.FieldScan.{was_seen, HasScanned, IsFirstFieldFault}
 use Rattle.mvt_tile.specs.declared.wire.scan.FieldScan.{FieldScan}
 use Rattle.mvt_rules.proofs.Tiles.Schemas.{stands_in-own, stands_in-other}
-use Rattle.mvt_tile.proofs.WireFaults.OneMoreField.{count_known-more, count_known-same, faultless-unknown, faultless-known, IsFirstFault-new}
+use Rattle.mvt_tile.proofs.WireFaults.OneMoreField.{count_known-more, count_known-same, faultless-unknown, faultless-known, IsFirstFieldFault-new}
 
 -- no field was passed
 pub none_split : (before : List Entry) (entry : Entry) (after : List Entry) → [] ≡ before ++ entry ∷ after → ⊥
@@ -21,8 +21,8 @@ none_split [] entry after is = cc
 none_split (b ∷ before) entry after is = cc
 
 -- a field of an unknown number is passed
-pub Passes-unknown : (message : Message) (scan : FieldScan) (entries : List Entry) (entry : Entry) → rule_of message entry.number ≡ None → Passes message scan entries → Passes message scan (entries ++ entry ∷ [])
-Passes-unknown message scan entries entry unknown so_far =
+pub HasScanned-unknown : (message : Message) (scan : FieldScan) (entries : List Entry) (entry : Entry) → rule_of message entry.number ≡ None → HasScanned message scan entries → HasScanned message scan (entries ++ entry ∷ [])
+HasScanned-unknown message scan entries entry unknown so_far =
     let same : count_known message entries ≡ count_known message (entries ++ entry ∷ []) = sym (count_known-same message entries entry unknown) in
     record {
       occurred = λ field_number rule known.
@@ -53,10 +53,10 @@ lt_more count = elim (cases_lt 0 count) [
 ]
 
 -- a field of a known number is passed, which has no fault
-pub Passes-known : (message : Message) (scan : FieldScan) (entries : List Entry) (entry : Entry) (rule : FieldRule) → rule_of message entry.number ≡ Some rule → entry.number < length scan.occurred
-    → ((cause : WireCause) → ¬ EntryFault rule (was_seen scan entry.number) entry cause) → Passes message scan entries
-    → (after : FieldScan) → after.occurred ≡ slice_set scan.occurred entry.number true → (message ≡ Value → (after.known ≡ true) × (after.several ≡ scan.known)) → Passes message after (entries ++ entry ∷ [])
-Passes-known message scan entries entry rule is within clean so_far after kept counted =
+pub HasScanned-known : (message : Message) (scan : FieldScan) (entries : List Entry) (entry : Entry) (rule : FieldRule) → rule_of message entry.number ≡ Some rule → entry.number < length scan.occurred
+    → ((cause : WireCause) → ¬ EntryFault rule (was_seen scan entry.number) entry cause) → HasScanned message scan entries
+    → (after : FieldScan) → after.occurred ≡ slice_set scan.occurred entry.number true → (message ≡ Value → (after.known ≡ true) × (after.several ≡ scan.known)) → HasScanned message after (entries ++ entry ∷ [])
+HasScanned-known message scan entries entry rule is within clean so_far after kept counted =
     let more = count_known-more message entries entry rule is in
     record {
       occurred = λ field_number other asked. ap (λ (occurred : List Bool). get_or occurred field_number false) kept ∙ occurred_more scan.occurred entries entry field_number within (so_far.occurred field_number other asked);
@@ -67,8 +67,8 @@ Passes-known message scan entries entry rule is within clean so_far after kept c
     }
 
 -- its first fault is the first of all
-pub Passes-fault : (message : Message) (scan : FieldScan) (entries : List Entry) (entry : Entry) (next : ℕ) (rule : FieldRule) (cause : WireCause) → IsPlaced entry next → rule_of message entry.number ≡ Some rule
-    → IsLeastCause (EntryFault rule (was_seen scan entry.number) entry) cause → Passes message scan entries → IsFirstFault message (entries ++ entry ∷ []) next cause
-Passes-fault message scan entries entry next rule cause placed is least so_far =
-    IsFirstFault-new message entries entry next rule cause placed is so_far.faultless
+pub HasScanned-fault : (message : Message) (scan : FieldScan) (entries : List Entry) (entry : Entry) (next : ℕ) (rule : FieldRule) (cause : WireCause) → IsPlaced entry next → rule_of message entry.number ≡ Some rule
+    → IsLeastCause (EntryFault rule (was_seen scan entry.number) entry) cause → HasScanned message scan entries → IsFirstFieldFault message (entries ++ entry ∷ []) next cause
+HasScanned-fault message scan entries entry next rule cause placed is least so_far =
+    IsFirstFieldFault-new message entries entry next rule cause placed is so_far.faultless
     (subst (λ (occurred : Bool). IsLeastCause (EntryFault rule occurred entry) cause) (so_far.occurred entry.number rule is) least)

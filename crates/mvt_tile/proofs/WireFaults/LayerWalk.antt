@@ -16,7 +16,7 @@ use Rattle.mvt_fault.specs.declared.fault.Fault.{Fault}
 use Rattle.mvt_tile.specs.Calls.Embedded.{HasNone, HasFirst, IsLayerFault}
 use Rattle.mvt_wire.specs.Embedded.{FindsFirst}
 use Rattle.mvt_tile.specs.Calls.Least.{FindsLeastCause}
-use Rattle.mvt_tile.specs.Calls.FieldScan.{Passes, PassesNext, IsFirstFrom}
+use Rattle.mvt_tile.specs.Calls.FieldScan.{HasScanned, PassesNext, IsFirstFrom}
 use Rattle.mvt_wire.specs.declared.embedded.EmbeddedScan.{EmbeddedScan}
 use Rattle.mvt_tile.specs.declared.wire.message.MessageCheck.{MessageCheck}
 use Rattle.mvt_tile.specs.declared.wire.scan.FieldScan.{FieldScan}
@@ -96,16 +96,16 @@ module _ (bytes : List ℕ) (from to at : ℕ) (own : FieldScan) (value_scan fea
     whole = let size = length-take-le to bytes within in subst (λ (place : ℕ). FieldList (take to bytes) from so_far.entries place) (over ∙ sym size) so_far.scanning.passed
 
     -- what the scan of the layer's own fields finds
-    own_finds : (found : Option WireCause) → ((passed : List Entry) → Passes messages.Layer own passed → FindsLeastCause (EndFault messages.Layer passed to) found)
+    own_finds : (found : Option WireCause) → ((passed : List Entry) → HasScanned messages.Layer own passed → FindsLeastCause (EndFault messages.Layer passed to) found)
         → FindsLeastCause (MessageFault messages.Layer (take to bytes) from) found
     own_finds found finds = IsScanning-whole bytes to found within over so_far.scanning finds
 
     pub LayerWalk-own : (layer : ℕ) (cause : WireCause)
-        → ((passed : List Entry) → Passes messages.Layer own passed → FindsLeastCause (EndFault messages.Layer passed to) (Some cause))
+        → ((passed : List Entry) → HasScanned messages.Layer own passed → FindsLeastCause (EndFault messages.Layer passed to) (Some cause))
         → IsLeast (IsLayerFault bytes (span_between from to) layer) (wire_fault_in (scopes.Layer layer) cause)
     LayerWalk-own layer cause finds = IsLeast-own bytes (span_between from to) layer cause (own_finds (Some cause) finds)
 
-    module _ (none : (passed : List Entry) → Passes messages.Layer own passed → FindsLeastCause (EndFault messages.Layer passed to) None) where
+    module _ (none : (passed : List Entry) → HasScanned messages.Layer own passed → FindsLeastCause (EndFault messages.Layer passed to) None) where
       -- that of a value, where the layer has none of its own
       pub LayerWalk-value : (layer ordinal : ℕ) (cause : WireCause) → value_scan.first ≡ Some (ordinal, cause) → IsLeast (IsLayerFault bytes (span_between from to) layer) (wire_fault_in (scopes.Value layer ordinal) cause)
       LayerWalk-value layer ordinal cause first =

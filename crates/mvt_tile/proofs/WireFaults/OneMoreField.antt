@@ -10,7 +10,7 @@ use Rattle.mvt_wire.specs.declared.schema.FieldRule.{FieldRule}
 use Rattle.mvt_wire.specs.declared.schema.Message.{Message}
 use Rattle.mvt_tile.specs.Calls.Least.{IsLeastCause}
 use Rattle.mvt_tile.proofs.WireFaults.FieldPlaces.{IsPlaced}
-use Rattle.mvt_tile.specs.Calls.FieldScan.{IsFirstFault}
+use Rattle.mvt_tile.specs.Calls.FieldScan.{IsFirstFieldFault}
 use Rattle.mvt_tile.proofs.WireFaults.Causes.{by_offset}
 use Rattle.mvt_tile.proofs.WireFaults.FieldFaults.{fault_within}
 use Rattle.mvt_rules.proofs.Tiles.LastFields.{LastFault, FieldFault-last, FieldFault-earlier}
@@ -55,10 +55,10 @@ faultless-known message entries last rule known none clean cause fault = elim (F
 ]
 
 -- the first fault of a field after faultless ones is the first of all
-pub IsFirstFault-new : (message : Message) (entries : List Entry) (last : Entry) (next : ℕ) (rule : FieldRule) (first : WireCause) → IsPlaced last next → rule_of message last.number ≡ Some rule
+pub IsFirstFieldFault-new : (message : Message) (entries : List Entry) (last : Entry) (next : ℕ) (rule : FieldRule) (first : WireCause) → IsPlaced last next → rule_of message last.number ≡ Some rule
     → ((cause : WireCause) → ¬ FieldFault message entries cause) → IsLeastCause (EntryFault rule (stands_in last.number entries) last) first
-    → IsFirstFault message (entries ++ last ∷ []) next first
-IsFirstFault-new message entries last next rule first placed known none least = record {
+    → IsFirstFieldFault message (entries ++ last ∷ []) next first
+IsFirstFieldFault-new message entries last next rule first placed known none least = record {
   before = (fault_within rule (stands_in last.number entries) last next first placed least.holds).1;
   least = record {
     holds = record { before = entries; entry = last; after = []; split = refl; rule = rule; known = known; fault = least.holds };
@@ -70,9 +70,9 @@ IsFirstFault-new message entries last next rule first placed known none least = 
 }
 
 -- and stays it, whatever is later
-pub IsFirstFault-kept : (message : Message) (entries : List Entry) (last : Entry) (next : ℕ) (first : WireCause) → IsPlaced last next
-    → IsFirstFault message entries last.at first → IsFirstFault message (entries ++ last ∷ []) next first
-IsFirstFault-kept message entries last next first placed so_far = record {
+pub IsFirstFieldFault-kept : (message : Message) (entries : List Entry) (last : Entry) (next : ℕ) (first : WireCause) → IsPlaced last next
+    → IsFirstFieldFault message entries last.at first → IsFirstFieldFault message (entries ++ last ∷ []) next first
+IsFirstFieldFault-kept message entries last next first placed so_far = record {
   before = let forward = placed.forward in let before = so_far.before in omega arith;
   least = record {
     holds = FieldFault-earlier message entries last first so_far.least.holds;

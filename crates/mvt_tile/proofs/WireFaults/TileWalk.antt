@@ -16,9 +16,9 @@ use Rattle.mvt_rules.specs.Parts.TrueFaults.{IsWireFault}
 use Rattle.mvt_fault.specs.Cause.{wire_fault_in}
 use Rattle.mvt_fault.specs.declared.fault.Fault.{Fault}
 use Rattle.mvt_wire.specs.Embedded.{FindsFirst}
-use Rattle.mvt_tile.specs.Calls.Embedded.{IsFaultless, IsFirstOf}
+use Rattle.mvt_tile.specs.Calls.Embedded.{IsFaultlessLayer, IsFirstOfLayer}
 use Rattle.mvt_tile.specs.Calls.Least.{IsLeastCause, FindsLeastCause}
-use Rattle.mvt_tile.specs.Calls.FieldScan.{Passes, PassesNext, IsFirstFrom}
+use Rattle.mvt_tile.specs.Calls.FieldScan.{HasScanned, PassesNext, IsFirstFrom}
 use Rattle.mvt_tile.specs.declared.wire.Layers.{Layers}
 use Rattle.mvt_wire.specs.declared.embedded.EmbeddedScan.{EmbeddedScan}
 use Rattle.mvt_tile.specs.declared.wire.scan.FieldScan.{FieldScan}
@@ -27,7 +27,7 @@ use Rattle.mvt_tile.proofs.WireFaults.Walking.{IsScanning, IsScanning-more, IsSc
 
 -- the scan has passed these fields
 abbrev pub ScansLayers : List ℕ → EmbeddedScan Layers Fault → List Entry → Type 0
-ScansLayers bytes scan entries = FindsFirst (IsFaultless bytes) (IsFirstOf bytes) (spans_of scan.number entries) scan.count scan.first
+ScansLayers bytes scan entries = FindsFirst (IsFaultlessLayer bytes) (IsFirstOfLayer bytes) (spans_of scan.number entries) scan.count scan.first
 
 -- the fields that were passed, and what the two scans keep of them
 pub record TileWalk (bytes : List ℕ) (at : ℕ) (own : FieldScan) (layer_scan : EmbeddedScan Layers Fault) : Type 0 where
@@ -73,18 +73,18 @@ module _ (bytes : List ℕ) (at : ℕ) (own : FieldScan) (layer_scan : EmbeddedS
     whole : IsMessage (take (length bytes) bytes) 0 so_far.entries
     whole = subst (λ (place : ℕ). FieldList (take (length bytes) bytes) 0 so_far.entries place) (over ∙ sym (length-take-le (length bytes) bytes (omega arith))) scanning.passed
 
-    own_finds : (found : Option WireCause) → ((passed : List Entry) → Passes Tile own passed → FindsLeastCause (EndFault Tile passed (length bytes)) found)
+    own_finds : (found : Option WireCause) → ((passed : List Entry) → HasScanned Tile own passed → FindsLeastCause (EndFault Tile passed (length bytes)) found)
         → FindsLeastCause (MessageFault Tile (take (length bytes) bytes) 0) found
     own_finds found finds = IsScanning-whole bytes (length bytes) found (omega arith) over scanning finds
 
     pub TileWalk-own : (cause : WireCause)
-        → ((passed : List Entry) → Passes Tile own passed → FindsLeastCause (EndFault Tile passed (length bytes)) (Some cause))
+        → ((passed : List Entry) → HasScanned Tile own passed → FindsLeastCause (EndFault Tile passed (length bytes)) (Some cause))
         → IsLeast (IsWireFault bytes) (wire_fault_in scopes.Tile cause)
     TileWalk-own cause finds = IsLeast-tile bytes cause (own_finds (Some cause) finds)
 
-    module _ (none : (passed : List Entry) → Passes Tile own passed → FindsLeastCause (EndFault Tile passed (length bytes)) None) where
+    module _ (none : (passed : List Entry) → HasScanned Tile own passed → FindsLeastCause (EndFault Tile passed (length bytes)) None) where
       -- else that of the first layer that has one, or none
-      first_of_layers : (found : Option Fault) → FindsFirst (IsFaultless bytes) (IsFirstOf bytes) (spans_of 3 so_far.entries) layer_scan.count found
+      first_of_layers : (found : Option Fault) → FindsFirst (IsFaultlessLayer bytes) (IsFirstOfLayer bytes) (spans_of 3 so_far.entries) layer_scan.count found
           → IfNone found ((scope : Scope) (cause : WireCause) → ¬ WireFault bytes scope cause) × IfSome found (IsLeast (IsWireFault bytes))
       first_of_layers None finds =
           (WireFault-none bytes so_far.entries whole (own_finds None none) layer_scan.count finds, tt)
@@ -94,4 +94,4 @@ module _ (bytes : List ℕ) (at : ℕ) (own : FieldScan) (layer_scan : EmbeddedS
       pub TileWalk-layers : IfNone layer_scan.first ((scope : Scope) (cause : WireCause) → ¬ WireFault bytes scope cause) × IfSome layer_scan.first (IsLeast (IsWireFault bytes))
       TileWalk-layers =
           first_of_layers layer_scan.first
-          (subst (λ (n : ℕ). FindsFirst (IsFaultless bytes) (IsFirstOf bytes) (spans_of n so_far.entries) layer_scan.count layer_scan.first) so_far.number so_far.layers)
+          (subst (λ (n : ℕ). FindsFirst (IsFaultlessLayer bytes) (IsFirstOfLayer bytes) (spans_of n so_far.entries) layer_scan.count layer_scan.first) so_far.number so_far.layers)

@@ -15,7 +15,7 @@ use Rattle.mvt_fault.specs.Place.{ComesFirst, IsLeast, place_of}
 use Rattle.mvt_rules.specs.Parts.TrueFaults.{IsWireFault, wire}
 use Rattle.mvt_fault.specs.Cause.{wire_fault_in}
 use Rattle.mvt_fault.specs.declared.fault.Fault.{Fault}
-use Rattle.mvt_tile.specs.Calls.Embedded.{HasFault, FaultInLayer, IsLayerFault, IsFaultless, IsFirstOf}
+use Rattle.mvt_tile.specs.Calls.Embedded.{HasFault, FaultInLayer, IsLayerFault, IsFaultlessLayer, IsFirstOfLayer}
 use Rattle.mvt_wire.specs.Embedded.{IsFirst, FindsFirst}
 use Rattle.mvt_tile.specs.Calls.Embedded as layer_faults
 use Rattle.mvt_tile.specs.Calls.Least.{cause_place, IsLeastCause}
@@ -93,14 +93,14 @@ IsLeast-tile bytes cause least = record { holds = wire cause.code Tile cause.at 
 
 module _ (bytes : List ℕ) (entries : List Entry) (whole : IsMessageAt bytes (whole_span bytes) entries) (none : (cause : WireCause) → ¬ HasFault messages.Tile bytes (whole_span bytes) cause) where
   -- where no layer has a fault either, there is none
-  pub WireFault-none : (count : ℕ) → FindsFirst (IsFaultless bytes) (IsFirstOf bytes) (spans_of 3 entries) count None → (scope : Scope) (cause : WireCause) → ¬ WireFault bytes scope cause
+  pub WireFault-none : (count : ℕ) → FindsFirst (IsFaultlessLayer bytes) (IsFirstOfLayer bytes) (spans_of 3 entries) count None → (scope : Scope) (cause : WireCause) → ¬ WireFault bytes scope cause
   WireFault-none count finds scope cause holds = elim (own_or_in bytes scope cause holds) [
     | inl own ↦ none cause own.1
     | inr inside ↦ finds.1 inside.layer inside.span (part_here bytes (whole_span bytes) 3 inside.layer inside.span entries whole inside.part) (wire_fault_in scope cause) (layer_faults.wire cause.code scope cause.at cause.field inside.fault)
   ]
 
   -- the first fault of the first layer that has one comes before those of the others
-  module _ (first : Fault) (finds : IsFirst (IsFaultless bytes) (IsFirstOf bytes first) (spans_of 3 entries)) where
+  module _ (first : Fault) (finds : IsFirst (IsFaultlessLayer bytes) (IsFirstOfLayer bytes first) (spans_of 3 entries)) where
     first_part : IsPart bytes (whole_span bytes) 3 finds.ordinal finds.span
     first_part = record { entries = entries; whole = whole; here = finds.here }
 

@@ -11,12 +11,12 @@ use Rattle.mvt_wire.specs.declared.schema.Message.{Message}
 use Rattle.mvt_wire.proofs.Encoding.Messages.{FieldList-push, one_list, whole_or_defect, one_defect}
 use Rattle.mvt_tile.specs.Calls.Least.{IsLeastCause, FindsLeastCause}
 use Rattle.mvt_wire.specs.Walk.{IsDefectOr}
-use Rattle.mvt_tile.specs.Calls.FieldScan.{Passes, PassesNext, IsFirstFault}
+use Rattle.mvt_tile.specs.Calls.FieldScan.{HasScanned, PassesNext, IsFirstFieldFault}
 use Rattle.mvt_tile.specs.declared.wire.scan.FieldScan.{FieldScan}
 use Rattle.mvt_tile.proofs.WireFaults.Causes.{by_offset, same_cause}
 use Rattle.mvt_tile.proofs.WireFaults.EndFaults.{end_place}
 use Rattle.mvt_tile.proofs.WireFaults.FieldPlaces.{IsPlaced-field}
-use Rattle.mvt_tile.proofs.WireFaults.OneMoreField.{IsFirstFault-kept}
+use Rattle.mvt_tile.proofs.WireFaults.OneMoreField.{IsFirstFieldFault-kept}
 use Rattle.mvt_wire.proofs.Walking.{IsWalking}
 
 -- a defect is the only fault of its message
@@ -54,15 +54,15 @@ end_finds message entries end (Some first) none finds = record {
 }
 
 -- a first fault of the fields before a place is the first of all, whatever is later
-first_of_rest : (message : Message) (bytes : List ℕ) (entries rest : List Entry) (from to : ℕ) (first : WireCause) → FieldList bytes from rest to → IsFirstFault message entries from first
-    → IsFirstFault message (entries ++ rest) to first
+first_of_rest : (message : Message) (bytes : List ℕ) (entries rest : List Entry) (from to : ℕ) (first : WireCause) → FieldList bytes from rest to → IsFirstFieldFault message entries from first
+    → IsFirstFieldFault message (entries ++ rest) to first
 first_of_rest message bytes entries [] from to first list so_far =
-    subst (λ (list : List Entry). IsFirstFault message list to first) (sym (append-nil entries)) (subst (λ (place : ℕ). IsFirstFault message entries place first) list so_far)
+    subst (λ (list : List Entry). IsFirstFieldFault message list to first) (sym (append-nil entries)) (subst (λ (place : ℕ). IsFirstFieldFault message entries place first) list so_far)
 first_of_rest message bytes entries (entry ∷ rest) from to first list so_far =
-    let here : IsFirstFault message entries entry.at first = subst (λ (place : ℕ). IsFirstFault message entries place first) (sym list.0) so_far in
-    let one : IsFirstFault message (entries ++ entry ∷ []) list.1.0 first =
-    IsFirstFault-kept message entries entry list.1.0 first (IsPlaced-field bytes list.1.0 entry list.1.1) here in
-    subst (λ (list : List Entry). IsFirstFault message list to first) (append_assoc entries (entry ∷ []) rest) (first_of_rest message bytes (entries ++ entry ∷ []) rest list.1.0 to first list.1.2 one)
+    let here : IsFirstFieldFault message entries entry.at first = subst (λ (place : ℕ). IsFirstFieldFault message entries place first) (sym list.0) so_far in
+    let one : IsFirstFieldFault message (entries ++ entry ∷ []) list.1.0 first =
+    IsFirstFieldFault-kept message entries entry list.1.0 first (IsPlaced-field bytes list.1.0 entry list.1.1) here in
+    subst (λ (list : List Entry). IsFirstFieldFault message list to first) (append_assoc entries (entry ∷ []) rest) (first_of_rest message bytes (entries ++ entry ∷ []) rest list.1.0 to first list.1.2 one)
 
 -- two field lists, one after the other
 FieldList-append : (bytes : List ℕ) (from at to : ℕ) (entries rest : List Entry) → FieldList bytes from entries at → FieldList bytes at rest to → FieldList bytes from (entries ++ rest) to
@@ -75,13 +75,13 @@ HasDefect-following bytes from at entries cause list defect =
 
 -- after a first fault, the defect of the message is its only fault, and where there is none the first fault is its first
 pub first_or_defect : (message : Message) (bytes : List ℕ) (from : ℕ) (walk : Walk) (entries : List Entry) (first cause : WireCause) → IsWalking bytes from walk entries
-    → IsFirstFault message entries walk.at first → IsDefectOr walk first cause → IsLeastCause (MessageFault message bytes from) cause
+    → IsFirstFieldFault message entries walk.at first → IsDefectOr walk first cause → IsLeastCause (MessageFault message bytes from) cause
 first_or_defect message bytes from walk entries first cause walked fault (inl defect) =
     defect_alone message bytes from cause
     (HasDefect-following bytes from walk.at entries cause walked.passed (subst (λ (list : List ℕ). HasDefect list walk.at cause) walked.same_bytes defect))
 first_or_defect message bytes from walk entries first cause walked fault (inr whole) =
     let rest : IsMessage bytes walk.at whole.0.0 = subst (λ (list : List ℕ). IsMessage list walk.at whole.0.0) walked.same_bytes whole.0.1 in
-    let all : IsFirstFault message (entries ++ whole.0.0) (length bytes) first = first_of_rest message bytes entries whole.0.0 walk.at (length bytes) first rest fault in
+    let all : IsFirstFieldFault message (entries ++ whole.0.0) (length bytes) first = first_of_rest message bytes entries whole.0.0 walk.at (length bytes) first rest fault in
     subst (IsLeastCause (MessageFault message bytes from)) (sym whole.1)
     (whole_finds message bytes from (entries ++ whole.0.0) (Some first) (FieldList-append bytes from walk.at (length bytes) entries whole.0.0 walked.passed rest) (record {
       holds = inl all.least.holds;
@@ -94,20 +94,20 @@ first_or_defect message bytes from walk entries first cause walked fault (inr wh
 -- What is known while the fields of a message are walked, up to a place: those that were passed, and what the scan keeps of them.
 pub record IsScanning (message : Message) (bytes : List ℕ) (from at : ℕ) (scan : FieldScan) (entries : List Entry) : Type 0 where
   pub passed : FieldList bytes from entries at
-  pub passes : Passes message scan entries
+  pub passes : HasScanned message scan entries
 
 -- one more field was passed
 pub IsScanning-more : {message : Message} {bytes : List ℕ} {from at : ℕ} {before after : FieldScan} {entries : List Entry} {read : Field × ℕ} → IsScanning message bytes from at before entries
     → PassesNext message bytes at before after read → IsScanning message bytes from read.1 after (entries ++ entry_of read.0 ∷ [])
 IsScanning-more so_far next = record {
-  passed = FieldList-push _ _ _ _ _ _ so_far.passed next.given.here next.given.spelled;
+  passed = FieldList-push _ _ _ _ _ _ so_far.passed next.given.here next.given.encoded;
   passes = next.passed _ so_far.passes;
 }
 
 -- the faults at the end of a whole message that was scanned are all that it has
 pub IsScanning-whole : {message : Message} (bytes : List ℕ) {from at : ℕ} (to : ℕ) {scan : FieldScan} {entries : List Entry} (found : Option WireCause) → to ≤ length bytes → at ≡ to
     → IsScanning message (take to bytes) from at scan entries
-    → ((passed : List Entry) → Passes message scan passed → FindsLeastCause (EndFault message passed to) found)
+    → ((passed : List Entry) → HasScanned message scan passed → FindsLeastCause (EndFault message passed to) found)
     → FindsLeastCause (MessageFault message (take to bytes) from) found
 IsScanning-whole {message} bytes {from} to {entries = entries} found within end so_far finds =
     let size : length (take to bytes) ≡ to = length-take-le to bytes within in

@@ -42,9 +42,9 @@ pub data IsLayerFault (bytes : List ℕ) (span : Span) (ordinal : ℕ) : Fault �
       → IsLayerFault bytes span ordinal (Wire code scope at field)
 
 -- the layer has no fault
-abbrev pub IsFaultless : List ℕ → ℕ → Span → Type 0
-IsFaultless bytes ordinal span = (fault : Fault) → ¬ IsLayerFault bytes span ordinal fault
+abbrev pub IsFaultlessLayer : List ℕ → ℕ → Span → Type 0
+IsFaultlessLayer bytes ordinal span = (fault : Fault) → ¬ IsLayerFault bytes span ordinal fault
 
 -- the layer has this fault as its first
-abbrev pub IsFirstOf : List ℕ → Fault → ℕ → Span → Type 0
-IsFirstOf bytes fault ordinal span = IsLeast (IsLayerFault bytes span ordinal) fault
+abbrev pub IsFirstOfLayer : List ℕ → Fault → ℕ → Span → Type 0
+IsFirstOfLayer bytes fault ordinal span = IsLeast (IsLayerFault bytes span ordinal) fault

@@ -5,7 +5,7 @@ use Rattle.mvt_fault.specs.declared.fault.Fault.{Fault}
 use Rattle.mvt_rules.specs.Rules.{IsFeatureOf}
 use Rattle.mvt_rules.specs.Tile.{FeatureRecord, LayerRecord, TileRecord}
 use Rattle.mvt_tile.specs.FreeFaults.{IsLeastOr}
-use Rattle.mvt_tile.specs.RuleFaults.{Breaks, Frees, Keeps, IsFaultOfFeature, IsSound}
+use Rattle.mvt_tile.specs.RuleFaults.{Breaks, Frees, Keeps, IsFaultOfFeature, IsSoundFeature}
 
 -- one of the features of the layer with an ordinal has this fault
 pub record IsFaultInLayer (IsBroken : Breaks) (layer_record : LayerRecord) (layer : ℕ) (fault : Fault) : Type 0 where
@@ -16,17 +16,17 @@ pub record IsFaultInLayer (IsBroken : Breaks) (layer_record : LayerRecord) (laye
 
 -- each feature of the layer with an ordinal is sound
 abbrev pub AllSoundInLayer : Breaks → Keeps → LayerRecord → ℕ → Type 0
-AllSoundInLayer IsBroken IsKept layer_record layer = (feature : ℕ) (feature_record : FeatureRecord) → slice_get layer_record.features feature ≡ Some feature_record → IsSound IsBroken IsKept layer_record feature_record layer feature
+AllSoundInLayer IsBroken IsKept layer_record layer = (feature : ℕ) (feature_record : FeatureRecord) → slice_get layer_record.features feature ≡ Some feature_record → IsSoundFeature IsBroken IsKept layer_record feature_record layer feature
 
 -- and so is each feature of the tile
 abbrev pub AllSound : Breaks → Keeps → TileRecord → Type 0
 AllSound IsBroken IsKept tile =
-    (layer feature : ℕ) (layer_record : LayerRecord) (feature_record : FeatureRecord) → IsFeatureOf tile layer feature layer_record feature_record → IsSound IsBroken IsKept layer_record feature_record layer feature
+    (layer feature : ℕ) (layer_record : LayerRecord) (feature_record : FeatureRecord) → IsFeatureOf tile layer feature layer_record feature_record → IsSoundFeature IsBroken IsKept layer_record feature_record layer feature
 
 -- the first fault of a feature is found, or a free one, or none where it is sound
 abbrev pub FindsInFeature : Frees → Breaks → Keeps → LayerRecord → FeatureRecord → ℕ → ℕ → Option Fault → Type 0
 FindsInFeature IsFree IsBroken IsKept layer_record feature_record layer feature found =
-    MatchOption found (IsSound IsBroken IsKept layer_record feature_record layer feature) (IsLeastOr IsFree (IsFaultOfFeature IsBroken layer_record feature_record layer feature))
+    MatchOption found (IsSoundFeature IsBroken IsKept layer_record feature_record layer feature) (IsLeastOr IsFree (IsFaultOfFeature IsBroken layer_record feature_record layer feature))
 
 -- so it is of the features of a layer, and of those of a tile
 abbrev pub FindsInLayer : Frees → Breaks → Keeps → LayerRecord → ℕ → Option Fault → Type 0

@@ -18,26 +18,26 @@ abbrev pub was_seen : FieldScan → ℕ → Bool
 was_seen scan field_number = slice_index_or scan.occurred field_number false
 
 -- the scan has passed these fields, none of which has a fault
-pub record Passes (message : Message) (scan : FieldScan) (entries : List Entry) : Type 0 where
+pub record HasScanned (message : Message) (scan : FieldScan) (entries : List Entry) : Type 0 where
   pub occurred : (field_number : ℕ) (rule : FieldRule) → rule_of message field_number ≡ Some rule → was_seen scan field_number ≡ stands_in field_number entries
   pub known : message ≡ Value → scan.known ≡ nat_lt 0 (count_known message entries)
   pub several : message ≡ Value → scan.several ≡ nat_lt 1 (count_known message entries)
   pub faultless : (cause : WireCause) → ¬ FieldFault message entries cause
 
 -- of the faults of the fields before a place, one with the least place
-pub record IsFirstFault (message : Message) (entries : List Entry) (to : ℕ) (cause : WireCause) : Type 0 where
+pub record IsFirstFieldFault (message : Message) (entries : List Entry) (to : ℕ) (cause : WireCause) : Type 0 where
   pub before : cause.at < to
   pub least : IsLeastCause (FieldFault message entries) cause
 
 -- the field at a place is read, with the place after it, and the scan has passed it
 pub record PassesNext (message : Message) (bytes : List ℕ) (at : ℕ) (old new : FieldScan) (read : Field × ℕ) : Type 0 where
   pub given : GivesField (record { bytes = bytes; at = at }) (record { bytes = bytes; at = read.1 }) (entry_of read.0)
-  pub passed : (entries : List Entry) → Passes message old entries → Passes message new (entries ++ entry_of read.0 ∷ [])
+  pub passed : (entries : List Entry) → HasScanned message old entries → HasScanned message new (entries ++ entry_of read.0 ∷ [])
 
 -- whatever fields before a place the scan has passed, the cause is the first fault of the message that begins with them
 abbrev pub IsFirstFrom : Message → List ℕ → ℕ → FieldScan → WireCause → Type 0
 IsFirstFrom message bytes at scan cause =
-    (from : ℕ) (entries : List Entry) → FieldList bytes from entries at → Passes message scan entries → IsLeastCause (MessageFault message bytes from) cause
+    (from : ℕ) (entries : List Entry) → FieldList bytes from entries at → HasScanned message scan entries → IsLeastCause (MessageFault message bytes from) cause
 
 -- a number is required, and the scan has not kept that it occurred
 pub record IsMissing (message : Message) (scan : FieldScan) (field_number : ℕ) : Type 0 where

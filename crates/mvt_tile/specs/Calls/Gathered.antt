@@ -4,16 +4,16 @@ use Rattle.mvt_fault.specs.Place.{IsLeast}
 use Rattle.mvt_fault.specs.declared.fault.Fault.{Fault}
 use Rattle.mvt_rules.specs.Rules.{IsFeatureOf}
 use Rattle.mvt_rules.specs.Tile.{FeatureRecord, LayerRecord, TileRecord}
-use Rattle.mvt_tile.specs.FirstFaults.{AreInOrder, IsFaultOfLayer, OneOf}
+use Rattle.mvt_tile.specs.FirstFaults.{AreFaultsInOrder, IsFaultOfLayer, OneOf}
 use Rattle.mvt_tile.specs.FreeFaults.{IsLeastOr}
-use Rattle.mvt_tile.specs.RuleFaults.{Breaks, Frees, Keeps, IsFaultOfFeature, IsSound}
+use Rattle.mvt_tile.specs.RuleFaults.{Breaks, Frees, Keeps, IsFaultOfFeature, IsSoundFeature}
 use Rattle.mvt_tile.specs.Calls.RuleFaults.{IsSummary}
 use Rattle.mvt_tile.specs.declared.rules.summary.LayerSummary.{LayerSummary}
 
 -- of the parts that were passed the list has the faults that are found of them, in order, and no others; a part of which it has none is free of them
 pub record AreGathered {Part : Type 0} (IsOf : Part → Fault → Type 0) (IsFree : Part → Type 0) (IsPassed : Part → Type 0) (faults : List Fault) : Type 0 where
   pub each : (at : ℕ) (fault : Fault) → slice_get faults at ≡ Some fault → (part : Part) × IsPassed part × IsOf part fault
-  pub in_order : AreInOrder faults
+  pub in_order : AreFaultsInOrder faults
   pub all : (part : Part) → IsPassed part → OneOf faults (IsOf part) ⊎ IsFree part
 
 -- a feature of a tile, in its layer
@@ -32,7 +32,7 @@ IsInFront layer feature it = (it.layer < layer) ⊎ ((it.layer ≡ layer) × (it
 abbrev pub AreGatheredTo : Frees → Breaks → Keeps → TileRecord → ℕ → ℕ → List Fault → Type 0
 AreGatheredTo IsFree IsBroken IsKept tile layer feature faults =
     AreGathered {Part = TileFeature tile} (λ it. IsLeastOr IsFree (IsFaultOfFeature IsBroken it.layer_record it.feature_record it.layer it.feature))
-    (λ it. IsSound IsBroken IsKept it.layer_record it.feature_record it.layer it.feature) (IsInFront layer feature) faults
+    (λ it. IsSoundFeature IsBroken IsKept it.layer_record it.feature_record it.layer it.feature) (IsInFront layer feature) faults
 
 -- and of its layers in front of this one
 abbrev pub AreGatheredLayers : TileRecord → ℕ → List Fault → Type 0

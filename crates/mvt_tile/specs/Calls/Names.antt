@@ -19,5 +19,5 @@ abbrev pub AreNumbered : List ℕ → Type 0
 AreNumbered ordinals = (place ordinal : ℕ) → slice_get ordinals place ≡ Some ordinal → ordinal ≡ place
 
 -- the number that the first eight bytes of a name write, of which the first counts most; a shorter name has zeros after it
-abbrev pub key_of : List ℕ → ℕ
-key_of name = from_be_bytes w64 (take 8 name ++ replicate (8 - length name) 0)
+abbrev pub name_key : List ℕ → ℕ
+name_key name = from_be_bytes w64 (take 8 name ++ replicate (8 - length name) 0)

@@ -6,7 +6,7 @@ ghost use Rattle.mvt_tile.specs.View.{layer_of};
 
 use crate::first_places::{Held, first_places};
 use crate::record::Layer;
-use crate::rules::names::key_of;
+use crate::rules::names::name_key;
 use std::alloc::{AllocError, Global};
 
 /// For each key of a layer the first one that is the same, where that comes before it. A list that
@@ -24,7 +24,7 @@ pub(crate) fn first_equal_keys(
     let mut held = Vec::with_capacity(alloc, layer.keys.len())?;
     for (place, key) in layer.keys.iter().enumerate() {
         let text = key.as_bytes();
-        let number = key_of(text);
+        let number = name_key(text);
         held.push(Held {
             number,
             text,

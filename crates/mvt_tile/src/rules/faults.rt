@@ -9,7 +9,7 @@ ghost use Rattle.mvt_tile.specs.FirstFaults.{AreFirstFaults};
 ghost use Rattle.mvt_tile.specs.RuleFaults.{IsAfterTags};
 
 use super::feature_faults::add_faults_in_layer;
-use super::features::{FeatureRoom, FeatureRule};
+use super::features::{FeatureBuffer, FeatureRule};
 use super::layer_faults::faults_of_layers;
 use super::summary::LayerSummary;
 use mvt_fault::Fault;
@@ -69,14 +69,14 @@ fn walk_all_layers<'a, R: FeatureRule>(
     ensures gathers { OnOk result ((tile : TileRecord) → IsTile bytes.now tile
         → AreGatheredTo R.IsFree R.IsBroken R.IsKept tile (length tile.layers) 0 faults.new.items) }
 {
-    let mut room = FeatureRoom::new(alloc);
+    let mut buffer = FeatureBuffer::new(alloc);
     let mut layer_index = 0;
     let mut fields = Fields::new(bytes, 0, bytes.len());
     'walk: while let Some(field) = fields.next_whole() {
         if field.number == LAYERS {
             let (from, to) = payload_span(field.body);
             let part = Part { bytes, from, to };
-            let summary = add_faults_in_layer(part, rule, layer_index, &mut room, faults)?;
+            let summary = add_faults_in_layer(part, rule, layer_index, &mut buffer, faults)?;
             layers.push(summary)?;
             layer_index += 1;
         }

@@ -7,7 +7,7 @@ ghost use Rattle.mvt_rules.specs.Tile.{LayerRecord, IsLayer, TileRecord};
 ghost use Rattle.mvt_tile.specs.Calls.Gathered.{AreGatheredTo};
 ghost use Rattle.mvt_tile.specs.Calls.RuleFaults.{AreAfterTags, IsLike, IsSummary};
 
-use super::features::{FeatureRoom, FeatureRule, find_in_feature};
+use super::features::{FeatureBuffer, FeatureRule, find_in_feature};
 use super::layer_scan::{LayerScan, USUAL_KEYS};
 use super::summary::{LayerSummary, add_field, empty_summary};
 use super::tags::TagNeeds;
@@ -21,13 +21,13 @@ use std::alloc::AllocError;
 /// The summary of the layer with an ordinal, which a part of the bytes holds. Adds the first fault
 /// of each of its features that has one. The only error is that memory was refused.
 ///
-/// Tags are checked as `check_layer` does. Where they need more than the layer has, the faults that
+/// Tags are checked as `find_in_layer` does. Where they need more than the layer has, the faults that
 /// the first walk added are taken back.
 pub(crate) fn add_faults_in_layer<'a, R: FeatureRule>(
     part: Part<'a>,
     rule: &mut R,
     layer_index: usize,
-    room: &mut FeatureRoom,
+    buffer: &mut FeatureBuffer,
     faults: &mut Vec<Fault>,
 ) -> Result<LayerSummary<'a>, AllocError>
     requires stands { (layer_record : LayerRecord) × Holds IsLayer part layer_record }
@@ -42,13 +42,13 @@ pub(crate) fn add_faults_in_layer<'a, R: FeatureRule>(
 {
     let before = faults.len();
     let most = part.to - part.from;
-    let scan = add_faults(part, rule, layer_index, most, most, room, faults)?;
+    let scan = add_faults(part, rule, layer_index, most, most, buffer, faults)?;
     let LayerSummary { keys, values, .. } = scan.summary;
     if scan.needs.keys <= keys && scan.needs.values <= values {
         return Ok(scan.summary);
     }
     faults.truncate(before);
-    add_faults(part, rule, layer_index, keys, values, room, faults)?;
+    add_faults(part, rule, layer_index, keys, values, buffer, faults)?;
     Ok(scan.summary)
 }
 
@@ -59,7 +59,7 @@ fn add_faults<'a, R: FeatureRule>(
     layer_index: usize,
     keys: usize,
     values: usize,
-    room: &mut FeatureRoom,
+    buffer: &mut FeatureBuffer,
     faults: &mut Vec<Fault>,
 ) -> Result<LayerScan<'a>, AllocError>
     requires stands { (layer_record : LayerRecord) × Holds IsLayer part layer_record }
@@ -87,7 +87,7 @@ fn add_faults<'a, R: FeatureRule>(
             let mut found = None;
             find_in_feature(
                 rule,
-                room,
+                buffer,
                 &mut needs,
                 keys,
                 values,

@@ -3,7 +3,7 @@ ghost use Rattle.std.specs.Prelude.{◌≡◌, ◌≤◌, ℕ, None, IfOk, IfNon
 ghost use Rattle.mvt_fault.specs.declared.fault.Fault.{Fault};
 ghost use Rattle.mvt_rules.specs.Tile.{FeatureRecord, LayerRecord};
 ghost use Rattle.mvt_tile.specs.Calls.FeatureRules.{FindsInFeature};
-ghost use Rattle.mvt_tile.specs.FeatureBytes.{Shows};
+ghost use Rattle.mvt_tile.specs.FeatureBytes.{Encodes};
 ghost use Rattle.mvt_tile.specs.FreeFaults.{IsLeastOr};
 ghost use Rattle.mvt_tile.specs.Calls.RuleFaults.{AreAfterTags, IsLike};
 
@@ -38,28 +38,28 @@ pub trait FeatureRule {
     ) -> Result<(), AllocError>
         requires { found.old ≡ None }
         ensures none { IfOk result (λ _. IfNone found.new ((feature_record : FeatureRecord)
-            → Shows feature.now feature_record → (fault : Fault)
+            → Encodes feature.now feature_record → (fault : Fault)
             → ¬ IsBroken feature_record layer_index feature_index fault)) }
         ensures kept { IfOk result (λ _. IfNone found.new ((feature_record : FeatureRecord)
-            → Shows feature.now feature_record → IsKept feature_record)) }
+            → Encodes feature.now feature_record → IsKept feature_record)) }
         ensures found { IfOk result (λ _.
             IfSome found.new (λ fault. (feature_record : FeatureRecord)
-            → Shows feature.now feature_record
+            → Encodes feature.now feature_record
             → IsLeastOr IsFree (IsBroken feature_record layer_index feature_index) fault)) };
 }
 
 /// What serves one feature after another: memory, and marks of the keys of its tags.
 #[derive(Drop)]
-pub(crate) struct FeatureRoom {
+pub(crate) struct FeatureBuffer {
     /// What memory is taken from.
     pub(crate) alloc: Global,
     pub(crate) marks: KeyMarks,
 }
 
-impl FeatureRoom {
-    /// Room that has served no feature. It takes no memory.
-    pub(crate) fn new(alloc: Global) -> FeatureRoom {
-        FeatureRoom {
+impl FeatureBuffer {
+    /// A buffer that has served no feature. It takes no memory.
+    pub(crate) fn new(alloc: Global) -> FeatureBuffer {
+        FeatureBuffer {
             alloc,
             marks: KeyMarks::new(alloc),
         }
@@ -71,7 +71,7 @@ impl FeatureRoom {
 /// further rule. Adds what the tags need. The only error is that memory was refused.
 pub(crate) fn find_in_feature<R: FeatureRule>(
     rule: &mut R,
-    room: &mut FeatureRoom,
+    buffer: &mut FeatureBuffer,
     needs: &mut TagNeeds,
     keys: usize,
     values: usize,
@@ -85,17 +85,23 @@ pub(crate) fn find_in_feature<R: FeatureRule>(
     ensures no_fewer_keys { needs.old.keys ≤ needs.new.keys }
     ensures no_fewer_values { needs.old.values ≤ needs.new.values }
     ensures finds { IfOk result (λ _. (layer_record : LayerRecord) (feature_record : FeatureRecord)
-        → Shows feature.now feature_record → IsLike keys values needs.new layer_record
+        → Encodes feature.now feature_record → IsLike keys values needs.new layer_record
         → FindsInFeature R.IsFree R.IsBroken R.IsKept layer_record feature_record layer_index feature_index
         found.new) }
 {
     if feature.has_no_tag() {
-        return rule.find_fault(room.alloc, feature, layer_index, feature_index, found);
+        return rule.find_fault(buffer.alloc, feature, layer_index, feature_index, found);
     }
     let mut of_tags = None;
-    needs.add(scan_tags(&mut room.marks, feature.tags(), keys, values, &mut of_tags)?);
+    needs.add(scan_tags(
+        &mut buffer.marks,
+        feature.tags(),
+        keys,
+        values,
+        &mut of_tags,
+    )?);
     let Some((code, index)) = of_tags else {
-        return rule.find_fault(room.alloc, feature, layer_index, feature_index, found);
+        return rule.find_fault(buffer.alloc, feature, layer_index, feature_index, found);
     };
     *found = Some(Fault::Tag {
         code,

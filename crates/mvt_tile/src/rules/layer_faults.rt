@@ -7,7 +7,7 @@ ghost use Rattle.mvt_tile.specs.Calls.Equal.{AreFirstPlaces};
 ghost use Rattle.mvt_tile.specs.Calls.Gathered.{AreGatheredLayers, AreSummaries, FindsOfLayer, NameAt};
 ghost use Rattle.mvt_tile.specs.declared.rules.summary.LayerSummary.{LayerSummary};
 
-use super::names::key_of;
+use super::names::name_key;
 use super::summary::LayerSummary;
 use crate::first_places::{Held, first_places};
 use mvt_fault::Fault;
@@ -68,7 +68,7 @@ fn first_equal_names(
     let mut held = Vec::with_capacity(alloc, layers.len())?;
     for (place, summary) in layers.iter().enumerate() {
         let text = summary.name;
-        let number = key_of(text);
+        let number = name_key(text);
         held.push(Held {
             number,
             text,

@@ -6,7 +6,7 @@ ghost use Rattle.mvt_tile.specs.Calls.FeatureRules.{FindsInLayer};
 ghost use Rattle.mvt_wire.specs.Embedded.{Holds};
 ghost use Rattle.mvt_tile.specs.Calls.RuleFaults.{AreAfterTags, IsLike, IsSummary};
 
-use super::features::{FeatureRoom, FeatureRule, find_in_feature};
+use super::features::{FeatureBuffer, FeatureRule, find_in_feature};
 use super::summary::{LayerSummary, add_field, empty_summary};
 use super::tags::TagNeeds;
 use crate::feature_bytes::FeatureBytes;
@@ -33,11 +33,11 @@ pub(crate) struct LayerScan<'a> {
 ///
 /// Its keys and values may come after its features, so tags are checked as if the layer had as many
 /// of both as it has bytes. Where they need more than it has, it is walked again.
-pub(crate) fn check_layer<'a, R: FeatureRule>(
+pub(crate) fn find_in_layer<'a, R: FeatureRule>(
     part: Part<'a>,
     rule: &mut R,
     layer_index: usize,
-    room: &mut FeatureRoom,
+    buffer: &mut FeatureBuffer,
     found: &mut Option<Fault>,
 ) -> Result<LayerSummary<'a>, AllocError>
     requires stands { (layer_record : LayerRecord) × Holds IsLayer part layer_record }
@@ -51,7 +51,7 @@ pub(crate) fn check_layer<'a, R: FeatureRule>(
 {
     let before = found.is_some();
     let most = part.to - part.from;
-    let scan = scan_layer(part, rule, layer_index, most, most, room, found)?;
+    let scan = scan_layer(part, rule, layer_index, most, most, buffer, found)?;
     if before {
         return Ok(scan.summary);
     }
@@ -60,7 +60,7 @@ pub(crate) fn check_layer<'a, R: FeatureRule>(
         return Ok(scan.summary);
     }
     *found = None;
-    scan_layer(part, rule, layer_index, keys, values, room, found)?;
+    scan_layer(part, rule, layer_index, keys, values, buffer, found)?;
     Ok(scan.summary)
 }
 
@@ -71,7 +71,7 @@ fn scan_layer<'a, R: FeatureRule>(
     layer_index: usize,
     keys: usize,
     values: usize,
-    room: &mut FeatureRoom,
+    buffer: &mut FeatureBuffer,
     found: &mut Option<Fault>,
 ) -> Result<LayerScan<'a>, AllocError>
     requires stands { (layer_record : LayerRecord) × Holds IsLayer part layer_record }
@@ -95,7 +95,7 @@ fn scan_layer<'a, R: FeatureRule>(
             let feature = FeatureBytes::new(Part { bytes, from, to });
             find_in_feature(
                 rule,
-                room,
+                buffer,
                 &mut needs,
                 keys,
                 values,

@@ -1,6 +1,6 @@
 //! The names of layers (Mapbox Vector Tile Specification 2.1, section 4.1).
 ghost use Rattle.std.specs.Prelude.{◌≡◌, ◌<◌, ◌≤◌, ◌++◌, ◌∷◌, [], IfNone, IfSome, IsFalse, IsTrue, Some, OnOk, ℕ, length};
-ghost use Rattle.mvt_tile.specs.Calls.Names.{IsFirstRepeated, IsRepeated, key_of};
+ghost use Rattle.mvt_tile.specs.Calls.Names.{IsFirstRepeated, IsRepeated, name_key};
 
 use std::alloc::{AllocError, Global};
 use std::marker::Model;
@@ -22,14 +22,14 @@ struct NamedLayer<'a> {
 
 impl<'a> Model for SeveralNames<'a> {
     ghost use Rattle.std.specs.Prelude.{◌≡◌, ℕ, List, map, All};
-    ghost use Rattle.mvt_tile.specs.Calls.Names.{AreNumbered, key_of};
+    ghost use Rattle.mvt_tile.specs.Calls.Names.{AreNumbered, name_key};
 
     ghost Value = { List (List ℕ) };
 
     ghost view = { λ names. map (λ named. named.name.now) names.names.items };
 
     ghost invariant = { λ names. AreNumbered (map (λ named. named.ordinal) names.names.items)
-        × All (λ named. named.key ≡ key_of named.name.now) names.names.items };
+        × All (λ named. named.key ≡ name_key named.name.now) names.names.items };
 }
 
 impl<'a> SeveralNames<'a> {
@@ -54,7 +54,7 @@ impl<'a> SeveralNames<'a> {
         ensures { OnOk result (self.new ≡ self.old ++ name.now ∷ []) }
     {
         let ordinal = self.names.len();
-        let key = key_of(name);
+        let key = name_key(name);
         self.names.push(NamedLayer { key, name, ordinal })?;
         Ok(())
     }
@@ -84,8 +84,8 @@ impl<'a> SeveralNames<'a> {
 
 /// The first eight bytes of a name as one number, the first of them highest. A shorter name has
 /// zeros after it.
-pub(crate) fn key_of(name: &[u8]) -> u64
-    ensures { result ≡ key_of name.now }
+pub(crate) fn name_key(name: &[u8]) -> u64
+    ensures { result ≡ name_key name.now }
 {
     let mut bytes = [0; 8];
     let count = name.len().min(8);

@@ -1,7 +1,7 @@
 //! The faults of a layer and of the messages in it.
 ghost use Rattle.std.specs.Prelude.{MatchOption};
 ghost use Rattle.mvt_wire.specs.Embedded.{span_in};
-ghost use Rattle.mvt_tile.specs.Calls.Embedded.{IsFaultless, IsFirstOf};
+ghost use Rattle.mvt_tile.specs.Calls.Embedded.{IsFaultlessLayer, IsFirstOfLayer};
 
 use crate::wire::message::MessageCheck;
 use crate::wire::scan::FieldScan;
@@ -13,8 +13,8 @@ use mvt_wire::{EmbeddedScan, Message, Part, Scope};
 /// fields, or else of its values, or else of its features (Mapbox Vector Tile Specification 2.1,
 /// section 4.1). The layer is walked once.
 pub(crate) fn layer_fault(part: Part<'_>, layer: usize) -> Option<Fault>
-    ensures { MatchOption result (IsFaultless part.entry.bytes.now layer (span_in part.entry))
-        (λ fault. IsFirstOf part.entry.bytes.now fault layer (span_in part.entry)) }
+    ensures { MatchOption result (IsFaultlessLayer part.entry.bytes.now layer (span_in part.entry))
+        (λ fault. IsFirstOfLayer part.entry.bytes.now fault layer (span_in part.entry)) }
 {
     let front = &part.bytes[..part.to];
     let mut own = FieldScan::new();

@@ -21,10 +21,10 @@ pub(crate) struct FieldScan {
 }
 
 impl FieldScan {
-    ghost use Rattle.mvt_tile.specs.Calls.FieldScan.{Passes, IsFirstFault, IsMissing, was_seen};
+    ghost use Rattle.mvt_tile.specs.Calls.FieldScan.{HasScanned, IsFirstFieldFault, IsMissing, was_seen};
 
     pub(crate) fn new() -> Self
-        ensures { (message : Message) → Passes message result [] }
+        ensures { (message : Message) → HasScanned message result [] }
     {
         FieldScan {
             occurred: [false; 16],
@@ -39,12 +39,12 @@ impl FieldScan {
         requires { (bytes : List ℕ) × (next : ℕ) × IsField bytes next (entry_of field.now)
             × (next < 2 ^ 64) }
         ensures passed { IfNone result ((entries : List Entry)
-            → Passes message self.old entries
-            → Passes message self.new (entries ++ entry_of field.now ∷ [])) }
+            → HasScanned message self.old entries
+            → HasScanned message self.new (entries ++ entry_of field.now ∷ [])) }
         ensures fault { IfSome result (λ cause. (bytes : List ℕ) (entries : List Entry) (next : ℕ)
             → IsField bytes next (entry_of field.now)
-            → Passes message self.old entries
-            → IsFirstFault message (entries ++ entry_of field.now ∷ []) next cause) }
+            → HasScanned message self.old entries
+            → IsFirstFieldFault message (entries ++ entry_of field.now ∷ []) next cause) }
         ensures unchanged { IfSome result (λ cause. self.new ≡ self.old) }
     {
         let Some(rule) = message.rule(field.number) else {
@@ -65,7 +65,7 @@ impl FieldScan {
     /// What is wrong with the message at its end, all fields of which were passed.
     #[inline(always)]
     pub(crate) fn end_fault(&self, message: Message, end: usize) -> Option<WireCause>
-        ensures { (entries : List Entry) → Passes message self.now entries
+        ensures { (entries : List Entry) → HasScanned message self.now entries
             → FindsLeastCause (EndFault message entries end) result }
     {
         if let Some(number) = self.first_missing(message) {

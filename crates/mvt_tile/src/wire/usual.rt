@@ -1,6 +1,6 @@
 //! The next field of a message, read and passed at once.
 ghost use Rattle.std.specs.Prelude.{◌≡◌, ◌+◌, ◌<◌, ◌≤◌, length, slice_index, IfNone, IfSome, IfOk, IfErr};
-ghost use Rattle.mvt_wire.specs.Varint.{SpellsVarint};
+ghost use Rattle.mvt_wire.specs.Varint.{EncodesVarint};
 ghost use Rattle.mvt_tile.specs.Calls.FieldScan.{PassesNext, IsFirstFrom};
 
 use crate::wire::scan::FieldScan;
@@ -69,7 +69,7 @@ impl FieldScan {
     ) -> Option<(Field<'a>, usize)>
         requires within { at + 2 ≤ length bytes.now }
         requires key { slice_index bytes.now at ≡ key }
-        requires leading { SpellsVarint bytes.now (at + 1) start value }
+        requires leading { EncodesVarint bytes.now (at + 1) start value }
         requires numbered { 8 ≤ key }
         requires short { key < 128 }
         ensures passed { IfSome result (PassesNext message bytes.now at self.old self.new) }
@@ -118,7 +118,7 @@ impl FieldScan {
     ) -> Option<(Field<'a>, usize)>
         requires within { at + 2 ≤ length bytes.now }
         requires key { slice_index bytes.now at ≡ key }
-        requires leading { SpellsVarint bytes.now (at + 1) start value }
+        requires leading { EncodesVarint bytes.now (at + 1) start value }
         ensures passed { IfSome result (PassesNext message bytes.now at self.old self.new) }
         ensures unchanged { IfNone result (self.new ≡ self.old) }
     {

@@ -1,7 +1,7 @@
 -- A place with bytes left has a field or one defect.
 use Rattle.std.proofs.Common.{◌≡◌, ◌≢◌, ℕ, ◌+◌, ◌*◌, ◌/◌, ◌%◌, ◌^◌, ◌<◌, ◌≤◌, ◌⊎◌, ◌↔◌, Bool, IsTrue, true, false, inl, inr, List, length, drop, slice_range, refl, sym, ◌∙◌, ap, subst, arith}
 use Rattle.std.proofs.lemmas.Bool.{cases_lt, cases_eq}
-use Rattle.mvt_wire.specs.Varint.{SpellsVarint, VarintDefect}
+use Rattle.mvt_wire.specs.Varint.{EncodesVarint, VarintDefect}
 use Rattle.mvt_wire.specs.Field.{Content, cause_at, varint, eight_bytes, delimited, four_bytes, Entry, wire_type_of, IsKey, IsPayload, IsField, IsRefusedType, HasLeadingVarint, PayloadEnd, FieldDefect, key, key_out_of_range, refused_type, leading_varint, past_end}
 use Rattle.mvt_wire.specs.declared.cause.WireCause.{WireCause}
 use Rattle.mvt_wire.specs.declared.cause.WireCode.{WireCode}
@@ -14,7 +14,7 @@ type_or_refused : (content : Content) → IsRefusedType (wire_type_of content) �
 type_or_refused (varint value at) refused = grind arith
 type_or_refused content refused = grind arith
 
--- where a payload is spelled, its leading varint has no defect
+-- where a payload is encoded, its leading varint has no defect
 payload_or_varint_defect : (bytes : List ℕ) (from to : ℕ) (content : Content) (code : WireCode) → IsPayload bytes from to content → HasLeadingVarint (wire_type_of content) → VarintDefect code (drop from bytes) → ⊥
 payload_or_varint_defect bytes from to (varint value at) code p leading defect = varint_or_defect bytes from to value code p.1 defect
 payload_or_varint_defect bytes from to (delimited start part) code p leading defect = varint_or_defect bytes from start p.0 code p.1 defect
@@ -35,7 +35,7 @@ one_payload_end bytes from wire_type end other (inr (inr p)) (inr (inr q)) =
     let sizes : p.1.1 ≡ q.1.1 = one_value bytes from p.1.0 q.1.0 p.1.1 q.1.1 p.1.2 q.1.2 in
     p.1.3 ∙ ap (λ (k : ℕ). k + p.1.1) starts ∙ ap (λ (k : ℕ). q.1.0 + k) sizes ∙ sym q.1.3
 
--- where a payload is spelled, it ends within its message
+-- where a payload is encoded, it ends within its message
 payload_within : (bytes : List ℕ) (from to end : ℕ) (content : Content) → IsPayload bytes from to content → PayloadEnd bytes from (wire_type_of content) end → end ≤ length bytes
 payload_within bytes from to end (eight_bytes part) p q =
     let same = one_payload_end bytes from 1 end to q (inl (refl, p.0)) in omega arith
@@ -47,9 +47,9 @@ payload_within bytes from to end (varint value at) p q = grind arith
 
 -- a place has a field or a defect
 pub field_or_defect : (bytes : List ℕ) (to : ℕ) (e : Entry) (cause : WireCause) → IsField bytes to e → FieldDefect bytes e.at cause → ⊥
-field_or_defect bytes to e cause field (key code defect is) = varint_or_defect bytes e.at field.key_end _ code field.key.spelled defect
-field_or_defect bytes to e cause field (key_out_of_range end n spelled range is) =
-    let value : e.number * 8 + wire_type_of e.content ≡ n = one_value bytes e.at field.key_end end _ n field.key.spelled spelled in
+field_or_defect bytes to e cause field (key code defect is) = varint_or_defect bytes e.at field.key_end _ code field.key.encoded defect
+field_or_defect bytes to e cause field (key_out_of_range end n encoded range is) =
+    let value : e.number * 8 + wire_type_of e.content ≡ n = one_value bytes e.at field.key_end end _ n field.key.encoded encoded in
     elim range [ inl high ↦ omega arith | inr low ↦ omega arith ]
 field_or_defect bytes to e cause field (refused_type end n t k refused is) =
     let keys = one_key bytes e.at field.key_end end e.number n (wire_type_of e.content) t field.key k in
@@ -65,9 +65,9 @@ field_or_defect bytes to e cause field (past_end end n t stop k ends past is) =
     omega arith
 
 -- a number out of a key's range is no key
-range_or_key : (bytes : List ℕ) (at to end n m t : ℕ) → SpellsVarint bytes at to n → (2 ^ 32 ≤ n) ⊎ (n < 8) → IsKey bytes at end m t → ⊥
-range_or_key bytes at to end n m t spelled range k =
-    let value : n ≡ m * 8 + t = one_value bytes at to end n (m * 8 + t) spelled k.spelled in
+range_or_key : (bytes : List ℕ) (at to end n m t : ℕ) → EncodesVarint bytes at to n → (2 ^ 32 ≤ n) ⊎ (n < 8) → IsKey bytes at end m t → ⊥
+range_or_key bytes at to end n m t encoded range k =
+    let value : n ≡ m * 8 + t = one_value bytes at to end n (m * 8 + t) encoded k.encoded in
     elim range [ inl high ↦ omega arith | inr low ↦ omega arith ]
 
 -- a refused wire type has no payload
@@ -87,25 +87,25 @@ defect_or_end bytes from t end code leading defect (inr (inr p)) = varint_or_def
 pub one_field_defect : (bytes : List ℕ) (at : ℕ) (c d : WireCause) → FieldDefect bytes at c → FieldDefect bytes at d → c ≡ d
 one_field_defect bytes at c d (key a x is) (key b y also) =
     is ∙ ap (λ (code : WireCode). cause_at code at 0) (one_defect_of_varint (drop at bytes) a b x y) ∙ sym also
-one_field_defect bytes at c d (key a x is) (key_out_of_range to n spelled range also) = absurd (varint_or_defect bytes at to n a spelled x)
-one_field_defect bytes at c d (key a x is) (refused_type to n t k r also) = absurd (varint_or_defect bytes at to _ a k.spelled x)
-one_field_defect bytes at c d (key a x is) (leading_varint to n t b k l y also) = absurd (varint_or_defect bytes at to _ a k.spelled x)
-one_field_defect bytes at c d (key a x is) (past_end to n t end k e p also) = absurd (varint_or_defect bytes at to _ a k.spelled x)
-one_field_defect bytes at c d (key_out_of_range to n spelled range is) (key b y also) = absurd (varint_or_defect bytes at to n b spelled y)
-one_field_defect bytes at c d (key_out_of_range to n spelled range is) (key_out_of_range to' n' spelled' range' also) = is ∙ sym also
-one_field_defect bytes at c d (key_out_of_range to n spelled range is) (refused_type end m t k r also) = absurd (range_or_key bytes at to end n m t spelled range k)
-one_field_defect bytes at c d (key_out_of_range to n spelled range is) (leading_varint end m t b k l y also) = absurd (range_or_key bytes at to end n m t spelled range k)
-one_field_defect bytes at c d (key_out_of_range to n spelled range is) (past_end end m t stop k e p also) = absurd (range_or_key bytes at to end n m t spelled range k)
-one_field_defect bytes at c d (refused_type to n t k r is) (key b y also) = absurd (varint_or_defect bytes at to _ b k.spelled y)
-one_field_defect bytes at c d (refused_type to n t k r is) (key_out_of_range end m spelled range also) = absurd (range_or_key bytes at end to m n t spelled range k)
+one_field_defect bytes at c d (key a x is) (key_out_of_range to n encoded range also) = absurd (varint_or_defect bytes at to n a encoded x)
+one_field_defect bytes at c d (key a x is) (refused_type to n t k r also) = absurd (varint_or_defect bytes at to _ a k.encoded x)
+one_field_defect bytes at c d (key a x is) (leading_varint to n t b k l y also) = absurd (varint_or_defect bytes at to _ a k.encoded x)
+one_field_defect bytes at c d (key a x is) (past_end to n t end k e p also) = absurd (varint_or_defect bytes at to _ a k.encoded x)
+one_field_defect bytes at c d (key_out_of_range to n encoded range is) (key b y also) = absurd (varint_or_defect bytes at to n b encoded y)
+one_field_defect bytes at c d (key_out_of_range to n encoded range is) (key_out_of_range to' n' encoded' range' also) = is ∙ sym also
+one_field_defect bytes at c d (key_out_of_range to n encoded range is) (refused_type end m t k r also) = absurd (range_or_key bytes at to end n m t encoded range k)
+one_field_defect bytes at c d (key_out_of_range to n encoded range is) (leading_varint end m t b k l y also) = absurd (range_or_key bytes at to end n m t encoded range k)
+one_field_defect bytes at c d (key_out_of_range to n encoded range is) (past_end end m t stop k e p also) = absurd (range_or_key bytes at to end n m t encoded range k)
+one_field_defect bytes at c d (refused_type to n t k r is) (key b y also) = absurd (varint_or_defect bytes at to _ b k.encoded y)
+one_field_defect bytes at c d (refused_type to n t k r is) (key_out_of_range end m encoded range also) = absurd (range_or_key bytes at end to m n t encoded range k)
 one_field_defect bytes at c d (refused_type to n t k r is) (refused_type end m s h q also) =
     is ∙ ap (λ (field : ℕ). cause_at BadWireType at field) (one_key bytes at to end n m t s k h).numbers ∙ sym also
 one_field_defect bytes at c d (refused_type to n t k r is) (leading_varint end m s b h l y also) =
     absurd (refused_or_leading s (subst IsRefusedType (one_key bytes at to end n m t s k h).types r) l)
 one_field_defect bytes at c d (refused_type to n t k r is) (past_end end m s stop h e p also) =
     absurd (refused_or_end bytes end s stop (subst IsRefusedType (one_key bytes at to end n m t s k h).types r) e)
-one_field_defect bytes at c d (leading_varint to n t a k l x is) (key b y also) = absurd (varint_or_defect bytes at to _ b k.spelled y)
-one_field_defect bytes at c d (leading_varint to n t a k l x is) (key_out_of_range end m spelled range also) = absurd (range_or_key bytes at end to m n t spelled range k)
+one_field_defect bytes at c d (leading_varint to n t a k l x is) (key b y also) = absurd (varint_or_defect bytes at to _ b k.encoded y)
+one_field_defect bytes at c d (leading_varint to n t a k l x is) (key_out_of_range end m encoded range also) = absurd (range_or_key bytes at end to m n t encoded range k)
 one_field_defect bytes at c d (leading_varint to n t a k l x is) (refused_type end m s h q also) =
     absurd (refused_or_leading s q (subst HasLeadingVarint (one_key bytes at to end n m t s k h).types l))
 one_field_defect bytes at c d (leading_varint to n t a k l x is) (leading_varint end m s b h l' y also) =
@@ -116,8 +116,8 @@ one_field_defect bytes at c d (leading_varint to n t a k l x is) (past_end end m
     let same = one_key bytes at to end n m t s k h in
     let moved : VarintDefect a (drop end bytes) = subst (λ (place : ℕ). VarintDefect a (drop place bytes)) same.places x in
     absurd (defect_or_end bytes end s stop a (subst HasLeadingVarint same.types l) moved e)
-one_field_defect bytes at c d (past_end to n t stop k e p is) (key b y also) = absurd (varint_or_defect bytes at to _ b k.spelled y)
-one_field_defect bytes at c d (past_end to n t stop k e p is) (key_out_of_range end m spelled range also) = absurd (range_or_key bytes at end to m n t spelled range k)
+one_field_defect bytes at c d (past_end to n t stop k e p is) (key b y also) = absurd (varint_or_defect bytes at to _ b k.encoded y)
+one_field_defect bytes at c d (past_end to n t stop k e p is) (key_out_of_range end m encoded range also) = absurd (range_or_key bytes at end to m n t encoded range k)
 one_field_defect bytes at c d (past_end to n t stop k e p is) (refused_type end m s h q also) =
     absurd (refused_or_end bytes to t stop (subst IsRefusedType (sym (one_key bytes at to end n m t s k h).types) q) e)
 one_field_defect bytes at c d (past_end to n t stop k e p is) (leading_varint end m s b h l y also) =
@@ -132,25 +132,25 @@ pub refused : (wire_type : ℕ) → wire_type < 8 → wire_type ≢ 0 → wire_t
 refused wire_type few a b c d = grind arith
 
 -- a number that is no key, by the test of the reader
-pub BadNumber-at : (bytes : List ℕ) (at to n : ℕ) (test : Bool) → SpellsVarint bytes at to n → (IsTrue test ↔ (8 ≤ n) × (n < 2 ^ 32)) → test ≡ false
+pub BadNumber-at : (bytes : List ℕ) (at to n : ℕ) (test : Bool) → EncodesVarint bytes at to n → (IsTrue test ↔ (8 ≤ n) × (n < 2 ^ 32)) → test ≡ false
     → FieldDefect bytes at (record { code = BadNumber; at = at; field = 0 })
-BadNumber-at bytes at to n test spelled decides failed = elim (cases_lt n 8) [
-  | inl low ↦ key_out_of_range to n spelled (inr low) refl
+BadNumber-at bytes at to n test encoded decides failed = elim (cases_lt n 8) [
+  | inl low ↦ key_out_of_range to n encoded (inr low) refl
   | inr numbered ↦ elim (cases_lt n (2 ^ 32)) [
     | inl small ↦ let passed : test ≡ true = decides.1 (numbered, small) in absurd (cc)
-    | inr high ↦ key_out_of_range to n spelled (inl high) refl
+    | inr high ↦ key_out_of_range to n encoded (inl high) refl
   ]
 ]
 
 -- a key with low three bits that are none of a field's wire types
-pub BadWireType-at : (bytes : List ℕ) (at to n : ℕ) → SpellsVarint bytes at to n → n < 2 ^ 32 → 8 ≤ n → n % 8 ≢ 0 → n % 8 ≢ 1 → n % 8 ≢ 2 → n % 8 ≢ 5
+pub BadWireType-at : (bytes : List ℕ) (at to n : ℕ) → EncodesVarint bytes at to n → n < 2 ^ 32 → 8 ≤ n → n % 8 ≢ 0 → n % 8 ≢ 1 → n % 8 ≢ 2 → n % 8 ≢ 5
     → FieldDefect bytes at (record { code = BadWireType; at = at; field = n / 8 })
-BadWireType-at bytes at to n spelled small numbered a b c d =
-    let key = IsKey-from bytes at to n spelled small numbered in
+BadWireType-at bytes at to n encoded small numbered a b c d =
+    let key = IsKey-from bytes at to n encoded small numbered in
     refused_type to (n / 8) (n % 8) key (refused (n % 8) key.low_bits a b c d) refl
 
 -- a place has a varint, or a defect with its code
-pub varint_begins : (bytes : List ℕ) (at : ℕ) → at ≤ length bytes → ((to n : ℕ) × SpellsVarint bytes at to n) ⊎ ((code : WireCode) × VarintDefect code (drop at bytes))
+pub varint_begins : (bytes : List ℕ) (at : ℕ) → at ≤ length bytes → ((to n : ℕ) × EncodesVarint bytes at to n) ⊎ ((code : WireCode) × VarintDefect code (drop at bytes))
 varint_begins bytes at within = elim (place_begins bytes at within) [
   | inl found ↦ inl found
   | inr (inl early) ↦ inr (Ends, inl (refl, early))
@@ -204,12 +204,12 @@ payload_begins bytes at to n t k within = elim (cases_eq t 0) [
   ]
 ]
 
-key_begins : (bytes : List ℕ) (at to n : ℕ) → SpellsVarint bytes at to n → FieldOrDefect bytes at
-key_begins bytes at to n spelled = elim (cases_lt n 8) [
-  | inl low ↦ inr (cause_at BadNumber at 0, key_out_of_range to n spelled (inr low) refl)
+key_begins : (bytes : List ℕ) (at to n : ℕ) → EncodesVarint bytes at to n → FieldOrDefect bytes at
+key_begins bytes at to n encoded = elim (cases_lt n 8) [
+  | inl low ↦ inr (cause_at BadNumber at 0, key_out_of_range to n encoded (inr low) refl)
   | inr numbered ↦ elim (cases_lt n (2 ^ 32)) [
-    | inr high ↦ inr (cause_at BadNumber at 0, key_out_of_range to n spelled (inl high) refl)
-    | inl small ↦ payload_begins bytes at to (n / 8) (n % 8) (IsKey-from bytes at to n spelled small numbered) spelled.within
+    | inr high ↦ inr (cause_at BadNumber at 0, key_out_of_range to n encoded (inl high) refl)
+    | inl small ↦ payload_begins bytes at to (n / 8) (n % 8) (IsKey-from bytes at to n encoded small numbered) encoded.within
   ]
 ]
 

@@ -1,8 +1,8 @@
 -- A place has at most one key, one payload, one field; and what is in a list is in a longer one.
 use Rattle.std.proofs.Common.{◌≡◌, ℕ, ◌+◌, ◌-◌, ◌*◌, ◌/◌, ◌%◌, ◌^◌, ◌<◌, ◌≤◌, List, [], ◌++◌, length, take, drop, slice_range, sym, ◌∙◌, ap, subst, arith, length-drop, length-append}
 use Rattle.std.proofs.lemmas.List.{drop-append-le, take-append-le, nil_from_length}
-use Rattle.mvt_wire.specs.Varint.{SpellsVarint}
-use Rattle.mvt_wire.specs.Field.{Content, varint, eight_bytes, delimited, four_bytes, Entry, wire_type_of, IsKey, IsPayload, IsField, IsFieldSpelling}
+use Rattle.mvt_wire.specs.Varint.{EncodesVarint}
+use Rattle.mvt_wire.specs.Field.{Content, varint, eight_bytes, delimited, four_bytes, Entry, wire_type_of, IsKey, IsPayload, IsField, IsFieldEncoding}
 use Rattle.mvt_wire.proofs.Encoding.Varints.{one_end, one_value}
 
 -- a place has at most one key: its end, its field number and its wire type
@@ -13,15 +13,15 @@ pub record SameKey (to end m n s t : ℕ) : Type 0 where
 
 pub one_key : (bytes : List ℕ) (at to end m n s t : ℕ) → IsKey bytes at to m s → IsKey bytes at end n t → SameKey to end m n s t
 one_key bytes at to end m n s t first second =
-    let value : m * 8 + s ≡ n * 8 + t = one_value bytes at to end _ _ first.spelled second.spelled in
-    record { places = one_end bytes at to end _ _ first.spelled second.spelled; numbers = omega arith; types = omega arith }
+    let value : m * 8 + s ≡ n * 8 + t = one_value bytes at to end _ _ first.encoded second.encoded in
+    record { places = one_end bytes at to end _ _ first.encoded second.encoded; numbers = omega arith; types = omega arith }
 
 -- the number and the wire type of a key
-pub IsKey-from : (bytes : List ℕ) (at to n : ℕ) → SpellsVarint bytes at to n → n < 2 ^ 32 → 8 ≤ n → IsKey bytes at to (n / 8) (n % 8)
-IsKey-from bytes at to n spelled small numbered =
+pub IsKey-from : (bytes : List ℕ) (at to n : ℕ) → EncodesVarint bytes at to n → n < 2 ^ 32 → 8 ≤ n → IsKey bytes at to (n / 8) (n % 8)
+IsKey-from bytes at to n encoded small numbered =
     let parts : n ≡ n / 8 * 8 + n % 8 = omega arith in
     record {
-      spelled = subst (λ k. SpellsVarint bytes at to k) parts spelled;
+      encoded = subst (λ k. EncodesVarint bytes at to k) parts encoded;
       below_limit = omega arith;
       numbered = omega arith;
       low_bits = omega arith;
@@ -76,7 +76,7 @@ payload_extent bytes from to content within p = (omega arith, p.1)
 
 pub field_extent : (bytes : List ℕ) (to : ℕ) (e : Entry) → IsField bytes to e → (e.at < to) × (to ≤ length bytes)
 field_extent bytes to e field =
-    let extent = payload_extent bytes field.key_end to e.content field.key.spelled.within field.payload in
+    let extent = payload_extent bytes field.key_end to e.content field.key.encoded.within field.payload in
     (omega arith, extent.1)
 
 -- a part of a list is the same part of a longer one
@@ -87,26 +87,26 @@ slice_range-append bytes more from to forward within =
     ap (take (to - from)) (drop-append-le from bytes more start) ∙ take-append-le (to - from) (drop from bytes) more left
 
 -- what is in a list is in a longer one: a varint, a key, a payload, a field
-pub SpellsVarint-append : (bytes more : List ℕ) (from to n : ℕ) → SpellsVarint bytes from to n → SpellsVarint (bytes ++ more) from to n
-SpellsVarint-append bytes more from to n spelled =
-    let forward = spelled.forward in
-    let within = spelled.within in
+pub EncodesVarint-append : (bytes more : List ℕ) (from to n : ℕ) → EncodesVarint bytes from to n → EncodesVarint (bytes ++ more) from to n
+EncodesVarint-append bytes more from to n encoded =
+    let forward = encoded.forward in
+    let within = encoded.within in
     let longer = length-append bytes more in
     let ordered : from ≤ to = omega arith in
-    record { forward = forward; within = omega arith; spelling = rw (slice_range-append bytes more from to ordered within) spelled.spelling }
+    record { forward = forward; within = omega arith; encoding = rw (slice_range-append bytes more from to ordered within) encoded.encoding }
 
 pub IsKey-append : (bytes more : List ℕ) (from to n t : ℕ) → IsKey bytes from to n t → IsKey (bytes ++ more) from to n t
 IsKey-append bytes more from to n t k =
-    record { spelled = SpellsVarint-append bytes more from to _ k.spelled; below_limit = k.below_limit; numbered = k.numbered; low_bits = k.low_bits }
+    record { encoded = EncodesVarint-append bytes more from to _ k.encoded; below_limit = k.below_limit; numbered = k.numbered; low_bits = k.low_bits }
 
 within-append : (bytes more : List ℕ) (to : ℕ) → to ≤ length bytes → to ≤ length (bytes ++ more)
 within-append bytes more to within = let longer = length-append bytes more in omega arith
 
 pub IsPayload-append : (bytes more : List ℕ) (from to : ℕ) (content : Content) → IsPayload bytes from to content → IsPayload (bytes ++ more) from to content
-IsPayload-append bytes more from to (varint value at) p = (p.0, SpellsVarint-append bytes more from to value p.1)
+IsPayload-append bytes more from to (varint value at) p = (p.0, EncodesVarint-append bytes more from to value p.1)
 IsPayload-append bytes more from to (delimited start part) p =
     let ordered : start ≤ to = omega arith in
-    (p.0, SpellsVarint-append bytes more from start p.0 p.1, p.2, within-append bytes more to p.3, p.4 ∙ sym (slice_range-append bytes more start to ordered p.3))
+    (p.0, EncodesVarint-append bytes more from start p.0 p.1, p.2, within-append bytes more to p.3, p.4 ∙ sym (slice_range-append bytes more start to ordered p.3))
 IsPayload-append bytes more from to content p =
     let ordered : from ≤ to = omega arith in
     (p.0, within-append bytes more to p.1, p.2 ∙ sym (slice_range-append bytes more from to ordered p.1))
@@ -119,8 +119,8 @@ IsField-append bytes more to e field = record {
 }
 
 -- no field is a proper front of another one
-pub no_longer_field : (spelling more : List ℕ) (e f : Entry) → IsFieldSpelling spelling e → IsFieldSpelling (spelling ++ more) f → more ≡ []
-no_longer_field spelling more e f first second =
-    let same = one_field (spelling ++ more) (length spelling) (length (spelling ++ more)) e f (first.0 ∙ sym second.0) (IsField-append spelling more (length spelling) e first.1) second.1 in
-    let longer = length-append spelling more in
+pub no_longer_field : (encoding more : List ℕ) (e f : Entry) → IsFieldEncoding encoding e → IsFieldEncoding (encoding ++ more) f → more ≡ []
+no_longer_field encoding more e f first second =
+    let same = one_field (encoding ++ more) (length encoding) (length (encoding ++ more)) e f (first.0 ∙ sym second.0) (IsField-append encoding more (length encoding) e first.1) second.1 in
+    let longer = length-append encoding more in
     nil_from_length more (omega arith)

@@ -4,7 +4,7 @@ use Rattle.std.proofs.Common.{◌≡◌, ℕ, ◌+◌, ◌^◌, ◌<◌, ◌≤�
 use Rattle.std.proofs.lemmas.Bool.{cases_lt}
 use Rattle.std.proofs.lemmas.List.{get_or_at}
 use Rattle.std.proofs.lemmas.List.Elements.{All-nil, All-cons}
-use Rattle.mvt_wire.specs.Varint.{SpellsVarint, VarintDefect}
+use Rattle.mvt_wire.specs.Varint.{EncodesVarint, VarintDefect}
 use Rattle.mvt_wire.specs.Field.{cause_at}
 use Rattle.mvt_wire.specs.Number.{VarintList, AreSmall, PackedFault, no_varint, too_large}
 use Rattle.mvt_wire.specs.declared.cause.WireCause.{WireCause}
@@ -39,8 +39,8 @@ one_goes_on bytes from to end (m ∷ ms) (n ∷ ns) h k =
     ]
 
 -- no varint is at the end
-no_varint_at_end : (bytes : List ℕ) (next n : ℕ) → SpellsVarint bytes (length bytes) next n → ⊥
-no_varint_at_end bytes next n spelled = let forward = spelled.forward in let within = spelled.within in omega arith
+no_varint_at_end : (bytes : List ℕ) (next n : ℕ) → EncodesVarint bytes (length bytes) next n → ⊥
+no_varint_at_end bytes next n encoded = let forward = encoded.forward in let within = encoded.within in omega arith
 
 -- a list up to the end has nothing after it
 ends_there : (bytes : List ℕ) (at : ℕ) (whole numbers rest : List ℕ) → numbers ≡ whole ++ rest → VarintList bytes (length bytes) rest at → GoesOn bytes whole numbers at (length bytes)
@@ -82,12 +82,12 @@ front_or_defect part at code [] list left defect = omega arith
 front_or_defect part at code (n ∷ rest) list left defect = varint_or_defect part at list.0 n code list.1 defect
 
 -- nor at a large number
-front_or_large : (part : List ℕ) (at next n : ℕ) (whole shorter rest : List ℕ) → AreSmall whole → whole ≡ shorter ++ rest → VarintList part at rest (length part) → SpellsVarint part at next n → 2 ^ 32 ≤ n → ⊥
-front_or_large part at next n whole shorter [] small is list spelled large =
-    let forward = spelled.forward in let within = spelled.within in omega arith
-front_or_large part at next n whole shorter (m ∷ rest) small is list spelled large =
+front_or_large : (part : List ℕ) (at next n : ℕ) (whole shorter rest : List ℕ) → AreSmall whole → whole ≡ shorter ++ rest → VarintList part at rest (length part) → EncodesVarint part at next n → 2 ^ 32 ≤ n → ⊥
+front_or_large part at next n whole shorter [] small is list encoded large =
+    let forward = encoded.forward in let within = encoded.within in omega arith
+front_or_large part at next n whole shorter (m ∷ rest) small is list encoded large =
     let below : m < 2 ^ 32 = small_after whole shorter rest m is small in
-    let same : m ≡ n = one_value part at list.0 next m n list.1 spelled in
+    let same : m ≡ n = one_value part at list.0 next m n list.1 encoded in
     omega arith
 
 -- a payload that is a list of small numbers has no fault of a packed list
@@ -95,14 +95,14 @@ pub packed_or_fault : (from : ℕ) (part : List ℕ) (field_number : ℕ) (cause
 packed_or_fault from part field_number cause numbers list small (no_varint shorter at code before left defect is) =
     let following = whole_goes_on part 0 at numbers shorter list before in
     front_or_defect part at code following.0 following.2 left defect
-packed_or_fault from part field_number cause numbers list small (too_large shorter at next n before spelled large is) =
+packed_or_fault from part field_number cause numbers list small (too_large shorter at next n before encoded large is) =
     let following = whole_goes_on part 0 at numbers shorter list before in
-    front_or_large part at next n numbers shorter following.0 small following.1 following.2 spelled large
+    front_or_large part at next n numbers shorter following.0 small following.1 following.2 encoded large
 
 -- no number of 32 bits is at a place
 abbrev pub NoSmallNumber : List ℕ → ℕ → Type 0
 NoSmallNumber part at =
-    ((code : WireCode) × (at < length part) × VarintDefect code (drop at part)) ⊎ ((next n : ℕ) × SpellsVarint part at next n × (2 ^ 32 ≤ n))
+    ((code : WireCode) × (at < length part) × VarintDefect code (drop at part)) ⊎ ((next n : ℕ) × EncodesVarint part at next n × (2 ^ 32 ≤ n))
 
 -- from a place on there are small numbers up to the end, or up to a place that has no small one
 abbrev pub NumbersOrStop : List ℕ → ℕ → Type 0

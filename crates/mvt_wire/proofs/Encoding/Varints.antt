@@ -4,7 +4,7 @@ use Rattle.std.proofs.Math.Nat.{pow-suc, pow-le-pow_right, mul-le-mul_right}
 use Rattle.std.proofs.lemmas.List.{take_more, length-take-le, get_or-take, get_or-drop, get_or_append_left}
 use Rattle.std.proofs.lemmas.List.Edits.{get_or-between, length-between}
 use Rattle.std.proofs.lemmas.Bool.{cases_lt}
-use Rattle.mvt_wire.specs.Varint.{sum_of_groups, IsVarint, SpellsVarint, EndsEarly, IsTooLong, VarintDefect}
+use Rattle.mvt_wire.specs.Varint.{sum_of_groups, IsVarint, EncodesVarint, EndsEarly, IsTooLong, VarintDefect}
 use Rattle.mvt_wire.specs.declared.cause.WireCode.{WireCode}
 
 -- one more group stands for its low seven bits, times the weight of its place
@@ -45,25 +45,25 @@ IsVarint-take rest i n within few earlier last value fits =
     }
 
 -- the last byte of a varint, and those before it, as bytes of the list that it is in
-pub last_byte : (bytes : List ℕ) (from to n : ℕ) → SpellsVarint bytes from to n → get_or bytes (to - 1) 0 < 128
-last_byte bytes from to n spelled =
-    let size : length (slice_range bytes from to) ≡ to - from = length-between bytes from to spelled.within in
+pub last_byte : (bytes : List ℕ) (from to n : ℕ) → EncodesVarint bytes from to n → get_or bytes (to - 1) 0 < 128
+last_byte bytes from to n encoded =
+    let size : length (slice_range bytes from to) ≡ to - from = length-between bytes from to encoded.within in
     let place : from + (length (slice_range bytes from to) - 1) ≡ to - 1 = omega arith in
     let before : from + (length (slice_range bytes from to) - 1) < to = omega arith in
-    let ended = rw (get_or-between bytes from to (length (slice_range bytes from to) - 1) 0 before) at spelled.spelling.ended in
+    let ended = rw (get_or-between bytes from to (length (slice_range bytes from to) - 1) 0 before) at encoded.encoding.ended in
     rw place at ended
 
-pub earlier_byte : (bytes : List ℕ) (from to n : ℕ) → SpellsVarint bytes from to n → (k : ℕ) → from ≤ k → k + 1 < to → 128 ≤ get_or bytes k 0
-earlier_byte bytes from to n spelled k low high =
-    let size : length (slice_range bytes from to) ≡ to - from = length-between bytes from to spelled.within in
+pub earlier_byte : (bytes : List ℕ) (from to n : ℕ) → EncodesVarint bytes from to n → (k : ℕ) → from ≤ k → k + 1 < to → 128 ≤ get_or bytes k 0
+earlier_byte bytes from to n encoded k low high =
+    let size : length (slice_range bytes from to) ≡ to - from = length-between bytes from to encoded.within in
     let place : from + (k - from) ≡ k = omega arith in
     let before : from + (k - from) < to = omega arith in
     let more : k - from + 1 < length (slice_range bytes from to) = omega arith in
-    let continued = rw (get_or-between bytes from to (k - from) 0 before) at (spelled.spelling.continued (k - from) more) in
+    let continued = rw (get_or-between bytes from to (k - from) 0 before) at (encoded.encoding.continued (k - from) more) in
     rw place at continued
 
 -- a place has at most one varint
-no_shorter : (bytes : List ℕ) (from to end m n : ℕ) → SpellsVarint bytes from to m → SpellsVarint bytes from end n → to < end → ⊥
+no_shorter : (bytes : List ℕ) (from to end m n : ℕ) → EncodesVarint bytes from to m → EncodesVarint bytes from end n → to < end → ⊥
 no_shorter bytes from to end m n first second less =
     let low : from ≤ to - 1 = omega arith in
     let high : to - 1 + 1 < end = omega arith in
@@ -71,7 +71,7 @@ no_shorter bytes from to end m n first second less =
     let earlier = earlier_byte bytes from end n second (to - 1) low high in
     omega arith
 
-pub one_end : (bytes : List ℕ) (from to end m n : ℕ) → SpellsVarint bytes from to m → SpellsVarint bytes from end n → to ≡ end
+pub one_end : (bytes : List ℕ) (from to end m n : ℕ) → EncodesVarint bytes from to m → EncodesVarint bytes from end n → to ≡ end
 one_end bytes from to end m n first second = elim (cases_lt to end) [
   | inl less ↦ absurd (no_shorter bytes from to end m n first second less)
   | inr rest ↦ elim (cases_lt end to) [
@@ -80,23 +80,23 @@ one_end bytes from to end m n first second = elim (cases_lt to end) [
   ]
 ]
 
-pub one_value : (bytes : List ℕ) (from to end m n : ℕ) → SpellsVarint bytes from to m → SpellsVarint bytes from end n → m ≡ n
+pub one_value : (bytes : List ℕ) (from to end m n : ℕ) → EncodesVarint bytes from to m → EncodesVarint bytes from end n → m ≡ n
 one_value bytes from to end m n first second =
-    first.spelling.value ∙ ap (λ (e : ℕ). sum_of_groups (slice_range bytes from e)) (one_end bytes from to end m n first second) ∙ sym second.spelling.value
+    first.encoding.value ∙ ap (λ (e : ℕ). sum_of_groups (slice_range bytes from e)) (one_end bytes from to end m n first second) ∙ sym second.encoding.value
 
 -- so a place has at most one varint, with its end
-pub one_read : (bytes : List ℕ) (from : ℕ) (read : ℕ × ℕ) (n to : ℕ) → SpellsVarint bytes from read.1 read.0 → SpellsVarint bytes from to n → read ≡ (n, to)
+pub one_read : (bytes : List ℕ) (from : ℕ) (read : ℕ × ℕ) (n to : ℕ) → EncodesVarint bytes from read.1 read.0 → EncodesVarint bytes from to n → read ≡ (n, to)
 one_read bytes from read n to first second =
     rw (sym (one_value bytes from read.1 to read.0 n first second), sym (one_end bytes from read.1 to read.0 n first second)) refl
 
 -- a varint and a defect exclude each other
-pub varint_or_early : (bytes : List ℕ) (from to n : ℕ) → SpellsVarint bytes from to n → EndsEarly (drop from bytes) → ⊥
-varint_or_early bytes from to n spelled early =
+pub varint_or_early : (bytes : List ℕ) (from to n : ℕ) → EncodesVarint bytes from to n → EndsEarly (drop from bytes) → ⊥
+varint_or_early bytes from to n encoded early =
     let size = length-drop from bytes in
     let place : to - 1 - from < length (drop from bytes) = omega arith in
     let same : from + (to - 1 - from) ≡ to - 1 = omega arith in
     let high = rw (get_or-drop from bytes (to - 1 - from) 0, same) at (early.continued (to - 1 - from) place) in
-    let last = last_byte bytes from to n spelled in
+    let last = last_byte bytes from to n encoded in
     omega arith
 
 -- ten groups of which the last is above 1 stand for 2^64 or more
@@ -108,12 +108,12 @@ ten_groups rest many high low =
     let sum : sum_of_groups (take 10 rest) ≡ sum_of_groups (take 9 rest) + get_or rest 9 0 * 128 ^ 9 = rw group at sum in
     omega arith
 
-pub varint_or_long : (bytes : List ℕ) (from to n : ℕ) → SpellsVarint bytes from to n → IsTooLong (drop from bytes) → ⊥
-varint_or_long bytes from to n spelled long =
-    let size : length (slice_range bytes from to) ≡ to - from = length-between bytes from to spelled.within in
-    let few : to - from ≤ 10 = omega (arith, spelled.spelling.at_most_ten) in
+pub varint_or_long : (bytes : List ℕ) (from to n : ℕ) → EncodesVarint bytes from to n → IsTooLong (drop from bytes) → ⊥
+varint_or_long bytes from to n encoded long =
+    let size : length (slice_range bytes from to) ≡ to - from = length-between bytes from to encoded.within in
+    let few : to - from ≤ 10 = omega (arith, encoded.encoding.at_most_ten) in
     let same : from + (to - 1 - from) ≡ to - 1 = omega arith in
-    let last = last_byte bytes from to n spelled in
+    let last = last_byte bytes from to n encoded in
     elim (cases_lt (to - 1 - from) 9) [
       | inl early ↦
           let high = rw (get_or-drop from bytes (to - 1 - from) 0, same) at (long.continued (to - 1 - from) early) in
@@ -123,7 +123,7 @@ varint_or_long bytes from to n spelled long =
           let place : from + 9 ≡ to - 1 = omega arith in
           let low : get_or (drop from bytes) 9 0 < 128 = rw (get_or-drop from bytes 9 0, place) last in
           let sum = ten_groups (drop from bytes) long.many long.tenth low in
-          let value : n ≡ sum_of_groups (take 10 (drop from bytes)) = spelled.spelling.value ∙ ap (λ k. sum_of_groups (take k (drop from bytes))) ten in
+          let value : n ≡ sum_of_groups (take 10 (drop from bytes)) = encoded.encoding.value ∙ ap (λ k. sum_of_groups (take k (drop from bytes))) ten in
           omega arith
     ]
 
@@ -131,9 +131,9 @@ pub early_or_long : (rest : List ℕ) → EndsEarly rest → IsTooLong rest → 
 early_or_long rest early long = let few = early.few in let many = long.many in omega arith
 
 -- a place has a varint or a defect
-pub varint_or_defect : (bytes : List ℕ) (from to n : ℕ) (code : WireCode) → SpellsVarint bytes from to n → VarintDefect code (drop from bytes) → ⊥
-varint_or_defect bytes from to n code spelled (inl early) = varint_or_early bytes from to n spelled early.1
-varint_or_defect bytes from to n code spelled (inr long) = varint_or_long bytes from to n spelled long.1
+pub varint_or_defect : (bytes : List ℕ) (from to n : ℕ) (code : WireCode) → EncodesVarint bytes from to n → VarintDefect code (drop from bytes) → ⊥
+varint_or_defect bytes from to n code encoded (inl early) = varint_or_early bytes from to n encoded early.1
+varint_or_defect bytes from to n code encoded (inr long) = varint_or_long bytes from to n encoded long.1
 
 -- and no two defects
 pub one_defect_of_varint : (rest : List ℕ) (code other : WireCode) → VarintDefect code rest → VarintDefect other rest → code ≡ other
@@ -143,16 +143,16 @@ one_defect_of_varint rest code other (inr a) (inl b) = absurd (early_or_long res
 one_defect_of_varint rest code other (inr a) (inr b) = a.0 ∙ sym b.0
 
 -- no varint is a proper front of another one
-pub no_longer_varint : (spelling more : List ℕ) (m n : ℕ) → IsVarint spelling m → IsVarint (spelling ++ more) n → more ≡ []
-no_longer_varint spelling [] m n first second = refl
-no_longer_varint spelling (byte ∷ more) m n first second =
-    let place : length spelling - 1 < length spelling = omega arith in
-    let longer : length (spelling ++ byte ∷ more) ≡ length spelling + suc (length more) = length-append spelling (byte ∷ more) in
-    let before : length spelling - 1 + 1 < length (spelling ++ byte ∷ more) = omega arith in
-    let high = rw (get_or_append_left spelling (byte ∷ more) 0 (length spelling - 1) place) at (second.continued (length spelling - 1) before) in
+pub no_longer_varint : (encoding more : List ℕ) (m n : ℕ) → IsVarint encoding m → IsVarint (encoding ++ more) n → more ≡ []
+no_longer_varint encoding [] m n first second = refl
+no_longer_varint encoding (byte ∷ more) m n first second =
+    let place : length encoding - 1 < length encoding = omega arith in
+    let longer : length (encoding ++ byte ∷ more) ≡ length encoding + suc (length more) = length-append encoding (byte ∷ more) in
+    let before : length encoding - 1 + 1 < length (encoding ++ byte ∷ more) = omega arith in
+    let high = rw (get_or_append_left encoding (byte ∷ more) 0 (length encoding - 1) place) at (second.continued (length encoding - 1) before) in
     absurd (omega arith)
 
--- a front of the rest spells a varint
+-- a front of the rest encodes a varint
 abbrev pub BeginsWithVarint : List ℕ → Type 0
 BeginsWithVarint rest = (size n : ℕ) × (size ≤ length rest) × IsVarint (take size rest) n
 
@@ -191,19 +191,19 @@ begins_from (suc fuel) i rest places within earlier = elim (cases_lt i (length r
 begins : (rest : List ℕ) → BeginsWithVarint rest ⊎ EndsEarly rest ⊎ IsTooLong rest
 begins rest = begins_from 9 0 rest (omega arith) (omega arith) (λ k h. absurd (omega arith))
 
--- a front of the rest spells what the place does
-pub place_spells : (bytes : List ℕ) (at size n : ℕ) → at ≤ length bytes → size ≤ length (drop at bytes) → IsVarint (take size (drop at bytes)) n → SpellsVarint bytes at (at + size) n
-place_spells bytes at size n place within spelled =
+-- a front of the rest encodes what the place does
+pub place_encodes : (bytes : List ℕ) (at size n : ℕ) → at ≤ length bytes → size ≤ length (drop at bytes) → IsVarint (take size (drop at bytes)) n → EncodesVarint bytes at (at + size) n
+place_encodes bytes at size n place within encoded =
     let rest = length-drop at bytes in
     let span : at + size - at ≡ size = omega arith in
     let whole : length (take size (drop at bytes)) ≡ size = length-take-le size (drop at bytes) within in
-    let some = spelled.present in
-    let spelling : IsVarint (slice_range bytes at (at + size)) n = rw span spelled in
-    record { forward = omega arith; within = omega arith; spelling = spelling }
+    let some = encoded.present in
+    let encoding : IsVarint (slice_range bytes at (at + size)) n = rw span encoded in
+    record { forward = omega arith; within = omega arith; encoding = encoding }
 
 -- each place has a varint or one of its defects
-pub place_begins : (bytes : List ℕ) (at : ℕ) → at ≤ length bytes → ((to n : ℕ) × SpellsVarint bytes at to n) ⊎ EndsEarly (drop at bytes) ⊎ IsTooLong (drop at bytes)
+pub place_begins : (bytes : List ℕ) (at : ℕ) → at ≤ length bytes → ((to n : ℕ) × EncodesVarint bytes at to n) ⊎ EndsEarly (drop at bytes) ⊎ IsTooLong (drop at bytes)
 place_begins bytes at within = elim (begins (drop at bytes)) [
-  | inl found ↦ inl (at + found.0, found.1, place_spells bytes at found.0 found.1 within found.2 found.3)
+  | inl found ↦ inl (at + found.0, found.1, place_encodes bytes at found.0 found.1 within found.2 found.3)
   | inr bad ↦ inr bad
 ]

@@ -2,12 +2,12 @@
 use Rattle.std.proofs.Common.{◌≡◌, ℕ, ◌+◌, ◌*◌, ◌/◌, ◌%◌, ◌^◌, ◌<◌, ◌≤◌, inl, inr, List, length, drop, get_or, refl, ◌∙◌, ap, subst, arith, length-drop}
 use Rattle.std.proofs.lemmas.List.{get_or-drop}
 use Rattle.mvt_wire.specs.Field.{Content, Entry, wire_type_of, IsKey, IsPayload, IsField, FieldDefect}
-use Rattle.mvt_wire.specs.Varint.{SpellsVarint}
+use Rattle.mvt_wire.specs.Varint.{EncodesVarint}
 use Rattle.mvt_wire.specs.Walk.{Walk, GivesField}
 use Rattle.mvt_wire.specs.declared.cause.WireCause.{WireCause}
 use Rattle.mvt_wire.proofs.Encoding.Defects.{field_begins}
 use Rattle.mvt_wire.proofs.Encoding.Entries.{IsKey-from, field_extent}
-use Rattle.mvt_wire.proofs.Encoding.Varints.{IsVarint-take, one_end, one_value, place_spells, sum_of_groups-take}
+use Rattle.mvt_wire.proofs.Encoding.Varints.{IsVarint-take, one_end, one_value, place_encodes, sum_of_groups-take}
 
 -- where a walk comes to no defect, a field stands
 pub stands : {bytes : List ℕ} {at : ℕ} {walk : Walk} → record { bytes = bytes; at = at } ≡ walk → ((cause : WireCause) → walk.at < length walk.bytes → ¬ FieldDefect walk.bytes walk.at cause) → at < length bytes
@@ -26,11 +26,11 @@ pub record IsAfterKey (bytes : List ℕ) (at from key : ℕ) : Type 0 where
   pub type : wire_type_of content ≡ key % 8
   pub payload : IsPayload bytes from next content
 
-pub after_key : (bytes : List ℕ) (at from key : ℕ) (entry : Entry) (next : ℕ) → entry.at ≡ at → IsField bytes next entry → SpellsVarint bytes at from key → IsAfterKey bytes at from key
-after_key bytes at from key entry next here field spelled =
-    let at_key = subst (λ (place : ℕ). SpellsVarint bytes place field.key_end (entry.number * 8 + wire_type_of entry.content)) here field.key.spelled in
-    let ends = one_end bytes at field.key_end from (entry.number * 8 + wire_type_of entry.content) key at_key spelled in
-    let is = one_value bytes at field.key_end from (entry.number * 8 + wire_type_of entry.content) key at_key spelled in
+pub after_key : (bytes : List ℕ) (at from key : ℕ) (entry : Entry) (next : ℕ) → entry.at ≡ at → IsField bytes next entry → EncodesVarint bytes at from key → IsAfterKey bytes at from key
+after_key bytes at from key entry next here field encoded =
+    let at_key = subst (λ (place : ℕ). EncodesVarint bytes place field.key_end (entry.number * 8 + wire_type_of entry.content)) here field.key.encoded in
+    let ends = one_end bytes at field.key_end from (entry.number * 8 + wire_type_of entry.content) key at_key encoded in
+    let is = one_value bytes at field.key_end from (entry.number * 8 + wire_type_of entry.content) key at_key encoded in
     let numbered = field.key.numbered in
     let limit = field.key.below_limit in
     let low = field.key.low_bits in
@@ -44,21 +44,21 @@ after_key bytes at from key entry next here field spelled =
     }
 
 -- a field with that key and payload stands at the place
-pub GivesField-after_key : (bytes : List ℕ) (at from key next field_number : ℕ) (content : Content) → SpellsVarint bytes at from key → 8 ≤ key → key < 2 ^ 32 → field_number ≡ key / 8 → wire_type_of content ≡ key % 8 → IsPayload bytes from next content
+pub GivesField-after_key : (bytes : List ℕ) (at from key next field_number : ℕ) (content : Content) → EncodesVarint bytes at from key → 8 ≤ key → key < 2 ^ 32 → field_number ≡ key / 8 → wire_type_of content ≡ key % 8 → IsPayload bytes from next content
     → GivesField (record { bytes = bytes; at = at }) (record { bytes = bytes; at = next }) (record { number = field_number; at = at; content = content })
-GivesField-after_key bytes at from key next field_number content spelled numbered small number type payload =
-    let is_key : IsKey bytes at from field_number (wire_type_of content) = rw (number, type) (IsKey-from bytes at from key spelled small numbered) in
+GivesField-after_key bytes at from key next field_number content encoded numbered small number type payload =
+    let is_key : IsKey bytes at from field_number (wire_type_of content) = rw (number, type) (IsKey-from bytes at from key encoded small numbered) in
     let field : IsField bytes next (record { number = field_number; at = at; content = content }) = record { key_end = from; key = is_key; payload = payload } in
     let extent = field_extent bytes next _ field in
-    record { left = omega (arith, extent.0, extent.1); here = refl; spelled = field; further = extent.0; within = extent.1; same_bytes = refl }
+    record { left = omega (arith, extent.0, extent.1); here = refl; encoded = field; further = extent.0; within = extent.1; same_bytes = refl }
 
 -- a byte below 128 is a varint of its own
-pub one_byte : (bytes : List ℕ) (at : ℕ) → at < length bytes → get_or bytes at 0 < 128 → SpellsVarint bytes at (at + 1) (get_or bytes at 0)
+pub one_byte : (bytes : List ℕ) (at : ℕ) → at < length bytes → get_or bytes at 0 < 128 → EncodesVarint bytes at (at + 1) (get_or bytes at 0)
 one_byte bytes at within small =
     let size = length-drop at bytes in
     let here : get_or (drop at bytes) 0 0 ≡ get_or bytes at 0 = get_or-drop at bytes 0 0 ∙ ap (λ (place : ℕ). get_or bytes place 0) (omega arith) in
     let value = sum_of_groups-take (drop at bytes) 0 (omega arith) in
-    place_spells bytes at 1 (get_or bytes at 0) (omega arith) (omega arith)
+    place_encodes bytes at 1 (get_or bytes at 0) (omega arith) (omega arith)
     (IsVarint-take (drop at bytes) 0 (get_or bytes at 0) (omega arith) (omega arith) (λ k less. absurd (omega arith)) (omega arith) (omega arith) (omega arith))
 
 -- a field after a key of one byte

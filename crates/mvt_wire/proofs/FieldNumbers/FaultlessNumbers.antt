@@ -5,7 +5,7 @@ use Rattle.std.proofs.lemmas.List.Elements.{All-head}
 use Rattle.mvt_wire.specs.Field.{Content, varint, eight_bytes, delimited, four_bytes, Entry, wire_type_of, IsField, IsPayload}
 use Rattle.mvt_wire.specs.Numbers.{NumbersEnd, walk_at, NumbersLeft, goes_on, stops, HasNoNumber, IsFaultless}
 use Rattle.mvt_wire.specs.Schema.{is_own}
-use Rattle.mvt_wire.specs.Varint.{SpellsVarint}
+use Rattle.mvt_wire.specs.Varint.{EncodesVarint}
 use Rattle.mvt_wire.specs.Walk.{Walk, GivesField}
 use Rattle.mvt_wire.specs.declared.cause.WireCause.{WireCause}
 use Rattle.mvt_wire.specs.declared.schema.Shape.TheVariants.{Numbers}
@@ -17,7 +17,7 @@ use Rattle.mvt_wire.specs.Calls.Numbers.{BeginVarints, HasNoNumberFault}
 
 -- a field that is given is one of the message
 pub given_in : {bytes : List ℕ} {old new : Walk} {entry : Entry} → old.bytes ≡ bytes → GivesField old new entry → IsField bytes new.at entry
-given_in {new = new} {entry = entry} same given = subst (λ (message : List ℕ). IsField message new.at entry) same given.spelled
+given_in {new = new} {entry = entry} same given = subst (λ (message : List ℕ). IsField message new.at entry) same given.encoded
 
 -- no fault ends the numbers of a walk that begins at a field
 pub HasNoNumberFault-at : (bytes : List ℕ) (at k : ℕ) → IsFaultless (walk_at bytes k at at) → HasNoNumberFault bytes at k
@@ -35,7 +35,7 @@ pub begins_within : (bytes : List ℕ) (to place : ℕ) (entry : Entry) → IsFi
 begins_within bytes to place entry field begins = go entry.content field.payload begins
   where
     ahead : entry.at < field.key_end
-    ahead = field.key.spelled.forward
+    ahead = field.key.encoded.forward
 
     go : (content : Content) → IsPayload bytes field.key_end to content → BeginVarints content place → (entry.at < place) × (place ≤ to)
     go (varint value first) payload begins = let forward = payload.1.forward in (omega (arith, ahead, begins, payload.0), omega (arith, begins, payload.0))
@@ -55,10 +55,10 @@ left_in_field bytes at to k place entry here field is begin numbers ending left 
     go (four_bytes part) same begins = absurd begins
 
 -- where varints are left in a field, a number of 32 bits is the next
-pub number_next : (bytes : List ℕ) (k at end : ℕ) → at < end → end ≤ length bytes → IsFaultless (walk_at bytes k at end) → (n next : ℕ) × SpellsVarint (take end bytes) at next n × (n < 2 ^ 32)
+pub number_next : (bytes : List ℕ) (k at end : ℕ) → at < end → end ≤ length bytes → IsFaultless (walk_at bytes k at end) → (n next : ℕ) × EncodesVarint (take end bytes) at next n × (n < 2 ^ 32)
 number_next bytes k at end left within faultless = let some = some_left bytes k at end (omega arith) within in first some.0 some.1 some.2
   where
-    first : (numbers : List ℕ) (ending : Option WireCause) → NumbersLeft (walk_at bytes k at end) numbers ending → (n next : ℕ) × SpellsVarint (take end bytes) at next n × (n < 2 ^ 32)
+    first : (numbers : List ℕ) (ending : Option WireCause) → NumbersLeft (walk_at bytes k at end) numbers ending → (n next : ℕ) × EncodesVarint (take end bytes) at next n × (n < 2 ^ 32)
     first numbers (Some cause) there = absurd (faultless numbers cause there)
     first numbers None (goes_on [] rest list small fields joined) = absurd (omega arith)
     first numbers None (goes_on (n ∷ following) rest list small fields joined) = (n, list.0, list.1, All-head (λ (m : ℕ). m < 2 ^ 32) n following small)

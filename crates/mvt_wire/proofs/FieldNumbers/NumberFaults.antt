@@ -4,7 +4,7 @@ use Rattle.std.proofs.Common.{◌≡◌, ℕ, ◌+◌, ◌-◌, ◌^◌, ◌<◌
 use Rattle.std.proofs.lemmas.Bool.{cases_lt}
 use Rattle.std.proofs.lemmas.List.Edits.{length-between}
 use Rattle.std.proofs.lemmas.List.Elements.{All-head, All-cons, All-nil}
-use Rattle.mvt_wire.specs.Varint.{SpellsVarint, VarintDefect}
+use Rattle.mvt_wire.specs.Varint.{EncodesVarint, VarintDefect}
 use Rattle.mvt_wire.specs.Field.{Content, varint, eight_bytes, delimited, four_bytes, cause_at, Entry, wire_type_of, IsPayload}
 use Rattle.mvt_wire.specs.Number.{VarintList, States, AreSmall, PackedFault, no_varint, too_large}
 use Rattle.mvt_wire.specs.Schema.{is_own}
@@ -20,17 +20,17 @@ use Rattle.mvt_wire.proofs.Encoding.PackedLists.{varints_forward, one_goes_on, o
 abbrev pub FaultHere : ℕ → List ℕ → ℕ → ℕ → WireCause → Type 0
 FaultHere from part field_number at cause =
     ((code : WireCode) × (at < length part) × VarintDefect code (drop at part) × (cause ≡ cause_at code (from + at) field_number))
-    ⊎ ((next n : ℕ) × SpellsVarint part at next n × (2 ^ 32 ≤ n) × (cause ≡ cause_at OutOfRange (from + at) field_number))
+    ⊎ ((next n : ℕ) × EncodesVarint part at next n × (2 ^ 32 ≤ n) × (cause ≡ cause_at OutOfRange (from + at) field_number))
 
 pub fault_here : (from : ℕ) (part : List ℕ) (k at : ℕ) (cause : WireCause) → PackedFault from part k cause → cause.at ≡ from + at → FaultHere from part k at cause
 fault_here from part k at cause (no_varint numbers stop code list left defect is) here =
     let places : cause.at ≡ from + stop = ap (λ (c : WireCause). c.at) is in
     let same : stop ≡ at = omega arith in
     subst (λ (place : ℕ). FaultHere from part k place cause) same (inl (code, left, defect, is))
-fault_here from part k at cause (too_large numbers stop next n list spelled large is) here =
+fault_here from part k at cause (too_large numbers stop next n list encoded large is) here =
     let places : cause.at ≡ from + stop = ap (λ (c : WireCause). c.at) is in
     let same : stop ≡ at = omega arith in
-    subst (λ (place : ℕ). FaultHere from part k place cause) same (inr (next, n, spelled, large, is))
+    subst (λ (place : ℕ). FaultHere from part k place cause) same (inr (next, n, encoded, large, is))
 
 -- a place of a list has at most one fault
 pub one_fault_here : (from : ℕ) (part : List ℕ) (k at : ℕ) (c d : WireCause) → FaultHere from part k at c → FaultHere from part k at d → c ≡ d
@@ -40,10 +40,10 @@ one_fault_here from part k at c d (inr a) (inl b) = absurd (varint_or_defect par
 one_fault_here from part k at c d (inr a) (inr b) = a.4 ∙ sym b.4
 
 -- and none where a small number is
-small_or_fault : (from : ℕ) (part : List ℕ) (k at next n : ℕ) (cause : WireCause) → SpellsVarint part at next n → n < 2 ^ 32 → FaultHere from part k at cause → ⊥
-small_or_fault from part k at next n cause spelled small (inl bad) = varint_or_defect part at next n bad.0 spelled bad.2
-small_or_fault from part k at next n cause spelled small (inr large) =
-    let same : n ≡ large.1 = one_value part at next large.0 n large.1 spelled large.2 in
+small_or_fault : (from : ℕ) (part : List ℕ) (k at next n : ℕ) (cause : WireCause) → EncodesVarint part at next n → n < 2 ^ 32 → FaultHere from part k at cause → ⊥
+small_or_fault from part k at next n cause encoded small (inl bad) = varint_or_defect part at next n bad.0 encoded bad.2
+small_or_fault from part k at next n cause encoded small (inr large) =
+    let same : n ≡ large.1 = one_value part at next large.0 n large.1 encoded large.2 in
     omega arith
 
 fault_within : (from : ℕ) (part : List ℕ) (k at : ℕ) (cause : WireCause) → FaultHere from part k at cause → at < length part

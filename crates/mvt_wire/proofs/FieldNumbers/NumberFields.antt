@@ -3,7 +3,7 @@ use Rattle.std.proofs.Common.{Bor, ◌≡◌, ℕ, ◌+◌, ◌-◌, ◌^◌, �
 use Rattle.std.proofs.lemmas.List.{length-take-le, drop-drop}
 use Rattle.std.proofs.lemmas.List.Elements.{All-nil}
 use Rattle.std.proofs.lemmas.Slice.{between_is}
-use Rattle.mvt_wire.specs.Varint.{SpellsVarint, VarintDefect}
+use Rattle.mvt_wire.specs.Varint.{EncodesVarint, VarintDefect}
 use Rattle.mvt_wire.specs.Field.{content_of, Content, varint, delimited, cause_at, Entry, wire_type_of, IsPayload, IsField}
 use Rattle.mvt_wire.specs.Number.{VarintList, States, PackedFault, no_varint, too_large}
 use Rattle.mvt_wire.specs.Schema.{is_own}
@@ -16,7 +16,7 @@ use Rattle.mvt_wire.specs.declared.schema.Shape.TheVariants.{Numbers}
 use Rattle.mvt_wire.proofs.Encoding.Varints.{one_value, varint_or_defect}
 use Rattle.mvt_wire.proofs.Encoding.Entries.{field_extent}
 use Rattle.mvt_wire.proofs.Encoding.PackedLists.{varints_forward}
-use Rattle.mvt_wire.proofs.Encoding.VarintLists.{empty_list, alone_in_span, front_of_one, VarintList-drop, SpellsVarint-drop, SpellsVarint-take}
+use Rattle.mvt_wire.proofs.Encoding.VarintLists.{empty_list, alone_in_span, front_of_one, VarintList-drop, EncodesVarint-drop, EncodesVarint-take}
 use Rattle.mvt_wire.proofs.FieldNumbers.NumberEnds.{ends_in_field, ends-skip, ends-cons}
 
 -- between two fields a walk has left what comes from the second one on
@@ -35,16 +35,16 @@ left_after_other bytes at to k e numbers ending here field is_not left =
     ends-skip bytes at to k e numbers ending here field is_not (left_at_field bytes to k numbers ending (field_extent bytes to e field).1 left)
 
 -- the fault of a field's one number
-single_fault : (bytes : List ℕ) (at place to k value : ℕ) (e : Entry) (numbers : List ℕ) (cause : WireCause) → e.number ≡ k → e.content ≡ varint value place → SpellsVarint (take to bytes) place to value → to ≤ length bytes
+single_fault : (bytes : List ℕ) (at place to k value : ℕ) (e : Entry) (numbers : List ℕ) (cause : WireCause) → e.number ≡ k → e.content ≡ varint value place → EncodesVarint (take to bytes) place to value → to ≤ length bytes
     → StopsVarints (take to bytes) place k numbers cause → NumberFault e numbers cause
-single_fault bytes at place to k value e numbers cause is content spelled within fault =
+single_fault bytes at place to k value e numbers cause is content encoded within fault =
     let size = length-take-le to bytes within in
-    let front = front_of_one (take to bytes) place to value numbers fault.at spelled fault.before (omega arith) in
+    let front = front_of_one (take to bytes) place to value numbers fault.at encoded fault.before (omega arith) in
     elim fault.fault [
-      | inl bad ↦ absurd (varint_or_defect (take to bytes) place to value bad.0 spelled (subst (λ (p : ℕ). VarintDefect bad.0 (drop p (take to bytes))) front.1 bad.1))
+      | inl bad ↦ absurd (varint_or_defect (take to bytes) place to value bad.0 encoded (subst (λ (p : ℕ). VarintDefect bad.0 (drop p (take to bytes))) front.1 bad.1))
       | inr large ↦
-          let moved : SpellsVarint (take to bytes) place large.0 large.1 = subst (λ (p : ℕ). SpellsVarint (take to bytes) p large.0 large.1) front.1 large.2 in
-          let same : large.1 ≡ value = one_value (take to bytes) place large.0 to large.1 value moved spelled in
+          let moved : EncodesVarint (take to bytes) place large.0 large.1 = subst (λ (p : ℕ). EncodesVarint (take to bytes) p large.0 large.1) front.1 large.2 in
+          let same : large.1 ≡ value = one_value (take to bytes) place large.0 to large.1 value moved encoded in
           large_number value place content (omega arith) front.0 (large.4 ∙ ap (λ (p : ℕ). cause_at OutOfRange p k) front.1 ∙ ap (λ (n : ℕ). cause_at OutOfRange place n) (sym is))
     ]
 
@@ -54,16 +54,16 @@ pub left_in_single : (bytes : List ℕ) (at to k value place : ℕ) (e : Entry) 
 left_in_single bytes at to k value place e numbers ending here field is content left =
     let payload : IsPayload bytes field.key_end to (varint value place) = subst (λ (c : Content). IsPayload bytes field.key_end to c) content field.payload in
     let within = (field_extent bytes to e field).1 in
-    let whole : SpellsVarint bytes place to value = subst (λ (p : ℕ). SpellsVarint bytes p to value) (sym payload.0) payload.1 in
-    let spelled : SpellsVarint (take to bytes) place to value = SpellsVarint-take bytes to place to value (omega arith) within whole in
+    let whole : EncodesVarint bytes place to value = subst (λ (p : ℕ). EncodesVarint bytes p to value) (sym payload.0) payload.1 in
+    let encoded : EncodesVarint (take to bytes) place to value = EncodesVarint-take bytes to place to value (omega arith) within whole in
     elim left [
       | goes_on first rest list small end joined ↦
-          let one : first ≡ value ∷ [] = alone_in_span (take to bytes) place to value first spelled list in
+          let one : first ≡ value ∷ [] = alone_in_span (take to bytes) place to value first encoded list in
           let states : States e.content first = subst (λ (c : Content). States c first) (sym content) one in
           subst (λ (ns : List ℕ). NumbersEnd bytes at k ns ending) (sym joined) (ends-cons bytes at to k e first rest ending here field is states small end)
       | stops cause fault ends ↦
           subst (λ (o : Option WireCause). NumbersEnd bytes at k numbers o) (sym ends)
-          (ends_in_field bytes at to k e numbers cause here field is (single_fault bytes at place to k value e numbers cause is content spelled within fault) fault.small)
+          (ends_in_field bytes at to k e numbers cause here field is (single_fault bytes at place to k value e numbers cause is content encoded within fault) fault.small)
     ]
 
 -- the fault of a packed list, as its part of the bytes has it
@@ -79,7 +79,7 @@ packed_fault bytes from k numbers cause fault =
           let rest : drop fault.at bytes ≡ drop (fault.at - from) (drop from bytes) = ap (λ (p : ℕ). drop p bytes) (sym place) ∙ sym (drop-drop (fault.at - from) from bytes) in
           no_varint numbers (fault.at - from) bad.0 list (omega arith) (subst (VarintDefect bad.0) rest bad.1) (bad.2 ∙ ap (λ (p : ℕ). cause_at bad.0 p k) (sym place))
       | inr large ↦
-          too_large numbers (fault.at - from) (large.0 - from) large.1 list (SpellsVarint-drop bytes from fault.at large.0 large.1 forward large.2) large.3 (large.4 ∙ ap (λ (p : ℕ). cause_at OutOfRange p k) (sym place))
+          too_large numbers (fault.at - from) (large.0 - from) large.1 list (EncodesVarint-drop bytes from fault.at large.0 large.1 forward large.2) large.3 (large.4 ∙ ap (λ (p : ℕ). cause_at OutOfRange p k) (sym place))
     ]
 
 place_of_fault : (bytes : List ℕ) (from k : ℕ) (numbers : List ℕ) (cause : WireCause) (fault : StopsVarints bytes from k numbers cause) → cause.at ≡ fault.at

@@ -2,7 +2,7 @@
 use Rattle.std.proofs.Common.{◌≡◌, ℕ, ◌+◌, ◌-◌, ◌<◌, ◌≤◌, ◌⊎◌, append_assoc, inl, inr, List, [], ◌∷◌, ◌++◌, Option, length, refl, sym, ◌∙◌, ap, subst, arith}
 use Rattle.std.proofs.lemmas.Bool.{cases_lt}
 use Rattle.std.proofs.lemmas.List.Edits.{length-between}
-use Rattle.mvt_wire.specs.Varint.{SpellsVarint}
+use Rattle.mvt_wire.specs.Varint.{EncodesVarint}
 use Rattle.mvt_wire.specs.Field.{Content, varint, delimited, Entry, IsPayload, IsField, FieldDefect}
 use Rattle.mvt_wire.specs.Message.{FieldList}
 use Rattle.mvt_wire.specs.Number.{VarintList, States, StateTogether}
@@ -59,22 +59,22 @@ between-same A B low from (n ∷ numbers) to ordered there back stand =
     )
 
 -- one more varint after a list
-pub list-push : (part : List ℕ) (from : ℕ) (numbers : List ℕ) (at next n : ℕ) → VarintList part from numbers at → SpellsVarint part at next n → VarintList part from (numbers ++ n ∷ []) next
-list-push part from [] at next n list spelled = (next, subst (λ (place : ℕ). SpellsVarint part place next n) (sym list) spelled, refl)
-list-push part from (m ∷ numbers) at next n list spelled = (list.0, list.1, list-push part list.0 numbers at next n list.2 spelled)
+pub list-push : (part : List ℕ) (from : ℕ) (numbers : List ℕ) (at next n : ℕ) → VarintList part from numbers at → EncodesVarint part at next n → VarintList part from (numbers ++ n ∷ []) next
+list-push part from [] at next n list encoded = (next, subst (λ (place : ℕ). EncodesVarint part place next n) (sym list) encoded, refl)
+list-push part from (m ∷ numbers) at next n list encoded = (list.0, list.1, list-push part list.0 numbers at next n list.2 encoded)
 
 -- no varint of a list begins within another one
-not_in_rest : (part : List ℕ) (at next n : ℕ) (rest : List ℕ) (stop : ℕ) → SpellsVarint part at next n → VarintList part at rest stop → at < stop → stop < next → ⊥
-not_in_rest part at next n [] stop spelled list following within = omega arith
-not_in_rest part at next n (m ∷ rest) stop spelled list following within =
-    let ends : list.0 ≡ next = one_end part at list.0 next m n list.1 spelled in
+not_in_rest : (part : List ℕ) (at next n : ℕ) (rest : List ℕ) (stop : ℕ) → EncodesVarint part at next n → VarintList part at rest stop → at < stop → stop < next → ⊥
+not_in_rest part at next n [] stop encoded list following within = omega arith
+not_in_rest part at next n (m ∷ rest) stop encoded list following within =
+    let ends : list.0 ≡ next = one_end part at list.0 next m n list.1 encoded in
     let forward = varints_forward part list.0 stop rest list.2 in
     omega arith
 
-none_within : (part front ms : List ℕ) (at next n stop : ℕ) → VarintList part 0 front at → SpellsVarint part at next n → VarintList part 0 ms stop → at < stop → stop < next → ⊥
-none_within part front ms at next n stop list spelled other following within = elim (one_goes_on part 0 at stop front ms list other) [
+none_within : (part front ms : List ℕ) (at next n stop : ℕ) → VarintList part 0 front at → EncodesVarint part at next n → VarintList part 0 ms stop → at < stop → stop < next → ⊥
+none_within part front ms at next n stop list encoded other following within = elim (one_goes_on part 0 at stop front ms list other) [
   | inl before ↦ let backward = varints_forward part stop at before.0 before.2 in omega arith
-  | inr beyond ↦ not_in_rest part at next n beyond.0 stop spelled beyond.2 following within
+  | inr beyond ↦ not_in_rest part at next n beyond.0 stop encoded beyond.2 following within
 ]
 
 -- the numbers of a packed list, at their places
@@ -130,7 +130,7 @@ fault_between bytes at key_end to k content numbers cause following payload faul
 -- a number of a field is within it
 in_field_extent : (bytes : List ℕ) (to place n : ℕ) (e : Entry) → IsField bytes to e → StatesAt e.content place n → (e.at ≤ place) × (place < to)
 in_field_extent bytes to place n e field states =
-    let extent = states_extent bytes field.key_end to place n e.content field.key.spelled.within field.payload states in
+    let extent = states_extent bytes field.key_end to place n e.content field.key.encoded.within field.payload states in
     (omega arith, extent.1)
 
 -- a number of a message is after its start
@@ -212,7 +212,7 @@ after_field : (bytes : List ℕ) (from next k limit : ℕ) (e : Entry) (es : Lis
     → StatedAfter k e es first → StandBetween (IsNumberAt bytes from k) from (first ++ last) limit
 after_field bytes from next k limit e es first last here field within rest (inl own) =
     let ordered : from ≤ next = omega (arith, (field_extent bytes next e field).0) in
-    let mine : StandBetween (StatesAt e.content) from own.1.0 next = payload_between bytes from field.key_end next e.content own.1.0 (omega arith) field.key.spelled.within field.payload own.1.2 in
+    let mine : StandBetween (StatesAt e.content) from own.1.0 next = payload_between bytes from field.key_end next e.content own.1.0 (omega arith) field.key.encoded.within field.payload own.1.2 in
     let joined : own.1.0 ++ (own.1.1 ++ last) ≡ first ++ last = sym (append_assoc own.1.0 own.1.1 last) ∙ ap (λ (xs : List ℕ). xs ++ last) (sym own.1.4) in
     subst (λ (xs : List ℕ). StandBetween (IsNumberAt bytes from k) from xs limit) joined
     (between-append (IsNumberAt bytes from k) from next limit own.1.0 (own.1.1 ++ last) ordered within

@@ -23,7 +23,7 @@ fields_forward bytes from to (e ∷ entries) list =
 -- a defect is at its field or later
 pub defect_after : (bytes : List ℕ) (at : ℕ) (cause : WireCause) → FieldDefect bytes at cause → at ≤ cause.at
 defect_after bytes at cause (key code defect is) = let here : cause.at ≡ at = ap (λ (c : WireCause). c.at) is in omega arith
-defect_after bytes at cause (key_out_of_range to n spelled range is) = let here : cause.at ≡ at = ap (λ (c : WireCause). c.at) is in omega arith
+defect_after bytes at cause (key_out_of_range to n encoded range is) = let here : cause.at ≡ at = ap (λ (c : WireCause). c.at) is in omega arith
 defect_after bytes at cause (refused_type to n t k refused is) = let here : cause.at ≡ at = ap (λ (c : WireCause). c.at) is in omega arith
 defect_after bytes at cause (leading_varint to n t code k leading defect is) =
     let here : cause.at ≡ to = ap (λ (c : WireCause). c.at) is in
@@ -33,7 +33,7 @@ defect_after bytes at cause (past_end to n t end k ends past is) = let here : ca
 -- a field's fault is within it
 pub fault_in_field : (bytes : List ℕ) (to : ℕ) (e : Entry) (numbers : List ℕ) (cause : WireCause) → IsField bytes to e → FaultOf e.at e.number e.content numbers cause → (e.at ≤ cause.at) × (cause.at < to)
 fault_in_field bytes to e numbers cause field fault =
-    fault_extent bytes e.at field.key_end to e.number e.content numbers cause field.key.spelled.forward field.key.spelled.within field.payload fault
+    fault_extent bytes e.at field.key_end to e.number e.content numbers cause field.key.encoded.forward field.key.encoded.within field.payload fault
 
 -- the fault that ends the numbers at a place is there or later
 pub stop_after : (bytes : List ℕ) (at k : ℕ) (numbers : List ℕ) (cause : WireCause) → StopsAt bytes at k numbers cause → at ≤ cause.at

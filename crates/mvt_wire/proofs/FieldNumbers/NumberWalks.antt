@@ -2,7 +2,7 @@
 use Rattle.std.proofs.Common.{◌≡◌, ℕ, ◌^◌, ◌<◌, ◌≤◌, List, [], ◌∷◌, Option, Some, length, take, refl, ap, subst, arith}
 use Rattle.std.proofs.lemmas.List.{length-take-le}
 use Rattle.std.proofs.lemmas.List.Elements.{All-cons, All-nil}
-use Rattle.mvt_wire.specs.Varint.{SpellsVarint}
+use Rattle.mvt_wire.specs.Varint.{EncodesVarint}
 use Rattle.mvt_wire.specs.Numbers.{NumbersEnd, NumberWalk, walk_at, StopsVarints, NumbersLeft, goes_on, stops, GivesNumber, EndsNumbers}
 use Rattle.mvt_wire.specs.Calls.Numbers.{LeavesVarints}
 use Rattle.mvt_wire.specs.declared.cause.WireCause.{WireCause}
@@ -13,20 +13,20 @@ pub left_from_field : (bytes : List ℕ) (at k : ℕ) (numbers : List ℕ) (endi
 left_from_field bytes at k numbers ending end = goes_on [] numbers refl (All-nil (λ (n : ℕ). n < 2 ^ 32)) end refl
 
 -- the varint in front of what is left
-left-cons : (bytes : List ℕ) (k at end next n : ℕ) (numbers : List ℕ) (ending : Option WireCause) → SpellsVarint (take end bytes) at next n → n < 2 ^ 32 → NumbersLeft (walk_at bytes k next end) numbers ending → NumbersLeft (walk_at bytes k at end) (n ∷ numbers) ending
-left-cons bytes k at end next n numbers ending spelled fits (goes_on first rest list small fields joined) =
-    goes_on (n ∷ first) rest (next, spelled, list) (All-cons (λ (m : ℕ). m < 2 ^ 32) n first fits small) fields (ap (λ (ns : List ℕ). n ∷ ns) joined)
-left-cons bytes k at end next n numbers ending spelled fits (stops cause fault is) =
-    stops cause (record { at = fault.at; before = (next, spelled, fault.before); small = All-cons (λ (m : ℕ). m < 2 ^ 32) n numbers fits fault.small; left = fault.left; fault = fault.fault }) is
+left-cons : (bytes : List ℕ) (k at end next n : ℕ) (numbers : List ℕ) (ending : Option WireCause) → EncodesVarint (take end bytes) at next n → n < 2 ^ 32 → NumbersLeft (walk_at bytes k next end) numbers ending → NumbersLeft (walk_at bytes k at end) (n ∷ numbers) ending
+left-cons bytes k at end next n numbers ending encoded fits (goes_on first rest list small fields joined) =
+    goes_on (n ∷ first) rest (next, encoded, list) (All-cons (λ (m : ℕ). m < 2 ^ 32) n first fits small) fields (ap (λ (ns : List ℕ). n ∷ ns) joined)
+left-cons bytes k at end next n numbers ending encoded fits (stops cause fault is) =
+    stops cause (record { at = fault.at; before = (next, encoded, fault.before); small = All-cons (λ (m : ℕ). m < 2 ^ 32) n numbers fits fault.small; left = fault.left; fault = fault.fault }) is
 
 -- a step that gives a number
 pub GivesNumber-at : (old : NumberWalk) (bytes : List ℕ) (k varint_place field_place at end next n : ℕ) → walk_at bytes k varint_place field_place ≡ old → LeavesVarints (walk_at bytes k varint_place field_place) at end
-    → SpellsVarint (take end bytes) at next n → n < 2 ^ 32 → GivesNumber old (walk_at bytes k next end) n
-GivesNumber-at old bytes k varint_place field_place at end next n is leaves spelled fits =
+    → EncodesVarint (take end bytes) at next n → n < 2 ^ 32 → GivesNumber old (walk_at bytes k next end) n
+GivesNumber-at old bytes k varint_place field_place at end next n is leaves encoded fits =
     let within = leaves.within in
     let size = length-take-le end bytes within in
     let first : (numbers : List ℕ) (ending : Option WireCause) → NumbersLeft (walk_at bytes k next end) numbers ending → NumbersLeft (walk_at bytes k varint_place field_place) (n ∷ numbers) ending =
-    λ numbers ending after. leaves.same (n ∷ numbers) ending (left-cons bytes k at end next n numbers ending spelled fits after) in
+    λ numbers ending after. leaves.same (n ∷ numbers) ending (left-cons bytes k at end next n numbers ending encoded fits after) in
     let given : GivesNumber (walk_at bytes k varint_place field_place) (walk_at bytes k next end) n = record {
       first = first;
       others = rest_left (walk_at bytes k varint_place field_place) (walk_at bytes k next end) n (some_left bytes k next end (omega arith) within) first;

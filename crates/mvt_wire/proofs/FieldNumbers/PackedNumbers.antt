@@ -3,7 +3,7 @@
 use Rattle.std.proofs.Common.{◌≡◌, ℕ, ◌+◌, ◌^◌, ◌<◌, ◌≤◌, ◌⊎◌, inl, inr, List, [], ◌∷◌, ◌++◌, length, drop, refl, sym, ◌∙◌, ap, subst, arith}
 use Rattle.std.proofs.lemmas.Bool.{cases_lt}
 use Rattle.std.proofs.lemmas.List.Elements.{All-push}
-use Rattle.mvt_wire.specs.Varint.{SpellsVarint}
+use Rattle.mvt_wire.specs.Varint.{EncodesVarint}
 use Rattle.mvt_wire.specs.Field.{cause_at}
 use Rattle.mvt_wire.specs.Number.{VarintList, AreSmall, PackedFault, no_varint, too_large}
 use Rattle.mvt_wire.specs.declared.cause.WireCause.{WireCause}
@@ -16,13 +16,13 @@ use Rattle.mvt_wire.specs.Calls.Packed.{IsSmallNumber, IsBadNumber, AreSmallBefo
 
 pub AreSmallBefore-more : (part : List ℕ) (at next : ℕ) → AreSmallBefore part at → IsSmallNumber part at next → AreSmallBefore part next
 AreSmallBefore-more part at next so_far it =
-    (so_far.0 ++ it.number ∷ [], list-push part 0 so_far.0 at next it.number so_far.1 it.spelled, All-push (λ (m : ℕ). m < 2 ^ 32) so_far.0 it.number so_far.2 it.small)
+    (so_far.0 ++ it.number ∷ [], list-push part 0 so_far.0 at next it.number so_far.1 it.encoded, All-push (λ (m : ℕ). m < 2 ^ 32) so_far.0 it.number so_far.2 it.small)
 
 -- a small number has no fault
-small_or_bad : (part : List ℕ) (at next n : ℕ) (code : WireCode) → SpellsVarint part at next n → n < 2 ^ 32 → IsBadNumber part at code → ⊥
-small_or_bad part at next n code spelled small (inl defect) = varint_or_defect part at next n code spelled defect
-small_or_bad part at next n code spelled small (inr large) =
-    let same = one_value part at next large.1.0 n large.1.1 spelled large.1.2 in
+small_or_bad : (part : List ℕ) (at next n : ℕ) (code : WireCode) → EncodesVarint part at next n → n < 2 ^ 32 → IsBadNumber part at code → ⊥
+small_or_bad part at next n code encoded small (inl defect) = varint_or_defect part at next n code encoded defect
+small_or_bad part at next n code encoded small (inr large) =
+    let same = one_value part at next large.1.0 n large.1.1 encoded large.1.2 in
     let high = large.1.3 in
     omega arith
 
@@ -46,10 +46,10 @@ pub record IsBadAt (from : ℕ) (part : List ℕ) (field_number : ℕ) (cause : 
 IsBadAt-from : (from : ℕ) (part : List ℕ) (field_number : ℕ) (cause : WireCause) → PackedFault from part field_number cause → IsBadAt from part field_number cause
 IsBadAt-from from part field_number cause (no_varint numbers at code list left defect is) =
     record { numbers = numbers; at = at; code = code; list = list; left = left; bad = inl defect; is = is }
-IsBadAt-from from part field_number cause (too_large numbers at next n list spelled large is) =
-    let forward = spelled.forward in
-    let within = spelled.within in
-    record { numbers = numbers; at = at; code = OutOfRange; list = list; left = omega arith; bad = inr (refl, (next, n, spelled, large)); is = is }
+IsBadAt-from from part field_number cause (too_large numbers at next n list encoded large is) =
+    let forward = encoded.forward in
+    let within = encoded.within in
+    record { numbers = numbers; at = at; code = OutOfRange; list = list; left = omega arith; bad = inr (refl, (next, n, encoded, large)); is = is }
 
 PackedFault-from : (from : ℕ) (part : List ℕ) (field_number : ℕ) (numbers : List ℕ) (at : ℕ) (code : WireCode) → VarintList part 0 numbers at → at < length part → IsBadNumber part at code
     → PackedFault from part field_number (cause_at code (from + at) field_number)

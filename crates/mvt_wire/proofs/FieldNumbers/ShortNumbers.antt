@@ -8,9 +8,9 @@ use Rattle.std.proofs.lemmas.Nat.{and_le_l}
 use Rattle.std.proofs.lemmas.Nat.Bits.{bit_at_and, bit_at_above}
 use Rattle.std.proofs.lemmas.Simd.{length-zip2, length-chunk, length-replicate, get_or-zip2, get_or-chunk, mask_l-mod}
 use Rattle.std.specs.Int.{bit_at}
-use Rattle.mvt_wire.specs.Varint.{sum_of_groups, IsVarint, SpellsVarint}
+use Rattle.mvt_wire.specs.Varint.{sum_of_groups, IsVarint, EncodesVarint}
 use Rattle.mvt_wire.specs.Calls.Packed.{IsSmallNumber, AreSmallBefore, IsRun, HasNoRun}
-use Rattle.mvt_wire.proofs.Encoding.Varints.{sum_of_groups-take-below, IsVarint-take, place_spells}
+use Rattle.mvt_wire.proofs.Encoding.Varints.{sum_of_groups-take-below, IsVarint-take, place_encodes}
 use Rattle.mvt_wire.proofs.FieldNumbers.PackedNumbers.{AreSmallBefore-more}
 use lib.Lanes.{zip2, chunk, mask_l, top}
 
@@ -141,13 +141,13 @@ short_number part start i forward few within continued last =
     let positive : 0 < 128 = lit< tt in
     let four : i - start + 1 ≤ 4 = omega arith in
     let raised : 128 ^ (i - start + 1) ≤ 128 ^ 4 = pow-le-pow_right positive four in
-    let spelling : IsVarint (take (i - start + 1) (drop start part)) (sum_of_groups (take (i - start + 1) (drop start part))) =
+    let encoding : IsVarint (take (i - start + 1) (drop start part)) (sum_of_groups (take (i - start + 1) (drop start part))) =
     IsVarint-take (drop start part) (i - start) _ inside (omega arith) earlier ended refl (omega arith) in
     let end : start + (i - start + 1) ≡ i + 1 = omega arith in
-    let spelled = place_spells part start (i - start + 1) (sum_of_groups (take (i - start + 1) (drop start part))) (omega arith) (omega arith) spelling in
+    let encoded = place_encodes part start (i - start + 1) (sum_of_groups (take (i - start + 1) (drop start part))) (omega arith) (omega arith) encoding in
     record {
       number = sum_of_groups (take (i - start + 1) (drop start part));
-      spelled = subst (λ (to : ℕ). SpellsVarint part start to (sum_of_groups (take (i - start + 1) (drop start part)))) end spelled;
+      encoded = subst (λ (to : ℕ). EncodesVarint part start to (sum_of_groups (take (i - start + 1) (drop start part)))) end encoded;
       small = omega arith;
     }
 

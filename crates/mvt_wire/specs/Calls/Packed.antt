@@ -1,6 +1,6 @@
 -- The numbers of a packed list, as a walk over its bytes finds them.
 use Rattle.std.specs.Prelude.{◌≡◌, ℕ, ◌+◌, ◌^◌, ◌<◌, ◌≤◌, ◌⊎◌, List, length, drop, slice_index}
-use Rattle.mvt_wire.specs.Varint.{SpellsVarint, VarintDefect}
+use Rattle.mvt_wire.specs.Varint.{EncodesVarint, VarintDefect}
 use Rattle.mvt_wire.specs.Number.{VarintList, AreSmall}
 use Rattle.mvt_wire.specs.declared.cause.WireCode.{WireCode}
 use Rattle.mvt_wire.specs.declared.cause.WireCode.TheVariants.{OutOfRange}
@@ -8,14 +8,14 @@ use Rattle.mvt_wire.specs.declared.cause.WireCode.TheVariants.{OutOfRange}
 -- a number below 2^32 goes from one place up to another
 pub record IsSmallNumber (part : List ℕ) (at next : ℕ) : Type 0 where
   pub number : ℕ
-  pub spelled : SpellsVarint part at next number
+  pub encoded : EncodesVarint part at next number
   pub small : number < 2 ^ 32
 
 -- what is wrong with the number at a place
 abbrev pub IsBadNumber : List ℕ → ℕ → WireCode → Type 0
 IsBadNumber part at code =
     VarintDefect code (drop at part)
-    ⊎ ((code ≡ OutOfRange) × ((next number : ℕ) × SpellsVarint part at next number × (2 ^ 32 ≤ number)))
+    ⊎ ((code ≡ OutOfRange) × ((next number : ℕ) × EncodesVarint part at next number × (2 ^ 32 ≤ number)))
 
 -- the bytes before a place are numbers below 2^32
 abbrev pub AreSmallBefore : List ℕ → ℕ → Type 0

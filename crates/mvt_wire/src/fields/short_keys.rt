@@ -1,6 +1,6 @@
 //! Fields whose key has one byte, as nearly all have.
 ghost use Rattle.std.specs.Prelude.{◌≡◌, ◌↔◌, ◌+◌, ◌%◌, ◌<◌, ◌≤◌, ◌⊎◌, length, slice_index, IfSome, IsSome};
-ghost use Rattle.mvt_wire.specs.Varint.{SpellsVarint};
+ghost use Rattle.mvt_wire.specs.Varint.{EncodesVarint};
 ghost use Rattle.mvt_wire.specs.Walk.{IsNextField};
 
 use crate::field::{Body, Field};
@@ -18,7 +18,7 @@ pub fn field_after(
 ) -> Option<(Field<'_>, usize)>
     requires within { at + 2 ≤ length bytes.now }
     requires key { slice_index bytes.now at ≡ key }
-    requires leading { SpellsVarint bytes.now (at + 1) start value }
+    requires leading { EncodesVarint bytes.now (at + 1) start value }
     requires numbered { 8 ≤ key }
     requires short { key < 128 }
     ensures field { IfSome result (IsNextField bytes.now at key) }

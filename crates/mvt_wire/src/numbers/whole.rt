@@ -4,7 +4,7 @@ ghost use Rattle.mvt_wire.specs.Field.{content_of, wire_type_of};
 ghost use Rattle.mvt_wire.specs.Calls.Numbers.{BeginVarints, HasNoNumberFault, LeavesVarints};
 ghost use Rattle.mvt_wire.specs.Numbers.{HasNoNumber, IsFaultless, NumbersLeft, walk_at};
 ghost use Rattle.mvt_wire.specs.Schema.{is_own};
-ghost use Rattle.mvt_wire.specs.Varint.{SpellsVarint};
+ghost use Rattle.mvt_wire.specs.Varint.{EncodesVarint};
 ghost use Rattle.mvt_wire.specs.declared.schema.Shape.TheVariants as Shapes;
 
 use crate::field::Body;
@@ -134,8 +134,8 @@ pub(super) fn varints_in(body: Body) -> usize
 #[inline(always)]
 fn next_varint(bytes: &[u8], at: usize, end: usize) -> (u32, usize)
     requires within { end ≤ length bytes.now }
-    requires stands { (n next : ℕ) × SpellsVarint (take end bytes.now) at next n × (n < 2 ^ 32) }
-    ensures number { SpellsVarint (take end bytes.now) at result.1 result.0 }
+    requires stands { (n next : ℕ) × EncodesVarint (take end bytes.now) at next n × (n < 2 ^ 32) }
+    ensures number { EncodesVarint (take end bytes.now) at result.1 result.0 }
     ensures small { result.0 < 2 ^ 32 }
 {
     let (value, next) = whole_varint(&bytes[..end], at);

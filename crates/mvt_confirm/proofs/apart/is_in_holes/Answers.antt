@@ -12,14 +12,14 @@ holes-init c = λ rings polygon its is ahead_left left. before_holes rings polyg
 pub returns-then-measure-gt0 : goal.returns-then-measure-gt0
 returns-then-measure-gt0 c = λ rings polygon its is ahead_left left.
     let amid = c.holes.invariant rings polygon its is ahead_left left in
-    let fits : FitsSigned w128 c.in-Some.measure.twice_area = search rules in
+    let fits : FitsSigned w128 c.in-Some.measure.doubled_area = search rules in
     let decided = exterior_by_bits rings c.holes.ahead c.next_ring.new.vertices amid.number c.in-Some.measure amid.ahead_passed c.in-Some.ensures.ring fits in
     test_fails false refl (none_at_exterior rings polygon its c.args.position c.holes.ahead c.next_ring.new.vertices c.holes.vertices c.in-Some.measure is amid c.in-Some.ensures.ring (decided.0 c.if-measure-gt0.true))
 
 pub returns-then-is_in_next_ring : goal.returns-then-is_in_next_ring
 returns-then-is_in_next_ring c = λ rings polygon its is ahead_left left.
     let amid = c.holes.invariant rings polygon its is ahead_left left in
-    let fits : FitsSigned w128 c.in-Some.measure.twice_area = search rules in
+    let fits : FitsSigned w128 c.in-Some.measure.doubled_area = search rules in
     let decided = exterior_by_bits rings c.holes.ahead c.next_ring.new.vertices amid.number c.in-Some.measure amid.ahead_passed c.in-Some.ensures.ring fits in
     let tested = c.is_in_next_ring.ensures _ _ (hole_ahead rings polygon its c.args.position c.holes.ahead c.next_ring.new.vertices c.holes.vertices c.in-Some.measure is amid c.in-Some.ensures.ring) in (
       λ holds. in_this_hole rings polygon its c.args.position c.holes.ahead c.next_ring.new.vertices c.holes.vertices c.in-Some.measure is amid c.in-Some.ensures.ring
@@ -30,7 +30,7 @@ returns-then-is_in_next_ring c = λ rings polygon its is ahead_left left.
 pub holes-preserved : goal.holes-preserved
 holes-preserved c = λ rings polygon its is ahead_left left.
     let amid = c.holes.invariant rings polygon its is ahead_left left in
-    let fits : FitsSigned w128 c.in-Some.measure.twice_area = search rules in
+    let fits : FitsSigned w128 c.in-Some.measure.doubled_area = search rules in
     let decided = exterior_by_bits rings c.holes.ahead c.next_ring.new.vertices amid.number c.in-Some.measure amid.ahead_passed c.in-Some.ensures.ring fits in
     let tested = c.is_in_next_ring.ensures _ _ (hole_ahead rings polygon its c.args.position c.holes.ahead c.next_ring.new.vertices c.holes.vertices c.in-Some.measure is amid c.in-Some.ensures.ring) in
     one_more_outside rings polygon its c.args.position c.holes.ahead c.next_ring.new.vertices c.holes.vertices c.in-Some.measure is amid c.in-Some.ensures.ring c.is_in_next_ring.new.vertices

@@ -14,7 +14,7 @@ rings-init c = λ rings ahead_left left. before_all rings c.args.polygon c.args.
 pub returns-then-before-eq0-clause-there : goal.returns-then-before-eq0-clause-there
 returns-then-before-eq0-clause-there c = λ holds rings ahead_left left able.
     let so_far = c.rings.invariant rings ahead_left left in
-    let fits : FitsSigned w128 c.in-Some.measure.twice_area = search rules in
+    let fits : FitsSigned w128 c.in-Some.measure.doubled_area = search rules in
     let decided = exterior_by_bits rings c.rings.ahead c.next_ring.new.vertices so_far.number c.in-Some.measure so_far.ahead_passed c.in-Some.ensures.ring fits in
     at_polygon rings c.args.polygon c.rings.before c.rings.ahead c.next_ring.new.vertices c.rings.vertices c.in-Some.measure so_far c.in-Some.ensures.ring able c.if-before-eq0.true
     (decided.0 c.if-measure-gt0.true)
@@ -27,7 +27,7 @@ returns-then-is_none-clause-none c = λ fails rings its ahead_left left is.
 pub rings-preserved : goal.rings-preserved
 rings-preserved c = λ rings ahead_left left.
     let so_far = c.rings.invariant rings ahead_left left in
-    let fits : FitsSigned w128 c.in-Some.measure.twice_area = search rules in
+    let fits : FitsSigned w128 c.in-Some.measure.doubled_area = search rules in
     let decided = exterior_by_bits rings c.rings.ahead c.next_ring.new.vertices so_far.number c.in-Some.measure so_far.ahead_passed c.in-Some.ensures.ring fits in
     let its = where_some c.next_ring-in-Some.result (GivesRing c.rings.vertices c.next_ring-in-Some.new.vertices) c.if-is_none.ensures c.next_ring-in-Some.ensures.ring in
     elim c.if-measure-gt0.branch [

@@ -29,7 +29,7 @@ overflow_add-exteriors c =
 pub rings-preserved : goal.rings-preserved
 rings-preserved c =
     let measure = c.in_ok-next_ring.field-0 in
-    let fits : FitsSigned w128 measure.twice_area = search rules in
+    let fits : FitsSigned w128 measure.doubled_area = search rules in
     let few = c.rings.invariant.few in
     record {
       few = elim c.if-branch-gt0.branch [
@@ -58,7 +58,7 @@ returns-in_err-next_ring-2-clause-none c = IfNone-any c.from_residual-in_err-nex
 pub returns-then-branch-gt0-2-clause-there : goal.returns-then-branch-gt0-2-clause-there
 returns-then-branch-gt0-2-clause-there c = λ rings left able.
     let measure = c.in_ok-next_ring-2.field-0 in
-    let fits : FitsSigned w128 measure.twice_area = search rules in
+    let fits : FitsSigned w128 measure.doubled_area = search rules in
     let decided = exterior_by_bits rings c.rings.vertices c.next_ring-2.new.vertices c.rings.number measure (c.rings.invariant.passed rings left) c.in_ok-next_ring-2.ensures.ring fits in
     let over : c.rings.number ≡ c.args.ring = omega arith in
     subst (λ it. IsPlaceOf rings it (record { polygon = c.rings.exteriors; exterior = it })) over
@@ -67,7 +67,7 @@ returns-then-branch-gt0-2-clause-there c = λ rings left able.
 pub returns-in_err-checked_sub-clause-none : goal.returns-in_err-checked_sub-clause-none
 returns-in_err-checked_sub-clause-none c = IfNone-any c.from_residual-in_err-checked_sub.result (λ rings left able.
     let measure = c.in_ok-next_ring-2.field-0 in
-    let fits : FitsSigned w128 measure.twice_area = search rules in
+    let fits : FitsSigned w128 measure.doubled_area = search rules in
     let so_far = c.rings.invariant.passed rings left in
     let decided = exterior_by_bits rings c.rings.vertices c.next_ring-2.new.vertices c.rings.number measure so_far c.in_ok-next_ring-2.ensures.ring fits in
     let within = given_within rings c.rings.vertices c.next_ring-2.new.vertices c.rings.number measure so_far c.in_ok-next_ring-2.ensures.ring in
@@ -77,7 +77,7 @@ returns-in_err-checked_sub-clause-none c = IfNone-any c.from_residual-in_err-che
 pub returns-clause-there : goal.returns-clause-there
 returns-clause-there c = λ rings left able.
     let measure = c.in_ok-next_ring-2.field-0 in
-    let fits : FitsSigned w128 measure.twice_area = search rules in
+    let fits : FitsSigned w128 measure.doubled_area = search rules in
     let so_far = c.rings.invariant.passed rings left in
     let decided = exterior_by_bits rings c.rings.vertices c.next_ring-2.new.vertices c.rings.number measure so_far c.in_ok-next_ring-2.ensures.ring fits in
     let within = given_within rings c.rings.vertices c.next_ring-2.new.vertices c.rings.number measure so_far c.in_ok-next_ring-2.ensures.ring in

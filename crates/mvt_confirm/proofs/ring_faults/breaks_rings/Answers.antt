@@ -23,15 +23,15 @@ returns-in-EndsAtItsBeginning c = λ rings left.
 pub returns-in-NoArea : goal.returns-in-NoArea
 returns-in-NoArea c = λ rings left.
     let there = c.in-Some.ensures.there rings left in
-    let fits : FitsSigned w128 c.in-Some.measure.twice_area = search rules in
-    one_with (one_with (flat_by_bits c.in-Some.measure.twice_area fits)
+    let fits : FitsSigned w128 c.in-Some.measure.doubled_area = search rules in
+    one_with (one_with (flat_by_bits c.in-Some.measure.doubled_area fits)
     (area_decided rings c.args.ring c.in-Some.measure (record { ring = there.0; there = there.1; decided = there.2 })))
     (of_502 rings (ring_code c.args.code) c.args.ring (ap ring_code c.in-NoArea.is))
 
 pub returns-then-ring-eq0 : goal.returns-then-ring-eq0
 returns-then-ring-eq0 c = λ rings left.
     let there = c.in-Some.ensures.there rings left in
-    let fits : FitsSigned w128 c.in-Some.measure.twice_area = search rules in
-    one_with (one_with (negative_by_bits c.in-Some.measure.twice_area fits)
+    let fits : FitsSigned w128 c.in-Some.measure.doubled_area = search rules in
+    one_with (one_with (negative_by_bits c.in-Some.measure.doubled_area fits)
     (hole_decided rings c.args.ring c.in-Some.measure (record { ring = there.0; there = there.1; decided = there.2 }) c.if-ring-eq0.true))
     (of_503 rings (ring_code c.args.code) c.args.ring (ap ring_code c.in-BeginsWithHole.is))

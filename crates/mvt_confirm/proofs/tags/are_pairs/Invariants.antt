@@ -1,7 +1,7 @@
 use Rattle.std.proofs.Common.{ℕ}
 use Rattle.mvt_wire.specs.Numbers.{most_left}
 use Rattle.mvt_rules.specs.Tile.{FeatureRecord}
-use Rattle.mvt_confirm.specs.Calls.FeatureBytes.{IsFeatureAt}
+use Rattle.mvt_confirm.specs.Calls.FeatureMessage.{IsFeatureAt}
 use Rattle.mvt_confirm.specs.Calls.Tags.{HasPassed}
 use Rattle.mvt_confirm.proofs.Features.TagWalks.{IsParity}
 use Rattle.mvt_confirm.proofs.tags.are_pairs.Given as goal

@@ -1,6 +1,6 @@
 use Rattle.std.proofs.Common.{◌≡◌, ℕ, ◌*◌, ◌<◌, Some, slice_get}
 use Rattle.mvt_rules.specs.Tile.{FeatureRecord}
-use Rattle.mvt_confirm.specs.Calls.FeatureBytes.{IsFeatureAt}
+use Rattle.mvt_confirm.specs.Calls.FeatureMessage.{IsFeatureAt}
 use Rattle.mvt_confirm.specs.Calls.Tags.{HasPassed}
 use Rattle.mvt_confirm.proofs.tags.occurs_earlier.Given as goal
 

@@ -1,5 +1,5 @@
 use Rattle.mvt_rules.specs.Tile.{FeatureRecord}
-use Rattle.mvt_confirm.specs.Calls.FeatureBytes.{IsFeatureAt}
+use Rattle.mvt_confirm.specs.Calls.FeatureMessage.{IsFeatureAt}
 use Rattle.mvt_confirm.specs.Calls.Tags.{HasPassed}
 use Rattle.mvt_confirm.proofs.tags.tags_from.Given as goal
 

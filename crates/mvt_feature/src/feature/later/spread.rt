@@ -1,6 +1,6 @@
 //! The bounds of later polygons, by where they begin along the x axis.
 ghost use Rattle.std.specs.Prelude.{◌≡◌, ◌≤◌, ◌<ℤ◌, ℕ, ℤ, IfOk, length, slice_get};
-ghost use Rattle.mvt_feature.specs.Calls.Bounds.{AreInOrder, AreLaterBounds, AreReaches, IsSpread};
+ghost use Rattle.mvt_feature.specs.Calls.Bounds.{AreBoundsInOrder, AreLaterBounds, AreReaches, IsSpread};
 ghost use Rattle.mvt_polygon.specs.Polygons.{ArePolygons};
 ghost use Rattle.mvt_sweep.specs.Rings.{rings_of, AreProperRings};
 
@@ -45,7 +45,7 @@ impl Spread {
     /// How many of them, in their order, there are before those that begin further to the right
     /// than this.
     pub(super) fn begun(&self, right: i32) -> usize
-        requires { AreInOrder self.now.bounds.items self.now.order.items }
+        requires { AreBoundsInOrder self.now.bounds.items self.now.order.items }
         ensures within { result ≤ length self.now.order.items }
         ensures following { (at : ℕ) (left : ℤ) (number : ℕ) → result ≤ at
             → slice_get self.now.order.items at ≡ Some (left, number) → right <ℤ left }
@@ -87,7 +87,7 @@ fn bounds_of(
 
 /// Their numbers in the order of their left sides.
 fn order_of(alloc: Global, bounds: &[Bounds]) -> Result<Vec<(i32, usize)>, AllocError>
-    ensures { IfOk result (λ order. AreInOrder bounds.now order.items) }
+    ensures { IfOk result (λ order. AreBoundsInOrder bounds.now order.items) }
 {
     let mut order = Vec::with_capacity(alloc, bounds.len())?;
     for number in 0..bounds.len() {
@@ -103,7 +103,7 @@ fn reaches_of(
     bounds: &[Bounds],
     order: &[(i32, usize)],
 ) -> Result<Vec<i32>, AllocError>
-    requires { AreInOrder bounds.now order.now }
+    requires { AreBoundsInOrder bounds.now order.now }
     ensures { IfOk result (λ reaches.
         AreReaches bounds.now order.now (length order.now) reaches.items) }
 {

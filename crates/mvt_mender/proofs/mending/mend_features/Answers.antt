@@ -1,6 +1,6 @@
 use Rattle.std.proofs.Common.{inr, refl, sym, subst, List, arith}
 use Rattle.std.proofs.lemmas.Option.{slice_get-get_or}
-use Rattle.mvt_splice.specs.Splice.{AreInOrder, IsSpliced}
+use Rattle.mvt_splice.specs.Splice.{AreChangesInOrder, IsSpliced}
 use Rattle.mvt_splice.specs.declared.change.Change.{Change}
 use Rattle.mvt_mender.proofs.MendedTiles.{in_order, mended, tile_there, unmended}
 use Rattle.mvt_mender.proofs.mending.mend_features.Goals as goal
@@ -13,7 +13,7 @@ splice-requires-clause-tile c =
 pub splice-requires-clause-in_order : goal.splice-requires-clause-in_order
 splice-requires-clause-in_order c =
     let r = c.requires in
-    subst (λ (list : List Change). AreInOrder list) (sym c.deref.ensures.value)
+    subst (λ (list : List Change). AreChangesInOrder list) (sym c.deref.ensures.value)
     (in_order c.args.profile c.args.drop_unmended c.args.bytes.now c.args.faults.now r.list r.some c.args.places.now r.places c.args.features.now r.found r.polygons r.all
     c.in-All.changes.told.items c.in-All.changes.made.items (rw c.in-All.is at c.in_ok-changes.ensures))
 

@@ -1,9 +1,9 @@
 use Rattle.std.proofs.Common.{◌≡◌, ℕ, suc, ◌+◌, ◌<◌, ◌≤◌, ◌∷◌, get_or, List, drop, length, slice_get, Some, sym, ◌∙◌, ap, subst, arith, add-one, drop-cons}
 use Rattle.std.proofs.lemmas.List.{drop_all, take_rest}
 use Rattle.mvt_splice.specs.Splice.{IsBefore}
-use Rattle.mvt_splice.specs.Calls.Fates.{AreLeft, BeginFrom}
+use Rattle.mvt_splice.specs.Calls.Fates.{AreChangesLeft, BeginFrom}
 use Rattle.mvt_splice.specs.declared.change.Change.{Change}
-use Rattle.mvt_splice.proofs.Splicing.OrderedChanges.{AreLeft-tail, AreLeft-all}
+use Rattle.mvt_splice.proofs.Splicing.OrderedChanges.{AreChangesLeft-tail, AreChangesLeft-all}
 use Rattle.mvt_splice.proofs.fates.changes_from.Goals as goal
 use Rattle.mvt_splice.proofs.fates.changes_from.Goals.{then-passed-test+else-is_before, else-passed-test}
 
@@ -12,13 +12,13 @@ split : (changes : List Change) (first : ℕ) (change : Change) → first < leng
 split changes first change within is = drop-cons changes first change within ∙ ap (λ (head : Change). head ∷ drop (suc first) changes) (sym is) ∙ ap (λ (n : ℕ). change ∷ drop n changes) (sym (add-one first))
 
 pub passed-init : goal.passed-init
-passed-init c = record { within = omega arith; left = AreLeft-all c.args.changes.now c.args.layer c.args.feature c.requires }
+passed-init c = record { within = omega arith; left = AreChangesLeft-all c.args.changes.now c.args.layer c.args.feature c.requires }
 
 pub passed-preserved : goal.passed-preserved
 passed-preserved c = record {
   within = omega arith;
-  left = AreLeft-tail c.args.changes.now c.args.layer c.args.feature c.index-changes-first.result (drop (c.passed.first + 1) c.args.changes.now)
-      (subst (AreLeft c.args.changes.now c.args.layer c.args.feature) (split c.args.changes.now c.passed.first c.index-changes-first.result c.passed-test.true c.index-changes-first.is) c.passed.invariant.left)
+  left = AreChangesLeft-tail c.args.changes.now c.args.layer c.args.feature c.index-changes-first.result (drop (c.passed.first + 1) c.args.changes.now)
+      (subst (AreChangesLeft c.args.changes.now c.args.layer c.args.feature) (split c.args.changes.now c.passed.first c.index-changes-first.result c.passed-test.true c.index-changes-first.is) c.passed.invariant.left)
       (c.is_before.ensures.0 c.if-is_before.true);
 }
 
@@ -36,7 +36,7 @@ pub returns : goal.returns
 returns c =
     let whole = take_rest c.args.changes.now c.passed.first in
     record {
-      left = subst (AreLeft c.args.changes.now c.args.layer c.args.feature) (sym whole) c.passed.invariant.left;
+      left = subst (AreChangesLeft c.args.changes.now c.args.layer c.args.feature) (sym whole) c.passed.invariant.left;
       begin = subst (λ (list : List Change). BeginFrom list c.args.layer c.args.feature) (sym whole) (elim c.passed-test.branch [
         | then-passed-test+else-is_before w ↦ begins_at c.args.changes.now c.passed.first w.index-changes-first.result c.args.layer c.args.feature w.passed-test.true w.index-changes-first.is
             (λ before. let holds = w.is_before.ensures.1 before in let fails = w.if-is_before.false in cc)

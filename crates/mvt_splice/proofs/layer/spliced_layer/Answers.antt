@@ -5,14 +5,14 @@ use Rattle.mvt_splice.specs.Splice.{Fate, Becomes, fate_in}
 use Rattle.mvt_splice.specs.Calls.Messages.{EmbedsWhole, IsFeatureMessage}
 use Rattle.mvt_splice.proofs.Splicing.Layers.{IsSplicing, IsSplicing-none, IsSplicing-other, IsSplicing-feature, IsSplicing-over}
 use Rattle.mvt_splice.proofs.Splicing.Messages.{type_of_bytes, embeds_held}
-use Rattle.mvt_splice.proofs.Splicing.OrderedChanges.{AreLeft-all, AreLeft-later, AreLeft-on, IsFrom-own}
-use Rattle.mvt_splice.proofs.Splicing.Walks.{Spells-read}
+use Rattle.mvt_splice.proofs.Splicing.OrderedChanges.{AreChangesLeft-all, AreChangesLeft-later, AreChangesLeft-on, IsFrom-own}
+use Rattle.mvt_splice.proofs.Splicing.Walks.{EncodesPiece-read}
 use Rattle.mvt_splice.proofs.layer.spliced_layer.Goals as goal
 
 pub walk-init : goal.walk-init
 walk-init c = record {
   splicing = IsSplicing-none (fate_in c.args.changes.now c.args.layer) c.args.message.now c.new-out.result.items c.new-fields.result c.new-fields.ensures c.new-out.ensures.items;
-  left = AreLeft-all c.args.changes.now c.args.layer 0 c.requires.in_order;
+  left = AreChangesLeft-all c.args.changes.now c.args.layer 0 c.requires.in_order;
 }
 
 pub next_whole-requires : goal.next_whole-requires
@@ -38,14 +38,14 @@ walk-preserved-then-field-eq-FEATURES c =
     let feature = c.walk.feature in
     let message = c.bytes_in-feature_message.result.now in
     let given = c.in-Some.ensures.field in
-    let left = AreLeft-later changes c.walk.left.now c.changes_from-left.result.now layer feature layer feature c.walk.invariant.left (IsFrom-own layer feature) c.changes_from-left.ensures.left in
+    let left = AreChangesLeft-later changes c.walk.left.now c.changes_from-left.result.now layer feature layer feature c.walk.invariant.left (IsFrom-own layer feature) c.changes_from-left.ensures.left in
     record {
       splicing = subst (IsSplicing (fate_in changes layer) c.args.message.now c.add_feature.new.out.items c.next_whole.new.self) (sym (add-one feature))
           (IsSplicing-feature c.walk.invariant.splicing given c.add_feature.new.out.items message c.if-field-eq-FEATURES.true c.bytes_in-feature_message.ensures
           (λ piece is.
-          let added = c.in_ok-add_feature.ensures piece (Spells-read is c.in-Some.field.at c.at.result given.here c.at.ensures) in
+          let added = c.in_ok-add_feature.ensures piece (EncodesPiece-read is c.in-Some.field.at c.at.result given.here c.at.ensures) in
           (added.0, added.1, subst (λ (fate : Fate). Becomes fate message piece added.0) (left.same layer feature (IsFrom-own layer feature)) added.2)));
-      left = AreLeft-on changes c.changes_from-left.result.now layer feature layer (feature + 1) left (inr (refl, omega arith));
+      left = AreChangesLeft-on changes c.changes_from-left.result.now layer feature layer (feature + 1) left (inr (refl, omega arith));
     }
 
 pub walk-preserved : goal.walk-preserved
@@ -53,7 +53,7 @@ walk-preserved c =
     let given = c.in-Some.ensures.field in
     record {
       splicing = IsSplicing-other c.walk.invariant.splicing given c.extend_from_slice.new.self.items c.if-field-eq-FEATURES.false _
-          (λ piece is. Spells-read is c.in-Some.field.at c.at.result given.here c.at.ensures) c.in_ok-extend_from_slice.ensures.items;
+          (λ piece is. EncodesPiece-read is c.in-Some.field.at c.at.result given.here c.at.ensures) c.in_ok-extend_from_slice.ensures.items;
       left = c.walk.invariant.left;
     }
 

@@ -1,6 +1,6 @@
 use Rattle.std.proofs.Common.{◌-◌, length}
 use Rattle.mvt_splice.specs.Splice.{fate_in}
-use Rattle.mvt_splice.specs.Calls.Fates.{AreLeft}
+use Rattle.mvt_splice.specs.Calls.Fates.{AreChangesLeft}
 use Rattle.mvt_splice.proofs.Splicing.Layers.{IsSplicing}
 use Rattle.mvt_splice.proofs.layer.spliced_layer.Given as goal
 
@@ -8,7 +8,7 @@ use Rattle.mvt_splice.proofs.layer.spliced_layer.Given as goal
 abbrev pub invariant-walk : goal.invariant-walk
 invariant-walk l = record {
   splicing : IsSplicing (fate_in l.changes l.layer) l.message l.out.items l.fields l.feature;
-  left : AreLeft l.changes l.layer l.feature l.left;
+  left : AreChangesLeft l.changes l.layer l.feature l.left;
 }
 
 abbrev pub decreases-walk : goal.decreases-walk

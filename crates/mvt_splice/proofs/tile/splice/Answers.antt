@@ -4,15 +4,15 @@ use Rattle.mvt_wire.proofs.Walking.{IsWalking-defectless, All-given}
 use Rattle.mvt_splice.specs.Splice.{fate_in}
 use Rattle.mvt_splice.specs.Calls.Messages.{EmbedsWhole, IsLayerMessage}
 use Rattle.mvt_splice.proofs.Splicing.Messages.{tile_message, type_of_bytes, embeds_held}
-use Rattle.mvt_splice.proofs.Splicing.OrderedChanges.{AreLeft-all, AreLeft-later, AreLeft-on, IsFrom-own}
+use Rattle.mvt_splice.proofs.Splicing.OrderedChanges.{AreChangesLeft-all, AreChangesLeft-later, AreChangesLeft-on, IsFrom-own}
 use Rattle.mvt_splice.proofs.Splicing.Tiles.{IsSplicingTile, IsSplicingTile-none, IsSplicingTile-other, IsSplicingTile-layer, IsSplicingTile-over, BecomesInTile-same, IsSpliced-unchanged}
-use Rattle.mvt_splice.proofs.Splicing.Walks.{Spells-read}
+use Rattle.mvt_splice.proofs.Splicing.Walks.{EncodesPiece-read}
 use Rattle.mvt_splice.proofs.tile.splice.Goals as goal
 
 pub walk-init : goal.walk-init
 walk-init c = record {
   splicing = IsSplicingTile-none c.args.changes.now c.args.bytes.now c.new-out.result.items c.new-fields.result c.new-fields.ensures c.new-out.ensures.items;
-  left = AreLeft-all c.args.changes.now 0 0 c.requires.in_order;
+  left = AreChangesLeft-all c.args.changes.now 0 0 c.requires.in_order;
 }
 
 pub next_whole-requires : goal.next_whole-requires
@@ -39,14 +39,14 @@ walk-preserved-then-field-eq-LAYERS c =
     let layer = c.walk.layer in
     let message = c.bytes_in-message.result.now in
     let given = c.in-Some.ensures.field in
-    let left = AreLeft-later changes c.walk.left.now c.changes_from-left.result.now layer 0 layer 0 c.walk.invariant.left (IsFrom-own layer 0) c.changes_from-left.ensures.left in
+    let left = AreChangesLeft-later changes c.walk.left.now c.changes_from-left.result.now layer 0 layer 0 c.walk.invariant.left (IsFrom-own layer 0) c.changes_from-left.ensures.left in
     record {
       splicing = subst (IsSplicingTile changes c.args.bytes.now c.add_layer.new.out.items c.next_whole.new.self) (sym (add-one layer))
           (IsSplicingTile-layer c.walk.invariant.splicing given c.add_layer.new.out.items message c.if-field-eq-LAYERS.true c.bytes_in-message.ensures
           (λ piece is there.
-          let added = c.in_ok-add_layer.ensures piece (Spells-read is c.in-Some.field.at c.at.result given.here c.at.ensures) there in
+          let added = c.in_ok-add_layer.ensures piece (EncodesPiece-read is c.in-Some.field.at c.at.result given.here c.at.ensures) there in
           (added.0, added.1, BecomesInTile-same (fate_in c.changes_from-left.result.now layer) (fate_in changes layer) message piece added.0 (λ feature. left.same layer feature (inr (refl, omega arith))) added.2)));
-      left = AreLeft-on changes c.changes_from-left.result.now layer 0 (layer + 1) 0 left (inl (omega arith));
+      left = AreChangesLeft-on changes c.changes_from-left.result.now layer 0 (layer + 1) 0 left (inl (omega arith));
     }
 
 pub walk-preserved : goal.walk-preserved
@@ -54,7 +54,7 @@ walk-preserved c =
     let given = c.in-Some.ensures.field in
     record {
       splicing = IsSplicingTile-other c.walk.invariant.splicing given c.extend_from_slice.new.self.items c.if-field-eq-LAYERS.false _
-          (λ piece is. Spells-read is c.in-Some.field.at c.at.result given.here c.at.ensures) c.in_ok-extend_from_slice.ensures.items;
+          (λ piece is. EncodesPiece-read is c.in-Some.field.at c.at.result given.here c.at.ensures) c.in_ok-extend_from_slice.ensures.items;
       left = c.walk.invariant.left;
     }
 

@@ -1,5 +1,5 @@
 use Rattle.std.proofs.Common.{◌-◌, length}
-use Rattle.mvt_splice.specs.Calls.Fates.{AreLeft}
+use Rattle.mvt_splice.specs.Calls.Fates.{AreChangesLeft}
 use Rattle.mvt_splice.proofs.Splicing.Tiles.{IsSplicingTile}
 use Rattle.mvt_splice.proofs.tile.splice.Given as goal
 
@@ -7,7 +7,7 @@ use Rattle.mvt_splice.proofs.tile.splice.Given as goal
 abbrev pub invariant-walk : goal.invariant-walk
 invariant-walk l = record {
   splicing : IsSplicingTile l.changes l.bytes l.out.items l.fields l.layer;
-  left : AreLeft l.changes l.layer 0 l.left;
+  left : AreChangesLeft l.changes l.layer 0 l.left;
 }
 
 abbrev pub decreases-walk : goal.decreases-walk

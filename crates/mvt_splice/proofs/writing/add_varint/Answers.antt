@@ -1,5 +1,5 @@
 use Rattle.std.proofs.Common.{ℕ, ◌+◌, ◌/◌, ◌%◌, ap, arith}
-use Rattle.mvt_splice.proofs.Splicing.Spellings.{IsWritingVarint-none, IsWritingVarint-more, WritesVarint-last}
+use Rattle.mvt_splice.proofs.Splicing.Encodings.{IsWritingVarint-none, IsWritingVarint-more, WritesVarint-last}
 use Rattle.mvt_splice.proofs.writing.add_varint.Goals as goal
 
 pub groups-init : goal.groups-init

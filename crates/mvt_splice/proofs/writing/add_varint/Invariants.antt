@@ -1,4 +1,4 @@
-use Rattle.mvt_splice.proofs.Splicing.Spellings.{IsWritingVarint}
+use Rattle.mvt_splice.proofs.Splicing.Encodings.{IsWritingVarint}
 use Rattle.mvt_splice.proofs.writing.add_varint.Given as goal
 
 -- the groups that were written, and what is left

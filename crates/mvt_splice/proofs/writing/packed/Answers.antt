@@ -2,7 +2,7 @@ use Rattle.std.proofs.Common.{ℕ, List, length, take, get_or, ap, sym, subst}
 use Rattle.std.proofs.lemmas.List.{take_more, take_all}
 use Rattle.mvt_wire.specs.Number.{VarintList}
 use Rattle.mvt_splice.specs.Calls.Writing.{WritesVarint}
-use Rattle.mvt_splice.proofs.Splicing.Spellings.{VarintList-more}
+use Rattle.mvt_splice.proofs.Splicing.Encodings.{VarintList-more}
 use Rattle.mvt_splice.proofs.writing.packed.Goals as goal
 
 pub loop-number-init : goal.loop-number-init

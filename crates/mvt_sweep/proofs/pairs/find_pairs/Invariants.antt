@@ -4,7 +4,7 @@ use Rattle.mvt_sweep.specs.Calls.Pairs.{AreEnough, pairs_of}
 use Rattle.mvt_status.specs.Counts.{raised}
 use Rattle.mvt_sweep.proofs.pairs.find_pairs.Given as goal
 
--- the edges so far were held against each other, with a comparison for each pair
+-- the edges so far were held against each other, with a probe for each pair
 abbrev pub invariant-loop-second : goal.invariant-loop-second
 invariant-loop-second l = record {
   enough : AreEnough l.vertices l.pairs.items l.second 0;

@@ -17,7 +17,7 @@ use Rattle.mvt_sweep.proofs.Vertices.TurnCounts.{turns_before, turns_more, turns
 use Rattle.mvt_sweep.proofs.sweep.sweep.Given as given
 use Rattle.mvt_sweep.proofs.sweep.sweep.Goals as goal
 use Rattle.mvt_sweep.proofs.sweep.sweep.Goals.{After-go_over, in-Begins, in-Ends}
-use Rattle.mvt_sweep.specs.Calls.Steps.{HasBegun, IsStep, met_by}
+use Rattle.mvt_sweep.specs.Calls.Steps.{HasBegun, IsSweepStep, met_by}
 use Rattle.mvt_sweep.specs.declared.sweep.step.Step.{Step}
 
 pub loop-at-init : goal.loop-at-init
@@ -72,7 +72,7 @@ pass-requires g c =
     let order = c.args.order.now in
     let number = slice_index_or c.args.order.now c.loop-at.at 0 in
     let before = edges_of c.loop-at.chains (g.S.Status.edges c.loop-at.status) in
-    let step = IsStep vertices number before (edges_of c.go_over.new.chains (g.S.Status.edges c.go_over.new.status)) in
+    let step = IsSweepStep vertices number before (edges_of c.go_over.new.chains (g.S.Status.edges c.go_over.new.status)) in
     let begun : HasBegun vertices number before c.match-branch-3.begun = elim c.match-branch-3.branch [
       | in-Begins w ↦ subst (HasBegun vertices number before) (sym w.begun-is) (subst step w.in-Begins.is c.in_ok-pair.ensures.step).1
       | in-Ends w ↦ subst (HasBegun vertices number before) (sym w.begun-is) (subst step w.in-Ends.is c.in_ok-pair.ensures.step).1

@@ -10,7 +10,7 @@ use Rattle.mvt_sweep.proofs.Notes.SweepNotes.{IsSweptNoting}
 use Rattle.mvt_sweep.proofs.sweep.sweep.Given as goal
 
 -- the line went over the vertices so far, with the chains that it meets, with what is noted right up to it, with the work of one step for each, and with
--- a comparison for each at least
+-- a probe for each at least
 abbrev pub invariant-loop-at : goal.invariant-loop-at
 invariant-loop-at g l = record {
   swept : IsSweptNoting l.vertices l.order l.at (edges_of l.chains (g.S.Status.edges l.status))

@@ -36,8 +36,8 @@ invariant_of-part over c =
     let inside = LiesIn-given c.args.bytes.now _ c.walk.invariant.layers.walking c.in-Some.ensures.field _ c.payload_span-from.ensures in
     record { forward = inside.0; within = inside.1 }
 
-pub check_layer-requires-clause-stands : goal.check_layer-requires-clause-stands
-check_layer-requires-clause-stands over c =
+pub find_in_layer-requires-clause-stands : goal.find_in_layer-requires-clause-stands
+find_in_layer-requires-clause-stands over c =
     let there = c.requires.tile.1 in
     Embeds-given there.entries c.walk.invariant.layers.walking there.whole c.in-Some.ensures.field 3 (IsLayer c.args.bytes.now) c.requires.tile.0.layers there.layers
     _ c.if-field-eq-LAYERS.true c.payload_span-from.ensures

@@ -25,7 +25,7 @@ pass-requires-clause-inside c =
       | in-Some w ↦ PassesNext-as w.in-Some.ensures.passed refl w.own-is w.next-is
       | in-None-2+in-Ok w ↦ PassesNext-as w.in-Ok.ensures.passed w.in-None-2.ensures.unchanged w.own-is w.next-is
     ] in
-    λ span there. let field = passed.given.spelled in payload_within c.args.bytes.now field.key_end c.match-pass_usual.next.1 _ span field.payload there
+    λ span there. let field = passed.given.encoded in payload_within c.args.bytes.now field.key_end c.match-pass_usual.next.1 _ span field.payload there
 
 pub walk-preserved : goal.walk-preserved
 walk-preserved c =

@@ -15,5 +15,5 @@ returns c =
         y_told = c.decimal_at-2.ensures.found;
         w_told = c.decimal_at-3.ensures.found;
       }) made;
-      fault = c.meeting_fault.ensures _ made;
+      fault = c.meeting_fault_in_range.ensures _ made;
     }

@@ -6,5 +6,5 @@ returns c =
     let made = c.in_ok-wire_object.ensures in
     record {
       only = wire_only _ _ c.args.code _ _ _ c.requires c.scope_of-scope.ensures c.ordinal_at-at.ensures c.number_at-field.ensures made;
-      fault = wire_in_range _ c.args.code _ _ _ _ made c.wire_fault.ensures;
+      fault = wire_in_range _ c.args.code _ _ _ _ made c.wire_fault_in_range.ensures;
     }

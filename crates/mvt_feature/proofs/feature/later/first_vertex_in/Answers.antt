@@ -2,7 +2,7 @@ use Rattle.std.proofs.Common.{below_more, refl}
 use Rattle.std.proofs.lemmas.Option.{slice_get_read}
 use Rattle.mvt_rules.specs.Nesting.{IsInsidePolygon}
 use Rattle.mvt_rules.specs.Polygon.{PolygonRings}
-use Rattle.mvt_sweep.specs.Bounds.{IsWithin}
+use Rattle.mvt_sweep.specs.Bounds.{IsInBounds}
 use Rattle.mvt_sweep.specs.Rings.{rings_of}
 use Rattle.mvt_feature.proofs.Cells.OutsideBounds.{outside_polygon, not_this_one}
 use Rattle.mvt_sweep.proofs.Vertices.RingReads.{fails}
@@ -20,5 +20,5 @@ loop-vertex-preserved c =
     (elim c.else-contain.branch [
       | else-contain-via-then-contain+else-is_in_polygon w ↦ fails (IsInsidePolygon rings it position) w.is_in_polygon.result w.is_in_polygon.ensures w.if-is_in_polygon.false
       | else-contain-via-else-contain w ↦
-          outside_polygon rings it position c.args.bounds.now c.requires.bounds (fails (IsWithin c.args.bounds.now position) c.contain.result c.contain.ensures w.if-contain.false)
+          outside_polygon rings it position c.args.bounds.now c.requires.bounds (fails (IsInBounds c.args.bounds.now position) c.contain.result c.contain.ensures w.if-contain.false)
     ]))

@@ -115,8 +115,8 @@ returns-clause-answer c =
     let until = c.placed_up_to-until.ensures in
     let none_later = subst (λ (n : ℕ). IfNone inside ((polygon : ℕ) → polygon < n → IsInNoLater rings front.polygons polygon)) until c.in_ok-inside.ensures.none in
     let some_later = subst (λ (n : ℕ). IfSome inside (IsFirstLater rings front.polygons n)) until c.in_ok-inside.ensures.first in
-    let following : c.fault_of_meeting.result ≡ option_map (fault_after items front.polygons) front.meeting =
-    c.fault_of_meeting.ensures ∙ ap (λ (polygons : List (ℕ × ℕ)). option_map (fault_after polygons front.polygons) front.meeting) c.deref-4.ensures.value in
+    let following : c.following_fault.result ≡ option_map (fault_after items front.polygons) front.meeting =
+    c.following_fault.ensures ∙ ap (λ (polygons : List (ℕ × ℕ)). option_map (fault_after polygons front.polygons) front.meeting) c.deref-4.ensures.value in
     let same : c.or-2.result ≡ option_or (option_or inside misplaced) (option_map (fault_after items front.polygons) front.meeting) =
     c.or-2.ensures ∙ ap₂ (λ (one other : Option FeatureFault). option_or one other) c.or.ensures following in
     subst (IsFeatureAnswer rings) (sym same) (answer_of_parts rings items front misplaced inside c.in_ok-polygons.ensures is none some none_later some_later)
@@ -155,8 +155,8 @@ returns-clause-found c =
     let are = front_is_of_first rings items front c.in_ok-polygons.ensures is in
     let some = subst (λ (its : List (List Position)). IfSome misplaced (IsFirstMisplaced its)) (first_slice c.args.rings.now front.rings) c.in_ok-misplaced.ensures.first in
     let some_later = subst (λ (n : ℕ). IfSome inside (IsFirstLater rings front.polygons n)) c.placed_up_to-until.ensures c.in_ok-inside.ensures.first in
-    let following : c.fault_of_meeting.result ≡ option_map (fault_after items front.polygons) front.meeting =
-    c.fault_of_meeting.ensures ∙ ap (λ (polygons : List (ℕ × ℕ)). option_map (fault_after polygons front.polygons) front.meeting) c.deref-4.ensures.value in
+    let following : c.following_fault.result ≡ option_map (fault_after items front.polygons) front.meeting =
+    c.following_fault.ensures ∙ ap (λ (polygons : List (ℕ × ℕ)). option_map (fault_after polygons front.polygons) front.meeting) c.deref-4.ensures.value in
     let same : c.or-2.result ≡ option_or (option_or inside misplaced) (option_map (fault_after items front.polygons) front.meeting) =
     c.or-2.ensures ∙ ap₂ (λ (one other : Option FeatureFault). option_or one other) c.or.ensures following in
     let swept : raised (vertex_count (take front.rings rings)) start.probes ≤ after.probes = omega (arith, c.in_ok-front.ensures.probed, work.no_fewer_probes) in

@@ -3,28 +3,28 @@ use Rattle.mvt_plane.specs.Commands.Figure.{polygon}
 use Rattle.mvt_plane.specs.FeatureGeometry.{HasRings, type_number}
 use Rattle.mvt_plane.specs.Position.{Position}
 use Rattle.mvt_sweep.specs.Rings.{rings_of}
-use Rattle.mvt_tile.specs.FeatureBytes.{Shows}
+use Rattle.mvt_tile.specs.FeatureBytes.{Encodes}
 use Rattle.mvt_gate.proofs.FeatureGeometries.{valid_by_rings, least_by_commands, least_by_rings}
 use Rattle.mvt_gate.proofs.geometry.GeometryRule.fault_of_polygons.Goals as goal
 
 pub rings_fault-requires : goal.rings_fault-requires
 rings_fault-requires c =
-    let it = c.geometry.ensures.shows.0 in
-    (it.geometry, subst (λ (rings : List (List Position)). HasRings (type_number polygon) it.geometry rings) (sym c.rings.ensures) (c.in-Ok.ensures.rings it.geometry (c.geometry.ensures.all it c.geometry.ensures.shows.1)))
+    let it = c.geometry.ensures.encodes.0 in
+    (it.geometry, subst (λ (rings : List (List Position)). HasRings (type_number polygon) it.geometry rings) (sym c.rings.ensures) (c.in-Ok.ensures.rings it.geometry (c.geometry.ensures.all it c.geometry.ensures.encodes.1)))
 
 pub returns-in-Ok-clause-found : goal.returns-in-Ok-clause-found
 returns-in-Ok-clause-found c =
-    least_by_rings c.args.search c.args.profile c.rings_fault.result (Shows c.args.feature.now) (rings_of c.rings.result.now) c.draw.new.self c.args.layer c.args.ordinal c.rings.ensures c.requires
-    (λ it shows. c.in-Ok.ensures.rings it.geometry (c.geometry.ensures.all it shows)) c.rings_fault.ensures.found
+    least_by_rings c.args.search c.args.profile c.rings_fault.result (Encodes c.args.feature.now) (rings_of c.rings.result.now) c.draw.new.self c.args.layer c.args.ordinal c.rings.ensures c.requires
+    (λ it encodes. c.in-Ok.ensures.rings it.geometry (c.geometry.ensures.all it encodes)) c.rings_fault.ensures.found
 
 pub returns-in-Ok-clause-kept : goal.returns-in-Ok-clause-kept
 returns-in-Ok-clause-kept c =
-    valid_by_rings c.args.search c.args.profile c.rings_fault.result (Shows c.args.feature.now) (rings_of c.rings.result.now) c.draw.new.self c.rings.ensures c.requires
-    (λ it shows. c.in-Ok.ensures.rings it.geometry (c.geometry.ensures.all it shows)) c.rings_fault.ensures.valid
+    valid_by_rings c.args.search c.args.profile c.rings_fault.result (Encodes c.args.feature.now) (rings_of c.rings.result.now) c.draw.new.self c.rings.ensures c.requires
+    (λ it encodes. c.in-Ok.ensures.rings it.geometry (c.geometry.ensures.all it encodes)) c.rings_fault.ensures.valid
 
 pub returns-in-Err-Command-clause-found : goal.returns-in-Err-Command-clause-found
 returns-in-Err-Command-clause-found c =
     rw (c.in-Err-Command.code-is, c.in-Err-Command.index-is)
-    (λ it shows.
-    least_by_commands c.args.search c.args.profile it (type_number polygon) c.in-Err-Command.code c.in-Err-Command.index c.args.layer c.args.ordinal (c.requires it shows)
-    ((rw c.in-Err-Command.field-0-is at c.in-Err-Command.ensures.fault) it.geometry (c.geometry.ensures.all it shows)))
+    (λ it encodes.
+    least_by_commands c.args.search c.args.profile it (type_number polygon) c.in-Err-Command.code c.in-Err-Command.index c.args.layer c.args.ordinal (c.requires it encodes)
+    ((rw c.in-Err-Command.field-0-is at c.in-Err-Command.ensures.fault) it.geometry (c.geometry.ensures.all it encodes)))

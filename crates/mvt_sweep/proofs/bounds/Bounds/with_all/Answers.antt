@@ -1,6 +1,6 @@
 use Rattle.std.proofs.Common.{below_more, refl, sym, ◌∙◌, subst, arith}
 use Rattle.std.proofs.lemmas.Option.{slice_get_within, slice_get_read, same_Some}
-use Rattle.mvt_sweep.specs.Bounds.{IsWithin}
+use Rattle.mvt_sweep.specs.Bounds.{IsInBounds}
 use Rattle.mvt_sweep.proofs.bounds.Bounds.with_all.Goals as goal
 
 pub loop-vertex-init : goal.loop-vertex-init
@@ -13,7 +13,7 @@ loop-vertex-preserved c =
     record {
       own = λ vertex within. c.with-bounds.ensures.own vertex (c.loop-vertex.invariant.own vertex within);
       more = below_more _ _ (λ number before vertex here. c.with-bounds.ensures.own vertex (c.loop-vertex.invariant.more number before vertex here))
-          (λ vertex here. subst (IsWithin c.with-bounds.result) (same_Some position vertex (sym there ∙ here)) c.with-bounds.ensures.more);
+          (λ vertex here. subst (IsInBounds c.with-bounds.result) (same_Some position vertex (sym there ∙ here)) c.with-bounds.ensures.more);
     }
 
 pub returns-clause-own : goal.returns-clause-own

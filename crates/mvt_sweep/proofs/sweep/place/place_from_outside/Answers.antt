@@ -8,7 +8,7 @@ use Rattle.mvt_status.proofs.BinaryDigits.{digits_of_half, lesser_exponent, with
 use Rattle.mvt_sweep.proofs.sweep.place.place_from_outside.Goals as goal
 use Rattle.mvt_sweep.proofs.sweep.place.place_from_outside.Goals.{then-len-gt-FEW_CHAINS+then-len+in_default, else-len-gt-FEW_CHAINS}
 
--- two comparisons more than to search half as many chains or fewer are no more than are promised
+-- two probes more than to search half as many chains or fewer are no more than are promised
 work_of_both : (edges vertices : ℕ) {before between after : Counted} → 0 < edges → edges * 2 ≤ vertices → AddsWork 0 2 0 before between → AddsWork 0 (2 * bits edges) (6 * bits edges) between after
     → AddsWork 0 (2 * bits vertices) (6 * bits vertices) before after
 work_of_both edges vertices some few first second =

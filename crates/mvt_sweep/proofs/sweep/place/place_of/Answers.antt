@@ -3,7 +3,7 @@ use Rattle.std.proofs.lemmas.Int.{ints, by_lt_z}
 use Rattle.std.proofs.lemmas.List.{take-map, drop-map}
 use Rattle.mvt_plane.specs.Geometry.Measure.{orientation}
 use Rattle.mvt_plane.specs.Position.{Position}
-use Rattle.mvt_sweep.specs.Calls.Chain.{Each}
+use Rattle.mvt_sweep.specs.Calls.Chain.{EachOne}
 use Rattle.mvt_sweep.specs.Calls.Chains.{edge_of}
 use Rattle.mvt_sweep.specs.Calls.SweepVertices.{sweep_count}
 use Rattle.mvt_sweep.specs.Calls.Sweep.{Plan, IsUnder, IsCut}
@@ -38,8 +38,8 @@ splits plan here there f list same (front, rest, cut) =
           (subst (λ (position : Position). IsSplit (λ (chain : ℕ) (answer : Bool). Answers plan position (f chain) answer) (parts.front ++ parts.rest) (length parts.front)) (sym same)
           (split_of_parts (λ (chain : ℕ). IsUnder plan there (f chain)) (λ (chain : ℕ) (answer : Bool). Answers plan there (f chain) answer) parts.front parts.rest
           (λ it answer is under. is.1 under) (λ it answer is other. is_false answer (λ yes. other (is.0 yes)))
-          (each_of_map (IsUnder plan there) f parts.front (subst (Each (IsUnder plan there)) (sym parts.front_edges) cut.below))
-          (each_of_map (λ (edge : ℕ). ¬ IsUnder plan there edge) f parts.rest (subst (Each (λ (edge : ℕ). ¬ IsUnder plan there edge)) (sym parts.rest_edges) cut.others)))),
+          (each_of_map (IsUnder plan there) f parts.front (subst (EachOne (IsUnder plan there)) (sym parts.front_edges) cut.below))
+          (each_of_map (λ (edge : ℕ). ¬ IsUnder plan there edge) f parts.rest (subst (EachOne (λ (edge : ℕ). ¬ IsUnder plan there edge)) (sym parts.rest_edges) cut.others)))),
     )
 
 -- and the other way round
@@ -50,8 +50,8 @@ cut_of plan here there f list point same split =
     (subst (λ (position : Position). IsSplit (λ (chain : ℕ) (answer : Bool). Answers plan position (f chain) answer) list point) same split) in
     record {
       whole = take_drop (map f list) point;
-      below = subst (Each (IsUnder plan there)) (sym (take-map f point list)) (each_map (IsUnder plan there) f (take point list) parts.0);
-      others = subst (Each (λ (edge : ℕ). ¬ IsUnder plan there edge)) (sym (drop-map f point list)) (each_map (λ (edge : ℕ). ¬ IsUnder plan there edge) f (drop point list) parts.1);
+      below = subst (EachOne (IsUnder plan there)) (sym (take-map f point list)) (each_map (IsUnder plan there) f (take point list) parts.0);
+      others = subst (EachOne (λ (edge : ℕ). ¬ IsUnder plan there edge)) (sym (drop-map f point list)) (each_map (λ (edge : ℕ). ¬ IsUnder plan there edge) f (drop point list) parts.1);
     }
 
 pub split_around-requires-clause-splits : goal.split_around-requires-clause-splits

@@ -3,7 +3,7 @@ use Rattle.std.specs.Int.Signed.{lt_z}
 use Rattle.mvt_plane.specs.Geometry.Measure.{key_of}
 use Rattle.mvt_sweep.specs.Calls.Chains.{edges_of}
 use Rattle.mvt_sweep.specs.Calls.VertexOrder.{IsNextVertex, turns_here}
-use Rattle.mvt_sweep.specs.Calls.Steps.{IsStep}
+use Rattle.mvt_sweep.specs.Calls.Steps.{IsSweepStep}
 use Rattle.mvt_sweep.specs.declared.sweep.step.Step.{Step}
 use Rattle.mvt_sweep.specs.Calls.SweepVertices.{sweep_count, next_at, plan_of, position_at, previous_at}
 use Rattle.mvt_sweep.specs.Calls.Sweep.{PassesOn}
@@ -73,7 +73,7 @@ pub returns-then-goes_on-clause-step : goal.returns-then-goes_on-clause-step
 returns-then-goes_on-clause-step g c =
     let edges = edges_of c.args.chains.now (g.S.Status.edges c.args.status.now) in
     let after = edges_of c.pass.new.chains (g.S.Status.edges c.args.status.now) in
-    subst (λ (step : Step). IsStep c.args.vertices.now c.args.number edges after step) (sym c.after_an_end.ensures)
+    subst (λ (step : Step). IsSweepStep c.args.vertices.now c.args.number edges after step) (sym c.after_an_end.ensures)
     (step_after_an_end c.args.vertices.now c.args.number edges after c.pass.result (none_map c.pass.result (λ both. both.0) c.pass.ensures.none) c.pass.ensures.some
     (an_end_from_before c.args.vertices.now c.args.number (comes g (goal.at.returns-then-goes_on-clause-step g c).After-key true c.if-comes_from_before.true)))
 
@@ -81,7 +81,7 @@ pub returns-else-goes_on-clause-step : goal.returns-else-goes_on-clause-step
 returns-else-goes_on-clause-step g c =
     let edges = edges_of c.args.chains.now (g.S.Status.edges c.args.status.now) in
     let after = edges_of c.end.new.chains (g.S.Status.edges c.end.new.status) in
-    subst (λ (step : Step). IsStep c.args.vertices.now c.args.number edges after step) (sym c.after_an_end-else-goes_on.ensures)
+    subst (λ (step : Step). IsSweepStep c.args.vertices.now c.args.number edges after step) (sym c.after_an_end-else-goes_on.ensures)
     (step_after_an_end c.args.vertices.now c.args.number edges after c.end.result (none_map c.end.result (λ both. both.0) c.end.ensures.none) c.end.ensures.some
     (an_end_from_before c.args.vertices.now c.args.number (comes g (goal.at.returns-else-goes_on-clause-step g c).After-key true c.if-comes_from_before.true)))
 
@@ -90,7 +90,7 @@ returns-else-goes_on-2-clause-step g c =
     let edges = edges_of c.args.chains.now (g.S.Status.edges c.args.status.now) in
     let after = edges_of c.pass-else-goes_on-2.new.chains (g.S.Status.edges c.args.status.now) in
     let found = c.pass-else-goes_on-2 in
-    subst (λ (step : Step). IsStep c.args.vertices.now c.args.number edges after step) (sym c.after_an_end-else-goes_on-2.ensures)
+    subst (λ (step : Step). IsSweepStep c.args.vertices.now c.args.number edges after step) (sym c.after_an_end-else-goes_on-2.ensures)
     (step_after_an_end c.args.vertices.now c.args.number edges after found.result (none_map found.result (λ both. both.0) found.ensures.none) found.ensures.some
     (an_end_from_later c.args.vertices.now c.args.number c.requires.number
     (goes g (goal.at.returns-else-goes_on-2-clause-step g c).After-key c.key-2.result false (record { sfits = c.key-2.type_inv }) (rw c.next.ensures.value at c.key-2.ensures) c.if-goes_on-2.false)))

@@ -2,7 +2,7 @@ use Rattle.std.proofs.Common.{[], refl}
 use Rattle.mvt_rules.specs.Parts.Fields.{FitsRule}
 use Rattle.mvt_wire.specs.declared.schema.Message.TheVariants as messages
 use Rattle.mvt_wire.proofs.Walking.{IsWalking-more, IsWalking-none, IsWalking-defectless, All-given}
-use Rattle.mvt_tile.proofs.Reading.FeatureParts.{Shows-all, tags_lie, geometry_lies}
+use Rattle.mvt_tile.proofs.Reading.FeatureParts.{Encodes-all, tags_lie, geometry_lies}
 use Rattle.mvt_wire.proofs.FieldNumbers.FaultlessNumbers.{given_in}
 use Rattle.mvt_tile.proofs.feature_bytes.FeatureBytes.new.Goals as goal
 use Rattle.mvt_tile.proofs.feature_bytes.FeatureBytes.new.Goals.{In_default}
@@ -34,4 +34,4 @@ invariant_of-result c =
     }
 
 pub returns : goal.returns
-returns c = λ feature_record is. let so_far = c.walk.invariant in Shows-all is so_far.1 c.in_default.ensures.over c.walk.parts so_far.2 _ refl refl
+returns c = λ feature_record is. let so_far = c.walk.invariant in Encodes-all is so_far.1 c.in_default.ensures.over c.walk.parts so_far.2 _ refl refl

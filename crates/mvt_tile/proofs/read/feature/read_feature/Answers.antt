@@ -11,8 +11,8 @@ same feature it id tags kind geometry = λ i. record { id = id i; tags = tags i;
 pub returns : goal.returns
 returns c =
     let it = c.requires.0 in
-    let shows = c.new-feature.ensures it c.requires.1 in
+    let encodes = c.new-feature.ensures it c.requires.1 in
     subst (λ (feature : FeatureRecord). IsFeature c.args.part.bytes.now (record { from = c.args.part.from; to = c.args.part.to }) feature)
     (sym (same (record { id = c.id.result; tags = c.in_ok-list_of.field-0; kind = c.kind.result; geometry = c.in_ok-list_of-2.field-0 }) it
-    (c.id.ensures it shows) (c.in_ok-list_of.ensures it.tags (c.tags.ensures.all it shows)) (c.kind.ensures it shows) (c.in_ok-list_of-2.ensures it.geometry (c.geometry.ensures.all it shows))))
+    (c.id.ensures it encodes) (c.in_ok-list_of.ensures it.tags (c.tags.ensures.all it encodes)) (c.kind.ensures it encodes) (c.in_ok-list_of-2.ensures it.geometry (c.geometry.ensures.all it encodes))))
     c.requires.1

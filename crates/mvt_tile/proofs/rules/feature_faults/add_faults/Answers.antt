@@ -6,7 +6,7 @@ use Rattle.mvt_rules.specs.Parts.Fields.{FitsRule}
 use Rattle.mvt_wire.specs.declared.schema.Message.TheVariants as messages
 use Rattle.mvt_wire.proofs.Walking.{IsWalking-none, IsWalking-defectless, IsWalking-over, All-given, IsWalking-more}
 use Rattle.mvt_fault.specs.declared.fault.Fault.{Fault}
-use Rattle.mvt_tile.specs.FeatureBytes.{Shows}
+use Rattle.mvt_tile.specs.FeatureBytes.{Encodes}
 use Rattle.mvt_tile.specs.Calls.Reading.{GivesSummary}
 use Rattle.mvt_tile.proofs.WireFaults.CleanWalk.{CleanWalk-nothing, CleanWalk-other, CleanWalk-more}
 use Rattle.mvt_tile.proofs.WireFaults.EmbeddedSpans.{Embeds-given, LiesIn-given}
@@ -92,8 +92,8 @@ walk-preserved-then-field-eq-FEATURES over c =
       gathers = Gathers-more over.R.FeatureRule.IsFree over.R.FeatureRule.IsBroken over.R.FeatureRule.IsKept c.requires.after_tags c.args.part.bytes.now (record { from = c.args.part.from; to = c.args.part.to })
           c.args.layer_index c.args.keys c.args.values c.args.faults.now.items so_far.features given c.if-field-eq-FEATURES.true _ c.payload_span-from.ensures
           c.walk.needs c.find_in_feature.new.needs c.find_in_feature.ensures.no_fewer_keys c.find_in_feature.ensures.no_fewer_values
-          (Shows c.new-feature.result) c.new-feature.ensures faults so_far.gathers c.find_in_feature.new.found
-          (λ layer_record it shows like. c.in_ok-find_in_feature.ensures.finds layer_record it shows like) c.match-found.faults.items longer;
+          (Encodes c.new-feature.result) c.new-feature.ensures faults so_far.gathers c.find_in_feature.new.found
+          (λ layer_record it encodes like. c.in_ok-find_in_feature.ensures.finds layer_record it encodes like) c.match-found.faults.items longer;
       few = omega (arith, given.further, so_far.few);
     }
 

@@ -4,7 +4,7 @@ use Rattle.std.proofs.lemmas.Option.{same_Some, slice_get_within}
 use Rattle.std.proofs.lemmas.Result.{IfOk-weaker}
 use Rattle.mvt_tile.specs.Calls.Equal.{HeldAt, held_value}
 use Rattle.mvt_tile.specs.Calls.Gathered.{NameAt}
-use Rattle.mvt_tile.specs.Calls.Names.{key_of}
+use Rattle.mvt_tile.specs.Calls.Names.{name_key}
 use Rattle.mvt_tile.specs.declared.rules.summary.LayerSummary.{LayerSummary}
 use Rattle.mvt_tile.proofs.RuleFaults.HeldPlaces.{place_of, NameHeldAt, held_is, through_only, mapped_there}
 use Rattle.mvt_tile.proofs.RuleFaults.LayerFaults.{no_summary}
@@ -17,9 +17,9 @@ loop-place-preserved c =
     let place = c.loop-place.place in
     let text = (get_or layers place no_summary).name.now in
     let there : slice_get (map (λ (summary : LayerSummary). summary.name.now) layers) place ≡ Some text = mapped_there (λ (summary : LayerSummary). summary.name.now) layers layers place no_summary text refl c.loop-place-test.true refl in
-    let value : c.key_of-number.result ∷ text ≡ key_of text ∷ text = λ i. c.key_of-number.ensures i ∷ text in
+    let value : c.name_key-number.result ∷ text ≡ name_key text ∷ text = λ i. c.name_key-number.ensures i ∷ text in
     IsNaming-pushed held_value place_of (NameHeldAt layers) place c.loop-place.held.items c.loop-place.invariant c.push.new.self.items _ c.in_ok-push.ensures.items refl (text, there, value)
-    (λ it held. value ∙ through_only (λ name. key_of name ∷ name) (NameAt layers) place text (λ other again. same_Some _ _ (sym there ∙ again)) it held)
+    (λ it held. value ∙ through_only (λ name. name_key name ∷ name) (NameAt layers) place text (λ other again. same_Some _ _ (sym there ∙ again)) it held)
 
 pub returns : goal.returns
 returns c =
@@ -28,7 +28,7 @@ returns c =
     let size = length-map layers (λ summary. summary.name.now) in
     IfOk-weaker c.first_places.result _ _
     (λ firsts noted.
-    through_function (λ name. key_of name ∷ name) (NameAt layers) (HeldAt c.loop-place.held.items) firsts.items (λ one other same. cc same)
+    through_function (λ name. name_key name ∷ name) (NameAt layers) (HeldAt c.loop-place.held.items) firsts.items (λ one other same. cc same)
     (held_is (NameHeldAt layers) (length layers) c.loop-place.place c.loop-place.held.items end
     (λ place value held. let inside = slice_get_within (map (λ summary. summary.name.now) layers) place held.0 held.1 in omega (arith, inside, size)) c.loop-place.invariant) noted)
     c.first_places.ensures

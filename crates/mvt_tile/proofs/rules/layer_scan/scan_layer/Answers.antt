@@ -3,7 +3,7 @@ use Rattle.mvt_wire.specs.Field.{Entry}
 use Rattle.mvt_rules.specs.Tile.{IsFeature}
 use Rattle.mvt_rules.specs.Parts.Fields.{FitsRule}
 use Rattle.mvt_wire.specs.declared.schema.Message.TheVariants as messages
-use Rattle.mvt_tile.specs.FeatureBytes.{Shows}
+use Rattle.mvt_tile.specs.FeatureBytes.{Encodes}
 use Rattle.mvt_tile.specs.Calls.Reading.{GivesSummary}
 use Rattle.mvt_tile.proofs.WireFaults.CleanWalk.{CleanWalk-nothing}
 use Rattle.mvt_tile.proofs.RuleFaults.FeatureScan.{IsScanned-other, IsScanned-more, IsScanned-finds}
@@ -90,7 +90,7 @@ walk-preserved-then-is_none over c =
       features = λ none.
           IsScanned-more (nothing_found _ c.walk.found c.if-is_none.ensures (so_far.features none).first) given c.if-field-eq-FEATURES.true _ c.payload_span-from.ensures
           c.find_in_feature.new.needs c.find_in_feature.ensures.no_fewer_keys c.find_in_feature.ensures.no_fewer_values
-          c.requires.after_tags (Shows c.new-feature.result) c.new-feature.ensures c.find_in_feature.new.found (λ layer_record it shows like. c.in_ok-find_in_feature.ensures.finds layer_record it shows like);
+          c.requires.after_tags (Encodes c.new-feature.result) c.new-feature.ensures c.find_in_feature.new.found (λ layer_record it encodes like. c.in_ok-find_in_feature.ensures.finds layer_record it encodes like);
       few = omega (arith, given.further, so_far.few);
     }
 

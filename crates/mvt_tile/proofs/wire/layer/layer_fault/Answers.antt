@@ -32,7 +32,7 @@ pass-requires-clause-inside c =
       | in-Some w ↦ PassesNext-as w.in-Some.ensures.passed refl w.own-is w.next-is
       | in-None-2+in-Ok w ↦ PassesNext-as w.in-Ok.ensures.passed w.in-None-2.ensures.unchanged w.own-is w.next-is
     ] in
-    LiesIn-field c.args.part.bytes.now c.args.part.to c.match-pass_usual.next.1 _ passed.given.spelled
+    LiesIn-field c.args.part.bytes.now c.args.part.to c.match-pass_usual.next.1 _ passed.given.encoded
 
 pub pass-requires-in-walk-clause-inside : goal.pass-requires-in-walk-clause-inside
 pass-requires-in-walk-clause-inside c =
@@ -40,7 +40,7 @@ pass-requires-in-walk-clause-inside c =
       | in-Some w ↦ PassesNext-as w.in-Some.ensures.passed refl w.own-is w.next-is
       | in-None-2+in-Ok w ↦ PassesNext-as w.in-Ok.ensures.passed w.in-None-2.ensures.unchanged w.own-is w.next-is
     ] in
-    LiesIn-field c.args.part.bytes.now c.args.part.to c.match-pass_usual.next.1 _ passed.given.spelled
+    LiesIn-field c.args.part.bytes.now c.args.part.to c.match-pass_usual.next.1 _ passed.given.encoded
 
 pub walk-preserved : goal.walk-preserved
 walk-preserved c =

@@ -1,6 +1,6 @@
 use Rattle.std.proofs.Common.{List, ℕ, ap}
 use Rattle.serde_json.specs.Written.{compact_text}
-use Rattle.mvt_fault.specs.Text.{whole}
+use Rattle.mvt_fault.specs.Text.{whole_number}
 use Rattle.mvt_tile.specs.View.{feature_of}
 use Rattle.mvt_engine.specs.Dump.{list_data}
 use Rattle.mvt_engine.proofs.DumpTexts.{feature_pushed}
@@ -8,7 +8,7 @@ use Rattle.mvt_engine.proofs.dump.feature.FeaturePart.push_to.Goals as goal
 
 -- the text of a list of numbers
 numbers_text : List ℕ → List ℕ
-numbers_text numbers = compact_text (list_data whole numbers)
+numbers_text numbers = compact_text (list_data whole_number numbers)
 
 pub returns : goal.returns
 unfolding numbers_text

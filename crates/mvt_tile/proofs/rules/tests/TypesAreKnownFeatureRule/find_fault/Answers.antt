@@ -19,11 +19,11 @@ known_number Polygon known = λ same. absurd (omega arith)
 
 pub returns-in-Unknown-clause-found : goal.returns-in-Unknown-clause-found
 returns-in-Unknown-clause-found c =
-    rw c.command.ensures (λ it shows. of_least (record { holds = (sym (c.kind.ensures it shows) ∙ ap kind_number c.in-Unknown.is, refl); least = λ other broken. rw broken.1 (ComesFirst-reflexive (place_of (Command OtherCommand c.args.layer_index c.args.feature_index 0))) }))
+    rw c.command.ensures (λ it encodes. of_least (record { holds = (sym (c.kind.ensures it encodes) ∙ ap kind_number c.in-Unknown.is, refl); least = λ other broken. rw broken.1 (ComesFirst-reflexive (place_of (Command OtherCommand c.args.layer_index c.args.feature_index 0))) }))
 
 pub returns-in_default : goal.returns-in_default
 returns-in_default c = record {
-  none = IfNone-any c.args.found.now (λ it shows fault broken. known_number c.kind.result c.in_default.not-Unknown (c.kind.ensures it shows ∙ broken.0));
-  kept = IfNone-any c.args.found.now (λ it shows unknown. known_number c.kind.result c.in_default.not-Unknown (c.kind.ensures it shows ∙ unknown));
+  none = IfNone-any c.args.found.now (λ it encodes fault broken. known_number c.kind.result c.in_default.not-Unknown (c.kind.ensures it encodes ∙ broken.0));
+  kept = IfNone-any c.args.found.now (λ it encodes unknown. known_number c.kind.result c.in_default.not-Unknown (c.kind.ensures it encodes ∙ unknown));
   found = rw c.requires tt;
 }

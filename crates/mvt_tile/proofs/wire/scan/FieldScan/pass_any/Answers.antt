@@ -21,4 +21,4 @@ returns-in-Some-clause-fault c from entries list passes =
     let entry = entry_of c.in-Some-Ok.field in
     first_or_defect c.args.message c.args.bytes.now from walk (entries ++ entry ∷ []) c.in-Some.cause c.defect_or.result
     (IsWalking-more c.args.bytes.now from c.new-fields.result walk entries entry (IsWalking-at c.args.bytes.now from c.args.at c.new-fields.result entries c.new-fields.ensures list) given)
-    (c.in-Some.ensures.fault c.new-fields.result.bytes entries walk.at given.spelled passes) c.defect_or.ensures
+    (c.in-Some.ensures.fault c.new-fields.result.bytes entries walk.at given.encoded passes) c.defect_or.ensures

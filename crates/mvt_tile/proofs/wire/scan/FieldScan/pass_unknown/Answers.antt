@@ -3,7 +3,7 @@ use Rattle.std.proofs.lemmas.Option.{IfSome_then}
 use Rattle.mvt_wire.specs.Field.{entry_of}
 use Rattle.mvt_wire.specs.Schema.{rule_of}
 use Rattle.mvt_tile.specs.Calls.FieldScan.{PassesNext}
-use Rattle.mvt_tile.proofs.WireFaults.FieldScans.{Passes-unknown}
+use Rattle.mvt_tile.proofs.WireFaults.FieldScans.{HasScanned-unknown}
 use Rattle.mvt_tile.proofs.wire.scan.FieldScan.pass_unknown.Goals as goal
 
 pub returns-in-None-clause-passed : goal.returns-in-None-clause-passed
@@ -13,5 +13,5 @@ returns-in-None-clause-passed c =
       given = given.0;
       passed = λ entries.
           let unknown : rule_of c.args.message read.0.number ≡ None = ap (rule_of c.args.message) (given.1 ∙ sym c.from.ensures) ∙ sym c.in-None.ensures in
-          Passes-unknown c.args.message scan entries (entry_of read.0) unknown;
+          HasScanned-unknown c.args.message scan entries (entry_of read.0) unknown;
     })

@@ -4,13 +4,13 @@ use Rattle.std.proofs.Math.Nat.{pow-suc, pow-le-pow_right, mul-le-mul_right}
 use Rattle.std.proofs.Math.Seq.{take-append_seam}
 use Rattle.std.proofs.lemmas.Bool.{cases_lt}
 use Rattle.std.proofs.lemmas.List.{drop_at, get_or_append_left, get_or_at}
-use Rattle.mvt_wire.specs.Varint.{sum_of_groups, IsVarint, SpellsVarint}
-use Rattle.mvt_wire.specs.Field.{delimited, IsFieldSpelling}
+use Rattle.mvt_wire.specs.Varint.{sum_of_groups, IsVarint, EncodesVarint}
+use Rattle.mvt_wire.specs.Field.{delimited, IsFieldEncoding}
 use Rattle.mvt_wire.specs.Number.{VarintList}
-use Rattle.mvt_wire.proofs.Encoding.Entries.{SpellsVarint-append}
+use Rattle.mvt_wire.proofs.Encoding.Entries.{EncodesVarint-append}
 use Rattle.mvt_wire.proofs.Encoding.Varints.{sum_of_groups-push}
-use Rattle.mvt_splice.specs.Splice.{Piece, Embeds}
-use Rattle.mvt_splice.specs.Calls.Writing.{WritesVarint, Writes}
+use Rattle.mvt_splice.specs.Splice.{Piece, HasPayload}
+use Rattle.mvt_splice.specs.Calls.Writing.{WritesVarint, WritesFields}
 
 -- the groups that were written, all but the last, and what is left of the number
 pub record IsWritingVarint (number : ℕ) (before out : List ℕ) (rest : ℕ) : Type 0 where
@@ -93,33 +93,33 @@ slice_middle front part rest =
     ∙ ap (take (length part)) (drop_at front (part ++ rest) (length front) refl)
     ∙ take-append_seam part rest
 
--- a spelling after other bytes and before others
-SpellsVarint-between : (front spelling rest : List ℕ) (number : ℕ) → IsVarint spelling number → SpellsVarint (front ++ (spelling ++ rest)) (length front) (length front + length spelling) number
-SpellsVarint-between front spelling rest number is =
+-- an encoding after other bytes and before others
+EncodesVarint-between : (front encoding rest : List ℕ) (number : ℕ) → IsVarint encoding number → EncodesVarint (front ++ (encoding ++ rest)) (length front) (length front + length encoding) number
+EncodesVarint-between front encoding rest number is =
     let present = is.present in
-    let longer = length-append front (spelling ++ rest) in
-    let longest = length-append spelling rest in
-    record { forward = omega arith; within = omega arith; spelling = subst (λ (list : List ℕ). IsVarint list number) (sym (slice_middle front spelling rest)) is }
+    let longer = length-append front (encoding ++ rest) in
+    let longest = length-append encoding rest in
+    record { forward = omega arith; within = omega arith; encoding = subst (λ (list : List ℕ). IsVarint list number) (sym (slice_middle front encoding rest)) is }
 
 VarintList-append : (bytes more : List ℕ) (from : ℕ) (numbers : List ℕ) (to : ℕ) → VarintList bytes from numbers to → VarintList (bytes ++ more) from numbers to
 VarintList-append bytes more from [] to list = list
-VarintList-append bytes more from (n ∷ numbers) to list = (list.0, SpellsVarint-append bytes more from list.0 n list.1, VarintList-append bytes more list.0 numbers to list.2)
+VarintList-append bytes more from (n ∷ numbers) to list = (list.0, EncodesVarint-append bytes more from list.0 n list.1, VarintList-append bytes more list.0 numbers to list.2)
 
-VarintList-last : (bytes : List ℕ) (from : ℕ) (numbers : List ℕ) (to next n : ℕ) → VarintList bytes from numbers to → SpellsVarint bytes to next n → VarintList bytes from (numbers ++ n ∷ []) next
-VarintList-last bytes from [] to next n list spelled = (next, subst (λ (at : ℕ). SpellsVarint bytes at next n) (sym list) spelled, refl)
-VarintList-last bytes from (first ∷ numbers) to next n list spelled = (list.0, list.1, VarintList-last bytes list.0 numbers to next n list.2 spelled)
+VarintList-last : (bytes : List ℕ) (from : ℕ) (numbers : List ℕ) (to next n : ℕ) → VarintList bytes from numbers to → EncodesVarint bytes to next n → VarintList bytes from (numbers ++ n ∷ []) next
+VarintList-last bytes from [] to next n list encoded = (next, subst (λ (at : ℕ). EncodesVarint bytes at next n) (sym list) encoded, refl)
+VarintList-last bytes from (first ∷ numbers) to next n list encoded = (list.0, list.1, VarintList-last bytes list.0 numbers to next n list.2 encoded)
 
 -- one number more of a packed list
 pub VarintList-more : (numbers : List ℕ) (number : ℕ) (out longer : List ℕ) → VarintList out 0 numbers (length out) → WritesVarint number out longer → VarintList longer 0 (numbers ++ number ∷ []) (length longer)
 VarintList-more numbers number out longer list writes =
-    let spelling = writes.0 in
-    let size : length (out ++ spelling) ≡ length out + length spelling = length-append out spelling in
-    let whole : out ++ (spelling ++ []) ≡ out ++ spelling = ap (λ (last : List ℕ). out ++ last) (append-nil spelling) in
-    let spelled : SpellsVarint (out ++ spelling) (length out) (length out + length spelling) number =
-    subst (λ (bytes : List ℕ). SpellsVarint bytes (length out) (length out + length spelling) number) whole (SpellsVarint-between out spelling [] number writes.1) in
-    let all : VarintList (out ++ spelling) 0 (numbers ++ number ∷ []) (length out + length spelling) =
-    VarintList-last (out ++ spelling) 0 numbers (length out) (length out + length spelling) number (VarintList-append out spelling 0 numbers (length out) list) spelled in
-    let all : VarintList (out ++ spelling) 0 (numbers ++ number ∷ []) (length (out ++ spelling)) = subst (VarintList (out ++ spelling) 0 (numbers ++ number ∷ [])) (sym size) all in
+    let encoding = writes.0 in
+    let size : length (out ++ encoding) ≡ length out + length encoding = length-append out encoding in
+    let whole : out ++ (encoding ++ []) ≡ out ++ encoding = ap (λ (last : List ℕ). out ++ last) (append-nil encoding) in
+    let encoded : EncodesVarint (out ++ encoding) (length out) (length out + length encoding) number =
+    subst (λ (bytes : List ℕ). EncodesVarint bytes (length out) (length out + length encoding) number) whole (EncodesVarint-between out encoding [] number writes.1) in
+    let all : VarintList (out ++ encoding) 0 (numbers ++ number ∷ []) (length out + length encoding) =
+    VarintList-last (out ++ encoding) 0 numbers (length out) (length out + length encoding) number (VarintList-append out encoding 0 numbers (length out) list) encoded in
+    let all : VarintList (out ++ encoding) 0 (numbers ++ number ∷ []) (length (out ++ encoding)) = subst (VarintList (out ++ encoding) 0 (numbers ++ number ∷ [])) (sym size) all in
     subst (λ (bytes : List ℕ). VarintList bytes 0 (numbers ++ number ∷ []) (length bytes)) (sym writes.2) all
 
 -- a key, a length and so many bytes
@@ -129,9 +129,9 @@ delimited_piece field_number key size payload = record {
   field = record { number = field_number; at = 0; content = delimited (length key + length size) payload };
 }
 
-spelled_delimited : (field_number : ℕ) (key size payload : List ℕ) → 1 ≤ field_number → field_number < 16 → IsVarint key (field_number * 8 + 2) → IsVarint size (length payload)
-    → IsFieldSpelling (key ++ (size ++ payload)) (record { number = field_number; at = 0; content = delimited (length key + length size) payload })
-spelled_delimited field_number key size payload first last is_key is_size =
+encoded_delimited : (field_number : ℕ) (key size payload : List ℕ) → 1 ≤ field_number → field_number < 16 → IsVarint key (field_number * 8 + 2) → IsVarint size (length payload)
+    → IsFieldEncoding (key ++ (size ++ payload)) (record { number = field_number; at = 0; content = delimited (length key + length size) payload })
+encoded_delimited field_number key size payload first last is_key is_size =
     let bytes : List ℕ = key ++ (size ++ payload) in
     let longer : length bytes ≡ length key + length (size ++ payload) = length-append key (size ++ payload) in
     let longest : length (size ++ payload) ≡ length size + length payload = length-append size payload in
@@ -148,24 +148,24 @@ spelled_delimited field_number key size payload first last is_key is_size =
       record {
         key_end = length key;
         key = record {
-          spelled = subst (λ (to : ℕ). SpellsVarint bytes 0 to (field_number * 8 + 2)) (zero-add (length key)) (SpellsVarint-between [] key (size ++ payload) (field_number * 8 + 2) is_key);
+          encoded = subst (λ (to : ℕ). EncodesVarint bytes 0 to (field_number * 8 + 2)) (zero-add (length key)) (EncodesVarint-between [] key (size ++ payload) (field_number * 8 + 2) is_key);
           below_limit = omega arith;
           numbered = first;
           low_bits = omega arith;
         };
-        payload = (length payload, SpellsVarint-between key size payload (length payload) is_size, end, omega arith, sym part);
+        payload = (length payload, EncodesVarint-between key size payload (length payload) is_size, end, omega arith, sym part);
       },
     )
 
-pub Writes-delimited : (field_number : ℕ) (before keyed sized after payload : List ℕ) → 1 ≤ field_number → field_number < 16 → WritesVarint (field_number * 8 + 2) before keyed → WritesVarint (length payload) keyed sized → after ≡ sized ++ payload
-    → (piece : Piece) × Embeds field_number payload piece.field × Writes (piece ∷ []) before after
-Writes-delimited field_number before keyed sized after payload first last key size written =
+pub WritesFields-delimited : (field_number : ℕ) (before keyed sized after payload : List ℕ) → 1 ≤ field_number → field_number < 16 → WritesVarint (field_number * 8 + 2) before keyed → WritesVarint (length payload) keyed sized → after ≡ sized ++ payload
+    → (piece : Piece) × HasPayload field_number payload piece.field × WritesFields (piece ∷ []) before after
+WritesFields-delimited field_number before keyed sized after payload first last key size written =
     let parts : (before ++ key.0) ++ size.0 ++ payload ≡ before ++ (key.0 ++ (size.0 ++ payload)) =
     append_assoc (before ++ key.0) size.0 payload ∙ append_assoc before key.0 (size.0 ++ payload) in (
       delimited_piece field_number key.0 size.0 payload,
       record { numbered = refl; place = length key.0 + length size.0; content = refl },
       record {
-        spelled = (spelled_delimited field_number key.0 size.0 payload first last key.1 size.1, tt);
+        encoded = (encoded_delimited field_number key.0 size.0 payload first last key.1 size.1, tt);
         longer = written ∙ ap (λ (list : List ℕ). list ++ payload) (size.2 ∙ ap (λ (list : List ℕ). list ++ size.0) key.2) ∙ parts
             ∙ ap (λ (list : List ℕ). before ++ list) (sym (append-nil (key.0 ++ (size.0 ++ payload))));
       },

@@ -1,6 +1,6 @@
 use Rattle.mvt_confirm.specs.Calls.ByteSpan.{as_span}
 use Rattle.mvt_confirm.proofs.Features.TileScopes.{feature_of_scope, scope_of_feature}
-use Rattle.mvt_confirm.proofs.feature_bytes.feature_of.Goals as goal
+use Rattle.mvt_confirm.proofs.feature_message.feature_of.Goals as goal
 
 pub returns-in_err-span-clause-none : goal.returns-in_err-span-clause-none
 returns-in_err-span-clause-none c = rw c.from_residual.ensures (λ tile layer_record it is there.

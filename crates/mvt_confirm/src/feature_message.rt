@@ -3,7 +3,7 @@
 
 ghost use Rattle.std.specs.Prelude.{◌≡◌, ◌↔◌, IsTrue, List, Some, None, IfNone, IfSome};
 ghost use Rattle.mvt_confirm.specs.Calls.Vertices.{RingsLeft};
-ghost use Rattle.mvt_confirm.specs.Calls.FeatureBytes.{DrawsRings, IsFeatureAt};
+ghost use Rattle.mvt_confirm.specs.Calls.FeatureMessage.{DrawsRings, IsFeatureAt};
 ghost use Rattle.mvt_fault.specs.Code.{command_code};
 ghost use Rattle.mvt_plane.specs.FeatureGeometry.{BreaksCommands, HasRings};
 ghost use Rattle.mvt_plane.specs.Position.{Position};
@@ -24,10 +24,10 @@ use mvt_wire::{Numbers, Scope};
 const POLYGON: u32 = 3;
 
 /// The message of a feature.
-pub(crate) type FeatureBytes<'a> = MessageBytes<'a>;
+pub(crate) type FeatureMessage<'a> = MessageBytes<'a>;
 
 /// The feature with these ordinals, of bytes that are a tile; None where there is none.
-pub(crate) fn feature_of(bytes: &[u8], layer: usize, feature: usize) -> Option<FeatureBytes>
+pub(crate) fn feature_of(bytes: &[u8], layer: usize, feature: usize) -> Option<FeatureMessage>
     ensures there { IfSome result (λ place. (tile : TileRecord) → IsTile bytes.now tile
         → (layer_record : LayerRecord) × (feature_record : FeatureRecord)
         × IsFeatureOf tile layer feature layer_record feature_record

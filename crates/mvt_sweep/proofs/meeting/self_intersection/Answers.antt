@@ -8,7 +8,7 @@ use Rattle.mvt_sweep.proofs.Vertices.VertexPlans.{none_of_rings}
 use Rattle.mvt_sweep.proofs.Sweeps.LeastWork.{counted_by, counted_named, pairs_of_rings, tested_there}
 use Rattle.mvt_sweep.proofs.Sweeps.MeetingsFound.{none_named, some_named}
 use Rattle.mvt_sweep.proofs.Sweeps.NoMeetings.{none_map}
-use Rattle.mvt_sweep.proofs.meeting.meeting_in_ring.Goals as goal
+use Rattle.mvt_sweep.proofs.meeting.self_intersection.Goals as goal
 
 pub returns-then-find_pairs-clause-none : goal.returns-then-find_pairs-clause-none
 returns-then-find_pairs-clause-none c =

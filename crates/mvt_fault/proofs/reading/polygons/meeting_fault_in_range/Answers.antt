@@ -1,7 +1,7 @@
 use Rattle.std.proofs.Common.{inl, inr}
 use Rattle.mvt_fault.proofs.Candidates.{meeting_out_of_range, meeting_in_range}
 use Rattle.mvt_fault.proofs.SignedDecimals.{Writes-bits}
-use Rattle.mvt_fault.proofs.reading.polygons.meeting_fault.Goals as goal
+use Rattle.mvt_fault.proofs.reading.polygons.meeting_fault_in_range.Goals as goal
 
 pub returns-in_err-number_of : goal.returns-in_err-number_of
 returns-in_err-number_of c = λ d made.

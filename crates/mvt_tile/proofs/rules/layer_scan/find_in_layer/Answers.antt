@@ -1,5 +1,5 @@
 use Rattle.mvt_tile.proofs.RuleFaults.FeatureScan.{IsLike-counted}
-use Rattle.mvt_tile.proofs.rules.layer_scan.check_layer.Goals as goal
+use Rattle.mvt_tile.proofs.rules.layer_scan.find_in_layer.Goals as goal
 
 pub returns-then-scan-values-clause-finds : goal.returns-then-scan-values-clause-finds
 returns-then-scan-values-clause-finds over c = λ none layer_record is.

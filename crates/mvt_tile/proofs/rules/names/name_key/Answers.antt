@@ -3,7 +3,7 @@ use Rattle.std.specs.Prelude.{min}
 use Rattle.std.specs.Int.{w64, from_be_bytes}
 use Rattle.std.proofs.lemmas.List.{take_min, drop-replicate}
 use borrow.Rule.Slice.PartMut.{put_mid}
-use Rattle.mvt_tile.proofs.rules.names.key_of.Goals as goal
+use Rattle.mvt_tile.proofs.rules.names.name_key.Goals as goal
 
 -- eight zeros whose first ones a name was written over
 filled : (name copy : List ℕ) (count : ℕ) → count ≡ min (length name) 8 → copy ≡ take count name → put_mid 0 count (replicate 8 0) copy ≡ take 8 name ++ replicate (8 - length name) 0

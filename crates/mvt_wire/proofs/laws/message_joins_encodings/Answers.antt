@@ -1,5 +1,5 @@
-use Rattle.mvt_wire.proofs.Encoding.FieldSpellings.{joined, parted}
-use Rattle.mvt_wire.proofs.laws.message_joins_spellings.Goals as goal
+use Rattle.mvt_wire.proofs.Encoding.FieldEncodings.{joined, parted}
+use Rattle.mvt_wire.proofs.laws.message_joins_encodings.Goals as goal
 
 pub returns-clause-joined : goal.returns-clause-joined
 returns-clause-joined c = joined
