@@ -2,7 +2,7 @@
 
 In each round each way to a tile is asked in turn, with 1, 8 and 64 connections; every second round goes the other way round. It prints
 the medians of all rounds, and of the quotients by the server alone in the same round; and the processor time of the proxy for a
-request, which doesn't depend on what else the machine does.
+request, which depends little on what else the machine does.
 """
 import contextlib
 import dataclasses
@@ -12,6 +12,7 @@ import os
 import pathlib
 import random
 import statistics
+import subprocess
 import sys
 
 TOP = pathlib.Path(__file__).resolve().parents[2]
@@ -24,6 +25,8 @@ theirs = importlib.util.module_from_spec(found)
 sys.modules[found.name] = theirs
 found.loader.exec_module(theirs)
 
+# (which bench/proxy builds)
+PLAIN = TOP / "bench/out/reverse_proxy"
 CONNECTIONS = (1, 8, 64)
 # answers of each load
 REQUESTS = {1: 3000, 8: 12000, 64: 12000}
@@ -100,6 +103,16 @@ def files(made):
             yield inner, front
 
 
+@contextlib.contextmanager
+def reverse_proxy(upstream):
+    """The reverse proxy of Go's standard library, which judges nothing."""
+    process = subprocess.Popen(running.until_death(str(PLAIN), upstream), stdout=subprocess.PIPE, text=True)
+    try:
+        yield Way(process.stdout.readline().strip(), process)
+    finally:
+        running.ended(process)
+
+
 @dataclasses.dataclass(frozen=True)
 class Way:
     """Where a tile is asked for, and the process of the proxy, if there is one."""
@@ -159,9 +172,19 @@ def main():
     rounds = int(sys.argv[1]) if len(sys.argv) > 1 else 5
     made = tile()
     print(f"the tile: {len(made):,} bytes, {len(gzip.compress(made)):,} packed")
-    with files(made) as (inner, front), running.proxy(inner, "--mode", "refuse") as proxy, running.proxy(inner, "--mode", "refuse", "--remember", "0") as anew:
+    with contextlib.ExitStack() as stack:
+        inner, front = stack.enter_context(files(made))
+        plain = stack.enter_context(reverse_proxy(inner))
+        proxy = stack.enter_context(running.proxy(inner, "--mode", "refuse"))
+        anew = stack.enter_context(running.proxy(inner, "--mode", "refuse", "--remember", "0"))
         before = proxy.resident()
-        ways = {"nginx": Way(inner), "nginx behind nginx": Way(front), "behind the proxy": way_by(proxy), "behind the proxy, --remember 0": way_by(anew)}
+        ways = {
+            "nginx": Way(inner),
+            "behind nginx": Way(front),
+            "behind Go's reverse proxy": plain,
+            "behind the proxy": way_by(proxy),
+            "the same, --remember 0": way_by(anew),
+        }
         table("Files of nginx, packed", ways, "/1/2/3.mvt", rounds, REQUESTS.__getitem__)
         print(f"\nmemory of the proxy: {before >> 20} MiB at first, {proxy.resident() >> 20} MiB after it, {anew.resident() >> 20} MiB with --remember 0")
     with theirs.map_database() as database, theirs.tile_server(database.dsn, "--no-gate") as server, running.proxy(server.address, "--mode", "refuse") as proxy:

@@ -5,7 +5,7 @@ use std::io::{ErrorKind, Read, Write};
 use std::test::Fail;
 
 /// The bytes that a text spells in hexadecimal.
-pub fn bytes_of(rt: &HostRuntime, text: &str) -> Result<Vec<u8>, Fail> {
+pub(crate) fn bytes_of(rt: &HostRuntime, text: &str) -> Result<Vec<u8>, Fail> {
     let mut bytes = Vec::new(rt.alloc());
     for digits in text.split_whitespace() {
         bytes.push(u8::from_str_radix(digits, 16)?)?;
@@ -40,7 +40,7 @@ pub const CALM: Manner = Manner {
 };
 
 /// A device that moves three bytes a call, and fails at a call; at 0 it does not fail.
-pub fn fails(at: u64) -> Manner {
+pub(crate) fn fails(at: u64) -> Manner {
     Manner {
         step: 3,
         fails_at: at,
@@ -49,7 +49,7 @@ pub fn fails(at: u64) -> Manner {
 }
 
 /// A device that is interrupted from a call on, so many times.
-pub fn interrupted((from, times): (u64, u64)) -> Manner {
+pub(crate) fn interrupted((from, times): (u64, u64)) -> Manner {
     Manner {
         interrupted_from: from,
         interruptions: times,
@@ -94,7 +94,7 @@ pub struct Source<'a> {
 }
 
 impl<'a> Source<'a> {
-    pub fn new(given: &'a [u8], manner: Manner) -> Self {
+    pub(crate) fn new(given: &'a [u8], manner: Manner) -> Self {
         Source {
             calls: Calls::new(manner),
             given,
@@ -124,7 +124,7 @@ pub struct Sink<'a> {
 }
 
 impl<'a> Sink<'a> {
-    pub fn new(taken: &'a mut Vec<u8>, manner: Manner) -> Self {
+    pub(crate) fn new(taken: &'a mut Vec<u8>, manner: Manner) -> Self {
         Sink {
             calls: Calls::new(manner),
             taken,

@@ -19,6 +19,8 @@ mod faults;
 #[cfg(test)]
 mod fields;
 #[cfg(test)]
+mod one_walk;
+#[cfg(test)]
 mod quick;
 #[cfg(test)]
 mod runs;

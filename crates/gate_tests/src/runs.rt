@@ -34,7 +34,7 @@ pub enum Engine {
 
 /// Runs an engine on a tile, and `confirm` on a claim too, with devices of these manners for the
 /// tile, for the claim and for the line: its result, and what goes out.
-pub fn run(
+pub(crate) fn run(
     rt: &HostRuntime,
     engine: Engine,
     (tile, claim): (&[u8], &str),
@@ -62,7 +62,7 @@ pub fn run(
 
 /// Whether an engine of one input answers so: its outcome, and the line or lines, which it ends
 /// with one LF.
-pub fn writes(rt: &HostRuntime, engine: Engine, bytes: &[u8], line: &str) -> bool {
+pub(crate) fn writes(rt: &HostRuntime, engine: Engine, bytes: &[u8], line: &str) -> bool {
     let mut taken = Vec::new(rt.alloc());
     let got = run(rt, engine, (bytes, ""), [CALM; 3], &mut taken);
     let is_ended = taken.pop() == Some(b'\n');
@@ -80,7 +80,7 @@ fn outcome_of(line: &str) -> Outcome {
 
 /// How many rows of a table hold before the first that does not, if any. A row has bytes in
 /// hexadecimal and the line that the engine writes of them.
-pub fn rows_held(rt: &HostRuntime, engine: Engine, rows: &str) -> Result<u32, Fail> {
+pub(crate) fn rows_held(rt: &HostRuntime, engine: Engine, rows: &str) -> Result<u32, Fail> {
     let mut held = 0_u32;
     for row in rows.lines() {
         if let Some((text, line)) = row.split_once(" => ") {

@@ -64,7 +64,7 @@ impl PolygonCall {
                 println!(rt; "{groups:?}")?;
             }
             PolygonCall::CheckPolygon => {
-                let fault = check_polygon(alloc, rings, &mut count)?;
+                let fault = check_polygon(alloc, rings, 0, rings.len(), &mut count)?;
                 println!(rt; "{fault:?}")?;
             }
             PolygonCall::FindMeeting => {

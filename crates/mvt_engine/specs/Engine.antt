@@ -1,11 +1,11 @@
 -- What an engine reads and writes, as the counts of its tallies show it.
-use Rattle.std.specs.Prelude.{◌≡◌, ℕ, suc, ◌+◌, ◌<◌, ◌≤◌, ◌⊎◌, List, length, take, Option}
+use Rattle.std.specs.Prelude.{◌≡◌, ◌≢◌, ℕ, suc, ◌+◌, ◌<◌, ◌≤◌, ◌⊎◌, List, length, take, Option, Result, Err, IfErr, IfOk, OnOk}
 use Rattle.std.specs.Io.KnownBytes.{Appends, Consumes, IsAtEnd}
 use Rattle.mvt_engine.specs.declared.engine.EngineFault.{EngineFault}
-use Rattle.mvt_engine.specs.declared.engine.EngineFault.TheVariants.{NotJson, NotAFault, FaultRange}
+use Rattle.mvt_engine.specs.declared.engine.EngineFault.TheVariants.{Read, TooLarge, Write, NotJson, NotAFault, FaultRange, Memory}
 use Rattle.mvt_engine.specs.declared.engine.Outcome.{Outcome}
 use Rattle.mvt_engine.specs.declared.tally.Tally.{Tally}
-use Rattle.mvt_engine.specs.Tally.{counts_of, tally_bytes}
+use Rattle.mvt_engine.specs.Tally.{IsUntouched, counts_of, tally_bytes}
 
 -- how many bytes an input may have
 abbrev pub input_limit : ℕ
@@ -60,6 +60,15 @@ pub record IsTooLarge {T : Type 0} (t : Tally T) (others : ℕ) : Type 0 where
 abbrev pub IsOfClaim : EngineFault → Type 0
 IsOfClaim fault = (fault ≡ NotJson) ⊎ (fault ≡ NotAFault) ⊎ (fault ≡ FaultRange)
 
+-- What the only reader shows of a result: a fault of reading comes only where its counts are so, and after any fault the bytes
+-- that they count came in this run. There is no second input that could be wrong.
+pub record ReaderShows {A T : Type 0} (known : T → Option (List ℕ)) (old new : Tally T) (others : ℕ) (result : Result A EngineFault) : Type 0 where
+  pub read : result ≡ Err Read → HasFailed new others
+  pub too_large : result ≡ Err TooLarge → IsTooLarge new others
+  pub memory : result ≡ Err Memory → IsClean new others
+  pub counted : IfErr result (λ _. (input : List ℕ) × ReadsBytes known old new input)
+  pub no_claim : IfErr result (λ fault. ¬ IsOfClaim fault)
+
 -- An engine is described by its answers: which outcome and which line answer an input. Where there are two lines, both in
 -- turn stand for the line.
 
@@ -84,3 +93,16 @@ pub record BreaksOff {R W : Type 0} (IsAnswer : List ℕ → Outcome → List �
   pub read : ReadsWhole remaining reader reader' input
   pub answer : IsAnswer input outcome line
   pub written : Writes contents writer writer' (take count line)
+
+-- What an engine of one input promises. Where it answers, its line is that of all that the reader gave, and went out once and
+-- whole. Where it fails, the counts show why. Before the line is whole nothing goes out, and after a failed write a first part
+-- of it has.
+pub record IsRunOf {R W : Type 0} (IsAnswer : List ℕ → Outcome → List ℕ → Type 0)
+    (remaining : R → Option (List ℕ)) (contents : W → Option (List ℕ))
+    (reader reader' : Tally R) (writer writer' : Tally W) (result : Result Outcome EngineFault) : Type 0 where
+  pub answers : IfOk result (Answers IsAnswer remaining contents reader reader' writer writer')
+  pub clean : OnOk result (IsClean writer' (counts_of reader').interrupted)
+  pub reading : ReaderShows remaining reader reader' (counts_of writer').interrupted result
+  pub write : result ≡ Err Write → HasFailed writer' (counts_of reader').interrupted
+  pub untouched : IfErr result (λ fault. fault ≢ Write → IsUntouched writer writer')
+  pub prefix : result ≡ Err Write → BreaksOff IsAnswer remaining contents reader reader' writer writer'

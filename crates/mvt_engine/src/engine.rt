@@ -1,11 +1,11 @@
 //! What every engine does: read its whole input, and write the line, or the lines, of its answer.
-ghost use Rattle.std.specs.Prelude.{◌≡◌, ◌≢◌, ℕ, ◌+◌, ◌<◌, ◌≤◌, ◌⊎◌, List, length, take, IsTrue, IsFalse, IfOk, IfErr, OnOk, OnErr, string_bytes};
+ghost use Rattle.std.specs.Prelude.{◌≡◌, ◌≢◌, ℕ, ◌+◌, ◌<◌, ◌≤◌, ◌⊎◌, List, take, IsTrue, IsFalse, IfOk, IfErr, OnOk, OnErr, string_bytes};
 ghost use Rattle.std.specs.Io.KnownBytes.{Keeps};
 ghost use Rattle.std.specs.IoError.{error_kind};
-ghost use Rattle.mvt_engine.specs.Engine.{Answers, BreaksOff, HasFailed, IsClean, IsOfClaim, IsTooLarge, ReadsBytes, ReadsWhole, Writes, interruption_limit};
+ghost use Rattle.mvt_engine.specs.Engine.{HasFailed, IsClean, IsRunOf, ReaderShows, ReadsWhole, Writes, interruption_limit};
 ghost use Rattle.mvt_engine.specs.FaultLine.{fault_line};
 ghost use Rattle.mvt_engine.specs.declared.engine.Outcome.{Outcome};
-ghost use Rattle.mvt_engine.specs.Tally.{IsUntouched, counts_of, no_counts, tally_bytes};
+ghost use Rattle.mvt_engine.specs.Tally.{counts_of, no_counts, tally_bytes};
 
 mod claim;
 
@@ -83,29 +83,8 @@ pub fn run<T: Task, R: Read, W: Write>(
     reader: &mut Tally<R>,
     writer: &mut Tally<W>,
 ) -> Result<Outcome, EngineFault>
-    ensures answers { IfOk result (Answers (T.IsAnswer task.now)
-        R.remaining W.contents reader.old reader.new writer.old writer.new) }
-    ensures clean { OnOk result (IsClean writer.new (counts_of reader.new).interrupted) }
-
-    ensures read { result ≡ Err EngineFault.Read
-        → HasFailed reader.new (counts_of writer.new).interrupted }
-    ensures too_large { result ≡ Err EngineFault.TooLarge
-        → IsTooLarge reader.new (counts_of writer.new).interrupted }
-    ensures memory { result ≡ Err EngineFault.Memory
-        → IsClean reader.new (counts_of writer.new).interrupted }
-    ensures write { result ≡ Err EngineFault.Write
-        → HasFailed writer.new (counts_of reader.new).interrupted }
-    // The bytes that the reader's tally counted came in this run.
-    ensures counted { IfErr result (λ _. (input : List ℕ)
-        × ReadsBytes R.remaining reader.old reader.new input) }
-    // There is no second input that could be wrong.
-    ensures no_claim { IfErr result (λ fault. ¬ IsOfClaim fault) }
-
-    // Before the line is whole, nothing goes out; after a failed write, a first part of the line.
-    ensures untouched { IfErr result (λ fault. fault ≢ EngineFault.Write
-        → IsUntouched writer.old writer.new) }
-    ensures prefix { result ≡ Err EngineFault.Write → BreaksOff (T.IsAnswer task.now)
-        R.remaining W.contents reader.old reader.new writer.old writer.new }
+    ensures { IsRunOf (T.IsAnswer task.now)
+        R.remaining W.contents reader.old reader.new writer.old writer.new result }
 {
     reader.reset();
     writer.reset();
@@ -140,13 +119,8 @@ pub fn read_whole<R: Read>(
         ReadsWhole R.remaining reader.old reader.new input.items) }
     ensures clean { OnOk result (IsClean reader.new others) }
 
-    ensures read { result ≡ Err EngineFault.Read → HasFailed reader.new others }
-    ensures too_large { result ≡ Err EngineFault.TooLarge → IsTooLarge reader.new others }
-    ensures memory { result ≡ Err EngineFault.Memory → IsClean reader.new others }
-    ensures counted { IfErr result (λ _. (input : List ℕ)
-        × ReadsBytes R.remaining reader.old reader.new input) }
+    ensures reading { ReaderShows R.remaining reader.old reader.new others result }
     ensures no_write { result ≢ Err EngineFault.Write }
-    ensures no_claim { IfErr result (λ fault. ¬ IsOfClaim fault) }
 {
     let mut input = Vec::new(alloc);
     let mut chunk = [0u8; CHUNK_LENGTH];

@@ -8,7 +8,8 @@ use Rattle.mvt_plane.specs.Position.{Position}
 use Rattle.mvt_polygon.specs.Apart.{IsApartFault, IsFirstApartFault}
 use Rattle.mvt_sweep.specs.Work.{AddsWork, vertex_count}
 use Rattle.mvt_sweep.specs.Meeting.{IsMeetingOf, NoMeeting}
-use Rattle.mvt_polygon.specs.Nesting.{IsFirstNestFault, IsNestFault}
+use Rattle.mvt_polygon.specs.InFeature.{IsFirstNestFaultIn}
+use Rattle.mvt_polygon.specs.Nesting.{IsNestFault}
 use Rattle.mvt_feature.specs.declared.feature.FeatureCause.{FeatureCause}
 use Rattle.mvt_feature.specs.declared.feature.FeatureCause.TheVariants.{Meeting, Nesting, Apart}
 use Rattle.mvt_feature.specs.declared.feature.FeatureFault.{FeatureFault}
@@ -31,10 +32,10 @@ pub record IsClear (rings : List (List Position)) (polygon : ℕ) (it : PolygonR
   pub apart : NoMeeting (part_of rings (front_of it))
   pub placed : IsPlaced rings polygon it
 
--- the polygon has this fault, and none that comes first
+-- the polygon has this fault, and none that comes first; rings have their numbers in the feature
 abbrev pub IsFeatureCause : List (List Position) → ℕ → PolygonRings → FeatureCause → Type 0
 IsFeatureCause rings polygon it (Meeting meeting) = IsMeetingOf (part_of rings (front_of it)) meeting
-IsFeatureCause rings polygon it (Nesting fault) = NoMeeting (part_of rings (front_of it)) × IsFirstNestFault (part_of rings it) fault
+IsFeatureCause rings polygon it (Nesting fault) = NoMeeting (part_of rings (front_of it)) × IsFirstNestFaultIn rings it fault
 IsFeatureCause rings polygon it (Apart fault) =
     NoMeeting (part_of rings (front_of it)) × ((wrong : NestFault) → ¬ IsNestFault (part_of rings it) wrong) × IsFirstApartFault rings polygon fault
 

@@ -1,6 +1,6 @@
 //! The first fault of a feature whose polygons are kept apart.
 ghost use Rattle.std.specs.Prelude.{◌≡◌, ℕ, ◌+◌, ◌<◌, ◌≤◌, length, option_map, slice_range, IfNone, IfOk, IfSome};
-ghost use Rattle.mvt_feature.specs.Calls.Alone.{earlier_of, own_fault, vertices_alone, IsAloneAnswer, IsOwnAnswer, IsOwnWithin};
+ghost use Rattle.mvt_feature.specs.Calls.Alone.{earlier_of, own_fault, vertices_alone, IsAloneAnswer, IsOwnAnswer};
 ghost use Rattle.mvt_feature.specs.Calls.Islands.{AreMarked};
 ghost use Rattle.mvt_sweep.specs.Work.{vertex_count};
 ghost use Rattle.mvt_feature.specs.Feature.{AddsSweeps, AreAtMost, IsCountedFault, IsFeatureAnswer};
@@ -34,14 +34,13 @@ pub use quickly::check_feature_quickly;
 use std::alloc::{AllocError, Global};
 use together::check_together;
 
-/// What is wrong with a polygon of a feature whose polygons are kept apart.
+/// What is wrong with a polygon of a feature whose polygons are kept apart. Rings have the ordinals
+/// that they have in the feature.
 #[derive(Clone, Copy, Debug, PartialEq, Eq)]
 pub enum FeatureCause {
-    /// One of its edges meets another one, of its own or of a polygon before it, wrongly. The rings
-    /// have the ordinals that they have in the feature.
+    /// One of its edges meets another one, of its own or of a polygon before it, wrongly.
     Meeting(Meeting),
-    /// None does, but a hole isn't where it should be. The rings have the ordinals that they have
-    /// in the polygon.
+    /// None does, but a hole isn't where it should be.
     Nesting(NestFault),
     /// All are, but a vertex of its exterior is inside another polygon.
     Apart(ApartFault),
@@ -207,27 +206,22 @@ fn own_fault_of(
     ensures found { IfOk result (λ found.
         IfSome found (IsCountedFault (rings_of rings.now) count.old count.new)) }
 {
-    let found = check_polygon(alloc, &rings[exterior..after], count)?;
-    Ok(fault_in_feature(polygon, (exterior, after), found))
+    let found = check_polygon(alloc, rings, exterior, after, count)?;
+    Ok(own_fault(polygon, exterior, after, found))
 }
 
-/// The fault of a polygon by itself, with the numbers that its rings have in the feature.
-fn fault_in_feature(
+/// The fault of a polygon by itself, as one of its feature.
+fn own_fault(
     polygon: usize,
-    rings: (usize, usize),
+    exterior: usize,
+    after: usize,
     found: Option<PolygonFault>,
 ) -> Option<FeatureFault>
-    requires { IfSome found (IsOwnWithin rings.0) }
     ensures { result ≡ option_map (own_fault polygon
-        (record { exterior = rings.0; after = rings.1 })) found }
+        (record { exterior = exterior; after = after })) found }
 {
-    let (exterior, after) = rings;
     let cause = match found? {
-        PolygonFault::Meeting(meeting) => FeatureCause::Meeting(Meeting {
-            first_ring: exterior + meeting.first_ring,
-            second_ring: exterior + meeting.second_ring,
-            ..meeting
-        }),
+        PolygonFault::Meeting(meeting) => FeatureCause::Meeting(meeting),
         PolygonFault::Nesting(fault) => FeatureCause::Nesting(fault),
     };
     Some(FeatureFault {

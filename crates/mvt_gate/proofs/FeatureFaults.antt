@@ -11,7 +11,7 @@ use Rattle.mvt_plane.specs.Position.{Position}
 use Rattle.mvt_polygon.proofs.ApartFaults.{ends_within}
 use Rattle.mvt_rules.specs.Ring.{ArePolygonRings}
 use Rattle.mvt_polygon.specs.Apart.{IsApartFault, IsFirstApartFault}
-use Rattle.mvt_feature.specs.Feature.{IsFeatureCause, IsClear, IsFirstFault, front_of}
+use Rattle.mvt_feature.specs.Feature.{IsFeatureCause, IsClear, IsFirstFault, front_of, rings_in}
 use Rattle.mvt_sweep.specs.Meeting.{IsMeetingOf, NoMeeting}
 use Rattle.mvt_polygon.specs.declared.apart.ApartFault.{ApartFault}
 use Rattle.mvt_feature.specs.declared.feature.FeatureCause.{FeatureCause}
@@ -19,8 +19,8 @@ use Rattle.mvt_feature.specs.declared.feature.FeatureCause.TheVariants.{Meeting,
 use Rattle.mvt_feature.specs.declared.feature.FeatureFault.{FeatureFault}
 use Rattle.mvt_sweep.specs.declared.meeting.Meeting.{Meeting as MeetingOf}
 use Rattle.mvt_gate.proofs.PolygonFaults.{HasGoodHoles, in_polygon_is_least, meeting_is_least}
-use Rattle.mvt_gate.proofs.PolygonParts.{apart_in_whole, apart_of_front, edge_in_whole, enclosed_in_whole, first_hole_is_least, hole_within, meeting_of_front, meeting_within}
-use Rattle.mvt_gate.specs.Calls.Polygons.{AreValidBefore, IsFirstOfRings, IsReportable, apart_fault, cause_fault, meeting_fault, front_place, rings_at}
+use Rattle.mvt_gate.proofs.PolygonParts.{apart_in_whole, apart_of_front, enclosed_in_whole, first_edge, first_hole_is_least, meeting_of_front, second_edge}
+use Rattle.mvt_gate.specs.Calls.Polygons.{AreValidBefore, IsFirstOfRings, apart_fault, cause_fault, meeting_fault}
 use Rattle.mvt_gate.specs.declared.polygons.PolygonPlace.{PolygonPlace}
 
 -- Polygons without a fault
@@ -90,42 +90,35 @@ by_vertex vertex other place another (inr same) = inr (
 -- The first fault
 
 -- a meeting of the front is the first fault of the feature
-least_of_front : (parts : List (List Position)) (place : PolygonPlace) (found : MeetingOf) → IsPolygonOf parts place.polygon (rings_at place) → AreValidBefore Feature parts place.polygon
-    → IsMeetingOf (part_of parts (front_of (rings_at place))) found → IsFirstOfRings Feature parts place.layer place.feature (meeting_fault (front_place place) found)
-least_of_front parts place found of_it valid meets =
-    meeting_is_least Feature parts place.layer place.feature place.polygon (edge_in_whole 0 found.first_ring found.first_edge) (edge_in_whole 0 found.second_ring found.second_edge)
-    found.point.x found.point.y found.point.w valid
-    (meeting_of_front parts place.polygon (rings_at place) found (ends_within parts place.polygon (rings_at place) of_it.there) of_it valid meets)
+least_of_front : (parts : List (List Position)) (place : PolygonPlace) (its : PolygonRings) (found : MeetingOf) → IsPolygonOf parts place.polygon its → AreValidBefore Feature parts place.polygon
+    → IsMeetingOf (part_of parts (front_of its)) found → IsFirstOfRings Feature parts place.layer place.feature (meeting_fault place found)
+least_of_front parts place its found of_it valid meets =
+    meeting_is_least Feature parts place.layer place.feature place.polygon (first_edge found) (second_edge found) found.point.x found.point.y found.point.w valid
+    (meeting_of_front parts place.polygon its found (ends_within parts place.polygon its of_it.there) of_it valid meets)
 
 -- so is the first vertex that is inside another polygon, where the polygon has no other fault
-least_of_apart : (parts : List (List Position)) (place : PolygonPlace) (found : ApartFault) → IsPolygonOf parts place.polygon (rings_at place) → AreValidBefore Feature parts place.polygon → AreApartBy Feature parts (rings_at place)
-    → HasGoodHoles parts (rings_at place) → IsFirstApartFault parts place.polygon found → IsFirstOfRings Feature parts place.layer place.feature (apart_fault place found)
-least_of_apart parts place found of_it valid apart good least =
-    in_polygon_is_least Feature parts place.layer place.feature place.polygon found.vertex found.other (rings_at place) of_it valid apart good
+least_of_apart : (parts : List (List Position)) (place : PolygonPlace) (its : PolygonRings) (found : ApartFault) → IsPolygonOf parts place.polygon its → AreValidBefore Feature parts place.polygon → AreApartBy Feature parts its
+    → HasGoodHoles parts its → IsFirstApartFault parts place.polygon found → IsFirstOfRings Feature parts place.layer place.feature (apart_fault place found)
+least_of_apart parts place its found of_it valid apart good least =
+    in_polygon_is_least Feature parts place.layer place.feature place.polygon found.vertex found.other its of_it valid apart good
     (in_other parts place.polygon found.vertex found.other of_it.sound least.holds)
     (λ vertex other wrong. by_vertex found.vertex found.other vertex other (least.first vertex other (of_other parts place.polygon vertex other wrong)))
 
 -- what is wrong with the first polygon that has a fault is the first fault
-least_of_cause : (parts : List (List Position)) (place : PolygonPlace) (cause : FeatureCause) → IsPolygonOf parts place.polygon (rings_at place) → AreValidBefore Feature parts place.polygon
-    → IsFeatureCause parts place.polygon (rings_at place) cause → IsFirstOfRings Feature parts place.layer place.feature (cause_fault place cause)
-least_of_cause parts place (Meeting found) of_it valid is = least_of_front parts place found of_it valid is
-least_of_cause parts place (Nesting fault) of_it valid is =
-    first_hole_is_least Feature parts place fault (ends_within parts place.polygon (rings_at place) of_it.there) of_it valid (apart_by_front parts (rings_at place) is.0) is.1
-least_of_cause parts place (Apart found) of_it valid is =
-    least_of_apart parts place found of_it valid (apart_by_front parts (rings_at place) is.0)
-    (enclosed_in_whole parts (rings_at place) (ends_within parts place.polygon (rings_at place) of_it.there) is.1) is.2
-
--- its rings are there
-pub reportable_of_cause : (parts : List (List Position)) (place : PolygonPlace) (cause : FeatureCause) → IsPolygon parts place.polygon (rings_at place) → IsFeatureCause parts place.polygon (rings_at place) cause → IsReportable place cause
-reportable_of_cause parts place (Meeting found) there is = meeting_within parts (front_of (rings_at place)) found (ends_within parts place.polygon (rings_at place) there) is
-reportable_of_cause parts place (Nesting fault) there is = hole_within parts place fault (ends_within parts place.polygon (rings_at place) there) is.1
-reportable_of_cause parts place (Apart found) there is = tt
+least_of_cause : (parts : List (List Position)) (place : PolygonPlace) (its : PolygonRings) (cause : FeatureCause) → IsPolygonOf parts place.polygon its → AreValidBefore Feature parts place.polygon
+    → IsFeatureCause parts place.polygon its cause → IsFirstOfRings Feature parts place.layer place.feature (cause_fault place cause)
+least_of_cause parts place its (Meeting found) of_it valid is = least_of_front parts place its found of_it valid is
+least_of_cause parts place its (Nesting fault) of_it valid is =
+    first_hole_is_least Feature parts place its fault (ends_within parts place.polygon its of_it.there) of_it valid (apart_by_front parts its is.0) is.1
+least_of_cause parts place its (Apart found) of_it valid is =
+    least_of_apart parts place its found of_it valid (apart_by_front parts its is.0)
+    (enclosed_in_whole parts its (ends_within parts place.polygon its of_it.there) is.1) is.2
 
 -- the place of the polygon that has a fault
 abbrev pub place_in : ℕ → ℕ → FeatureFault → PolygonPlace
-place_in layer feature fault = record { layer = layer; feature = feature; polygon = fault.polygon; exterior = fault.exterior; after = fault.after }
+place_in layer feature fault = record { layer = layer; feature = feature; polygon = fault.polygon }
 
 -- so of the fault that is found
 pub least_of_found : (parts : List (List Position)) (layer feature : ℕ) (fault : FeatureFault) → ArePolygonRings parts → IsFirstFault parts fault → IsFirstOfRings Feature parts layer feature (cause_fault (place_in layer feature fault) fault.cause)
 least_of_found parts layer feature fault sound found =
-    least_of_cause parts (place_in layer feature fault) fault.cause (record { sound = sound; there = found.there }) (valid_before parts fault found) found.is
+    least_of_cause parts (place_in layer feature fault) (rings_in fault) fault.cause (record { sound = sound; there = found.there }) (valid_before parts fault found) found.is

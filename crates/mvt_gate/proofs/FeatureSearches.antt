@@ -1,6 +1,7 @@
 -- What either search finds in a feature whose polygons are kept apart.
 use Rattle.std.proofs.Common.{ℕ, inl, inr, List, [], ◌∷◌, take, Some, None}
 use Rattle.mvt_rules.specs.Parts.Geometry.{IsFaultOfGeometryBy, command, ring, meeting, outside, hole_in_hole, in_polygon}
+use Rattle.mvt_rules.specs.Polygon.{PolygonRings}
 use Rattle.mvt_rules.specs.PolygonFault.{IsPolygonOf}
 use Rattle.mvt_rules.specs.Valid.{AreValidRingsBy}
 use Rattle.mvt_fault.proofs.Places.{ComesFirst-reflexive}
@@ -10,7 +11,7 @@ use Rattle.mvt_fault.specs.declared.profile.Profile.{Profile}
 use Rattle.mvt_fault.specs.declared.profile.Profile.TheVariants.{Feature}
 use Rattle.mvt_rules.specs.Ring.{ArePolygonRings}
 use Rattle.mvt_plane.specs.Position.{Position}
-use Rattle.mvt_feature.proofs.Features.FeatureShares.{HasFault, found_is_there}
+use Rattle.mvt_feature.specs.Feature.{rings_in}
 use Rattle.mvt_polygon.proofs.ApartFaults.{ends_within}
 use Rattle.mvt_feature.specs.QuickFeature.{IsMeetingCause}
 use Rattle.mvt_feature.specs.declared.feature.FeatureCause.{FeatureCause}
@@ -18,9 +19,9 @@ use Rattle.mvt_feature.specs.declared.feature.FeatureCause.TheVariants.{Meeting,
 use Rattle.mvt_feature.specs.declared.feature.FeatureFault.{FeatureFault}
 use Rattle.mvt_tile.specs.FreeFaults.{of_least, of_free}
 use Rattle.mvt_rules.specs.Tile.{FeatureRecord}
-use Rattle.mvt_gate.proofs.FeatureFaults.{least_of_found, place_in, reportable_of_cause, valid_of_none}
-use Rattle.mvt_gate.proofs.PolygonParts.{edge_in_whole, meeting_of_its_edge}
-use Rattle.mvt_gate.specs.Calls.Polygons.{IsFeatureAnswerFor, IsFirstOfRingsFor, IsReportable, cause_fault, rings_at}
+use Rattle.mvt_gate.proofs.FeatureFaults.{least_of_found, place_in, valid_of_none}
+use Rattle.mvt_gate.proofs.PolygonParts.{first_edge, meeting_of_its_edge, second_edge}
+use Rattle.mvt_gate.specs.Calls.Polygons.{IsFeatureAnswerFor, IsFirstOfRingsFor, cause_fault}
 use Rattle.mvt_gate.specs.declared.polygons.PolygonPlace.{PolygonPlace}
 use Rattle.mvt_gate.specs.declared.quick.Search.{Search}
 use Rattle.mvt_gate.specs.declared.quick.Search.TheVariants.{Least, Quick}
@@ -35,34 +36,23 @@ begins_alike profile it layer feature fault (hole_in_hole number hole vertex oth
 begins_alike profile it layer feature fault (in_polygon number vertex other of) = ComesFirst-reflexive (2 ∷ layer ∷ feature ∷ [])
 
 -- a meeting of any polygon may be named
-meeting_is_free : (parts : List (List Position)) (place : PolygonPlace) (cause : FeatureCause) → IsPolygonOf parts place.polygon (rings_at place) → IsMeetingCause parts (rings_at place) cause → IsFirstOfRingsFor Quick Feature parts place.layer place.feature (cause_fault place cause)
-meeting_is_free parts place (Meeting found) of_it is = λ it has.
+meeting_is_free : (parts : List (List Position)) (place : PolygonPlace) (its : PolygonRings) (cause : FeatureCause) → IsPolygonOf parts place.polygon its → IsMeetingCause parts its cause → IsFirstOfRingsFor Quick Feature parts place.layer place.feature (cause_fault place cause)
+meeting_is_free parts place its (Meeting found) of_it is = λ it has.
     of_free tt
-    (meeting place.polygon (edge_in_whole 0 found.first_ring found.first_edge) (edge_in_whole 0 found.second_ring found.second_edge) found.point.x found.point.y found.point.w
-    (parts, has, meeting_of_its_edge parts place.polygon (rings_at place) found (ends_within parts place.polygon (rings_at place) of_it.there) of_it is.1 is.0))
+    (meeting place.polygon (first_edge found) (second_edge found) found.point.x found.point.y found.point.w
+    (parts, has, meeting_of_its_edge parts place.polygon its found (ends_within parts place.polygon its of_it.there) of_it is.1 is.0))
     (λ other broken. begins_alike Feature it place.layer place.feature other broken)
-meeting_is_free parts place (Nesting fault) of_it is = absurd is
-meeting_is_free parts place (Apart found) of_it is = absurd is
+meeting_is_free parts place its (Nesting fault) of_it is = absurd is
+meeting_is_free parts place its (Apart found) of_it is = absurd is
 
 -- the fault that is found is the first of its feature, or such a meeting
 pub least_for : (search : Search) (parts : List (List Position)) (layer feature : ℕ) (fault : FeatureFault) → ArePolygonRings parts → IsFeatureAnswerFor search parts (Some fault)
     → IsFirstOfRingsFor search Feature parts layer feature (cause_fault (place_in layer feature fault) fault.cause)
 least_for Least parts layer feature fault sound answer = λ it has. of_least (least_of_found parts layer feature fault sound answer it has)
 least_for Quick parts layer feature fault sound (inl first) = λ it has. of_least (least_of_found parts layer feature fault sound first it has)
-least_for Quick parts layer feature fault sound (inr meets) = meeting_is_free parts (place_in layer feature fault) fault.cause (record { sound = sound; there = meets.there }) meets.is
+least_for Quick parts layer feature fault sound (inr meets) = meeting_is_free parts (place_in layer feature fault) (rings_in fault) fault.cause (record { sound = sound; there = meets.there }) meets.is
 
 -- where none is found, all polygons are valid
 pub valid_for : (search : Search) (parts : List (List Position)) → ArePolygonRings parts → IsFeatureAnswerFor search parts None → AreValidRingsBy Feature parts
 valid_for Least parts sound clear = valid_of_none parts sound clear
 valid_for Quick parts sound clear = valid_of_none parts sound clear
-
--- what is found is of a polygon that is there
-has_found : (search : Search) (parts : List (List Position)) (fault : FeatureFault) → IsFeatureAnswerFor search parts (Some fault) → HasFault parts fault
-has_found Least parts fault first = record { there = first.there; is = first.is }
-has_found Quick parts fault answer = found_is_there parts (Some fault) answer
-
--- so its rings are
-pub reportable_for : (search : Search) (parts : List (List Position)) (layer feature : ℕ) (fault : FeatureFault) → IsFeatureAnswerFor search parts (Some fault) → IsReportable (place_in layer feature fault) fault.cause
-reportable_for search parts layer feature fault answer =
-    let found = has_found search parts fault answer in
-    reportable_of_cause parts (place_in layer feature fault) fault.cause found.there found.is

@@ -11,15 +11,17 @@ use Rattle.mvt_fault.specs.Place.{ComesFirst}
 use Rattle.mvt_fault.specs.declared.ring.RingEdge.{RingEdge}
 use Rattle.mvt_rules.proofs.Rings.PolygonNumbers.{polygon_of_ring}
 use Rattle.mvt_rules.proofs.Rings.PartsOfRings.{number_in_part, meeting_in_part, outside_in_part, in_hole_in_part}
-use Rattle.mvt_rules.specs.Meeting.{EdgeNumber, ComesBefore, MeetsWrongly}
+use Rattle.mvt_rules.specs.Meeting.{EdgeNumber, MeetsWrongly}
 use Rattle.mvt_rules.specs.Nesting.{IsOutside, IsInHole}
 use Rattle.mvt_rules.specs.Parts.Rings.{part_of, in_whole}
 use Rattle.mvt_rules.specs.Polygon.{PolygonRings, IsRingOf, IsHoleOf}
 use Rattle.mvt_plane.specs.Position.{Position}
-use Rattle.mvt_plane.specs.Geometry.RationalPoint.{RationalPoint, IsBounded}
+use Rattle.mvt_plane.specs.Geometry.RationalPoint.{RationalPoint}
 use Rattle.mvt_feature.proofs.Features.FirstMeetings.{rings_in_order}
 use Rattle.mvt_feature.proofs.Features.FaultsByRings.{whole_part}
-use Rattle.mvt_feature.proofs.Placed.OwnPassings.{ring_of_whole}
+use Rattle.mvt_feature.proofs.Features.RingCopies.{count_of_front, front_copies, meeting_there, part_copies, ring_within}
+use Rattle.mvt_polygon.proofs.PolygonSlices.{ring_of_whole}
+use Rattle.mvt_polygon.specs.InFeature.{IsFirstNestFaultIn, IsMeetingIn, nest_moved}
 use Rattle.mvt_feature.specs.Feature.{front_of}
 use Rattle.mvt_sweep.specs.Meeting.{first_of, second_of, IsMeetingOf}
 use Rattle.mvt_polygon.specs.Nesting.{IsNestFault, outside, in_hole, IsFirstNestFault}
@@ -28,7 +30,7 @@ use Rattle.mvt_polygon.specs.declared.nesting.NestFault.{NestFault}
 use Rattle.mvt_polygon.specs.declared.nesting.NestFault.TheVariants.{Outside, InHole}
 use Rattle.mvt_gate.proofs.PolygonFaults.{HasGoodHoles, IsFirstHole, in_hole_is_least, outside_is_least}
 use Rattle.mvt_gate.proofs.PolygonWalk.{begins_in_turn}
-use Rattle.mvt_gate.specs.Calls.Polygons.{AreValidBefore, AreWithin, IsFirstOfRings, hole_fault, rings_at}
+use Rattle.mvt_gate.specs.Calls.Polygons.{AreValidBefore, IsFirstOfRings, hole_fault}
 use Rattle.mvt_gate.specs.declared.polygons.PolygonPlace.{PolygonPlace}
 
 -- Rings
@@ -41,111 +43,86 @@ hole_in_part its ring hole =
 
 -- Meetings
 
--- the order of edges in the part
-in_order : (from : ℕ) (first second : EdgeNumber) → ComesBefore first second → ComesBefore (in_whole from first) (in_whole from second)
-in_order from first second (inl less) = inl (omega arith)
-in_order from first second (inr same) = inr (ap (λ ring. from + ring) same.0, same.1)
+-- the edges of a meeting
+abbrev pub first_edge : Meeting → RingEdge
+first_edge found = record { ring = found.first_ring; edge = found.first_edge }
 
--- the rings of a meeting in the part
-pub meeting_within : (parts : List (List Position)) (its : PolygonRings) (found : Meeting) → its.after ≤ length parts → IsMeetingOf (part_of parts its) found
-    → (its.exterior + found.first_ring < its.after) × (its.exterior + found.second_ring < its.after)
-meeting_within parts its found within meets =
-    let first_below : found.first_ring < its.after - its.exterior = (ring_of_whole parts its found.first_ring meets.one_there.ring within meets.one_there.there).0 in
-    let second_below : found.second_ring < its.after - its.exterior = (ring_of_whole parts its found.second_ring meets.other_there.ring within meets.other_there.there).0 in
-    (omega arith, omega arith)
+abbrev pub second_edge : Meeting → RingEdge
+second_edge found = record { ring = found.second_ring; edge = found.second_edge }
 
--- an edge of a meeting in the part, by its numbers in the whole
-abbrev pub edge_in_whole : ℕ → ℕ → ℕ → RingEdge
-edge_in_whole from ring edge = record { ring = from + ring; edge = edge }
-
--- what a meeting in the part is in the whole, whichever polygon it is reported for
-record IsMeetingOfWhole (parts : List (List Position)) (its : PolygonRings) (found : Meeting) : Type 0 where
-  first_in : IsRingOf its (its.exterior + found.first_ring)
-  second_in : IsRingOf its (its.exterior + found.second_ring)
-  in_order : ComesBefore (in_whole its.exterior (first_of found)) (in_whole its.exterior (second_of found))
-  bounded : IsBounded found.point
-  meets : MeetsWrongly parts (in_whole its.exterior (first_of found)) (in_whole its.exterior (second_of found)) found.point
-
-in_whole_of : (parts : List (List Position)) (its : PolygonRings) (found : Meeting) → its.after ≤ length parts → IsMeetingOf (part_of parts its) found → IsMeetingOfWhole parts its found
-in_whole_of parts its found within meets =
-    let first_below : found.first_ring < its.after - its.exterior = (ring_of_whole parts its found.first_ring meets.one_there.ring within meets.one_there.there).0 in
-    let second_below : found.second_ring < its.after - its.exterior = (ring_of_whole parts its found.second_ring meets.other_there.ring within meets.other_there.there).0 in
-    record {
-      first_in = record { from = omega arith; before = omega arith };
-      second_in = record { from = omega arith; before = omega arith };
-      in_order = in_order its.exterior (first_of found) (second_of found) meets.in_order;
-      bounded = meets.bounded;
-      meets = (meeting_in_part parts its (first_of found) (second_of found) found.point first_below second_below).0 meets.meets;
-    }
+-- a meeting in the feature, of which the second edge is the polygon's and the first is to be kept apart from it
+meeting_of : (profile : Profile) (parts : List (List Position)) (polygon : ℕ) (its : PolygonRings) (found : Meeting) → IsPolygonOf parts polygon its → IsKeptApart profile its found.first_ring → IsRingOf its found.second_ring
+    → IsMeetingOf parts found → IsMeetingBy profile parts polygon (first_edge found) (second_edge found) found.point
+meeting_of profile parts polygon its found of_it first_in second_in meets = record {
+  polygon_rings = its;
+  of = of_it;
+  first_in = first_in;
+  second_in = second_in;
+  in_order = meets.in_order;
+  bounded = meets.bounded;
+  meets = meets.meets;
+}
 
 -- a ring of the polygon is kept apart from it, by each profile
 kept_of_own : (profile : Profile) (its : PolygonRings) (ring : ℕ) → IsRingOf its ring → IsKeptApart profile its ring
 kept_of_own Polygon its ring of_it = of_it
 kept_of_own Feature its ring of_it = of_it.before
 
--- a meeting in the part of a polygon
-pub meeting_in_whole : (profile : Profile) (parts : List (List Position)) (polygon : ℕ) (its : PolygonRings) (found : Meeting) → its.after ≤ length parts → IsPolygonOf parts polygon its → IsMeetingOf (part_of parts its) found
-    → IsMeetingBy profile parts polygon (edge_in_whole its.exterior found.first_ring found.first_edge) (edge_in_whole its.exterior found.second_ring found.second_edge) found.point
-meeting_in_whole profile parts polygon its found within of_it meets =
-    let whole = in_whole_of parts its found within meets in
-    record {
-      polygon_rings = its;
-      of = of_it;
-      first_in = kept_of_own profile its (its.exterior + found.first_ring) whole.first_in;
-      second_in = whole.second_in;
-      in_order = whole.in_order;
-      bounded = whole.bounded;
-      meets = whole.meets;
-    }
+-- a meeting of two edges of the polygon
+pub meeting_in_whole : (profile : Profile) (parts : List (List Position)) (polygon : ℕ) (its : PolygonRings) (found : Meeting) → its.after ≤ length parts → IsPolygonOf parts polygon its → IsMeetingIn parts its found
+    → IsMeetingBy profile parts polygon (first_edge found) (second_edge found) found.point
+meeting_in_whole profile parts polygon its found within of_it is =
+    let first_below : is.alone.first_ring < its.after - its.exterior = (ring_of_whole parts its is.alone.first_ring is.is.one_there.ring within is.is.one_there.there).0 in
+    let second_below : is.alone.second_ring < its.after - its.exterior = (ring_of_whole parts its is.alone.second_ring is.is.other_there.ring within is.is.other_there.there).0 in
+    let first : found.first_ring ≡ its.exterior + is.alone.first_ring = ap (λ (meeting : Meeting). meeting.first_ring) is.moved in
+    let second : found.second_ring ≡ its.exterior + is.alone.second_ring = ap (λ (meeting : Meeting). meeting.second_ring) is.moved in
+    meeting_of profile parts polygon its found of_it (kept_of_own profile its found.first_ring (record { from = omega arith; before = omega arith })) (record { from = omega arith; before = omega arith })
+    (subst (λ (meeting : Meeting). IsMeetingOf parts meeting) (sym is.moved)
+    (meeting_there (part_of parts its) parts (λ (ring : ℕ). its.exterior + ring) (part_copies parts its within) is.alone is.is))
 
 -- The rings up to a polygon's last one
 
+-- a meeting of those is one in the feature
+front_meeting : (parts : List (List Position)) (its : PolygonRings) (found : Meeting) → its.after ≤ length parts → IsMeetingOf (part_of parts (front_of its)) found → IsMeetingOf parts found
+front_meeting parts its found within meets = meeting_there (part_of parts (front_of its)) parts (λ (ring : ℕ). ring) (front_copies parts its within) found meets
+
+-- its edges are before the ring after the last one
+front_edges : (parts : List (List Position)) (its : PolygonRings) (found : Meeting) → its.after ≤ length parts → IsMeetingOf (part_of parts (front_of its)) found → (found.first_ring < its.after) × (found.second_ring < its.after)
+front_edges parts its found within meets =
+    let count = count_of_front parts its within in
+    let copies = front_copies parts its within in
+    let first : found.first_ring < length (part_of parts (front_of its)) = ring_within (part_of parts (front_of its)) parts (λ (ring : ℕ). ring) copies (first_of found) meets.one meets.one_there in
+    let second : found.second_ring < length (part_of parts (front_of its)) = ring_within (part_of parts (front_of its)) parts (λ (ring : ℕ). ring) copies (second_of found) meets.other meets.other_there in
+    (omega arith, omega arith)
+
 -- where the polygons before this one are valid in their feature, the second edge of a meeting in the front is the polygon's
-second_in_front : (parts : List (List Position)) (polygon : ℕ) (its : PolygonRings) (found : Meeting) → IsPolygonOf parts polygon its → AreValidBefore Feature parts polygon → IsMeetingOfWhole parts (front_of its) found
-    → IsRingOf its (0 + found.second_ring)
-second_in_front parts polygon its found of_it valid whole = elim (cases_lt (0 + found.second_ring) its.exterior) [
+second_in_front : (parts : List (List Position)) (polygon : ℕ) (its : PolygonRings) (found : Meeting) → IsPolygonOf parts polygon its → AreValidBefore Feature parts polygon → found.second_ring < its.after → IsMeetingOf parts found
+    → IsRingOf its found.second_ring
+second_in_front parts polygon its found of_it valid ends meets = elim (cases_lt found.second_ring its.exterior) [
   | inl before ↦
-      let there = whole.meets.other_there in
-      let home = polygon_of_ring parts (0 + found.second_ring) of_it.sound (slice_get_within parts (0 + found.second_ring) there.ring there.there) in
+      let there = meets.other_there in
+      let home = polygon_of_ring parts found.second_ring of_it.sound (slice_get_within parts found.second_ring there.ring there.there) in
       let from = home.3.from in
-      let ends = home.3.before in
+      let home_ends = home.3.before in
       let number : home.0 < polygon = begins_in_turn parts home.0 polygon home.1.exterior its.exterior home.2.begins of_it.there.begins (omega arith) in
-      let in_turn : 0 + found.first_ring ≤ 0 + found.second_ring = rings_in_order (in_whole 0 (first_of found)) (in_whole 0 (second_of found)) whole.in_order in
-      absurd ((valid home.0 home.1 number home.2).apart (in_whole 0 (first_of found)) (in_whole 0 (second_of found)) found.point (omega arith) home.3 whole.meets)
-  | inr from ↦ record { from = from; before = whole.second_in.before }
+      let in_turn : found.first_ring ≤ found.second_ring = rings_in_order (first_of found) (second_of found) meets.in_order in
+      absurd ((valid home.0 home.1 number home.2).apart (first_of found) (second_of found) found.point (omega arith) home.3 meets.meets)
+  | inr from ↦ record { from = from; before = ends }
 ]
 
 -- so it is a meeting of the polygon, in its feature
 pub meeting_of_front : (parts : List (List Position)) (polygon : ℕ) (its : PolygonRings) (found : Meeting) → its.after ≤ length parts → IsPolygonOf parts polygon its → AreValidBefore Feature parts polygon → IsMeetingOf (part_of parts (front_of its)) found
-    → IsMeetingBy Feature parts polygon (edge_in_whole 0 found.first_ring found.first_edge) (edge_in_whole 0 found.second_ring found.second_edge) found.point
+    → IsMeetingBy Feature parts polygon (first_edge found) (second_edge found) found.point
 meeting_of_front parts polygon its found within of_it valid meets =
-    let whole = in_whole_of parts (front_of its) found within meets in
-    record {
-      polygon_rings = its;
-      of = of_it;
-      first_in = whole.first_in.before;
-      second_in = second_in_front parts polygon its found of_it valid whole;
-      in_order = whole.in_order;
-      bounded = whole.bounded;
-      meets = whole.meets;
-    }
+    let edges = front_edges parts its found within meets in
+    let whole = front_meeting parts its found within meets in
+    meeting_of Feature parts polygon its found of_it edges.0 (second_in_front parts polygon its found of_it valid edges.1 whole) whole
 
 -- also where its second edge is known to be the polygon's
 pub meeting_of_its_edge : (parts : List (List Position)) (polygon : ℕ) (its : PolygonRings) (found : Meeting) → its.after ≤ length parts → IsPolygonOf parts polygon its → IsRingOf its found.second_ring → IsMeetingOf (part_of parts (front_of its)) found
-    → IsMeetingBy Feature parts polygon (edge_in_whole 0 found.first_ring found.first_edge) (edge_in_whole 0 found.second_ring found.second_edge) found.point
+    → IsMeetingBy Feature parts polygon (first_edge found) (second_edge found) found.point
 meeting_of_its_edge parts polygon its found within of_it second_in meets =
-    let whole = in_whole_of parts (front_of its) found within meets in
-    let from = second_in.from in
-    let before = second_in.before in
-    record {
-      polygon_rings = its;
-      of = of_it;
-      first_in = whole.first_in.before;
-      second_in = record { from = omega arith; before = omega arith };
-      in_order = whole.in_order;
-      bounded = whole.bounded;
-      meets = whole.meets;
-    }
+    meeting_of Feature parts polygon its found of_it (front_edges parts its found within meets).0 second_in (front_meeting parts its found within meets)
 
 -- where no edges of the front meet wrongly, the polygon's are apart from it
 pub apart_of_front : (parts : List (List Position)) (its : PolygonRings) → AreApartBy Polygon parts (front_of its) → AreApartBy Feature parts its
@@ -272,20 +249,19 @@ in_hole_is_first parts its ring vertex another within least = record {
       (shifted its.exterior ring vertex 506 another own.0 place 506 own.1 (its.exterior + another) other (λ codes most. omega arith) following);
 }
 
--- the rings of a polygon's first fault of a hole
-pub hole_within : (parts : List (List Position)) (place : PolygonPlace) (fault : NestFault) → place.after ≤ length parts → IsFirstNestFault (part_of parts (rings_at place)) fault → AreWithin place fault
-hole_within parts place (Outside ring vertex) within least = (outside_in_whole parts (rings_at place) ring vertex within least.holds).hole.before
-hole_within parts place (InHole ring vertex other) within least =
-    let wrong = in_hole_in_whole parts (rings_at place) ring vertex other within least.holds in
-    (wrong.hole.before, wrong.other_hole.before)
+-- with the numbers of the feature it is the first fault, where no edges meet wrongly
+first_moved : (profile : Profile) (parts : List (List Position)) (place : PolygonPlace) (its : PolygonRings) (alone : NestFault) → its.after ≤ length parts → IsPolygonOf parts place.polygon its
+    → AreValidBefore profile parts place.polygon → AreApartBy profile parts its → IsFirstNestFault (part_of parts its) alone
+    → IsFirstOfRings profile parts place.layer place.feature (hole_fault place (nest_moved (λ (ring : ℕ). its.exterior + ring) alone))
+first_moved profile parts place its (Outside ring vertex) within of_it valid apart least =
+    outside_is_least profile parts place.layer place.feature place.polygon (its.exterior + ring) vertex its of_it valid apart
+    (outside_in_whole parts its ring vertex within least.holds) (outside_is_first parts its ring vertex within least)
+first_moved profile parts place its (InHole ring vertex other) within of_it valid apart least =
+    in_hole_is_least profile parts place.layer place.feature place.polygon (its.exterior + ring) vertex (its.exterior + other) its of_it valid apart
+    (in_hole_in_whole parts its ring vertex other within least.holds) (in_hole_is_first parts its ring vertex other within least)
 
--- where no edges meet wrongly, it is the first fault of the feature
-pub first_hole_is_least : (profile : Profile) (parts : List (List Position)) (place : PolygonPlace) (fault : NestFault) → place.after ≤ length parts → IsPolygonOf parts place.polygon (rings_at place)
-    → AreValidBefore profile parts place.polygon → AreApartBy profile parts (rings_at place) → IsFirstNestFault (part_of parts (rings_at place)) fault
-    → IsFirstOfRings profile parts place.layer place.feature (hole_fault place fault)
-first_hole_is_least profile parts place (Outside ring vertex) within of_it valid apart least =
-    outside_is_least profile parts place.layer place.feature place.polygon (place.exterior + ring) vertex (rings_at place) of_it valid apart
-    (outside_in_whole parts (rings_at place) ring vertex within least.holds) (outside_is_first parts (rings_at place) ring vertex within least)
-first_hole_is_least profile parts place (InHole ring vertex other) within of_it valid apart least =
-    in_hole_is_least profile parts place.layer place.feature place.polygon (place.exterior + ring) vertex (place.exterior + other) (rings_at place) of_it valid apart
-    (in_hole_in_whole parts (rings_at place) ring vertex other within least.holds) (in_hole_is_first parts (rings_at place) ring vertex other within least)
+-- so is what was found
+pub first_hole_is_least : (profile : Profile) (parts : List (List Position)) (place : PolygonPlace) (its : PolygonRings) (fault : NestFault) → its.after ≤ length parts → IsPolygonOf parts place.polygon its
+    → AreValidBefore profile parts place.polygon → AreApartBy profile parts its → IsFirstNestFaultIn parts its fault → IsFirstOfRings profile parts place.layer place.feature (hole_fault place fault)
+first_hole_is_least profile parts place its fault within of_it valid apart is =
+    subst (λ (wrong : NestFault). IsFirstOfRings profile parts place.layer place.feature (hole_fault place wrong)) (sym is.moved) (first_moved profile parts place its is.alone within of_it valid apart is.is)

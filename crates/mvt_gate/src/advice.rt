@@ -1,10 +1,9 @@
 //! The engine of `check` with advice: the line of the verdict, and after it what may be a mistake
 //! in the tile, though no rule forbids it.
-ghost use Rattle.std.specs.Prelude.{◌≡◌, ◌≢◌, ℕ, List, ◌++◌, IfOk, IfErr, OnOk, string_bytes};
+ghost use Rattle.std.specs.Prelude.{◌≡◌, List, ◌++◌, IfOk, string_bytes};
 ghost use Rattle.mvt_engine.specs.AdviceText.{advice_line};
 ghost use Rattle.mvt_gate.specs.Advice.{AddsAdvice, IsAdviseAnswerBy};
-ghost use Rattle.mvt_engine.specs.Engine.{Answers, BreaksOff, HasFailed, IsClean, IsOfClaim, IsTooLarge, ReadsBytes};
-ghost use Rattle.mvt_engine.specs.Tally.{IsUntouched, counts_of};
+ghost use Rattle.mvt_engine.specs.Engine.{IsRunOf};
 ghost use Rattle.mvt_tile.specs.Advice.{IsAdvice};
 ghost use Rattle.mvt_tile.specs.View.{tile_of};
 ghost use Rattle.mvt_tile.specs.declared.advice.Advice.{Advice};
@@ -28,31 +27,8 @@ pub fn advise_stream<R: Read, W: Write>(
     reader: &mut Tally<R>,
     writer: &mut Tally<W>,
 ) -> Result<Outcome, EngineFault>
-    // The lines are those of all that the reader gave, and they went out once and whole.
-    ensures answers { IfOk result (Answers (IsAdviseAnswerBy profile)
-        R.remaining W.contents reader.old reader.new writer.old writer.new) }
-    ensures clean { OnOk result (IsClean writer.new (counts_of reader.new).interrupted) }
-
-    ensures read { result ≡ Err EngineFault.Read
-        → HasFailed reader.new (counts_of writer.new).interrupted }
-    ensures too_large { result ≡ Err EngineFault.TooLarge
-        → IsTooLarge reader.new (counts_of writer.new).interrupted }
-    ensures memory { result ≡ Err EngineFault.Memory
-        → IsClean reader.new (counts_of writer.new).interrupted }
-    ensures write { result ≡ Err EngineFault.Write
-        → HasFailed writer.new (counts_of reader.new).interrupted }
-    // The bytes that the reader's tally counted came in this run.
-    ensures counted { IfErr result (λ _. (input : List ℕ)
-        × ReadsBytes R.remaining reader.old reader.new input) }
-    // There is no second input that could be wrong.
-    ensures no_claim { IfErr result (λ fault. ¬ IsOfClaim fault) }
-
-    // Before both lines are whole, nothing goes out; after a failed write, a first part of the
-    // lines.
-    ensures untouched { IfErr result (λ fault. fault ≢ EngineFault.Write
-        → IsUntouched writer.old writer.new) }
-    ensures prefix { result ≡ Err EngineFault.Write → BreaksOff (IsAdviseAnswerBy profile)
-        R.remaining W.contents reader.old reader.new writer.old writer.new }
+    ensures { IsRunOf (IsAdviseAnswerBy profile)
+        R.remaining W.contents reader.old reader.new writer.old writer.new result }
 {
     mvt_engine::run(alloc, &AdviseOnTile { profile }, reader, writer)
 }

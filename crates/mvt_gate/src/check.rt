@@ -1,9 +1,8 @@
 //! The engine of `check`: whether an input is a tile that keeps the rules, as one line of JSON.
-ghost use Rattle.std.specs.Prelude.{◌≡◌, ◌≢◌, ℕ, List, IfOk, IfErr, OnOk, string_bytes};
+ghost use Rattle.std.specs.Prelude.{◌≡◌, IfOk, string_bytes};
 ghost use Rattle.mvt_gate.specs.Check.{IsCheckAnswer, IsCheckAnswerBy, ok_line};
 ghost use Rattle.mvt_gate.specs.CheckOptions.{IsVerdictAnswer};
-ghost use Rattle.mvt_engine.specs.Engine.{Answers, BreaksOff, HasFailed, IsClean, IsOfClaim, IsTooLarge, ReadsBytes};
-ghost use Rattle.mvt_engine.specs.Tally.{IsUntouched, counts_of};
+ghost use Rattle.mvt_engine.specs.Engine.{IsRunOf};
 
 mod options;
 
@@ -30,30 +29,8 @@ pub fn check_stream<R: Read, W: Write>(
     reader: &mut Tally<R>,
     writer: &mut Tally<W>,
 ) -> Result<Outcome, EngineFault>
-    // The line is that of all that the reader gave, and it went out once and whole.
-    ensures answers { IfOk result (Answers IsCheckAnswer
-        R.remaining W.contents reader.old reader.new writer.old writer.new) }
-    ensures clean { OnOk result (IsClean writer.new (counts_of reader.new).interrupted) }
-
-    ensures read { result ≡ Err EngineFault.Read
-        → HasFailed reader.new (counts_of writer.new).interrupted }
-    ensures too_large { result ≡ Err EngineFault.TooLarge
-        → IsTooLarge reader.new (counts_of writer.new).interrupted }
-    ensures memory { result ≡ Err EngineFault.Memory
-        → IsClean reader.new (counts_of writer.new).interrupted }
-    ensures write { result ≡ Err EngineFault.Write
-        → HasFailed writer.new (counts_of reader.new).interrupted }
-    // The bytes that the reader's tally counted came in this run.
-    ensures counted { IfErr result (λ _. (input : List ℕ)
-        × ReadsBytes R.remaining reader.old reader.new input) }
-    // There is no second input that could be wrong.
-    ensures no_claim { IfErr result (λ fault. ¬ IsOfClaim fault) }
-
-    // Before the line is whole, nothing goes out; after a failed write, a first part of the line.
-    ensures untouched { IfErr result (λ fault. fault ≢ EngineFault.Write
-        → IsUntouched writer.old writer.new) }
-    ensures prefix { result ≡ Err EngineFault.Write → BreaksOff IsCheckAnswer
-        R.remaining W.contents reader.old reader.new writer.old writer.new }
+    ensures { IsRunOf IsCheckAnswer
+        R.remaining W.contents reader.old reader.new writer.old writer.new result }
 {
     check_stream_with(alloc, Profile::Polygon, reader, writer)
 }
@@ -65,30 +42,8 @@ pub fn check_stream_with<R: Read, W: Write>(
     reader: &mut Tally<R>,
     writer: &mut Tally<W>,
 ) -> Result<Outcome, EngineFault>
-    // The line is that of all that the reader gave, and it went out once and whole.
-    ensures answers { IfOk result (Answers (IsCheckAnswerBy profile)
-        R.remaining W.contents reader.old reader.new writer.old writer.new) }
-    ensures clean { OnOk result (IsClean writer.new (counts_of reader.new).interrupted) }
-
-    ensures read { result ≡ Err EngineFault.Read
-        → HasFailed reader.new (counts_of writer.new).interrupted }
-    ensures too_large { result ≡ Err EngineFault.TooLarge
-        → IsTooLarge reader.new (counts_of writer.new).interrupted }
-    ensures memory { result ≡ Err EngineFault.Memory
-        → IsClean reader.new (counts_of writer.new).interrupted }
-    ensures write { result ≡ Err EngineFault.Write
-        → HasFailed writer.new (counts_of reader.new).interrupted }
-    // The bytes that the reader's tally counted came in this run.
-    ensures counted { IfErr result (λ _. (input : List ℕ)
-        × ReadsBytes R.remaining reader.old reader.new input) }
-    // There is no second input that could be wrong.
-    ensures no_claim { IfErr result (λ fault. ¬ IsOfClaim fault) }
-
-    // Before the line is whole, nothing goes out; after a failed write, a first part of the line.
-    ensures untouched { IfErr result (λ fault. fault ≢ EngineFault.Write
-        → IsUntouched writer.old writer.new) }
-    ensures prefix { result ≡ Err EngineFault.Write → BreaksOff (IsCheckAnswerBy profile)
-        R.remaining W.contents reader.old reader.new writer.old writer.new }
+    ensures { IsRunOf (IsCheckAnswerBy profile)
+        R.remaining W.contents reader.old reader.new writer.old writer.new result }
 {
     mvt_engine::run(alloc, &CheckTile { profile }, reader, writer)
 }

@@ -6,6 +6,8 @@ mod advice;
 mod agreement;
 mod check;
 mod faults;
+mod figures;
+mod first_walk;
 mod geometry;
 pub mod laws;
 mod polygons;

@@ -9,7 +9,7 @@ ghost use Rattle.mvt_plane.specs.Commands.Figure.{polygon};
 ghost use Rattle.mvt_plane.specs.FeatureGeometry.{HasRings, type_number};
 ghost use Rattle.mvt_sweep.specs.Rings.{rings_of, AreProperRings};
 ghost use Rattle.mvt_rules.specs.Ring.{ArePolygonRings};
-ghost use Rattle.mvt_gate.specs.Calls.Polygons.{IsFirstOfRings, IsFirstOfRingsFor, AreValidBefore, AreWithin, IsRingWithin, hole_fault, meeting_fault, rings_at};
+ghost use Rattle.mvt_gate.specs.Calls.Polygons.{IsFirstOfRings, IsFirstOfRingsFor, AreValidBefore, hole_fault, meeting_fault};
 
 mod apart;
 
@@ -72,23 +72,22 @@ fn polygons_fault(
     let mut polygon = 0;
     let mut exterior = 0;
     'polygons: while exterior < rings.len() {
+        let after = polygon_end(rings, exterior);
         let place = PolygonPlace {
             layer,
             feature,
             polygon,
-            exterior,
-            after: polygon_end(rings, exterior),
         };
-        if let Some(fault) = polygon_fault(alloc, rings, count, place)? {
+        if let Some(fault) = polygon_fault(alloc, rings, exterior, after, count, place)? {
             return Ok(Some(fault));
         }
-        exterior = place.after;
+        exterior = after;
         polygon += 1;
     }
     Ok(None)
 }
 
-/// Where a polygon is: the ordinals that its faults report, and its rings.
+/// Where a polygon is: the ordinals that its faults report.
 #[derive(Clone, Copy)]
 struct PolygonPlace {
     /// The ordinal of the layer in the tile.
@@ -97,40 +96,39 @@ struct PolygonPlace {
     feature: usize,
     /// The ordinal of the polygon in the feature.
     polygon: usize,
-    /// The ordinal of its exterior among the feature's rings. Its holes are the rings after it.
-    exterior: usize,
-    /// The ordinal after that of its last ring.
-    after: usize,
 }
 
-/// The first fault of one polygon of a feature, or None where it is valid by itself: edges that
-/// meet wrongly, and then the holes. The polygons before it are valid.
+/// The first fault of one polygon of a feature, which has the rings from its exterior up to the one
+/// after its last; or None where it is valid by itself: edges that meet wrongly, and then the holes.
+/// The polygons before it are valid.
 fn polygon_fault(
     alloc: Global,
     rings: &[Vec<Point>],
+    exterior: usize,
+    after: usize,
     count: &mut Count,
     place: PolygonPlace,
 ) -> Result<Option<Fault>, AllocError>
-    requires polygon { IsPolygonOf (rings_of rings.now) place.polygon (rings_at place) }
-    requires within { place.after ≤ length rings.now }
+    requires polygon { IsPolygonOf (rings_of rings.now) place.polygon
+        (record { exterior = exterior; after = after }) }
+    requires within { after ≤ length rings.now }
     requires drawn { AreProperRings (rings_of rings.now) }
     requires before { AreValidBefore Polygon (rings_of rings.now) place.polygon }
     ensures valid { IfOk result (λ found.
-        IfNone found (IsValidPolygon (rings_of rings.now) (rings_at place))) }
+        IfNone found (IsValidPolygon (rings_of rings.now)
+        (record { exterior = exterior; after = after }))) }
     ensures least { IfOk result (λ found.
         IfSome found (IsFirstOfRings Polygon (rings_of rings.now) place.layer place.feature)) }
 {
-    match check_polygon(alloc, &rings[place.exterior..place.after], count)? {
+    match check_polygon(alloc, rings, exterior, after, count)? {
         Some(PolygonFault::Meeting(meeting)) => Ok(Some(meeting_fault(place, meeting))),
         Some(PolygonFault::Nesting(fault)) => Ok(Some(hole_fault(place, fault))),
         None => Ok(None),
     }
 }
 
-/// The fault of a meeting that was found among the rings of the polygon alone.
+/// The fault of a meeting of the polygon.
 fn meeting_fault(place: PolygonPlace, meeting: Meeting) -> Fault
-    requires first { IsRingWithin place meeting.first_ring }
-    requires second { IsRingWithin place meeting.second_ring }
     ensures { result ≡ meeting_fault place meeting }
 {
     Fault::Meeting {
@@ -138,11 +136,11 @@ fn meeting_fault(place: PolygonPlace, meeting: Meeting) -> Fault
         feature: place.feature,
         polygon: place.polygon,
         first: RingEdge {
-            ring: place.exterior + meeting.first_ring,
+            ring: meeting.first_ring,
             edge: meeting.first_edge,
         },
         second: RingEdge {
-            ring: place.exterior + meeting.second_ring,
+            ring: meeting.second_ring,
             edge: meeting.second_edge,
         },
         x: meeting.point.x(),
@@ -151,9 +149,8 @@ fn meeting_fault(place: PolygonPlace, meeting: Meeting) -> Fault
     }
 }
 
-/// The fault of a hole that was found among the rings of the polygon alone.
+/// The fault of a hole of the polygon.
 fn hole_fault(place: PolygonPlace, fault: NestFault) -> Fault
-    requires { AreWithin place fault }
     ensures { result ≡ hole_fault place fault }
 {
     match fault {
@@ -161,7 +158,7 @@ fn hole_fault(place: PolygonPlace, fault: NestFault) -> Fault
             layer: place.layer,
             feature: place.feature,
             polygon: place.polygon,
-            ring: place.exterior + ring,
+            ring,
             vertex,
         },
         NestFault::InHole {
@@ -172,9 +169,9 @@ fn hole_fault(place: PolygonPlace, fault: NestFault) -> Fault
             layer: place.layer,
             feature: place.feature,
             polygon: place.polygon,
-            ring: place.exterior + ring,
+            ring,
             vertex,
-            other: place.exterior + other,
+            other,
         },
     }
 }

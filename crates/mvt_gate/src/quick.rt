@@ -12,10 +12,11 @@ ghost use Rattle.mvt_gate.specs.Quick.{IsFreeBy};
 ghost use Rattle.mvt_gate.specs.Verdict.{IsQuickVerdictBy, IsVerdictFor};
 ghost use Rattle.mvt_gate.specs.declared.verdict.Verdict.{Verdict};
 
+use crate::first_walk::{FirstWalk, first_walk};
 use crate::geometry::QuickGeometry;
 use crate::verdict::{Verdict, judge_with};
 use mvt_fault::{Fault, Profile};
-use mvt_tile::{rule_fault, wire_fault};
+use mvt_tile::rule_fault;
 use std::alloc::{AllocError, Global};
 
 /// Which faults are searched for.
@@ -71,8 +72,10 @@ pub fn judge_for(
 fn judge_features(alloc: Global, bytes: &[u8]) -> Result<Verdict, AllocError>
     ensures { IfOk result (IsQuickVerdictBy profiles.Feature bytes.now) }
 {
-    if let Some(fault) = wire_fault(bytes) {
-        return Ok(Verdict::No(fault));
+    match first_walk(alloc, bytes)? {
+        FirstWalk::Valid => return Ok(Verdict::Yes),
+        FirstWalk::Faulty(fault) => return Ok(Verdict::No(fault)),
+        FirstWalk::Whole => {}
     }
     match fault_of_features(alloc, bytes)? {
         None => Ok(Verdict::Yes),

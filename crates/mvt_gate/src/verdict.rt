@@ -10,9 +10,10 @@ ghost use Rattle.mvt_rules.specs.Tile.{IsTile, TileRecord};
 ghost use Rattle.mvt_gate.specs.Verdict.{IsVerdict, IsVerdictBy};
 ghost use Rattle.mvt_gate.specs.declared.verdict.Verdict.{Verdict};
 
+use crate::first_walk::{FirstWalk, first_walk};
 use crate::geometry::{FeatureGeometry, PolygonGeometry};
 use mvt_fault::{Fault, Profile};
-use mvt_tile::{rule_fault, wire_fault};
+use mvt_tile::rule_fault;
 use std::alloc::{AllocError, Global};
 
 /// What the gate says of the bytes of a tile.
@@ -69,8 +70,10 @@ pub fn judge_with(alloc: Global, profile: Profile, bytes: &[u8]) -> Result<Verdi
     ensures invalid { IfOk result (λ verdict. ¬ ValidBy profile bytes.now
         → (fault : Fault) × (verdict ≡ Verdict.No fault) × ShowsBy profile bytes.now fault) }
 {
-    if let Some(fault) = wire_fault(bytes) {
-        return Ok(Verdict::No(fault));
+    match first_walk(alloc, bytes)? {
+        FirstWalk::Valid => return Ok(Verdict::Yes),
+        FirstWalk::Faulty(fault) => return Ok(Verdict::No(fault)),
+        FirstWalk::Whole => {}
     }
     match fault_of_rules(alloc, profile, bytes)? {
         None => Ok(Verdict::Yes),

@@ -10,7 +10,7 @@ use Rattle.mvt_rules.specs.Ring.{HasNoArea}
 use Rattle.mvt_plane.specs.Geometry.Ring.{doubled_area}
 use Rattle.mvt_plane.specs.Position.{Position}
 use Rattle.mvt_sweep.specs.Rings.{rings_of}
-use Rattle.mvt_feature.proofs.Placed.AddedPassings.{part_read}
+use Rattle.mvt_polygon.proofs.PolygonSlices.{part_read}
 use Rattle.mvt_polygon.proofs.PolygonList.{is_exterior}
 use Rattle.mvt_mend.specs.Calls.Judged.{AreJudged, IsFoundFrom}
 use Rattle.mvt_mend.specs.Kept.{AreKept, BeginWithExterior, IsRightPolygon, IsSamePolygon}

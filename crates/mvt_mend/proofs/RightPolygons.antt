@@ -13,7 +13,7 @@ use Rattle.mvt_rules.proofs.Rings.PartsOfRings.{count_of_part, ring_of_part}
 use Rattle.mvt_rules.proofs.Rings.PolygonNumbers.{none_in_nothing}
 use Rattle.mvt_rules.proofs.Rings.SamePolygons.{exterior_of_polygon, same_polygon}
 use Rattle.mvt_polygon.specs.Nesting.{one_polygon, IsNestFault, outside, in_hole}
-use Rattle.mvt_polygon.specs.PolygonFault.{IsPolygonAnswer}
+use Rattle.mvt_polygon.specs.PolygonFault.{IsAnswerAlone}
 use Rattle.mvt_polygon.specs.Polygons.{ArePolygons}
 use Rattle.mvt_sweep.specs.Rings.{rings_of, AreProperRings}
 use Rattle.mvt_polygon.specs.RingFault.{IsFirstRingFault}
@@ -23,7 +23,7 @@ use Rattle.mvt_polygon.specs.declared.polygon.PolygonFault.TheVariants.{Meeting,
 use Rattle.mvt_polygon.specs.declared.rings.RingFault.{RingFault}
 use Rattle.mvt_sweep.proofs.Chains.ChainParts.{in_longer}
 use Rattle.mvt_polygon.proofs.ApartFaults.{ends_within}
-use Rattle.mvt_feature.proofs.Placed.AddedPassings.{part_read}
+use Rattle.mvt_polygon.proofs.PolygonSlices.{part_read}
 use Rattle.mvt_sweep.proofs.Vertices.RingReads.{count_of_rings}
 use Rattle.mvt_mend.specs.Calls.Judged.{AreJudged, AreRightRings, IsRightMark}
 use Rattle.mvt_mend.specs.Kept.{IsRightPolygon}
@@ -39,7 +39,7 @@ fault_of_rings rings fault found sound = elim found.broken [
 ]
 
 -- nor is a polygon with a fault
-pub fault_of_polygon : (rings : List (List Position)) (fault : PolygonFault) → IsPolygon rings 0 (one_polygon rings) → IsPolygonAnswer rings (Some fault) → ¬ AreValidRings rings
+pub fault_of_polygon : (rings : List (List Position)) (fault : PolygonFault) → IsPolygon rings 0 (one_polygon rings) → IsAnswerAlone rings (Some fault) → ¬ AreValidRings rings
 fault_of_polygon rings (Meeting meeting) is_it answer valid =
     let it = valid.polygons 0 (one_polygon rings) is_it in
     it.apart (first_of meeting) (second_of meeting) meeting.point (ring_within rings (first_of meeting).ring answer.one_there.ring answer.one_there.there) (ring_within rings (second_of meeting).ring answer.other_there.ring answer.other_there.there) answer.meets

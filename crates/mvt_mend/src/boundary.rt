@@ -5,6 +5,7 @@ mod exteriors;
 mod links;
 mod merging;
 mod rings;
+mod successors;
 
 use crate::segment::HalfEdge;
 pub(crate) use links::{Links, Spoke, Touch, links_of};

@@ -9,12 +9,23 @@ mod tests;
 
 use crate::faces::stop::{Stop, answered, spend_down};
 use crate::faces::sweep::{Notes, sweep};
+use crate::groups::Groups;
 use crate::segment::{Segment, Winding};
 use crate::work::Work;
 use std::alloc::{AllocError, Global};
 
 /// The number of no segment.
 pub(crate) const NO_SEGMENT: u32 = u32::MAX;
+
+/// What is on the sides of a segment that nothing goes round: on both the face outside of all.
+const OUTSIDE: Sides = Sides {
+    winding: Winding {
+        exterior: 0,
+        holes: 0,
+    },
+    below: 0,
+    above: 0,
+};
 
 /// Of each segment the number of the one directly below it at its first end: of those that begin
 /// there too, the next one clockwise, or else the one that passes directly below that position.
@@ -38,23 +49,46 @@ pub(crate) fn directly_below(
     Ok(answered(swept)?.map(|_| below.below))
 }
 
-/// Of each segment the winding just below it. As `directly_below`.
-pub(crate) fn windings_below(
+/// What is on the sides of a segment.
+#[derive(Clone, Copy, Debug, PartialEq, Eq)]
+pub(crate) struct Sides {
+    /// The winding just below it.
+    pub(crate) winding: Winding,
+    /// The number of the face just below it.
+    pub(crate) below: u32,
+    /// The number of the face just above it.
+    pub(crate) above: u32,
+}
+
+/// The faces that segments bound, which meet in ends only.
+#[derive(Drop)]
+pub(crate) struct Faces {
+    /// By the number of each segment.
+    pub(crate) sides: Vec<Sides>,
+    /// Which of the numbers are those of one face.
+    pub(crate) groups: Groups,
+}
+
+/// The faces that segments bound, and the winding just below each segment. As `directly_below`.
+pub(crate) fn faces_of(
     alloc: Global,
     segments: &[Segment],
     ends: &[u32],
     work: &mut Work,
-) -> Result<Option<Vec<Winding>>, AllocError>
+) -> Result<Option<Faces>, AllocError>
     ensures no_more { work.new ≤ work.old }
 {
-    let mut windings = Windings {
+    let mut around = FacesAround {
         segments,
-        below: vec![in alloc; Winding::none(); segments.len()]?,
+        faces: Faces {
+            sides: vec![in alloc; OUTSIDE; segments.len()]?,
+            groups: Groups::new(alloc, 1)?,
+        },
     };
     let mut left = *work;
-    let swept = sweep(alloc, segments, ends, &mut windings, &mut left);
+    let swept = sweep(alloc, segments, ends, &mut around, &mut left);
     spend_down(work, left);
-    Ok(answered(swept)?.map(|_| windings.below))
+    Ok(answered(swept)?.map(|_| around.faces))
 }
 
 /// By the number of each segment, the one directly below it.
@@ -69,29 +103,49 @@ impl Notes for Neighbors {
         *place.ok_or(Stop::GaveUp)? = below;
         Ok(())
     }
-}
 
-/// By the number of each segment, the winding just below it.
-#[derive(Drop)]
-struct Windings<'a> {
-    segments: &'a [Segment],
-    below: Vec<Winding>,
-}
-
-impl Windings<'_> {
-    /// The winding just above a segment.
-    fn above(&self, number: u32) -> Option<Winding> {
-        let segment = self.segments.get(number as usize)?;
-        let below = self.below.get(number as usize)?;
-        Some(below.plus(segment.gain))
+    fn go_on(&mut self, _one: u32, _other: u32) -> Result<(), Stop> {
+        Ok(())
     }
 }
 
-impl Notes for Windings<'_> {
+/// What is noted of faces.
+#[derive(Drop)]
+struct FacesAround<'a> {
+    segments: &'a [Segment],
+    faces: Faces,
+}
+
+impl FacesAround<'_> {
+    /// The winding and the face just above a segment, or those outside of all where there is none.
+    #[inline]
+    fn above(&self, number: u32) -> (Winding, u32) {
+        match (
+            self.segments.get(number as usize),
+            self.faces.sides.get(number as usize),
+        ) {
+            (Some(segment), Some(sides)) => (sides.winding.plus(segment.gain), sides.above),
+            _ => (OUTSIDE.winding, OUTSIDE.above),
+        }
+    }
+}
+
+impl Notes for FacesAround<'_> {
     fn begin(&mut self, number: u32, below: u32, _work: &mut Work) -> Result<(), Stop> {
-        let winding = self.above(below).unwrap_or(Winding::none());
-        let place = self.below.get_mut(number as usize);
-        *place.ok_or(Stop::GaveUp)? = winding;
+        let (winding, face) = self.above(below);
+        let above = self.faces.groups.add()?;
+        let place = self.faces.sides.get_mut(number as usize);
+        *place.ok_or(Stop::GaveUp)? = Sides {
+            winding,
+            below: face,
+            above,
+        };
         Ok(())
+    }
+
+    fn go_on(&mut self, one: u32, other: u32) -> Result<(), Stop> {
+        let (_, one) = self.above(one);
+        let (_, other) = self.above(other);
+        self.faces.groups.join(one, other).ok_or(Stop::GaveUp)
     }
 }

@@ -6,6 +6,7 @@
 mod boundary;
 mod corners;
 mod faces;
+mod groups;
 mod kept;
 mod loose;
 mod mending;
@@ -15,6 +16,7 @@ mod order;
 mod outlines;
 mod roles;
 mod segment;
+mod witnesses;
 mod work;
 
 pub use loose::loose_rings;

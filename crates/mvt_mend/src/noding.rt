@@ -15,6 +15,7 @@ mod bounds;
 mod meetings;
 mod packing;
 mod pieces;
+mod runs;
 mod search;
 mod splitting;
 mod stop;
@@ -66,7 +67,7 @@ fn noded(
 {
     let mut pieces = Pieces::of(alloc, segments)?;
     for _ in 0..MOST_ROUNDS {
-        let meetings = find_meetings(alloc, &pieces, work)?;
+        let meetings = find_meetings(alloc, &mut pieces, work)?;
         tally.crossings = tally.crossings.saturating_add(meetings.crossings);
         if meetings.splits.is_empty() {
             return directed(pieces.into_segments()?);

@@ -67,6 +67,9 @@ pub(crate) struct HalfEdge {
     pub(crate) source: u32,
     /// As a segment's.
     pub(crate) witness: u32,
+    /// The number of the part of what is filled that is on its left, where no corner was cut yet.
+    /// Afterwards parts may be joined, or fall apart.
+    pub(crate) part: u32,
 }
 
 /// What mending did to a feature.

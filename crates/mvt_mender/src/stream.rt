@@ -1,6 +1,6 @@
 //! The engine of `mend`: it reads a tile, and writes a valid one and what was changed.
-ghost use Rattle.std.specs.Prelude.{◌≡◌, ◌≢◌, ◌+◌, ◌≤◌, ℕ, List, IfOk, IfErr, OnErr, OnOk, string_bytes};
-ghost use Rattle.mvt_engine.specs.Engine.{HasFailed, IsClean, IsOfClaim, IsTooLarge, ReadsBytes, interruption_limit};
+ghost use Rattle.std.specs.Prelude.{◌≡◌, ◌≢◌, ◌+◌, ◌≤◌, IfOk, IfErr, OnErr, OnOk, string_bytes};
+ghost use Rattle.mvt_engine.specs.Engine.{ReaderShows, interruption_limit};
 ghost use Rattle.mvt_engine.specs.Tally.{IsUntouched, counts_of, no_counts};
 ghost use Rattle.mvt_mender.specs.Report.{report_line};
 ghost use Rattle.mvt_mender.specs.Stream.{AnswersTwice, BreaksOffTwice, HasFailedOnce, HasLineFailed, IsLineClean, IsMendAnswerBy, LineBreaksOff, LineGoes};
@@ -36,16 +36,9 @@ pub fn mend_stream<R: Read, W: Write, V: Write, E: Write>(
     ensures clean { IfOk result (λ outcome. IsLineClean outcome report.new errors.new
         ((counts_of reader.new).interrupted + (counts_of writer.new).interrupted)) }
 
-    ensures read { result ≡ Err EngineFault.Read → HasFailed reader.new 0 }
-    ensures too_large { result ≡ Err EngineFault.TooLarge → IsTooLarge reader.new 0 }
-    ensures memory { result ≡ Err EngineFault.Memory → IsClean reader.new 0 }
+    ensures reading { ReaderShows R.remaining reader.old reader.new 0 result }
     ensures write { result ≡ Err EngineFault.Write
         → HasFailedOnce reader.new writer.new report.new errors.new }
-    // The bytes that the reader's tally counted came in this run.
-    ensures counted { IfErr result (λ _. (input : List ℕ)
-        × ReadsBytes R.remaining reader.old reader.new input) }
-    // There is no second input that could be wrong.
-    ensures no_claim { IfErr result (λ fault. ¬ IsOfClaim fault) }
 
     // Before the answer is known, nothing goes out; after a failed write, a first part of it.
     ensures untouched { IfErr result (λ fault. fault ≢ EngineFault.Write

@@ -35,6 +35,34 @@ pub enum NestFault {
     },
 }
 
+impl NestFault {
+    ghost use Rattle.std.specs.Prelude.{◌≡◌, ◌+◌, ◌<◌, ◌^◌};
+    ghost use Rattle.mvt_polygon.specs.InFeature.{AreNestRings, nest_moved};
+
+    /// The fault of a polygon's rings, with the ordinals that they have in the feature, in which the
+    /// polygon's exterior has this ordinal.
+    pub fn in_feature(self, exterior: usize) -> NestFault
+        requires { AreNestRings (λ ring. exterior + ring < 2 ^ 64) self }
+        ensures { result ≡ nest_moved (λ ring. exterior + ring) self }
+    {
+        match self {
+            NestFault::Outside { ring, vertex } => NestFault::Outside {
+                ring: exterior + ring,
+                vertex,
+            },
+            NestFault::InHole {
+                ring,
+                vertex,
+                other,
+            } => NestFault::InHole {
+                ring: exterior + ring,
+                vertex,
+                other: exterior + other,
+            },
+        }
+    }
+}
+
 /// The first vertex, by ring and then by vertex, of a polygon's holes that isn't inside the
 /// exterior or is inside another hole. Where both hold, `Outside` is returned; where several other
 /// holes are around it, `InHole` names the first. None where there is no such vertex (Mapbox Vector

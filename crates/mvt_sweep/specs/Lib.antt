@@ -3,6 +3,7 @@ pub mod Calls
 pub mod Meeting
 pub mod Rings
 pub mod RingsAround
+pub mod SweepWork
 pub mod Swept
 pub mod TurnVertices
 pub mod Work

@@ -1,11 +1,10 @@
 //! Edges that meet wrongly.
-ghost use Rattle.std.specs.Prelude.{◌≡◌, ◌+◌, ◌*◌, ◌<◌, IfOk, IfNone, IfSome, None, Some, [], length};
-ghost use Rattle.mvt_sweep.specs.Work.{AddsWork, IsCounted, vertex_count};
+ghost use Rattle.std.specs.Prelude.{◌≡◌, ◌*◌, ◌<◌, IfOk, IfNone, IfSome, None, Some, [], length};
+ghost use Rattle.mvt_sweep.specs.Work.{IsCounted, vertex_count};
+ghost use Rattle.mvt_sweep.specs.SweepWork.{AddsSweep, AddsTurns};
 ghost use Rattle.mvt_sweep.specs.Calls.SweepVertices.{AreSweepVertices, IsNumbered, IsNamedMeeting};
 ghost use Rattle.mvt_sweep.specs.Meeting.{IsMeetingOf, NoMeeting};
 ghost use Rattle.mvt_sweep.specs.Rings.{rings_of, AreProperRings};
-ghost use Rattle.mvt_sweep.specs.TurnVertices.{turn_count};
-ghost use Rattle.mvt_status.specs.Counts.{bits};
 
 use crate::pairs::{Pairs, find_pairs, meeting_among};
 use crate::sweep::{
@@ -54,11 +53,9 @@ pub fn find_meeting(
     requires { AreProperRings (rings_of rings.now) }
     ensures none { IfOk result (λ found. IfNone found (NoMeeting (rings_of rings.now))) }
     ensures some { IfOk result (λ found. IfSome found (IsMeetingOf (rings_of rings.now))) }
-    ensures counted { let n = vertex_count (rings_of rings.now) in
-        AddsWork (3 * n) (n * (2 * bits n + 2)) (n * (20 * bits n)) count.old count.new }
-    ensures turns { let n = vertex_count (rings_of rings.now) in
-        let turns = turn_count (rings_of rings.now) in
-        AddsWork (3 * n) (n + turns * (2 * bits n)) (turns * (12 * bits n)) count.old count.new }
+    ensures counted { AddsSweep 2 (vertex_count (rings_of rings.now)) count.old count.new }
+    ensures turns { let rings = rings_of rings.now in
+        AddsTurns (vertex_count rings) rings count.old count.new }
     ensures least { IfOk result (IsCounted (vertex_count (rings_of rings.now)) count.old
         count.new) }
 {
@@ -77,11 +74,9 @@ pub fn find_meeting_with<S: Status>(
     requires empty { S.edges status.old ≡ [] }
     ensures none { IfOk result (λ found. IfNone found (NoMeeting (rings_of rings.now))) }
     ensures some { IfOk result (λ found. IfSome found (IsMeetingOf (rings_of rings.now))) }
-    ensures counted { let n = vertex_count (rings_of rings.now) in
-        AddsWork (3 * n) (n * (2 * bits n + 2)) (n * (20 * bits n)) count.old count.new }
-    ensures turns { let n = vertex_count (rings_of rings.now) in
-        let turns = turn_count (rings_of rings.now) in
-        AddsWork (3 * n) (n + turns * (2 * bits n)) (turns * (12 * bits n)) count.old count.new }
+    ensures counted { AddsSweep 2 (vertex_count (rings_of rings.now)) count.old count.new }
+    ensures turns { let rings = rings_of rings.now in
+        AddsTurns (vertex_count rings) rings count.old count.new }
     ensures least { IfOk result (IsCounted (vertex_count (rings_of rings.now)) count.old
         count.new) }
 {
@@ -103,11 +98,9 @@ fn meeting_by_sweep<S: Status>(
     requires empty { S.edges status.old ≡ [] }
     ensures none { IfOk result (λ found. IfNone found (NoMeeting (rings_of rings.now))) }
     ensures some { IfOk result (λ found. IfSome found (IsMeetingOf (rings_of rings.now))) }
-    ensures counted { let n = vertex_count (rings_of rings.now) in
-        AddsWork (3 * n) (n * (2 * bits n + 2)) (n * (20 * bits n)) count.old count.new }
-    ensures turns { let n = vertex_count (rings_of rings.now) in
-        let turns = turn_count (rings_of rings.now) in
-        AddsWork (3 * n) (n + turns * (2 * bits n)) (turns * (12 * bits n)) count.old count.new }
+    ensures counted { AddsSweep 2 (vertex_count (rings_of rings.now)) count.old count.new }
+    ensures turns { let rings = rings_of rings.now in
+        AddsTurns (vertex_count rings) rings count.old count.new }
     ensures least { IfOk result (IsCounted (vertex_count (rings_of rings.now)) count.old
         count.new) }
 {
@@ -131,10 +124,8 @@ pub fn self_intersection(
     requires one { length rings.now ≡ 1 }
     ensures none { IfOk result (λ found. IfNone found (NoMeeting (rings_of rings.now))) }
     ensures some { IfOk result (λ found. IfSome found (IsMeetingOf (rings_of rings.now))) }
-    ensures counted { let n = vertex_count (rings_of rings.now) in
-        let turns = turn_count (rings_of rings.now) in
-        AddsWork (3 * n) (9 * n + turns * (2 * bits n)) (turns * (12 * bits n)) count.old
-        count.new }
+    ensures counted { let rings = rings_of rings.now in
+        AddsTurns (9 * vertex_count rings) rings count.old count.new }
     ensures least { IfOk result (IsCounted (vertex_count (rings_of rings.now)) count.old
         count.new) }
 {

@@ -1,3 +1,4 @@
+pub mod OneWalk
 pub mod Reading
 pub mod RuleFaults
 pub mod WireFaults

@@ -2,4 +2,5 @@
 pub mod FeatureParts
 pub mod LayerReading
 pub mod ReadingRules
+pub mod ScannedFeatures
 pub mod ValueReading

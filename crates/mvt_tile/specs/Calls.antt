@@ -7,6 +7,7 @@ pub mod FieldScan
 pub mod Gathered
 pub mod Least
 pub mod Names
+pub mod OneWalk
 pub mod PassedLayers
 pub mod PassedTags
 pub mod Reading

@@ -8,6 +8,8 @@ ghost use Rattle.mvt_wire.specs.NumberSources.{AreLeft, most_bytes, StandIn};
 ghost use Rattle.mvt_wire.specs.Embedded.{Holds};
 ghost use Rattle.mvt_tile.specs.View.{kind_number};
 
+mod scan;
+
 use crate::record::Kind;
 use mvt_wire::field_number::{FEATURE_ID, GEOMETRY, GEOMETRY_TYPE, TAGS};
 use mvt_wire::payload::number_in;

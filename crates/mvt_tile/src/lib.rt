@@ -10,6 +10,7 @@ mod lists;
 mod read;
 mod record;
 mod rules;
+mod walk;
 mod wire;
 
 pub use advice::{Advice, advise};
@@ -18,4 +19,5 @@ pub use lists::list_of;
 pub use read::{ReadFault, read_tile};
 pub use record::{Feature, Kind, Layer, Tile, Value};
 pub use rules::{FeatureRule, check_layers, check_tags, rule_fault, rule_faults};
+pub use walk::{FeatureTest, passes_one_walk};
 pub use wire::wire_fault;

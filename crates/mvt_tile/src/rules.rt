@@ -27,9 +27,9 @@ mod tags;
 mod tests;
 
 pub use faults::rule_faults;
-use features::FeatureBuffer;
+pub(crate) use features::FeatureBuffer;
 pub use features::FeatureRule;
-use layer_rules::LayerRules;
+pub(crate) use layer_rules::LayerRules;
 use layer_scan::find_in_layer;
 pub use layers::check_layers;
 use mvt_fault::Fault;
@@ -37,7 +37,9 @@ use mvt_wire::field_number::LAYERS;
 use mvt_wire::payload::payload_span;
 use mvt_wire::{Fields, Part};
 use std::alloc::{AllocError, Global};
+pub(crate) use summary::{LayerSummary, add_field, empty_summary};
 pub use tags::check_tags;
+pub(crate) use tags::{TagNeeds, scan_tags};
 
 /// The first fault of a tile by its rules, or None where it keeps them: its layers have version 2
 /// and different names (Mapbox Vector Tile Specification 2.1, section 4.1), the tags of each

@@ -9,7 +9,7 @@ ghost use Rattle.mvt_rules.specs.Parts.TrueFaults.{IsWireFault};
 mod field;
 mod layer;
 mod message;
-mod scan;
+pub(crate) mod scan;
 #[cfg(test)]
 mod tests;
 pub(crate) mod usual;

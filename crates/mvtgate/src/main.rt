@@ -1,10 +1,8 @@
 //! A gate before the publishing of Mapbox vector tiles: the program.
 #![tactic(auto)]
 
-mod not_empty;
-mod report_file;
+mod mend;
 mod run;
-mod standard_error;
 
 use std::process::ExitCode;
 

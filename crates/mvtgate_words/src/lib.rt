@@ -1,7 +1,12 @@
-//! The words that the program knows, and what its help says of them.
+//! The words that the program knows, what its help says of them, and the call that they make.
 #![tactic(auto)]
 
+mod call;
+mod refusal;
+
+pub use call::{Call, CheckWords, MendWords, call_of_words};
 use clap::{Arg, ArgAction, Command};
+pub use refusal::Refusal;
 use std::alloc::{AllocError, Global};
 
 /// The version of the program.
@@ -50,12 +55,20 @@ const REPORT: &str =
     "The file for the line that tells what was changed; without it that goes to standard error";
 
 /// The program with its commands.
-pub fn command_line<'a>(alloc: Global) -> Result<Command<'a>, AllocError> {
-    let command = program(alloc).subcommand(fields_command(alloc)?)?;
-    let command = command.subcommand(check_command(alloc)?)?;
-    let command = command.subcommand(dump_command(alloc)?)?;
-    let command = command.subcommand(mend_command(alloc)?)?;
-    command.subcommand(confirm_command(alloc)?)
+fn command_line<'a>(alloc: Global) -> Result<Command<'a>, AllocError> {
+    let command = with_command(program(alloc), fields_command(alloc))?;
+    let command = with_command(command, check_command(alloc))?;
+    let command = with_command(command, dump_command(alloc))?;
+    let command = with_command(command, mend_command(alloc))?;
+    with_command(command, confirm_command(alloc))
+}
+
+/// The program with one command more, where memory sufficed to make it.
+fn with_command<'a>(
+    program: Command<'a>,
+    made: Result<Command<'a>, AllocError>,
+) -> Result<Command<'a>, AllocError> {
+    program.subcommand(made?)
 }
 
 /// The program, with no command yet.

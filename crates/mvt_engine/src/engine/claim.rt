@@ -1,10 +1,8 @@
 //! What an engine does that has two inputs: read a tile, then a claim about it, and write one line.
-ghost use Rattle.std.specs.Prelude.{◌≡◌, ◌≢◌, ℕ, ◌+◌, List, IfOk, IfErr, OnOk, string_bytes};
-ghost use Rattle.mvt_engine.specs.Claim.{AnswersClaim, BreaksOffClaim, EndsReading, Finds};
-ghost use Rattle.mvt_engine.specs.Engine.{HasFailed, IsClean, IsOfClaim, IsTooLarge, ReadsBytes};
+ghost use Rattle.std.specs.Prelude.{◌≡◌, ◌≢◌, ℕ, ◌+◌, List, IfOk, IfErr, string_bytes};
+ghost use Rattle.mvt_engine.specs.Claim.{IsRunOnClaim};
 ghost use Rattle.mvt_engine.specs.declared.engine.Outcome.{Outcome};
 ghost use Rattle.mvt_fault.specs.declared.reading.FaultTextError.{FaultTextError};
-ghost use Rattle.mvt_engine.specs.Tally.{IsUntouched, counts_of};
 
 use super::{EngineFault, Outcome, read_whole, write_whole};
 use crate::tally::Tally;
@@ -43,57 +41,9 @@ pub fn run_on_claim<T: ClaimTask, R: Read, Q: Read, W: Write>(
     claim: &mut Tally<Q>,
     writer: &mut Tally<W>,
 ) -> Result<Outcome, EngineFault>
-    ensures answers { IfOk result (AnswersClaim (T.IsAnswer task.now)
+    ensures { IsRunOnClaim (T.IsAnswer task.now) (T.IsRefused task.now)
         R.remaining Q.remaining W.contents tile.old tile.new claim.old claim.new writer.old
-        writer.new) }
-    ensures clean { OnOk result (IsClean writer.new
-        ((counts_of tile.new).interrupted + (counts_of claim.new).interrupted)) }
-
-    // A fault of reading the tile comes before one of reading the claim.
-    ensures read { result ≡ Err EngineFault.Read
-        → EndsReading R.remaining tile.old tile.new claim.old claim.new
-        (HasFailed tile.new ((counts_of claim.new).interrupted +
-        (counts_of writer.new).interrupted))
-        (HasFailed claim.new ((counts_of tile.new).interrupted +
-        (counts_of writer.new).interrupted)) }
-    ensures too_large { result ≡ Err EngineFault.TooLarge
-        → EndsReading R.remaining tile.old tile.new claim.old claim.new
-        (IsTooLarge tile.new ((counts_of claim.new).interrupted +
-        (counts_of writer.new).interrupted))
-        (IsTooLarge claim.new ((counts_of tile.new).interrupted +
-        (counts_of writer.new).interrupted)) }
-    ensures memory { result ≡ Err EngineFault.Memory
-        → EndsReading R.remaining tile.old tile.new claim.old claim.new
-        (IsClean tile.new ((counts_of claim.new).interrupted + (counts_of writer.new).interrupted))
-        (IsClean claim.new ((counts_of tile.new).interrupted +
-        (counts_of writer.new).interrupted)) }
-    ensures write { result ≡ Err EngineFault.Write →
-        HasFailed writer.new ((counts_of tile.new).interrupted +
-        (counts_of claim.new).interrupted) }
-    // The bytes that the readers' tallies counted came in this run.
-    ensures counted { IfErr result (λ _. (input : List ℕ) × (claimed : List ℕ)
-        × ReadsBytes R.remaining tile.old tile.new input
-        × ReadsBytes Q.remaining claim.old claim.new claimed) }
-
-    // Only a claim that was read whole is refused, and only after a tile that was.
-    ensures not_json { result ≡ Err EngineFault.NotJson
-        → Finds (λ _ claimed. T.IsRefused task.now claimed FaultTextError.Json)
-        R.remaining Q.remaining tile.old tile.new claim.old claim.new }
-    ensures not_a_fault { result ≡ Err EngineFault.NotAFault
-        → Finds (λ _ claimed. T.IsRefused task.now claimed FaultTextError.Shape)
-        R.remaining Q.remaining tile.old tile.new claim.old claim.new }
-    ensures fault_range { result ≡ Err EngineFault.FaultRange
-        → Finds (λ _ claimed. T.IsRefused task.now claimed FaultTextError.Range)
-        R.remaining Q.remaining tile.old tile.new claim.old claim.new }
-    ensures refused { IfErr result (λ fault. IsOfClaim fault →
-        IsClean claim.new ((counts_of tile.new).interrupted + (counts_of writer.new).interrupted)) }
-
-    // Before the line is whole, nothing goes out; after a failed write, a first part of the line.
-    ensures untouched { IfErr result (λ fault. fault ≢ EngineFault.Write
-        → IsUntouched writer.old writer.new) }
-    ensures prefix { result ≡ Err EngineFault.Write → BreaksOffClaim (T.IsAnswer task.now)
-        R.remaining Q.remaining W.contents tile.old tile.new claim.old claim.new writer.old
-        writer.new }
+        writer.new result }
 {
     tile.reset();
     claim.reset();

@@ -104,7 +104,7 @@ cause_in_first : (rings : List (List Position)) (count ring_count polygon : ℕ)
 cause_in_first rings count ring_count polygon it (Meeting meeting) are none before further within is = absurd is
 cause_in_first rings count ring_count polygon it (Nesting fault) are none before further within is = (
   none_of_its_front rings ring_count it within none,
-  subst (λ (parts : List (List Position)). IsFirstNestFault parts fault) (part_in_first rings ring_count it further within) is,
+  record { alone = is.alone; is = subst (λ (parts : List (List Position)). IsFirstNestFault parts is.alone) (part_in_first rings ring_count it further within) is.is; moved = is.moved },
 )
 cause_in_first rings count ring_count polygon it (Apart fault) are none before further within is = (
   none_of_its_front rings ring_count it within none,

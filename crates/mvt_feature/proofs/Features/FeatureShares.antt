@@ -12,7 +12,8 @@ use Rattle.mvt_feature.specs.Calls.FeatureParts.{listed_at}
 use Rattle.mvt_feature.specs.Calls.Gathered.{cause_moved, fault_moved, IsCauseWithin, IsFaultWithin}
 use Rattle.mvt_feature.specs.Calls.Islands.{AreMarked}
 use Rattle.mvt_sweep.specs.Meeting.{IsMeetingOf, NoMeeting, first_of, second_of}
-use Rattle.mvt_polygon.specs.Nesting.{IsFirstNestFault, IsNestFault}
+use Rattle.mvt_polygon.specs.InFeature.{AreNestRings, IsFirstNestFaultIn, nest_moved}
+use Rattle.mvt_polygon.specs.Nesting.{IsFirstNestFault, IsNestFault, outside, in_hole}
 use Rattle.mvt_polygon.specs.Polygons.{ArePolygons}
 use Rattle.mvt_feature.specs.QuickFeature.{IsAnyMeeting, IsMeetingCause, IsQuickAnswer}
 use Rattle.mvt_polygon.specs.declared.apart.ApartFault.{ApartFault}
@@ -20,6 +21,8 @@ use Rattle.mvt_feature.specs.declared.feature.FeatureCause.{FeatureCause}
 use Rattle.mvt_feature.specs.declared.feature.FeatureCause.TheVariants.{Meeting, Nesting, Apart}
 use Rattle.mvt_feature.specs.declared.feature.FeatureFault.{FeatureFault}
 use Rattle.mvt_polygon.specs.declared.nesting.NestFault.{NestFault}
+use Rattle.mvt_polygon.specs.declared.nesting.NestFault.TheVariants.{Outside, InHole}
+use Rattle.mvt_rules.proofs.Rings.PartsOfRings.{count_of_part}
 use Rattle.mvt_feature.proofs.Features.FeatureFronts.{AreOwnApart, AreFrontsApart, none_of_front, marked_in_no_unmarked, unmarked_in_none, fault_back, fault_there}
 use Rattle.mvt_feature.proofs.Features.GatheredLists.{IsMarked, IsUnmarked, marked_or_not, total_after}
 use Rattle.mvt_feature.proofs.Features.GatheredPolygons.{size_of, start_of, rank_of, block_of, parts, places, numbers, is_it, ends, place_at, number_at, block_within, gathered_of, place_of, parts_copies, polygon_at, ranked, same_part, count_of_parts, count_of_places, count_of_numbers}
@@ -106,7 +109,7 @@ module _ (rings : List (List Position)) (polygons : List (ℕ × ℕ)) (marks : 
   -- its first fault, by the numbers of the feature
   abbrev IsSharedCause : ℕ → FeatureCause → Type 0
   IsSharedCause polygon (Meeting meeting) = IsMeetingOf (part_of rings (front_of (listed_at polygons polygon))) meeting
-  IsSharedCause polygon (Nesting fault) = NoMeeting (part_of own_parts (front_of (block_of polygons marks polygon))) × IsFirstNestFault (part_of rings (listed_at polygons polygon)) fault
+  IsSharedCause polygon (Nesting fault) = NoMeeting (part_of own_parts (front_of (block_of polygons marks polygon))) × IsFirstNestFaultIn rings (listed_at polygons polygon) fault
   IsSharedCause polygon (Apart fault) =
       NoMeeting (part_of own_parts (front_of (block_of polygons marks polygon))) × ((wrong : NestFault) → ¬ IsNestFault (part_of rings (listed_at polygons polygon)) wrong) × IsFirstApartFault rings polygon fault
 
@@ -138,13 +141,57 @@ module _ (rings : List (List Position)) (polygons : List (ℕ × ℕ)) (marks : 
         ];
       }
 
+  -- the rings that a fault of a hole names
+  nest_place : (polygon : ℕ) (fault : NestFault) → polygon < length polygons → IsMarked marks polygon → IsNestFault (part_of rings (listed_at polygons polygon)) fault
+      → nest_moved (slice_index own_places) (nest_moved (λ (ring : ℕ). start_of polygons marks polygon + ring) fault) ≡ nest_moved (λ (ring : ℕ). (listed_at polygons polygon).exterior + ring) fault
+  nest_place polygon _ within marked (outside ring vertex wrong) =
+      let count = count_of_part rings (listed_at polygons polygon) (ends rings polygons marks able listed polygon within) in
+      let before : ring < length (part_of rings (listed_at polygons polygon)) = wrong.hole.before in
+      ap (λ (place : ℕ). Outside place vertex) (place_at rings polygons marks able listed polygon ring within marked (omega arith))
+  nest_place polygon _ within marked (in_hole ring vertex other wrong) =
+      let count = count_of_part rings (listed_at polygons polygon) (ends rings polygons marks able listed polygon within) in
+      let before : ring < length (part_of rings (listed_at polygons polygon)) = wrong.hole.before in
+      let other_before : other < length (part_of rings (listed_at polygons polygon)) = wrong.other_hole.before in
+      ap (λ (place : ℕ). InHole place vertex (slice_index own_places (start_of polygons marks polygon + other))) (place_at rings polygons marks able listed polygon ring within marked (omega arith))
+      ∙ ap (λ (place : ℕ). InHole ((listed_at polygons polygon).exterior + ring) vertex place) (place_at rings polygons marks able listed polygon other within marked (omega arith))
+
+  -- and they are among those that are gathered
+  nest_within : (polygon : ℕ) (fault : NestFault) → polygon < length polygons → IsMarked marks polygon → IsNestFault (part_of rings (listed_at polygons polygon)) fault
+      → AreNestRings (λ (ring : ℕ). ring < length own_places) (nest_moved (λ (ring : ℕ). start_of polygons marks polygon + ring) fault)
+  nest_within polygon _ within marked (outside ring vertex wrong) =
+      let count = count_of_part rings (listed_at polygons polygon) (ends rings polygons marks able listed polygon within) in
+      let fits = block_within rings polygons marks able listed polygon within marked in
+      let all = count_of_parts rings polygons marks able listed in
+      let all_places = count_of_places rings polygons marks able listed in
+      let before : ring < length (part_of rings (listed_at polygons polygon)) = wrong.hole.before in
+      omega arith
+  nest_within polygon _ within marked (in_hole ring vertex other wrong) =
+      let count = count_of_part rings (listed_at polygons polygon) (ends rings polygons marks able listed polygon within) in
+      let fits = block_within rings polygons marks able listed polygon within marked in
+      let all = count_of_parts rings polygons marks able listed in
+      let all_places = count_of_places rings polygons marks able listed in
+      let before : ring < length (part_of rings (listed_at polygons polygon)) = wrong.hole.before in
+      let other_before : other < length (part_of rings (listed_at polygons polygon)) = wrong.other_hole.before in
+      (omega arith, omega arith)
+
+  -- the first fault of a hole
+  first_nest : (polygon : ℕ) (fault : NestFault) → polygon < length polygons → IsMarked marks polygon → IsFirstNestFaultIn own_parts (block_of polygons marks polygon) fault
+      → IsFirstNestFaultIn rings (listed_at polygons polygon) (nest_moved (slice_index own_places) fault)
+  first_nest polygon fault within marked is =
+      let first : IsFirstNestFault (part_of rings (listed_at polygons polygon)) is.alone = subst (λ (all : List (List Position)). IsFirstNestFault all is.alone) (same_part rings polygons marks able listed polygon within marked) is.is in
+      record {
+        alone = is.alone;
+        is = first;
+        moved = ap (nest_moved (slice_index own_places)) is.moved ∙ nest_place polygon is.alone within marked first.holds;
+      }
+
   -- any cause
   shared_cause : (polygon : ℕ) (cause : FeatureCause) → polygon < length polygons → IsMarked marks polygon → IsFeatureCause own_parts (rank_of marks polygon) (block_of polygons marks polygon) cause
       → IsSharedCause polygon (cause_moved own_places own_numbers cause)
   shared_cause polygon (Meeting meeting) within marked is =
       meeting_there (part_of own_parts (front_of (block_of polygons marks polygon))) (part_of rings (front_of (listed_at polygons polygon))) (slice_index own_places) (fronts_copies polygon within marked) meeting is
   shared_cause polygon (Nesting fault) within marked is =
-      (is.0, subst (λ (all : List (List Position)). IsFirstNestFault all fault) (same_part rings polygons marks able listed polygon within marked) is.1)
+      (is.0, first_nest polygon fault within marked is.1)
   shared_cause polygon (Apart fault) within marked is =
       (is.0, subst (λ (all : List (List Position)). (wrong : NestFault) → ¬ IsNestFault all wrong) (same_part rings polygons marks able listed polygon within marked) is.1, first_apart polygon fault within marked is.2)
 
@@ -197,7 +244,9 @@ module _ (rings : List (List Position)) (polygons : List (ℕ × ℕ)) (marks : 
       let first : meeting.first_ring < length (part_of own_parts (front_of block)) = ring_within (part_of own_parts (front_of block)) own_parts (λ (ring : ℕ). ring) copies (first_of meeting) is.one is.one_there in
       let second : meeting.second_ring < length (part_of own_parts (front_of block)) = ring_within (part_of own_parts (front_of block)) own_parts (λ (ring : ℕ). ring) copies (second_of meeting) is.other is.other_there in
       (omega arith, omega arith)
-  cause_within polygon (Nesting fault) within marked is = tt
+  cause_within polygon (Nesting fault) within marked is =
+      let first : IsFirstNestFault (part_of rings (listed_at polygons polygon)) is.1.alone = subst (λ (all : List (List Position)). IsFirstNestFault all is.1.alone) (same_part rings polygons marks able listed polygon within marked) is.1.is in
+      subst (AreNestRings (λ (ring : ℕ). ring < length own_places)) (sym is.1.moved) (nest_within polygon is.1.alone within marked first.holds)
   cause_within polygon (Apart fault) within marked is =
       let its = ranked rings polygons marks able listed fault.other is.2.holds.other_rings is.2.holds.other_there in
       let rank = its.rank in

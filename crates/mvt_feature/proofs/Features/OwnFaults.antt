@@ -1,40 +1,33 @@
 -- The fault of a polygon by itself, with the numbers that its rings have in the feature.
-use Rattle.std.proofs.Common.{◌≡◌, ℕ, ◌+◌, ◌^◌, ◌<◌, ◌≤◌, inl, inr, Bool, true, false, List, length, Option, Some, None, option_map, is_some, IfNone, IfSome, refl, sym, ◌∙◌, subst, arith}
+use Rattle.std.proofs.Common.{◌≡◌, ℕ, ◌+◌, ◌<◌, ◌≤◌, inl, inr, Bool, true, false, List, length, Option, Some, None, option_map, is_some, IfNone, IfSome, refl, sym, ◌∙◌, subst, arith}
 use Rattle.std.proofs.lemmas.Bool.{cases_lt}
-use Rattle.mvt_rules.proofs.Rings.PartsOfRings.{count_of_part}
 use Rattle.mvt_plane.specs.Counted.{Counted}
 use Rattle.mvt_rules.specs.Parts.Rings.{part_of}
 use Rattle.mvt_rules.specs.Polygon.{PolygonRings}
 use Rattle.mvt_plane.specs.Position.{Position}
-use Rattle.mvt_feature.specs.Calls.Alone.{IsFine, AreFineBefore, IsOwnAnswer, IsOwnWithin, own_fault}
+use Rattle.mvt_feature.specs.Calls.Alone.{IsFine, AreFineBefore, IsOwnAnswer, own_fault}
 use Rattle.mvt_sweep.specs.Work.{IsCounted}
 use Rattle.mvt_feature.specs.Feature.{front_of}
 use Rattle.mvt_feature.specs.Calls.FeatureParts.{listed_at}
-use Rattle.mvt_sweep.specs.Meeting.{first_of, second_of}
+use Rattle.mvt_sweep.specs.Meeting.{IsMeetingOf}
 use Rattle.mvt_polygon.specs.PolygonFault.{IsPolygonAnswer, meeting_in}
 use Rattle.mvt_feature.specs.declared.feature.FeatureFault.{FeatureFault}
+use Rattle.mvt_sweep.specs.declared.meeting.Meeting.{Meeting as MeetingOf}
 use Rattle.mvt_polygon.specs.declared.polygon.PolygonFault.{PolygonFault}
 use Rattle.mvt_polygon.specs.declared.polygon.PolygonFault.TheVariants.{Meeting, Nesting}
 use Rattle.mvt_status.specs.Counts.{raised}
 use Rattle.mvt_feature.proofs.Features.GatheredLists.{IsUnmarked}
-use Rattle.mvt_feature.proofs.Features.RingCopies.{ring_within, meeting_there, part_copies, part_of_front_copies}
-
--- the numbers of its rings are those of rings
-pub own_within : (rings : List (List Position)) (it : PolygonRings) (found : Option PolygonFault) → it.after ≤ length rings → it.after < 2 ^ 64 → IsPolygonAnswer (part_of rings it) found → IfSome found (IsOwnWithin it.exterior)
-own_within rings it (Some (Meeting meeting)) within fits is =
-    let copies = part_copies rings it within in
-    let count = count_of_part rings it within in
-    let first : meeting.first_ring < length (part_of rings it) = ring_within (part_of rings it) rings (λ (ring : ℕ). it.exterior + ring) copies (first_of meeting) is.one is.one_there in
-    let second : meeting.second_ring < length (part_of rings it) = ring_within (part_of rings it) rings (λ (ring : ℕ). it.exterior + ring) copies (second_of meeting) is.other is.other_there in
-    (omega arith, omega arith)
-own_within rings it (Some (Nesting fault)) within fits is = tt
-own_within rings it None within fits is = tt
+use Rattle.mvt_feature.proofs.Features.RingCopies.{meeting_there, part_of_front_copies}
 
 -- what is found of it is its fault in the feature
-pub own_answer : (rings : List (List Position)) (polygon : ℕ) (it : PolygonRings) (found : Option PolygonFault) → it.exterior < it.after → it.after ≤ length rings → IsPolygonAnswer (part_of rings it) found
+pub own_answer : (rings : List (List Position)) (polygon : ℕ) (it : PolygonRings) (found : Option PolygonFault) → it.exterior < it.after → it.after ≤ length rings → IsPolygonAnswer rings it found
     → IsOwnAnswer rings polygon it (option_map (own_fault polygon it) found)
-own_answer rings polygon it (Some (Meeting meeting)) further within is =
-    (refl, refl, meeting_there (part_of rings it) (part_of rings (front_of it)) (λ (ring : ℕ). it.exterior + ring) (part_of_front_copies rings it further within) meeting is)
+own_answer rings polygon it (Some (Meeting meeting)) further within is = (
+  refl,
+  refl,
+  subst (λ (found : MeetingOf). IsMeetingOf (part_of rings (front_of it)) found) (sym is.moved)
+      (meeting_there (part_of rings it) (part_of rings (front_of it)) (λ (ring : ℕ). it.exterior + ring) (part_of_front_copies rings it further within) is.alone is.is),
+)
 own_answer rings polygon it (Some (Nesting fault)) further within is = (refl, refl, is)
 own_answer rings polygon it None further within is = record { apart = is.0; nested = is.1 }
 

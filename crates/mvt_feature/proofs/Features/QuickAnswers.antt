@@ -54,7 +54,7 @@ same_answer rings None none = (λ clear. clear, λ clear. clear)
 -- a polygon with a fault isn't clear
 not_clear : (rings : List (List Position)) (polygon : ℕ) (it : PolygonRings) (cause : FeatureCause) → IsFeatureCause rings polygon it cause → ¬ IsClear rings polygon it
 not_clear rings polygon it (Meeting meeting) is clear = clear.apart (first_of meeting) (second_of meeting) meeting.point is.meets
-not_clear rings polygon it (Nesting fault) is clear = clear.placed.nested fault is.1.holds
+not_clear rings polygon it (Nesting fault) is clear = clear.placed.nested is.1.alone is.1.is.holds
 not_clear rings polygon it (Apart fault) is clear = clear.placed.alone fault.vertex fault.other is.2.holds
 
 -- so not all are

@@ -10,7 +10,7 @@ use Rattle.mvt_plane.specs.Position.{Position}
 use Rattle.mvt_plane.specs.Geometry.RationalPoint.{RationalPoint}
 use Rattle.mvt_plane.specs.declared.geometry.edge.Edge.{Edge}
 use Rattle.mvt_feature.specs.Feature.{front_of}
-use Rattle.mvt_feature.specs.Calls.Gathered.{meeting_moved}
+use Rattle.mvt_polygon.specs.InFeature.{meeting_moved}
 use Rattle.mvt_sweep.specs.Meeting.{IsMeetingOf, NoMeeting, first_of, second_of}
 use Rattle.mvt_sweep.specs.declared.meeting.Meeting.{Meeting}
 

@@ -17,6 +17,7 @@ use Rattle.mvt_rules.specs.Ring.{ArePolygonRings}
 use Rattle.mvt_rules.proofs.Rings.PartsOfRings.{count_of_part}
 use Rattle.mvt_rules.proofs.Rings.PolygonNumbers.{exterior_within, polygon_of_ring}
 use Rattle.mvt_rules.proofs.Rings.SamePolygons.{exterior_of_polygon, first_begins, one_polygon as one_polygon_of, same_polygon}
+use Rattle.mvt_polygon.proofs.PolygonSlices.{part_read}
 use Rattle.mvt_polygon.specs.Nesting.{one_polygon}
 use Rattle.mvt_feature.specs.Calls.Passings.{AreAdded, ArePassings, IsPassing, vertices_of_several}
 use Rattle.mvt_polygon.specs.Polygons.{ArePolygons}
@@ -226,10 +227,6 @@ all_parts rings to work =
     work_within (omega arith) (mul-le-mul_right (2 * bits all + 2) fewer) (mul-le-mul_right (20 * bits all) fewer) work
 
 -- ---- rings, as the code reads them
-
--- the slice of a polygon's rings is the part of the polygon
-pub part_read : (rings : List (Vec Position Global)) (it : PolygonRings) → rings_of (slice_range rings it.exterior it.after) ≡ part_of (rings_of rings) it
-part_read rings it = simp (take-map, drop-map)
 
 -- the ring after a polygon's last one, and the exterior
 pub ends_read : (rings : List (Vec Position Global)) (polygons : List (ℕ × ℕ)) (polygon : ℕ) → ArePolygons (rings_of rings) polygons → polygon < length polygons

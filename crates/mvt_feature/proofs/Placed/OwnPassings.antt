@@ -7,6 +7,7 @@ use Rattle.mvt_rules.specs.Polygon.{PolygonRings, IsHoleOf}
 use Rattle.mvt_plane.specs.Position.{Position}
 use Rattle.mvt_sweep.specs.Meeting.{NoMeeting}
 use Rattle.mvt_rules.proofs.Rings.PartsOfRings.{ring_of_part, count_of_part, meeting_in_part}
+use Rattle.mvt_polygon.proofs.PolygonSlices.{ring_of_whole}
 use Rattle.mvt_polygon.specs.Nesting.{one_polygon}
 use Rattle.mvt_feature.specs.Calls.Passings.{IsPassing, passing_by}
 use Rattle.mvt_feature.specs.Calls.PolygonsAround.{AreNotedBy, EntersPolygon, LeavesPolygon}
@@ -85,22 +86,6 @@ pub one_ring : (rings : List (List Position)) → length rings ≡ 1 → IsPassi
 one_ring rings one = record { exterior = refl; in_no_hole = λ hole is. let following : 0 < hole = is.following in let before : hole < length rings = is.before in absurd (omega arith) }
 
 -- ---- among all rings
-
--- a ring of the part is one of its feature's
-pub ring_of_whole : (rings : List (List Position)) (its : PolygonRings) (number : ℕ) (ring : List Position) → its.after ≤ length rings → slice_get (part_of rings its) number ≡ Some ring
-    → (number < its.after - its.exterior) × (slice_get rings (its.exterior + number) ≡ Some ring)
-ring_of_whole rings its number ring within there =
-    let count = count_of_part rings its within in
-    let less : number < length (part_of rings its) = slice_get_within (part_of rings its) number ring there in
-    let below : number < its.after - its.exterior = omega arith in
-    (below, sym (ring_of_part rings its number below) ∙ there)
-
--- the rings of the part are proper where all are
-pub proper_part : (rings : List (List Position)) (its : PolygonRings) → its.after ≤ length rings → AreProperRings rings → AreProperRings (part_of rings its)
-proper_part rings its within proper = record {
-  several = λ number ring there. proper.several (its.exterior + number) ring (ring_of_whole rings its number ring within there).1;
-  apart = λ number vertex ring position next there. proper.apart (its.exterior + number) vertex ring position next (ring_of_whole rings its number ring within there).1;
-}
 
 -- where no edges of all rings meet wrongly, none of the part do
 pub clear_part : (rings : List (List Position)) (its : PolygonRings) → its.after ≤ length rings → NoMeeting rings → NoMeeting (part_of rings its)

@@ -25,14 +25,15 @@ use Rattle.mvt_feature.specs.declared.feature.passing.Passing.{Passing}
 use Rattle.mvt_feature.specs.declared.feature.passing.Passing.TheVariants.{Enters, Leaves, Neither}
 use Rattle.mvt_polygon.specs.declared.nesting.NestFault.{NestFault}
 use Rattle.mvt_polygon.specs.declared.nesting.NestFault.TheVariants.{Outside, InHole}
-use Rattle.mvt_feature.proofs.Placed.AddedPassings.{part_read, vertices_of_part}
+use Rattle.mvt_feature.proofs.Placed.AddedPassings.{vertices_of_part}
+use Rattle.mvt_polygon.proofs.PolygonSlices.{part_read, proper_part}
 use Rattle.mvt_polygon.proofs.ApartFaults.{rings_at, ends_within, exterior_read, around_position}
 use Rattle.mvt_feature.proofs.Placed.AroundVertices.{vertex_shows, around_or_not}
 use Rattle.mvt_sweep.proofs.Vertices.VertexNumbers.{count_all}
 use Rattle.mvt_feature.proofs.Features.FaultsByRings.{exterior_apart, outside_at_first, in_hole_at_first, whole_part, no_nest_fault}
 use Rattle.mvt_polygon.proofs.NestFaults.{first_hole}
 use Rattle.mvt_polygon.proofs.NestOnce.{first_of_first_vertex, probes_within}
-use Rattle.mvt_feature.proofs.Placed.OwnPassings.{leaves_in_part, vertex_in_part, clear_part, proper_part}
+use Rattle.mvt_feature.proofs.Placed.OwnPassings.{leaves_in_part, vertex_in_part, clear_part}
 use Rattle.mvt_sweep.proofs.Vertices.RingReads.{ring_there, count_of_rings}
 
 -- ---- one hole of a polygon alone

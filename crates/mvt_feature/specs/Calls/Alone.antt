@@ -1,14 +1,14 @@
 -- The polygons of a feature that are checked one by one, and the first fault of them and of all others.
-use Rattle.std.specs.Prelude.{◌≡◌, ℕ, zero, suc, ◌+◌, ◌<◌, ◌^◌, ltb, Bool, false, cond, List, length, slice_index_or, Option, Some, None}
+use Rattle.std.specs.Prelude.{◌≡◌, ℕ, zero, suc, ◌+◌, ◌<◌, ltb, Bool, false, cond, List, length, slice_index_or, Option, Some, None}
 use Rattle.mvt_rules.specs.Parts.Rings.{part_of}
 use Rattle.mvt_rules.specs.Polygon.{PolygonRings}
 use Rattle.mvt_plane.specs.Position.{Position}
 use Rattle.mvt_sweep.specs.Work.{vertex_count}
 use Rattle.mvt_feature.specs.Feature.{front_of, rings_in}
 use Rattle.mvt_feature.specs.Calls.FeatureParts.{listed_at}
-use Rattle.mvt_feature.specs.Calls.Gathered.{meeting_moved}
 use Rattle.mvt_sweep.specs.Meeting.{IsMeetingOf, NoMeeting}
-use Rattle.mvt_polygon.specs.Nesting.{IsFirstNestFault, IsNestFault}
+use Rattle.mvt_polygon.specs.InFeature.{IsFirstNestFaultIn}
+use Rattle.mvt_polygon.specs.Nesting.{IsNestFault}
 use Rattle.mvt_feature.specs.declared.feature.FeatureCause.{FeatureCause}
 use Rattle.mvt_feature.specs.declared.feature.FeatureCause.TheVariants.{Meeting, Nesting, Apart}
 use Rattle.mvt_feature.specs.declared.feature.FeatureFault.{FeatureFault}
@@ -28,7 +28,7 @@ AreFineBefore rings polygons marks to = (polygon : ℕ) → polygon < to → sli
 -- the polygon has this fault of its own
 abbrev pub IsOwnCause : List (List Position) → PolygonRings → FeatureCause → Type 0
 IsOwnCause rings it (Meeting meeting) = IsMeetingOf (part_of rings (front_of it)) meeting
-IsOwnCause rings it (Nesting fault) = NoMeeting (part_of rings it) × IsFirstNestFault (part_of rings it) fault
+IsOwnCause rings it (Nesting fault) = NoMeeting (part_of rings it) × IsFirstNestFaultIn rings it fault
 IsOwnCause rings it (Apart fault) = ⊥
 
 -- what a check of this polygon alone answers
@@ -57,19 +57,14 @@ vertices_alone rings polygons marks (suc polygon) =
 
 -- One polygon's fault
 
--- with the numbers that its rings have in the feature
-abbrev pub own_cause : ℕ → PolygonFault → FeatureCause
-own_cause exterior (OwnMeeting meeting) = Meeting (meeting_moved (λ (ring : ℕ). exterior + ring) meeting)
-own_cause exterior (OwnNesting fault) = Nesting fault
+-- as a cause
+abbrev pub own_cause : PolygonFault → FeatureCause
+own_cause (OwnMeeting meeting) = Meeting meeting
+own_cause (OwnNesting fault) = Nesting fault
 
 -- as the feature's
 abbrev pub own_fault : ℕ → PolygonRings → PolygonFault → FeatureFault
-own_fault polygon it fault = record { polygon = polygon; exterior = it.exterior; after = it.after; cause = own_cause it.exterior fault }
-
--- the numbers of its rings in the feature are of 64 bits
-abbrev pub IsOwnWithin : ℕ → PolygonFault → Type 0
-IsOwnWithin exterior (OwnMeeting meeting) = (exterior + meeting.first_ring < 2 ^ 64) × (exterior + meeting.second_ring < 2 ^ 64)
-IsOwnWithin exterior (OwnNesting fault) = Unit {0}
+own_fault polygon it fault = record { polygon = polygon; exterior = it.exterior; after = it.after; cause = own_cause fault }
 
 -- Two faults
 

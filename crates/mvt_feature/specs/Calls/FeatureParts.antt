@@ -7,7 +7,8 @@ use Rattle.mvt_plane.specs.Position.{Position}
 use Rattle.mvt_polygon.specs.Apart.{IsApartFault, IsFirstApartFault}
 use Rattle.mvt_feature.specs.Feature.{IsPlaced, front_of, rings_in}
 use Rattle.mvt_sweep.specs.Meeting.{IsMeetingOf}
-use Rattle.mvt_polygon.specs.Nesting.{IsFirstNestFault, IsNestFault}
+use Rattle.mvt_polygon.specs.InFeature.{IsFirstNestFaultIn}
+use Rattle.mvt_polygon.specs.Nesting.{IsNestFault}
 use Rattle.mvt_sweep.specs.Work.{vertex_count}
 use Rattle.mvt_sweep.specs.Swept.{IsNotedClear}
 use Rattle.mvt_feature.specs.declared.feature.FeatureCause.{FeatureCause}
@@ -66,7 +67,7 @@ pub record AreAllHalves (rings : List (List Position)) (polygons : List (ℕ × 
 -- the polygon is misplaced in this way. Where its exterior is in another polygon, all of its vertices are.
 abbrev pub IsMisplacedBy : List (List Position) → ℕ → PolygonRings → FeatureCause → Type 0
 IsMisplacedBy rings polygon it (Meeting meeting) = ⊥
-IsMisplacedBy rings polygon it (Nesting fault) = IsFirstNestFault (part_of rings it) fault
+IsMisplacedBy rings polygon it (Nesting fault) = IsFirstNestFaultIn rings it fault
 IsMisplacedBy rings polygon it (Apart fault) =
     (fault.vertex ≡ 0) × ((wrong : NestFault) → ¬ IsNestFault (part_of rings it) wrong) × IsFirstApartFault rings polygon fault
 

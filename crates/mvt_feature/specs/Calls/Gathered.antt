@@ -5,10 +5,10 @@ use Rattle.std.specs.List.{range_with_len}
 use Rattle.mvt_rules.specs.Parts.Rings.{part_of}
 use Rattle.mvt_plane.specs.Position.{Position}
 use Rattle.mvt_feature.specs.Calls.FeatureParts.{listed_at}
+use Rattle.mvt_polygon.specs.InFeature.{AreNestRings, meeting_moved, nest_moved}
 use Rattle.mvt_feature.specs.declared.feature.FeatureCause.{FeatureCause}
 use Rattle.mvt_feature.specs.declared.feature.FeatureCause.TheVariants.{Meeting, Nesting, Apart}
 use Rattle.mvt_feature.specs.declared.feature.FeatureFault.{FeatureFault}
-use Rattle.mvt_sweep.specs.declared.meeting.Meeting.{Meeting as MeetingOf}
 
 -- Polygons
 
@@ -32,14 +32,10 @@ gathered_numbers marks = gathered marks (λ (polygon : ℕ). polygon ∷ [])
 
 -- Faults
 
--- the meeting, where each ring is at another place
-abbrev pub meeting_moved : (ℕ → ℕ) → MeetingOf → MeetingOf
-meeting_moved place meeting = record meeting { first_ring = place meeting.first_ring; second_ring = place meeting.second_ring }
-
 -- what is wrong, where each ring and each polygon has another number
 abbrev pub cause_moved : List ℕ → List ℕ → FeatureCause → FeatureCause
 cause_moved places numbers (Meeting meeting) = Meeting (meeting_moved (slice_index places) meeting)
-cause_moved places numbers (Nesting fault) = Nesting fault
+cause_moved places numbers (Nesting fault) = Nesting (nest_moved (slice_index places) fault)
 cause_moved places numbers (Apart fault) = Apart (record fault { other = slice_index numbers fault.other })
 
 -- the fault, where each ring and each polygon has another number
@@ -54,7 +50,7 @@ fault_moved polygons places numbers fault = record {
 -- the rings and the polygon that it names have other numbers
 abbrev pub IsCauseWithin : List ℕ → List ℕ → FeatureCause → Type 0
 IsCauseWithin places numbers (Meeting meeting) = (meeting.first_ring < length places) × (meeting.second_ring < length places)
-IsCauseWithin places numbers (Nesting fault) = Unit {0}
+IsCauseWithin places numbers (Nesting fault) = AreNestRings (λ (ring : ℕ). ring < length places) fault
 IsCauseWithin places numbers (Apart fault) = fault.other < length numbers
 
 -- and so does the fault's own polygon

@@ -1,13 +1,14 @@
 //! Some polygons of a feature as a feature of their own.
-ghost use Rattle.std.specs.Prelude.{◌≡◌, ◌<◌, ◌≤◌, ◌-◌, ◌++◌, length, option_map, slice_range, IfOk, IfSome};
+ghost use Rattle.std.specs.Prelude.{◌≡◌, ◌<◌, ◌≤◌, ◌-◌, ◌++◌, length, option_map, slice_index, slice_range, IfOk, IfSome};
 ghost use Rattle.std.specs.List.{range_with_len};
 ghost use Rattle.mvt_feature.specs.Calls.Gathered.{cause_moved, fault_moved, gathered_numbers, gathered_places, gathered_rings, IsCauseWithin, IsFaultWithin};
+ghost use Rattle.mvt_polygon.specs.InFeature.{AreNestRings, nest_moved};
 ghost use Rattle.mvt_polygon.specs.Polygons.{ArePolygons};
 ghost use Rattle.mvt_sweep.specs.Rings.{rings_of};
 
 use super::{FeatureCause, FeatureFault};
 use mvt_plane::Point;
-use mvt_polygon::ApartFault;
+use mvt_polygon::{ApartFault, NestFault};
 use mvt_sweep::Meeting;
 use std::alloc::{AllocError, Global};
 
@@ -112,11 +113,33 @@ impl Gathered {
                 second_ring: self.ring_of[meeting.second_ring],
                 ..meeting
             }),
-            FeatureCause::Nesting(fault) => FeatureCause::Nesting(fault),
+            FeatureCause::Nesting(fault) => FeatureCause::Nesting(self.hole_in_feature(fault)),
             FeatureCause::Apart(fault) => FeatureCause::Apart(ApartFault {
                 other: self.polygon_of[fault.other],
                 ..fault
             }),
+        }
+    }
+
+    /// The fault of a hole, with the numbers that the rings have in the feature.
+    fn hole_in_feature(&self, fault: NestFault) -> NestFault
+        requires { AreNestRings (λ ring. ring < length self.now.ring_of.items) fault }
+        ensures { result ≡ nest_moved (slice_index self.now.ring_of.items) fault }
+    {
+        match fault {
+            NestFault::Outside { ring, vertex } => NestFault::Outside {
+                ring: self.ring_of[ring],
+                vertex,
+            },
+            NestFault::InHole {
+                ring,
+                vertex,
+                other,
+            } => NestFault::InHole {
+                ring: self.ring_of[ring],
+                vertex,
+                other: self.ring_of[other],
+            },
         }
     }
 }

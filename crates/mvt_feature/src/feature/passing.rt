@@ -1,6 +1,7 @@
 //! What the number of polygons around becomes within each ring of a feature.
-ghost use Rattle.std.specs.Prelude.{◌≡◌, ◌+◌, ◌*◌, ◌<◌, ◌≤◌, ℕ, IfOk, length, slice_get, Some};
-ghost use Rattle.mvt_sweep.specs.Work.{AddsWork, vertex_count};
+ghost use Rattle.std.specs.Prelude.{◌≡◌, ◌+◌, ◌<◌, ◌≤◌, ℕ, IfOk, length, slice_get, Some};
+ghost use Rattle.mvt_sweep.specs.SweepWork.{AddsSweep};
+ghost use Rattle.mvt_sweep.specs.Work.{vertex_count};
 ghost use Rattle.mvt_sweep.specs.Meeting.{NoMeeting};
 ghost use Rattle.mvt_rules.specs.Ring.{ArePolygonRings};
 ghost use Rattle.mvt_polygon.specs.Nesting.{one_polygon};
@@ -8,7 +9,7 @@ ghost use Rattle.mvt_feature.specs.Calls.Passings.{AreAdded, AreCounts, AreInwar
 ghost use Rattle.mvt_polygon.specs.Polygons.{ArePolygons};
 ghost use Rattle.mvt_sweep.specs.Rings.{rings_of, AreProperRings};
 ghost use Rattle.mvt_sweep.specs.RingsAround.{nearest_at};
-ghost use Rattle.mvt_status.specs.Counts.{bits, raised};
+ghost use Rattle.mvt_status.specs.Counts.{raised};
 
 use mvt_plane::{Count, Point};
 use mvt_sweep::{RingNotes, Swept, sweep_rings};
@@ -42,9 +43,7 @@ pub(super) fn passings(
     requires clear { NoMeeting (rings_of rings.now) }
     ensures size { IfOk result (λ passings. length passings.items ≡ length rings.now) }
     ensures each { IfOk result (λ passings. ArePassings (rings_of rings.now) passings.items) }
-    ensures counted { let vertices = vertex_count (rings_of rings.now) in
-        AddsWork (3 * vertices) (vertices * (2 * bits vertices + 2))
-        (vertices * (20 * bits vertices)) count.old count.new }
+    ensures counted { AddsSweep 2 (vertex_count (rings_of rings.now)) count.old count.new }
     ensures least { IfOk result (λ _. raised (vertices_of_several (rings_of rings.now) polygons.now
         (length polygons.now)) count.old.probes ≤ count.new.probes) }
 {
@@ -69,9 +68,7 @@ fn add_passings(
     ensures added { IfOk result (λ _.
         AreAdded (length rings.now) (IsPassing (rings_of rings.now)
         (one_polygon (rings_of rings.now))) passings.old.items passings.new.items) }
-    ensures counted { let vertices = vertex_count (rings_of rings.now) in
-        AddsWork (3 * vertices) (vertices * (2 * bits vertices + 2))
-        (vertices * (20 * bits vertices)) count.old count.new }
+    ensures counted { AddsSweep 2 (vertex_count (rings_of rings.now)) count.old count.new }
     ensures least { IfOk result (λ _. 1 < length rings.now
         → raised (vertex_count (rings_of rings.now)) count.old.probes ≤ count.new.probes) }
 {

@@ -120,7 +120,7 @@ fn cause_of(
     if let Some(hole) = first_wrong_hole(passings, exterior, after) {
         let own = &rings[exterior..after];
         let fault = fault_of_first_vertex(own, hole - exterior, rings[hole][0], count)?;
-        return Some(FeatureCause::Nesting(fault));
+        return Some(FeatureCause::Nesting(fault.in_feature(exterior)));
     }
     if around[exterior] == 0 {
         return None;

@@ -1,12 +1,32 @@
 use super::{FeatureCause, FeatureFault, check_feature, check_feature_quickly};
 use mvt_plane::{Count, Point};
-use mvt_polygon::{ApartFault, check_apart, check_nesting, check_rings, groups};
+use mvt_polygon::{ApartFault, NestFault, check_apart, check_nesting, check_rings, groups};
 use mvt_sweep::{are_proper, find_meeting};
 use rings::ring_at;
 use std::alloc::Global;
 use std::process::Abort;
 
 pub(crate) mod rings;
+
+/// The fault of a polygon's holes, with the numbers that the rings have in the feature, in which the
+/// exterior has this number.
+fn in_feature(fault: NestFault, exterior: usize) -> NestFault {
+    match fault {
+        NestFault::Outside { ring, vertex } => NestFault::Outside {
+            ring: exterior.wrapping_add(ring),
+            vertex,
+        },
+        NestFault::InHole {
+            ring,
+            vertex,
+            other,
+        } => NestFault::InHole {
+            ring: exterior.wrapping_add(ring),
+            vertex,
+            other: exterior.wrapping_add(other),
+        },
+    }
+}
 
 /// The first fault of a feature, searched for plainly: of one polygon after another a meeting among
 /// all rings up to its own, then its holes, then all vertices of its exterior in all other polygons.
@@ -20,7 +40,7 @@ fn plain_fault(rt: &impl Abort, alloc: Global, rings: &[Vec<Point>]) -> Option<F
         let found = find_meeting(alloc, &rings[..after], &mut Count::new()).expect(rt, "memory");
         let cause = match (found, check_nesting(&rings[exterior..after])) {
             (Some(meeting), _) => Some(FeatureCause::Meeting(meeting)),
-            (None, Some(fault)) => Some(FeatureCause::Nesting(fault)),
+            (None, Some(fault)) => Some(FeatureCause::Nesting(in_feature(fault, exterior))),
             (None, None) => check_apart(rings, &polygons, polygon).map(FeatureCause::Apart),
         };
         if let Some(cause) = cause {

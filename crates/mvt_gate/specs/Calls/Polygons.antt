@@ -1,6 +1,6 @@
 -- What is known of the rings of one feature while its polygons are checked one after another (Mapbox Vector Tile
 -- Specification 2.1, section 4.3.4.4).
-use Rattle.std.specs.Prelude.{ℕ, ◌+◌, ◌<◌, List, Option}
+use Rattle.std.specs.Prelude.{ℕ, ◌<◌, List, Option}
 use Rattle.mvt_rules.specs.Parts.Geometry.{IsFaultOfGeometryBy}
 use Rattle.mvt_rules.specs.Valid.{IsValidPolygonBy}
 use Rattle.mvt_fault.specs.Place.{IsLeast}
@@ -51,51 +51,25 @@ AreValidBefore profile rings polygon = (earlier : ℕ) (polygon_rings : PolygonR
 
 -- One polygon
 
--- its rings, by their numbers in the feature
-abbrev pub rings_at : PolygonPlace → PolygonRings
-rings_at place = record { exterior = place.exterior; after = place.after }
-
--- a ring's number in the feature, of one by its number in the polygon, is one of the polygon's rings
-abbrev pub IsRingWithin : PolygonPlace → ℕ → Type 0
-IsRingWithin place ring = place.exterior + ring < place.after
-
--- the fault of a meeting, with the numbers that the rings have in the feature
+-- the fault of a meeting
 abbrev pub meeting_fault : PolygonPlace → Meeting → Fault
 meeting_fault place meeting =
     faults.Meeting place.layer place.feature place.polygon
-    (record { ring = place.exterior + meeting.first_ring; edge = meeting.first_edge })
-    (record { ring = place.exterior + meeting.second_ring; edge = meeting.second_edge })
+    (record { ring = meeting.first_ring; edge = meeting.first_edge })
+    (record { ring = meeting.second_ring; edge = meeting.second_edge })
     meeting.point.x meeting.point.y meeting.point.w
 
--- the fault of a hole, with those numbers
+-- the fault of a hole
 abbrev pub hole_fault : PolygonPlace → NestFault → Fault
-hole_fault place (nest_faults.Outside ring vertex) = faults.Outside place.layer place.feature place.polygon (place.exterior + ring) vertex
-hole_fault place (nest_faults.InHole ring vertex other) =
-    faults.HoleInHole place.layer place.feature place.polygon (place.exterior + ring) vertex (place.exterior + other)
-
--- the rings that such a fault names are the polygon's
-abbrev pub AreWithin : PolygonPlace → NestFault → Type 0
-AreWithin place (nest_faults.Outside ring vertex) = IsRingWithin place ring
-AreWithin place (nest_faults.InHole ring vertex other) = IsRingWithin place ring × IsRingWithin place other
+hole_fault place (nest_faults.Outside ring vertex) = faults.Outside place.layer place.feature place.polygon ring vertex
+hole_fault place (nest_faults.InHole ring vertex other) = faults.HoleInHole place.layer place.feature place.polygon ring vertex other
 
 -- the fault of a vertex of the polygon's exterior that is inside another polygon
 abbrev pub apart_fault : PolygonPlace → ApartFault → Fault
 apart_fault place found = faults.InPolygon place.layer place.feature place.polygon found.vertex found.other
 
--- One polygon of a feature whose polygons are kept apart
-
--- the rings up to its last one, as a place of their own
-abbrev pub front_place : PolygonPlace → PolygonPlace
-front_place place = record { layer = place.layer; feature = place.feature; polygon = place.polygon; exterior = 0; after = place.after }
-
--- the fault of what is wrong with the polygon. A meeting has the numbers that its rings have in the feature.
+-- the fault of what is wrong with a polygon of a feature whose polygons are kept apart
 abbrev pub cause_fault : PolygonPlace → FeatureCause → Fault
-cause_fault place (causes.Meeting meeting) = meeting_fault (front_place place) meeting
+cause_fault place (causes.Meeting meeting) = meeting_fault place meeting
 cause_fault place (causes.Nesting fault) = hole_fault place fault
 cause_fault place (causes.Apart found) = apart_fault place found
-
--- the rings that such a fault names are those up to the polygon's last one
-abbrev pub IsReportable : PolygonPlace → FeatureCause → Type 0
-IsReportable place (causes.Meeting meeting) = IsRingWithin (front_place place) meeting.first_ring × IsRingWithin (front_place place) meeting.second_ring
-IsReportable place (causes.Nesting fault) = AreWithin place fault
-IsReportable place (causes.Apart found) = Unit {0}

@@ -1,9 +1,8 @@
 //! The engine of `check` with all its options.
-ghost use Rattle.std.specs.Prelude.{◌≡◌, ◌≢◌, ℕ, List, IfOk, IfErr, OnOk, string_bytes};
+ghost use Rattle.std.specs.Prelude.{◌≡◌, IfOk, string_bytes};
 ghost use Rattle.mvt_gate.specs.CheckOptions.{IsCheckAnswerOf, IsFaultsAnswer, IsListAnswer};
-ghost use Rattle.mvt_engine.specs.Engine.{Answers, BreaksOff, HasFailed, IsClean, IsOfClaim, IsTooLarge, ReadsBytes};
+ghost use Rattle.mvt_engine.specs.Engine.{IsRunOf};
 ghost use Rattle.mvt_engine.specs.FaultLine.{fault_lines};
-ghost use Rattle.mvt_engine.specs.Tally.{IsUntouched, counts_of};
 
 use super::{ok_line, verdict_answer};
 use crate::advice::add_advice;
@@ -40,30 +39,8 @@ pub fn check_stream_by<R: Read, W: Write>(
     reader: &mut Tally<R>,
     writer: &mut Tally<W>,
 ) -> Result<Outcome, EngineFault>
-    // The lines are those of all that the reader gave, and they went out once and whole.
-    ensures answers { IfOk result (Answers (IsCheckAnswerOf options)
-        R.remaining W.contents reader.old reader.new writer.old writer.new) }
-    ensures clean { OnOk result (IsClean writer.new (counts_of reader.new).interrupted) }
-
-    ensures read { result ≡ Err EngineFault.Read
-        → HasFailed reader.new (counts_of writer.new).interrupted }
-    ensures too_large { result ≡ Err EngineFault.TooLarge
-        → IsTooLarge reader.new (counts_of writer.new).interrupted }
-    ensures memory { result ≡ Err EngineFault.Memory
-        → IsClean reader.new (counts_of writer.new).interrupted }
-    ensures write { result ≡ Err EngineFault.Write
-        → HasFailed writer.new (counts_of reader.new).interrupted }
-    // The bytes that the reader's tally counted came in this run.
-    ensures counted { IfErr result (λ _. (input : List ℕ)
-        × ReadsBytes R.remaining reader.old reader.new input) }
-    // There is no second input that could be wrong.
-    ensures no_claim { IfErr result (λ fault. ¬ IsOfClaim fault) }
-
-    // Before all lines are whole, nothing goes out; after a failed write, a first part of them.
-    ensures untouched { IfErr result (λ fault. fault ≢ EngineFault.Write
-        → IsUntouched writer.old writer.new) }
-    ensures prefix { result ≡ Err EngineFault.Write → BreaksOff (IsCheckAnswerOf options)
-        R.remaining W.contents reader.old reader.new writer.old writer.new }
+    ensures { IsRunOf (IsCheckAnswerOf options)
+        R.remaining W.contents reader.old reader.new writer.old writer.new result }
 {
     mvt_engine::run(alloc, &CheckBy { options }, reader, writer)
 }

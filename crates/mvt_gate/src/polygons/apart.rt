@@ -4,7 +4,7 @@ ghost use Rattle.mvt_rules.specs.Valid.{AreValidRingsBy};
 ghost use Rattle.mvt_fault.specs.declared.profile.Profile.TheVariants.{Feature};
 ghost use Rattle.mvt_sweep.specs.Rings.{rings_of, AreProperRings};
 ghost use Rattle.mvt_rules.specs.Ring.{ArePolygonRings};
-ghost use Rattle.mvt_gate.specs.Calls.Polygons.{IsFeatureAnswerFor, IsFirstOfRingsFor, IsReportable, cause_fault};
+ghost use Rattle.mvt_gate.specs.Calls.Polygons.{IsFeatureAnswerFor, IsFirstOfRingsFor, cause_fault};
 
 use super::{PolygonPlace, hole_fault, meeting_fault};
 use crate::quick::Search;
@@ -38,8 +38,6 @@ pub(super) fn feature_fault(
         layer,
         feature,
         polygon: found.polygon,
-        exterior: found.exterior,
-        after: found.after,
     };
     Ok(Some(cause_fault(place, found.cause)))
 }
@@ -63,18 +61,10 @@ fn first_fault(
 
 /// The fault of what was found wrong with a polygon of a feature.
 fn cause_fault(place: PolygonPlace, cause: FeatureCause) -> Fault
-    requires { IsReportable place cause }
     ensures { result ≡ cause_fault place cause }
 {
     match cause {
-        FeatureCause::Meeting(meeting) => {
-            // (a meeting names its rings by their ordinals in the feature)
-            let front = PolygonPlace {
-                exterior: 0,
-                ..place
-            };
-            meeting_fault(front, meeting)
-        }
+        FeatureCause::Meeting(meeting) => meeting_fault(place, meeting),
         FeatureCause::Nesting(fault) => hole_fault(place, fault),
         FeatureCause::Apart(fault) => Fault::InPolygon {
             layer: place.layer,

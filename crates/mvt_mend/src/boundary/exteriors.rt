@@ -4,6 +4,7 @@ ghost use Rattle.std.specs.Prelude.{◌≤◌};
 use crate::boundary::NO_NUMBER;
 use crate::boundary::rings::BoundaryRing;
 use crate::faces::directly_below;
+use crate::groups::Groups;
 use crate::order::{ends_of, numbers_by_ends};
 use crate::segment::{HalfEdge, Segment, Winding};
 use crate::work::Work;
@@ -11,18 +12,24 @@ use mvt_plane::{Point, sweep_key};
 use std::alloc::{AllocError, Global};
 
 /// Of each ring the number of the exterior of its part: an exterior's own, and of a hole that of
-/// the ring of the edge directly below its vertex of least key. None where the work doesn't suffice,
+/// the part of its edges, of which `parts` are one. Where that has more than one exterior, it is that
+/// of the ring of the edge directly below the hole's vertex of least key. None where the work doesn't suffice,
 /// or where a hole has nothing below it. The only error is that memory was refused.
 pub(super) fn exteriors_of(
     alloc: Global,
     edges: &[HalfEdge],
     rings: &[BoundaryRing],
     ring_of: &[u32],
+    parts: &mut Groups,
     work: &mut Work,
 ) -> Result<Option<Vec<u32>>, AllocError>
     ensures no_more { work.new ≤ work.old }
 {
     let mut exteriors = known_exteriors(alloc, rings)?;
+    if !exteriors.contains(&NO_NUMBER) {
+        return Ok(Some(exteriors));
+    }
+    add_those_of_parts(alloc, edges, rings, parts, &mut exteriors)?;
     if !exteriors.contains(&NO_NUMBER) {
         return Ok(Some(exteriors));
     }
@@ -47,6 +54,61 @@ fn known_exteriors(alloc: Global, rings: &[BoundaryRing]) -> Result<Vec<u32>, Al
         })?;
     }
     Ok(exteriors)
+}
+
+/// Adds the exteriors of those parts of holes that have one exterior: the parts of edges that are
+/// grouped. (A part may have fallen apart since, where a corner was cut.)
+fn add_those_of_parts(
+    alloc: Global,
+    edges: &[HalfEdge],
+    rings: &[BoundaryRing],
+    parts: &mut Groups,
+    exteriors: &mut [u32],
+) -> Result<(), AllocError> {
+    let mut of_parts = vec![in alloc; PartExterior::None; parts.count()]?;
+    for (ring, exterior) in rings.iter().zip(exteriors.iter()) {
+        if *exterior != NO_NUMBER {
+            if let Some(of_part) = part_of(edges, ring, parts).and_then(|part| of_parts.get_mut(
+                part,
+            )) {
+                *of_part = of_part.and(*exterior);
+            }
+        }
+    }
+    for (ring, exterior) in rings.iter().zip(exteriors.iter_mut()) {
+        let of_part = part_of(edges, ring, parts).and_then(|part| of_parts.get(part));
+        if let Some(PartExterior::One(of_hole)) = of_part {
+            if *exterior == NO_NUMBER {
+                *exterior = *of_hole;
+            }
+        }
+    }
+    Ok(())
+}
+
+/// The exterior of a part, as far as it is known.
+#[derive(Clone, Copy, Debug, PartialEq, Eq)]
+enum PartExterior {
+    None,
+    /// The ring of this number.
+    One(u32),
+    Several,
+}
+
+impl PartExterior {
+    /// The same with a further ring.
+    fn and(self, ring: u32) -> PartExterior {
+        match self {
+            PartExterior::None => PartExterior::One(ring),
+            PartExterior::One(_) | PartExterior::Several => PartExterior::Several,
+        }
+    }
+}
+
+/// The part of a ring: the least of the grouped ones.
+fn part_of(edges: &[HalfEdge], ring: &BoundaryRing, parts: &mut Groups) -> Option<usize> {
+    let edge = edges.get(ring.first as usize)?;
+    Some(parts.least(edge.part)? as usize)
 }
 
 /// Adds the exteriors of the parts of holes. False where the work doesn't suffice, or where a hole

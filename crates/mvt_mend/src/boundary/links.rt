@@ -1,8 +1,8 @@
 //! Which edge of a boundary follows which.
-ghost use Rattle.std.specs.Prelude.{◌<◌, length};
 
 use crate::boundary::NO_NUMBER;
-use crate::order::numbers_by_key;
+use crate::boundary::successors::Successors;
+use crate::near::edges::short;
 use crate::segment::HalfEdge;
 use mvt_plane::{Point, side};
 use std::alloc::{AllocError, Global};
@@ -36,8 +36,6 @@ pub(crate) struct Touch {
 pub(crate) struct Links {
     /// Of each edge the number of the next one of its ring.
     pub(crate) next: Vec<u32>,
-    /// The numbers of the edges, in the order of the keys of the positions where they end.
-    pub(crate) arrivals: Vec<u32>,
     /// The positions where more than one edge begins, in the order of their keys.
     pub(crate) touches: Vec<Touch>,
     /// The spokes of each of these, counterclockwise, from one on that leaves.
@@ -52,78 +50,51 @@ pub(crate) fn links_of(alloc: Global, edges: &[HalfEdge]) -> Result<Option<Links
     if edges.len() >= NO_NUMBER as usize {
         return Ok(None);
     }
-    let (touches, at_touches) = count_touches(edges);
+    let successors = Successors::of(alloc, edges)?;
     let mut links = Links {
-        next: vec![in alloc; NO_NUMBER; edges.len()]?,
-        arrivals: numbers_by_key(alloc, edges, &|edge: &HalfEdge| edge.to)?,
-        touches: Vec::with_capacity(alloc, touches)?,
-        spokes: Vec::with_capacity(alloc, at_touches.wrapping_mul(2))?,
+        next: Vec::with_capacity(alloc, edges.len())?,
+        touches: Vec::new(alloc),
+        spokes: Vec::new(alloc),
     };
-    let mut first = 0;
-    for at in 0..edges.len() {
-        if links.arrives_at(edges, at) != Some(edges[at].from) {
+    let mut arrivals = Vec::new(alloc);
+    for (number, edge) in edges.iter().enumerate() {
+        let Some(first) = successors.first_after(edges, edge) else {
             return Ok(None);
+        };
+        links.next.push(short(first))?;
+        if !is_last_from(edges, first) {
+            arrivals.push(Arrival {
+                first: short(first),
+                edge: short(number),
+            })?;
         }
-        if !is_last_from(edges, at) {
-            continue;
-        }
-        if first == at {
-            links.link_alone(at);
-        } else if !links.link_touch(alloc, edges, first, at)? {
-            return Ok(None);
-        }
-        first = at + 1;
     }
-    Ok(Some(links))
+    if links.add_touches(alloc, edges, arrivals)? {
+        Ok(Some(links))
+    } else {
+        Ok(None)
+    }
 }
 
-/// At how many positions more than one edge begins, and how many begin there in all.
-fn count_touches(edges: &[HalfEdge]) -> (usize, usize) {
-    let mut touches = 0usize;
-    let mut at_touches = 0usize;
-    let mut alike = 0usize;
-    for at in 0..edges.len() {
-        alike = alike.wrapping_add(1);
-        if is_last_from(edges, at) {
-            if alike > 1 {
-                touches = touches.wrapping_add(1);
-                at_touches = at_touches.wrapping_add(alike);
-            }
-            alike = 0;
-        }
-    }
-    (touches, at_touches)
+/// An edge that ends where several begin.
+#[derive(Clone, Copy, Debug, PartialEq, Eq)]
+struct Arrival {
+    /// The number of the first edge that begins there.
+    first: u32,
+    /// Its own number.
+    edge: u32,
 }
 
 /// Whether no edge after this one begins at the same position.
-fn is_last_from(edges: &[HalfEdge], at: usize) -> bool
-    requires { at < length edges.now }
-{
-    match edges.get(at + 1) {
-        Some(after) => after.from != edges[at].from,
-        None => true,
+#[inline]
+fn is_last_from(edges: &[HalfEdge], at: usize) -> bool {
+    match (edges.get(at), edges.get(at.saturating_add(1))) {
+        (Some(edge), Some(after)) => after.from != edge.from,
+        _ => true,
     }
 }
 
 impl Links {
-    ghost use Rattle.std.specs.Prelude.{◌<◌, length};
-
-    /// The position where the edge at this place of the order of ends arrives.
-    #[inline]
-    fn arrives_at(&self, edges: &[HalfEdge], at: usize) -> Option<Point> {
-        let edge = edges.get(*self.arrivals.get(at)? as usize)?;
-        Some(edge.to)
-    }
-
-    /// Links the only edge that ends at a position to the only one that begins there, both at this
-    /// place of their orders.
-    fn link_alone(&mut self, at: usize) {
-        if let (Some(arrival), Ok(following)) = (self.arrivals.get(at), u32::try_from(at)) {
-            let edge = *arrival;
-            self.link(edge, following);
-        }
-    }
-
     /// Notes that one edge follows another.
     fn link(&mut self, edge: u32, following: u32) {
         if let Some(next) = self.next.get_mut(edge as usize) {
@@ -131,23 +102,40 @@ impl Links {
         }
     }
 
-    /// Links the edges at a position where several begin: those from `first` to `last` in the order
-    /// of edges begin there, and those of these places in the order of ends end there. Returns
-    /// whether they leave and arrive in turn.
-    fn link_touch(
+    /// Adds the positions where several edges begin, at which these arrive. Returns whether they leave
+    /// and arrive in turn.
+    fn add_touches(
         &mut self,
         alloc: Global,
         edges: &[HalfEdge],
-        first: usize,
-        last: usize,
-    ) -> Result<bool, AllocError>
-        requires { last < length edges.now }
-    {
-        let position = edges[last].from;
-        let round = self.spokes_round(alloc, edges, first, last)?;
+        mut arrivals: Vec<Arrival>,
+    ) -> Result<bool, AllocError> {
+        arrivals.sort_unstable_by_key(|arrival| (arrival.first, arrival.edge));
+        for at_one in arrivals.chunk_by(|one, other| one.first == other.first) {
+            if !self.add_touch(alloc, edges, at_one)? {
+                return Ok(false);
+            }
+        }
+        Ok(true)
+    }
+
+    /// The same of one position.
+    fn add_touch(
+        &mut self,
+        alloc: Global,
+        edges: &[HalfEdge],
+        arrivals: &[Arrival],
+    ) -> Result<bool, AllocError> {
+        let Some(first) = arrivals.first().map(|arrival| arrival.first) else {
+            return Ok(true);
+        };
+        let Some(edge) = edges.get(first as usize) else {
+            return Ok(false);
+        };
+        let round = spokes_round(alloc, edges, first, edge.from, arrivals)?;
         let touch = Touch {
-            position,
-            edge: u32::try_from(first).unwrap_or(NO_NUMBER),
+            position: edge.from,
+            edge: first,
             first: self.spokes.len(),
             after: self.spokes.len().wrapping_add(round.len()),
         };
@@ -157,42 +145,6 @@ impl Links {
         self.spokes.extend_from_slice(&round)?;
         self.touches.push(touch)?;
         Ok(true)
-    }
-
-    /// The spokes at a position, counterclockwise, from one on that leaves.
-    fn spokes_round(
-        &self,
-        alloc: Global,
-        edges: &[HalfEdge],
-        first: usize,
-        last: usize,
-    ) -> Result<Vec<Spoke>, AllocError>
-        requires { last < length edges.now }
-    {
-        let position = edges[last].from;
-        let mut round = Vec::new(alloc);
-        for at in first..last + 1 {
-            round.push(Spoke {
-                edge: u32::try_from(at).unwrap_or(NO_NUMBER),
-                to: edges[at].to,
-                leaves: true,
-            })?;
-            if let Some(arrival) = self.arrivals.get(at) {
-                let edge = *arrival;
-                if let Some(arriving) = edges.get(edge as usize) {
-                    round.push(Spoke {
-                        edge,
-                        to: arriving.from,
-                        leaves: false,
-                    })?;
-                }
-            }
-        }
-        round.sort_unstable_by(|one, other| round_order(position, one.to, other.to));
-        if !round.is_empty() && !round[0].leaves {
-            round.rotate_left(1);
-        }
-        Ok(round)
     }
 
     /// Links each edge that ends at a position to the one before it in the round. Returns whether
@@ -214,6 +166,43 @@ impl Links {
         }
         true
     }
+}
+
+/// The spokes at a position, counterclockwise, from one on that leaves: the edges that begin there,
+/// of which the first has this number, and those that arrive.
+fn spokes_round(
+    alloc: Global,
+    edges: &[HalfEdge],
+    first: u32,
+    position: Point,
+    arrivals: &[Arrival],
+) -> Result<Vec<Spoke>, AllocError> {
+    let mut round = Vec::with_capacity(alloc, arrivals.len().saturating_mul(2))?;
+    let leaving = edges.get(first as usize..).unwrap_or_default();
+    for (edge, leaves) in (first..).zip(leaving) {
+        if leaves.from != position {
+            break;
+        }
+        round.push(Spoke {
+            edge,
+            to: leaves.to,
+            leaves: true,
+        })?;
+    }
+    for arrival in arrivals {
+        if let Some(arriving) = edges.get(arrival.edge as usize) {
+            round.push(Spoke {
+                edge: arrival.edge,
+                to: arriving.from,
+                leaves: false,
+            })?;
+        }
+    }
+    round.sort_unstable_by(|one, other| round_order(position, one.to, other.to));
+    if !round.is_empty() && !round[0].leaves {
+        round.rotate_left(1);
+    }
+    Ok(round)
 }
 
 /// How two positions follow each other round a third one, counterclockwise from the direction of the

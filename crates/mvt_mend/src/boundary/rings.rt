@@ -4,6 +4,7 @@ ghost use Rattle.std.specs.Prelude.{◌≤◌};
 use crate::boundary::NO_NUMBER;
 use crate::boundary::exteriors::exteriors_of;
 use crate::boundary::links::Links;
+use crate::groups::Groups;
 use crate::outlines::Outlines;
 use crate::segment::HalfEdge;
 use crate::work::Work;
@@ -46,16 +47,19 @@ pub(crate) fn trace(
 {
     let mut rings = Vec::new(alloc);
     let mut ring_of = vec![in alloc; NO_NUMBER; edges.len()]?;
+    let mut parts = Groups::new(alloc, part_count(edges))?;
     for first in 0..edges.len() {
         if ring_of.get(first) != Some(&NO_NUMBER) {
             continue;
         }
-        let Some(ring) = ring_from(edges, &links.next, first, rings.len(), &mut ring_of) else {
+        let number = rings.len();
+        let Some(ring) = ring_from(edges, &links.next, first, number, &mut ring_of, &mut parts)
+        else {
             return Ok(None);
         };
         rings.push(ring)?;
     }
-    let Some(exteriors) = exteriors_of(alloc, edges, &rings, &ring_of, work)? else {
+    let Some(exteriors) = exteriors_of(alloc, edges, &rings, &ring_of, &mut parts, work)? else {
         return Ok(None);
     };
     Ok(Some(Traced {
@@ -65,18 +69,28 @@ pub(crate) fn trace(
     }))
 }
 
-/// The ring that begins with this edge, whose edges it marks with its number. None where it doesn't
-/// come back, or where it has no area.
+/// How many numbers of parts there are up to the greatest one of these edges.
+fn part_count(edges: &[HalfEdge]) -> usize {
+    let mut greatest = 0;
+    for edge in edges {
+        greatest = edge.part.max(greatest);
+    }
+    (greatest as usize).saturating_add(1)
+}
+
+/// The ring that begins with this edge, whose edges it marks with its number. The parts of its edges
+/// become one. None where it doesn't come back, or where it has no area.
 fn ring_from(
     edges: &[HalfEdge],
     next: &[u32],
     first: usize,
     number: usize,
     ring_of: &mut [u32],
+    parts: &mut Groups,
 ) -> Option<BoundaryRing> {
     let number = u32::try_from(number).ok()?;
-    let origin = edges.get(first)?.from;
-    let mut lowest = Lowest::at(origin, first, edges.get(first)?.to);
+    let begin = *edges.get(first)?;
+    let mut lowest = Lowest::at(begin.from, first, begin.to);
     let mut area: i128 = 0;
     let mut at = first;
     for before in 0..edges.len() {
@@ -86,6 +100,9 @@ fn ring_from(
             return None;
         }
         *mark = number;
+        if edge.part != begin.part {
+            parts.join(begin.part, edge.part)?;
+        }
         area = area.wrapping_add(i128::from(area_part(edge.from, edge.to)));
         lowest.compare(at, edge);
         at = *next.get(at)? as usize;

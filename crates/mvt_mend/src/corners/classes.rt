@@ -1,6 +1,7 @@
 //! Which rings may be joined where they touch.
 
-use crate::boundary::{NO_NUMBER, Traced};
+use crate::boundary::Traced;
+use crate::groups::Groups;
 use crate::segment::HalfEdge;
 use mvt_fault::Profile;
 use std::alloc::{AllocError, Global};
@@ -18,21 +19,18 @@ pub(crate) fn classes_of(
     if profile != Profile::Feature {
         return Ok(Some(exteriors));
     }
-    let mut roots = Vec::with_capacity(alloc, exteriors.len())?;
-    for number in 0..exteriors.len() {
-        roots.push(u32::try_from(number).unwrap_or(NO_NUMBER))?;
-    }
+    let mut groups = Groups::new(alloc, exteriors.len())?;
     let sources = sources_of(alloc, edges, traced)?;
     for at in 1..sources.len() {
         let (source, part) = sources[at];
         let (before, other) = sources[at - 1];
-        if source == before && join(&mut roots, part, other).is_none() {
+        if source == before && groups.join(part, other).is_none() {
             return Ok(None);
         }
     }
     let mut classes = Vec::with_capacity(alloc, exteriors.len())?;
     for part in exteriors {
-        let Some(class) = root_of(&mut roots, part) else {
+        let Some(class) = groups.least(part) else {
             return Ok(None);
         };
         classes.push(class)?;
@@ -68,29 +66,4 @@ fn sources_of(
 fn part_of(traced: &Traced, edge: usize) -> Option<u32> {
     let ring = *traced.ring_of.get(edge)?;
     traced.exteriors.get(ring as usize).copied()
-}
-
-/// Makes one class of two.
-fn join(roots: &mut [u32], one: u32, other: u32) -> Option<()> {
-    let one = root_of(roots, one)?;
-    let other = root_of(roots, other)?;
-    let greater = roots.get_mut(one.max(other) as usize)?;
-    *greater = one.min(other);
-    Some(())
-}
-
-/// The class of a part, to which the way is made shorter. A root is its own.
-fn root_of(roots: &mut [u32], part: u32) -> Option<u32> {
-    let mut at = part;
-    for _ in 0..roots.len() {
-        let above = *roots.get(at as usize)?;
-        if above == at {
-            return Some(at);
-        }
-        let further = *roots.get(above as usize)?;
-        let place = roots.get_mut(at as usize)?;
-        *place = further;
-        at = further;
-    }
-    None
 }

@@ -171,6 +171,7 @@ impl Cuts {
                 } else {
                     left.witness
                 },
+                part: right.part,
             })?;
         }
         Ok(())

@@ -206,6 +206,7 @@ fn edges_of(rt: &impl Abort, alloc: Global, rings: &[(u32, Coordinates)]) -> Vec
                     to: at(rt, ring[following]),
                     source,
                     witness,
+                    part: 0,
                 })
                 .expect(rt, "memory");
         }

@@ -96,6 +96,12 @@ impl Chains {
         Ok(self.chain(chain)?.below)
     }
 
+    /// The chain directly above, or what is outside.
+    #[inline]
+    pub(crate) fn above(&self, chain: u32) -> Result<u32, Stop> {
+        Ok(self.chain(chain)?.above)
+    }
+
     /// Whether the segment of a chain ends at the position of this key.
     #[inline]
     pub(crate) fn ends_at(&self, chain: u32, key: i64) -> Result<bool, Stop> {

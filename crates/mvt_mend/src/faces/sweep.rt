@@ -14,6 +14,10 @@ pub(crate) trait Notes {
     /// The segment of this number begins, directly above another one or above none
     /// (`NO_SEGMENT`). Of those that begin at one position the lowest comes first.
     fn begin(&mut self, number: u32, below: u32, work: &mut Work) -> Result<(), Stop>;
+
+    /// What is directly above one segment is what is directly above another one too, as they show
+    /// at a position where the one begins or the other ends. Either may be none.
+    fn go_on(&mut self, one: u32, other: u32) -> Result<(), Stop>;
 }
 
 /// Goes over segments, which stand in the order of the keys of their first ends, with notes of each.
@@ -124,6 +128,7 @@ impl<'a> Line<'a> {
     ) -> Result<(), Stop> {
         let mut chain = self.chain_below(key, ended, work)?;
         let mut below = self.chains.segment(chain)?;
+        let highest = self.highest_ended(chain, below, ended)?;
         for at in 0..self.begun.len() {
             let number = *self.begun.get(at).ok_or(Stop::GaveUp)?;
             let goes_on = at < ended.len();
@@ -134,7 +139,24 @@ impl<'a> Line<'a> {
         for _ in self.begun.len()..ended.len() {
             self.chains.end_above(chain, key, work)?;
         }
-        Ok(())
+        notes.go_on(below, highest)
+    }
+
+    /// The highest of the segments that end at a position. Where none does, the segment of the chain
+    /// directly below it, which is `below`.
+    #[inline]
+    fn highest_ended(&self, chain: u32, below: u32, ended: &[u32]) -> Result<u32, Stop> {
+        match ended {
+            [] => Ok(below),
+            [only] => Ok(*only),
+            _ => {
+                let mut highest = chain;
+                for _ in ended {
+                    highest = self.chains.above(highest)?;
+                }
+                self.chains.segment(highest)
+            }
+        }
     }
 
     /// The chain directly below those that end at the position of a key, or where none ends, below

@@ -1,4 +1,4 @@
-use super::{NO_SEGMENT, directly_below, windings_below};
+use super::{NO_SEGMENT, directly_below, faces_of};
 use crate::order::ends_of;
 use crate::segment::{Segment, Winding};
 use crate::work::Work;
@@ -60,14 +60,18 @@ fn triangle(rt: HostRuntime) -> Result<(), Fail> {
     )?
     .ok_or("gave up")?;
     assert_eq!(rt; below.as_slice(), [1, NO_SEGMENT, 1].as_slice());
-    let windings = windings_below(
+    let faces = faces_of(
         rt.alloc(),
         &segments,
         &ends_of(rt.alloc(), &segments)?,
         &mut enough(),
     )?
     .ok_or("gave up")?;
-    let exteriors: Vec<i32> = windings.iter().map(|it| it.exterior).collect(rt.alloc())?;
+    let exteriors: Vec<i32> = faces
+        .sides
+        .iter()
+        .map(|it| it.winding.exterior)
+        .collect(rt.alloc())?;
     assert_eq!(rt; exteriors.as_slice(), [1, 0, 1].as_slice());
     Ok(())
 }

@@ -53,7 +53,7 @@ pub(crate) fn are_right(alloc: Global, rings: &[Vec<Point>]) -> Result<bool, All
     if let Some(_fault) = check_rings(rings) {
         return Ok(false);
     }
-    match check_polygon(alloc, rings, &mut Count::new())? {
+    match check_polygon(alloc, rings, 0, rings.len(), &mut Count::new())? {
         Some(_fault) => Ok(false),
         None => Ok(true),
     }

@@ -1,6 +1,6 @@
 //! Segments that meet in ends only, and what is filled between them.
 
-use crate::faces::windings_below;
+use crate::faces::{Faces, Sides, faces_of};
 use crate::noding::node;
 use crate::order::ends_of;
 use crate::segment::{HalfEdge, Segment, Tally, Winding};
@@ -25,6 +25,12 @@ impl Fill {
             Fill::Polygons => winding.exterior > 0,
         }
     }
+
+    /// Whether the place just above a segment is filled.
+    #[inline]
+    fn above(self, segment: &Segment, sides: &Sides) -> bool {
+        self.is_filled(sides.winding.plus(segment.gain))
+    }
 }
 
 /// Segments that meet in ends only.
@@ -34,8 +40,8 @@ pub(super) struct Arranged {
     segments: Vec<Segment>,
     /// Their numbers in the order of the keys of their second ends.
     ends: Vec<u32>,
-    /// The winding just below each.
-    below: Vec<Winding>,
+    /// What is between them.
+    faces: Faces,
 }
 
 impl Arranged {
@@ -51,13 +57,13 @@ impl Arranged {
             return Ok(None);
         };
         let ends = ends_of(alloc, &segments)?;
-        let Some(below) = windings_below(alloc, &segments, &ends, work)? else {
+        let Some(faces) = faces_of(alloc, &segments, &ends, work)? else {
             return Ok(None);
         };
         Ok(Some(Arranged {
             segments,
             ends,
-            below,
+            faces,
         }))
     }
 
@@ -67,7 +73,8 @@ impl Arranged {
     pub(super) fn strays(&self, alloc: Global, rings: usize) -> Result<Vec<bool>, AllocError> {
         let mut strays = vec![in alloc; false; rings]?;
         let mut inside = vec![in alloc; false; rings]?;
-        for (segment, below) in self.segments.iter().zip(&self.below) {
+        for (segment, sides) in self.segments.iter().zip(&self.faces.sides) {
+            let below = sides.winding;
             let above = below.plus(segment.gain);
             let ring = segment.source as usize;
             if let Some(mark) = strays.get_mut(ring) {
@@ -91,21 +98,26 @@ impl Arranged {
     /// The edges with something filled on just one side, so that it is on their left, in the order of
     /// the keys of their ends. All have this `source`, if one is given, or else that of their segment.
     pub(super) fn boundary(
-        &self,
+        &mut self,
         alloc: Global,
         fill: Fill,
         source: Option<u32>,
     ) -> Result<Vec<HalfEdge>, AllocError> {
+        self.join_parts(fill);
         let mut edges = Vec::with_capacity(alloc, self.segments.len())?;
         let mut ended = 0;
         // (edges that rise begin at first ends, and others at second ends; at one position these come
         // first)
         for number in 0..self.segments.len() {
-            let key = sweep_key(self.segments[number].a);
+            let Some(key) = self
+                .segments
+                .get(number)
+                .map(|segment| sweep_key(segment.a))
+            else {
+                break;
+            };
             ended = self.add_falling(ended, key, fill, source, &mut edges)?;
-            if let Some((segment, true)) = self.edge_at(number, fill) {
-                edges.push(half_edge(segment, true, source))?;
-            }
+            self.add_edge(number, true, fill, source, &mut edges)?;
         }
         self.add_falling(ended, i64::MAX, fill, source, &mut edges)?;
         Ok(edges)
@@ -114,7 +126,7 @@ impl Arranged {
     /// Adds the edges that begin at second ends of no greater key, from a place in the order of these
     /// on, and returns the place after them.
     fn add_falling(
-        &self,
+        &mut self,
         from: usize,
         key: i64,
         fill: Fill,
@@ -122,37 +134,58 @@ impl Arranged {
         edges: &mut Vec<HalfEdge>,
     ) -> Result<usize, AllocError> {
         for place in from..self.ends.len() {
-            let number = self.ends[place] as usize;
+            let Some(number) = self.ends.get(place).map(|number| *number as usize) else {
+                break;
+            };
             let Some(segment) = self.segments.get(number) else {
                 continue;
             };
             if sweep_key(segment.b) > key {
                 return Ok(place);
             }
-            if let Some((segment, false)) = self.edge_at(number, fill) {
-                edges.push(half_edge(segment, false, source))?;
-            }
+            self.add_edge(number, false, fill, source, edges)?;
         }
         Ok(self.ends.len())
     }
 
-    /// The segment of a number, and whether what is filled is above it; None where both sides are
-    /// alike.
-    #[inline]
-    fn edge_at(&self, number: usize, fill: Fill) -> Option<(&Segment, bool)> {
-        let segment = self.segments.get(number)?;
-        let below = self.below.get(number)?;
-        let is_filled_above = fill.is_filled(below.plus(segment.gain));
-        if is_filled_above == fill.is_filled(*below) {
-            None
-        } else {
-            Some((segment, is_filled_above))
+    /// Makes one of the faces on both sides of each segment where these are alike, so that faces are
+    /// the parts of what is filled.
+    fn join_parts(&mut self, fill: Fill) {
+        for (segment, sides) in self.segments.iter().zip(&self.faces.sides) {
+            if fill.above(segment, sides) == fill.is_filled(sides.winding) {
+                let _ = self.faces.groups.join(sides.below, sides.above);
+            }
         }
+    }
+
+    /// Adds the edge along the segment of this number, if something is filled on just one side of it
+    /// and the edge rises: from the end of lesser key to the other; or falls, where that is asked for.
+    #[inline]
+    fn add_edge(
+        &mut self,
+        number: usize,
+        rises: bool,
+        fill: Fill,
+        source: Option<u32>,
+        edges: &mut Vec<HalfEdge>,
+    ) -> Result<(), AllocError> {
+        let (Some(segment), Some(sides)) = (self.segments.get(number), self.faces.sides.get(number))
+        else {
+            return Ok(());
+        };
+        let is_filled_above = fill.above(segment, sides);
+        if is_filled_above == fill.is_filled(sides.winding) || is_filled_above != rises {
+            return Ok(());
+        }
+        let face = if rises { sides.above } else { sides.below };
+        let part = self.faces.groups.least(face).unwrap_or(face);
+        edges.push(half_edge(segment, rises, source, part))?;
+        Ok(())
     }
 }
 
 /// A segment as an edge, from the end of lesser key where what is above it is filled.
-fn half_edge(segment: &Segment, is_filled_above: bool, source: Option<u32>) -> HalfEdge {
+fn half_edge(segment: &Segment, is_filled_above: bool, source: Option<u32>, part: u32) -> HalfEdge {
     let (from, to) = if is_filled_above {
         (segment.a, segment.b)
     } else {
@@ -163,5 +196,6 @@ fn half_edge(segment: &Segment, is_filled_above: bool, source: Option<u32>) -> H
         to,
         source: source.unwrap_or(segment.source),
         witness: segment.witness,
+        part,
     }
 }

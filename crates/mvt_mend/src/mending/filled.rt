@@ -70,7 +70,7 @@ impl Filling {
         let mut again = false;
         if !drafts.is_right(number) {
             if let Some(polygon) = drafts.polygons.get_mut(number) {
-                let Some(arranged) = arrange(alloc, polygon, old, work, tally)? else {
+                let Some(mut arranged) = arrange(alloc, polygon, old, work, tally)? else {
                     return Ok(false);
                 };
                 let strays = arranged.strays(alloc, polygon.len())?;
@@ -78,7 +78,7 @@ impl Filling {
                     again = true;
                     take_marked(alloc, polygon, &strays, &mut self.strays)?;
                 } else {
-                    edges = filled_by(alloc, &arranged, number)?;
+                    edges = filled_by(alloc, &mut arranged, number)?;
                 }
             }
         }
@@ -187,7 +187,7 @@ fn edges_again(
         return Ok(Some(Vec::new(alloc)));
     };
     match arrange(alloc, polygon, old, work, tally)? {
-        Some(arranged) => Ok(Some(filled_by(alloc, &arranged, number)?)),
+        Some(mut arranged) => Ok(Some(filled_by(alloc, &mut arranged, number)?)),
         None => Ok(None),
     }
 }
@@ -207,7 +207,7 @@ fn arrange(
 /// The edges around what the draft of this number fills.
 fn filled_by(
     alloc: Global,
-    arranged: &Arranged,
+    arranged: &mut Arranged,
     number: usize,
 ) -> Result<Vec<HalfEdge>, AllocError> {
     arranged.boundary(alloc, Fill::ExteriorLessHoles, Some(short(number)))

@@ -171,7 +171,7 @@ impl Proposal {
         old: Old,
         work: &mut Work,
     ) -> Result<bool, AllocError> {
-        let Some(arranged) = Arranged::of(alloc, segments, work, &mut self.tally)? else {
+        let Some(mut arranged) = Arranged::of(alloc, segments, work, &mut self.tally)? else {
             return Ok(false);
         };
         let edges = arranged.boundary(alloc, Fill::Polygons, None)?;

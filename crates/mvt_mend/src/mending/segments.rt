@@ -119,6 +119,7 @@ fn add_edges(segments: &mut Vec<Segment>, edges: &[HalfEdge]) -> Result<(), Allo
             to,
             source,
             witness,
+            ..
         } = *edge;
         if let Some(segment) = segment_along(from, to, FILLED_ON_THE_LEFT, source, witness) {
             segments.push(segment)?;

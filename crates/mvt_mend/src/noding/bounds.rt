@@ -33,12 +33,32 @@ impl Bounds {
             high: i32::MIN,
         };
         for bounds in all {
-            around.left = around.left.min(bounds.left);
-            around.low = around.low.min(bounds.low);
-            around.right = around.right.max(bounds.right);
-            around.high = around.high.max(bounds.high);
+            around = around.with(bounds);
         }
         around
+    }
+
+    /// Those of both.
+    #[inline]
+    pub(super) fn with(&self, other: &Bounds) -> Bounds {
+        Bounds {
+            left: self.left.min(other.left),
+            low: self.low.min(other.low),
+            right: self.right.max(other.right),
+            high: self.high.max(other.high),
+        }
+    }
+
+    /// The place of the middle along the x axis, from 0 to 2^32 - 1.
+    #[inline]
+    pub(super) fn middle_x(&self) -> u64 {
+        middle(self.left, self.right)
+    }
+
+    /// The same along the y axis.
+    #[inline]
+    pub(super) fn middle_y(&self) -> u64 {
+        middle(self.low, self.high)
     }
 
     /// Whether both have a position in common.
@@ -50,4 +70,10 @@ impl Bounds {
             & (self.low <= other.high)
             & (other.low <= self.high)
     }
+}
+
+/// The middle of two coordinates, counted from the least one that there is.
+#[inline]
+fn middle(one: i32, other: i32) -> u64 {
+    (u64::from(one.abs_diff(i32::MIN)) + u64::from(other.abs_diff(i32::MIN))) / 2
 }

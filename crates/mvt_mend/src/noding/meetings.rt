@@ -54,6 +54,9 @@ impl Meetings {
         if are_on_one_side(from_side, to_side) {
             return Ok(());
         }
+        if have_one_end_in_common(e, f, from_side, to_side) {
+            return Ok(());
+        }
         let a_side = side(f.a, f.b, e.a);
         let b_side = side(f.a, f.b, e.b);
         if are_on_one_side(a_side, b_side) {
@@ -120,6 +123,21 @@ impl Meetings {
 #[inline]
 fn are_on_one_side(first: Ordering, second: Ordering) -> bool {
     first == second && first.is_ne()
+}
+
+/// Whether two segments have one end in common and else nothing: if the other end of the second one,
+/// whose ends are on these sides of the first one, isn't on the line. (Most that meet do.)
+#[inline]
+fn have_one_end_in_common(
+    one: &Segment,
+    other: &Segment,
+    from_side: Ordering,
+    to_side: Ordering,
+) -> bool {
+    if to_side.is_ne() && (other.a == one.a || other.a == one.b) {
+        return true;
+    }
+    from_side.is_ne() && (other.b == one.a || other.b == one.b)
 }
 
 /// Whether a position on the line of a segment lies on the segment and isn't one of its ends.

@@ -2,25 +2,29 @@
 
 ghost use Rattle.std.specs.Prelude.{◌≤◌, ◌<◌, OnOk};
 
+use crate::near::edges::short;
 use crate::noding::bounds::Bounds;
+use crate::noding::runs::{Run, Runs, number_in, tiled};
 use crate::noding::stop::{Stop, spend};
 use crate::segment::Segment;
 use crate::work::Work;
 use std::alloc::{AllocError, Global};
 
-/// So many members has each group, but for the last one.
+/// So many members has a group of groups, but for the last one, and a group of segments at most.
 pub(super) const GROUP: usize = 8;
 
 /// More levels than any index has.
 const MOST_LEVELS: u32 = 24;
 
 /// The bounds of segments, of groups of neighbours, of groups of groups, and so on (a packed
-/// R-tree). The segments are cut into slices along the x axis, and each slice is sorted along the y axis, so
-/// most groups are small.
+/// R-tree). Neighbours along a ring lie close together, so a group has runs of these; runs that are
+/// near each other are put beside each other.
 #[derive(Drop)]
 pub(super) struct Packing {
-    /// The numbers of the segments.
+    /// The numbers of the segments, group by group.
     numbers: Vec<u32>,
+    /// Of each group the place of its first segment, and then the number of all.
+    firsts: Vec<u32>,
     /// The bounds of the segments, then those of groups, each level of the members of the one before.
     /// There are two levels or more, and the last one has one member at most.
     levels: Vec<Vec<Bounds>>,
@@ -34,20 +38,22 @@ pub(super) struct Place {
 }
 
 impl Packing {
-    /// That of segments, which are sorted by their ends. No number is above `u32::MAX`.
-    pub(super) fn of(alloc: Global, segments: &[Segment]) -> Result<Packing, AllocError> {
-        let keys = packing_keys(alloc, segments)?;
-        let mut numbers = Vec::with_capacity(alloc, keys.len())?;
-        let mut bounds = Vec::with_capacity(alloc, keys.len())?;
-        for key in &keys {
-            let number = (*key & u64::from(u32::MAX)) as u32;
-            if let Some(segment) = segments.get(number as usize) {
-                numbers.push(number)?;
-                bounds.push(Bounds::of(segment))?;
+    /// That of segments, of which runs of so many are kept together. No number is above `u32::MAX`.
+    pub(super) fn of(
+        alloc: Global,
+        segments: &[Segment],
+        longest_run: usize,
+    ) -> Result<Packing, AllocError> {
+        let all = Runs::of(alloc, segments, longest_run)?;
+        let count = all.runs.len();
+        let mut groups = Groups::new(alloc, segments.len(), count)?;
+        for key in &tiled(alloc, &all.runs, slice_length(count))? {
+            if let Some(run) = all.runs.get(number_in(*key) as usize) {
+                groups.add_run(&all, run)?;
             }
         }
-        let levels = levels_over(alloc, bounds)?;
-        Ok(Packing { numbers, levels })
+        drop(all);
+        groups.packing(alloc)
     }
 
     /// How many groups of segments there are.
@@ -66,9 +72,8 @@ impl Packing {
     /// The members of a group from the one at this place on: the segments' numbers and bounds.
     #[inline]
     pub(super) fn members(&self, group: usize, from: usize) -> Option<(&[u32], &[Bounds])> {
-        let first = group.checked_mul(GROUP)?;
-        let begin = first.checked_add(from)?;
-        let end = first.checked_add(GROUP)?.min(self.numbers.len());
+        let begin = (*self.firsts.get(group)? as usize).checked_add(from)?;
+        let end = *self.firsts.get(group.checked_add(1)?)? as usize;
         let bounds = self.levels.first()?;
         Some((self.numbers.get(begin..end)?, bounds.get(begin..end)?))
     }
@@ -150,25 +155,81 @@ impl Packing {
     }
 }
 
-/// The numbers of segments in the order of an index, each below its place along the y axis.
-fn packing_keys(alloc: Global, segments: &[Segment]) -> Result<Vec<u64>, AllocError> {
-    let mut keys = Vec::with_capacity(alloc, segments.len())?;
-    for (number, segment) in segments.iter().enumerate() {
-        keys.push(height(segment) << 32 | number as u64)?;
-    }
-    for slice in keys.chunks_mut(slice_length(segments.len())) {
-        slice.sort_unstable();
-    }
-    Ok(keys)
+/// Segments in groups, while these are made.
+#[derive(Drop)]
+struct Groups {
+    numbers: Vec<u32>,
+    bounds: Vec<Bounds>,
+    firsts: Vec<u32>,
 }
 
-/// The place of a segment along the y axis, from 0 to 2^31.
-fn height(segment: &Segment) -> u64 {
-    let middle = (i64::from(segment.a.y()) + i64::from(segment.b.y())) / 2;
-    (middle + (1 << 30)) as u64
+impl Groups {
+    /// None, with room for those of so many segments in so many runs.
+    fn new(alloc: Global, segments: usize, runs: usize) -> Result<Groups, AllocError> {
+        Ok(Groups {
+            numbers: Vec::with_capacity(alloc, segments)?,
+            bounds: Vec::with_capacity(alloc, segments)?,
+            firsts: Vec::with_capacity(alloc, runs.saturating_add(1))?,
+        })
+    }
+
+    /// Adds a run, to the last group if that has room for it.
+    fn add_run(&mut self, all: &Runs, run: &Run) -> Result<(), AllocError> {
+        let place = short(self.numbers.len());
+        let has_room = match self.firsts.last() {
+            Some(first) => place.wrapping_sub(*first).wrapping_add(run.count) as usize <= GROUP,
+            None => false,
+        };
+        if !has_room {
+            self.firsts.push(place)?;
+        }
+        let first = run.first as usize;
+        let after = first.saturating_add(run.count as usize);
+        if let (Some(numbers), Some(bounds)) = (
+            all.numbers.get(first..after),
+            all.bounds.get(first..after),
+        ) {
+            self.numbers.extend_from_slice(numbers)?;
+            self.bounds.extend_from_slice(bounds)?;
+        }
+        Ok(())
+    }
+
+    /// The index of these groups.
+    fn packing(self, alloc: Global) -> Result<Packing, AllocError> {
+        let Groups {
+            numbers,
+            bounds,
+            mut firsts,
+        } = self;
+        firsts.push(short(numbers.len()))?;
+        let groups = group_bounds(alloc, &bounds, &firsts)?;
+        let levels = levels_over(alloc, bounds, groups)?;
+        Ok(Packing {
+            numbers,
+            firsts,
+            levels,
+        })
+    }
 }
 
-/// How many of so many segments a slice has: it has about as many groups as there are slices.
+/// The bounds of groups of segments, which begin at these places.
+fn group_bounds(
+    alloc: Global,
+    bounds: &[Bounds],
+    firsts: &[u32],
+) -> Result<Vec<Bounds>, AllocError> {
+    let mut groups = Vec::with_capacity(alloc, firsts.len())?;
+    for ends in firsts.windows(2) {
+        if let [first, after] = ends {
+            let members = bounds.get(*first as usize..*after as usize);
+            groups.push(Bounds::around(members.unwrap_or_default()))?;
+        }
+    }
+    Ok(groups)
+}
+
+/// How many of so many runs a slice has: it has about as many groups of them as there are slices.
 fn slice_length(count: usize) -> usize
     ensures some { 0 < result }
 {
@@ -176,9 +237,12 @@ fn slice_length(count: usize) -> usize
     slices.saturating_add(1).saturating_mul(GROUP).max(GROUP)
 }
 
-/// The levels of an index over the bounds of its segments.
-fn levels_over(alloc: Global, bounds: Vec<Bounds>) -> Result<Vec<Vec<Bounds>>, AllocError> {
-    let groups = level_over(alloc, &bounds)?;
+/// The levels of an index over the bounds of its segments and those of their groups.
+fn levels_over(
+    alloc: Global,
+    bounds: Vec<Bounds>,
+    groups: Vec<Bounds>,
+) -> Result<Vec<Vec<Bounds>>, AllocError> {
     let mut levels = Vec::new(alloc);
     levels.push(bounds)?;
     levels.push(groups)?;

@@ -2,6 +2,7 @@
 ghost use Rattle.std.specs.Prelude.{◌<ℤ◌, All, IfOk, IsTrue};
 ghost use Rattle.mvt_plane.specs.Geometry.Measure.{key_of};
 
+use crate::noding::packing::Packing;
 use crate::noding::stop::Stop;
 use crate::order::{merge_into, sorted_by_ends};
 use crate::segment::{Segment, Winding};
@@ -9,14 +10,19 @@ use mvt_plane::{Point, sweep_key};
 use std::alloc::{AllocError, Global};
 use std::mem;
 
-/// The segments while they are split. Both lists are sorted by ends, and no two members of one have
+/// The segments while they are split. All lists are sorted by ends, and no two members of one have
 /// the same ends.
 #[derive(Drop)]
 pub(super) struct Pieces {
     /// Those whose meetings are still to be found.
     fresh: Vec<Segment>,
-    /// The others, no two of which meet but in an end of both.
+    /// The others, no two of which meet but in an end of both, or with one of `first`.
     settled: Vec<Segment>,
+    /// What was left of the first round, no two of which meet but in an end of both: those that have
+    /// a gain. The others were split, or are without effect, and stay for the sake of the numbers.
+    first: Vec<Segment>,
+    /// The index of `first`, once there is one.
+    index: Option<Packing>,
 }
 
 impl Pieces {
@@ -29,6 +35,8 @@ impl Pieces {
         Ok(Pieces {
             fresh: merged(alloc, fresh)?,
             settled: Vec::new(alloc),
+            first: Vec::new(alloc),
+            index: None,
         })
     }
 
@@ -37,27 +45,60 @@ impl Pieces {
         &self.fresh
     }
 
+    /// Those of the first round, some of which are without effect. Their numbers follow.
+    pub(super) fn first(&self) -> &[Segment] {
+        &self.first
+    }
+
+    /// The index of these, where there are any.
+    pub(super) fn index(&self) -> Option<&Packing> {
+        self.index.as_ref()
+    }
+
     /// The others. Their numbers follow.
     pub(super) fn settled(&self) -> &[Segment] {
         &self.settled
     }
 
-    /// The one of this number.
+    /// Keeps the index of the fresh ones, if they are those of the first round.
+    pub(super) fn keep_index(&mut self, index: Packing) {
+        if self.index.is_none() {
+            self.index = Some(index);
+        }
+    }
+
+    /// The one of this number, if it isn't without effect.
     #[inline]
     pub(super) fn get(&self, number: u32) -> Option<&Segment> {
+        let (list, place) = self.place(number);
+        let segment = match list {
+            List::Fresh => self.fresh.get(place),
+            List::First => self.first.get(place),
+            List::Settled => self.settled.get(place),
+        };
+        segment.filter(|segment| has_gain(segment))
+    }
+
+    /// The list that has the one of this number, and its place there.
+    #[inline]
+    fn place(&self, number: u32) -> (List, usize) {
         let number = number as usize;
-        match number.checked_sub(self.fresh.len()) {
-            None => self.fresh.get(number),
-            Some(number) => self.settled.get(number),
+        let Some(after_fresh) = number.checked_sub(self.fresh.len()) else {
+            return (List::Fresh, number);
+        };
+        match after_fresh.checked_sub(self.first.len()) {
+            None => (List::First, after_fresh),
+            Some(place) => (List::Settled, place),
         }
     }
 
     /// Takes the gain of the one of this number, and returns it as it was.
     pub(super) fn take_gain(&mut self, number: u32) -> Option<Segment> {
-        let number = number as usize;
-        match number.checked_sub(self.fresh.len()) {
-            None => take_gain(&mut self.fresh, number),
-            Some(number) => take_gain(&mut self.settled, number),
+        let (list, place) = self.place(number);
+        match list {
+            List::Fresh => take_gain(&mut self.fresh, place),
+            List::First => take_gain(&mut self.first, place),
+            List::Settled => take_gain(&mut self.settled, place),
         }
     }
 
@@ -70,19 +111,21 @@ impl Pieces {
     ) -> Result<(), AllocError> {
         let mut parts = merged(alloc, parts)?;
         self.settle()?;
+        parts.retain(|part| !absorbs(&mut self.first, part));
         parts.retain(|part| !absorbs(&mut self.settled, part));
         self.settled.retain(has_gain);
         self.fresh = parts;
         Ok(())
     }
 
-    /// Settles all that have a gain left.
+    /// Settles all. After the first round these are the first ones, and keep their numbers.
     fn settle(&mut self) -> Result<(), AllocError> {
+        if self.first.is_empty() {
+            mem::swap(&mut self.first, &mut self.fresh);
+            return Ok(());
+        }
         self.fresh.retain(has_gain);
         self.settled.retain(has_gain);
-        if self.settled.is_empty() {
-            mem::swap(&mut self.settled, &mut self.fresh);
-        }
         merge_into(&mut self.settled, &self.fresh, &keys)?;
         self.fresh.clear();
         Ok(())
@@ -92,8 +135,18 @@ impl Pieces {
     pub(super) fn into_segments(self) -> Result<Vec<Segment>, AllocError> {
         let mut pieces = self;
         pieces.settle()?;
-        Ok(pieces.settled)
+        pieces.first.retain(has_gain);
+        merge_into(&mut pieces.first, &pieces.settled, &keys)?;
+        Ok(pieces.first)
     }
+}
+
+/// Where a piece is.
+#[derive(Clone, Copy, Debug, PartialEq, Eq)]
+enum List {
+    Fresh,
+    First,
+    Settled,
 }
 
 /// The part of a segment from one position to another, which begins at the one of lesser key.
@@ -157,15 +210,15 @@ fn absorb(segment: &mut Segment, other: &Segment) -> bool {
     is_same
 }
 
-/// Adds the gain of a segment to the one of the same ends, if there is one, and returns whether
-/// there is. They are sorted by ends.
+/// Adds the gain of a segment to the one of the same ends that isn't without effect, if there is one,
+/// and returns whether there is. They are sorted by ends.
 fn absorbs(segments: &mut Vec<Segment>, part: &Segment) -> bool {
     let Ok(place) = segments.binary_search_by_key(&keys(part), keys) else {
         return false;
     };
     match segments.get_mut(place) {
-        Some(segment) => absorb(segment, part),
-        None => false,
+        Some(segment) if has_gain(segment) => absorb(segment, part),
+        _ => false,
     }
 }
 

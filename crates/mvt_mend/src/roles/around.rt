@@ -164,4 +164,8 @@ impl Notes for RingsAround<'_> {
         *above.ok_or(Stop::GaveUp)? = over;
         Ok(())
     }
+
+    fn go_on(&mut self, _one: u32, _other: u32) -> Result<(), Stop> {
+        Ok(())
+    }
 }

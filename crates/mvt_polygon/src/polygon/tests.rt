@@ -1,7 +1,7 @@
 use super::{PolygonFault, check_polygon};
 use crate::nesting::NestFault;
 use crate::nesting::tests::PLACES;
-use crate::rings::tests::{Coordinates, SQUARE, ring_at, rings_at};
+use crate::rings::tests::{Coordinates, HOLE_BESIDE, SQUARE, ring_at, rings_at};
 use mvt_plane::{Count, Point};
 use mvt_sweep::{Meeting, are_proper};
 use std::alloc::Global;
@@ -11,7 +11,7 @@ use std::process::Abort;
 fn fault_in(rt: &impl Abort, alloc: Global, rings: &[Vec<Point>]) -> (Option<PolygonFault>, Count) {
     assert!(rt; are_proper(rings));
     let mut count = Count::new();
-    let fault = check_polygon(alloc, rings, &mut count).expect(rt, "memory");
+    let fault = check_polygon(alloc, rings, 0, rings.len(), &mut count).expect(rt, "memory");
     (fault, count)
 }
 
@@ -104,6 +104,18 @@ fn places_of_holes(rt: HostRuntime) {
         };
         assert!(rt; fault_at(&rt, rt.alloc(), rings) == wanted);
     }
+}
+
+// Of a feature's second polygon, a square with a hole beside it, the rings have the ordinals of the
+// feature.
+#[test]
+fn ordinals_in_the_feature(rt: HostRuntime) {
+    let rings = rings_at(&rt, rt.alloc(), &[SQUARE, SQUARE, HOLE_BESIDE]);
+    assert!(rt; are_proper(&rings));
+    assert_eq!(rt; rings.len(), 3);
+    let fault = check_polygon(rt.alloc(), &rings, 1, 3, &mut Count::new()).expect(&rt, "memory");
+    let beside = NestFault::Outside { ring: 2, vertex: 0 };
+    assert!(rt; fault == Some(PolygonFault::Nesting(beside)));
 }
 
 /// Whether something was done, so often at most.

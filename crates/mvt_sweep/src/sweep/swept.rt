@@ -1,15 +1,14 @@
 //! What comes of a sweep over rings.
-ghost use Rattle.std.specs.Prelude.{◌≡◌, ◌+◌, ◌*◌, ◌≤◌, [], IfNone, IfOk, IfSome, None};
+ghost use Rattle.std.specs.Prelude.{◌≡◌, ◌*◌, ◌≤◌, [], IfNone, IfOk, IfSome, None};
 ghost use Rattle.mvt_plane.specs.Counted.{ticked};
 ghost use Rattle.mvt_sweep.specs.Work.{AddsWork, IsCounted, vertex_count};
+ghost use Rattle.mvt_sweep.specs.SweepWork.{AddsSweep, AddsTurns};
 ghost use Rattle.mvt_sweep.specs.Calls.SweepVertices.{AreSweepVertices, IsMeetingAt};
 ghost use Rattle.mvt_sweep.specs.Meeting.{IsMeetingOf};
 ghost use Rattle.mvt_sweep.specs.Calls.VertexOrder.{IsOrder, IsStrict};
 ghost use Rattle.mvt_sweep.specs.Rings.{rings_of, AreProperRings};
 ghost use Rattle.mvt_sweep.specs.Swept.{IsSweptAnswer, met_in};
 ghost use Rattle.mvt_sweep.specs.Calls.Swept.{IsSweptWith};
-ghost use Rattle.mvt_sweep.specs.TurnVertices.{turn_count};
-ghost use Rattle.mvt_status.specs.Counts.{bits};
 
 use crate::meeting::{Meeting, named_meeting};
 use crate::sweep::listing::list_of;
@@ -44,11 +43,9 @@ pub(crate) fn sweep_over<S: Status, N: Notes>(
     requires empty { S.edges status.old ≡ [] }
     ensures swept { IfOk result (IsSweptWith (rings_of rings.now) vertices.now
         (N.are_noted (rings_of rings.now) vertices.now)) }
-    ensures counted { let n = vertex_count (rings_of rings.now) in
-        AddsWork (3 * n) (n * (2 * bits n + 2)) (n * (20 * bits n)) count.old count.new }
-    ensures turns { let n = vertex_count (rings_of rings.now) in
-        let turns = turn_count (rings_of rings.now) in
-        AddsWork (3 * n) (n + turns * (2 * bits n)) (turns * (12 * bits n)) count.old count.new }
+    ensures counted { AddsSweep 2 (vertex_count (rings_of rings.now)) count.old count.new }
+    ensures turns { let rings = rings_of rings.now in
+        AddsTurns (vertex_count rings) rings count.old count.new }
     ensures least { IfOk result (λ swept.
         IsCounted (vertex_count (rings_of rings.now)) count.old count.new (met_in swept)) }
 {
@@ -74,11 +71,9 @@ pub fn sweep_rings(
 ) -> Result<Swept<RingNotes>, AllocError>
     requires { AreProperRings (rings_of rings.now) }
     ensures answer { IfOk result (IsSweptAnswer (rings_of rings.now)) }
-    ensures counted { let n = vertex_count (rings_of rings.now) in
-        AddsWork (3 * n) (n * (2 * bits n + 2)) (n * (20 * bits n)) count.old count.new }
-    ensures turns { let n = vertex_count (rings_of rings.now) in
-        let turns = turn_count (rings_of rings.now) in
-        AddsWork (3 * n) (n + turns * (2 * bits n)) (turns * (12 * bits n)) count.old count.new }
+    ensures counted { AddsSweep 2 (vertex_count (rings_of rings.now)) count.old count.new }
+    ensures turns { let rings = rings_of rings.now in
+        AddsTurns (vertex_count rings) rings count.old count.new }
     ensures least { IfOk result (λ swept.
         IsCounted (vertex_count (rings_of rings.now)) count.old count.new (met_in swept)) }
 {

@@ -48,6 +48,7 @@ impl<'a> LayerNames<'a> {
     }
 
     /// Adds the name of the next layer. The only error is that memory was refused.
+    #[inline(always)]
     pub(crate) fn add(&mut self, name: &'a [u8]) -> Result<(), AllocError>
         ensures { OnOk result (self.new ≡ self.old ++ name.now ∷ []) }
     {
@@ -67,6 +68,7 @@ impl<'a> LayerNames<'a> {
 
     /// The ordinals of two layers that have one name: of all such pairs the one with the earliest
     /// second layer.
+    #[inline(always)]
     pub(crate) fn first_repeated(self) -> Option<(usize, usize)>
         ensures none { IfNone result ((first second : ℕ) → ¬ IsRepeated self.entry first second) }
         ensures first { IfSome result (λ found. IsFirstRepeated self.entry found.0 found.1) }

@@ -35,6 +35,7 @@ impl<'a> LayerRules<'a> {
 
     /// Passes the next layer, and returns whether it has version 2: another version ends the walk
     /// over the layers. The only error is that memory was refused.
+    #[inline(always)]
     pub(crate) fn note(&mut self, version: u32, name: &'a [u8]) -> Result<bool, AllocError>
         ensures count { IfOk result (λ goes_on. IsTrue goes_on
             → passed self.new ≡ passed self.old + 1) }
@@ -56,6 +57,7 @@ impl<'a> LayerRules<'a> {
 
     /// The first fault of the layers, all of which were passed, or all up to the first of another
     /// version.
+    #[inline(always)]
     pub(crate) fn fault(self) -> Option<Fault>
         ensures none { IfNone result ((tile : TileRecord) → EndsLayers self.entry tile
             → (fault : Fault) → ¬ IsFaultOfLayers tile fault) }

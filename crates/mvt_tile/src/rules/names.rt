@@ -50,6 +50,7 @@ impl<'a> SeveralNames<'a> {
     }
 
     /// Adds the name of the next layer. The only error is that memory was refused.
+    #[inline(never)]
     pub(crate) fn add(&mut self, name: &'a [u8]) -> Result<(), AllocError>
         ensures { OnOk result (self.new ≡ self.old ++ name.now ∷ []) }
     {
@@ -61,6 +62,7 @@ impl<'a> SeveralNames<'a> {
 
     /// The ordinals of two layers that have one name: of all such pairs the one with the earliest
     /// second layer. It sorts the names, so that those that are the same are neighbours.
+    #[inline(never)]
     pub(crate) fn first_repeated(self) -> Option<(usize, usize)>
         ensures none { IfNone result ((first second : ℕ) → ¬ IsRepeated self.entry first second) }
         ensures first { IfSome result (λ found. IsFirstRepeated self.entry found.0 found.1) }

@@ -23,6 +23,9 @@ pub(crate) struct FieldScan {
 impl FieldScan {
     ghost use Rattle.mvt_tile.specs.Calls.FieldScan.{HasScanned, IsFirstFieldFault, IsMissing, was_seen};
 
+    /// No field was passed. (Inlined, so that where the fields come in a known order, what has occurred
+    /// is known when this is compiled.)
+    #[inline(always)]
     pub(crate) fn new() -> Self
         ensures { (message : Message) → HasScanned message result [] }
     {

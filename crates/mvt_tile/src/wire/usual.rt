@@ -56,7 +56,29 @@ impl FieldScan {
         }
     }
 
-    /// The same for a field that begins with a key.
+    /// The same for a field that begins with a key. It returns None where it begins with another.
+    #[inline(always)]
+    pub(crate) fn pass_of<'a>(
+        &mut self,
+        message: Message,
+        bytes: &'a [u8],
+        at: usize,
+        key: u8,
+    ) -> Option<(Field<'a>, usize)>
+        requires within { at ≤ length bytes.now }
+        requires numbered { 8 ≤ key }
+        requires short { key < 128 }
+        ensures passed { IfSome result (PassesNext message bytes.now at self.old self.new) }
+        ensures unchanged { IfNone result (self.new ≡ self.old) }
+    {
+        if bytes.len() - at < 2 || bytes[at] != key {
+            return None;
+        }
+        let (value, start) = leading_varint(bytes, at + 1)?;
+        self.pass_key(message, bytes, at, key, value, start)
+    }
+
+    /// The same for a field that begins with a key, after which is a varint.
     #[inline(always)]
     fn pass_key<'a>(
         &mut self,

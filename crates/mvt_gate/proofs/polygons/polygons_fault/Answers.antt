@@ -9,8 +9,8 @@ polygons-init c = none_passed (rings_of c.args.rings.now) c.requires.sound
 
 pub polygons-preserved : goal.polygons-preserved
 polygons-preserved c =
-    polygon_passed c.args.rings.now c.polygons.polygon c.polygons.exterior c.polygon_end.result c.requires.sound c.polygons.invariant c.polygons-test.true
-    c.polygon_end.ensures.further c.polygon_end.ensures.within c.polygon_end.ensures.holes c.polygon_end.ensures.ends
+    polygon_passed c.args.rings.now c.polygons.polygon c.polygons.exterior c.polygon_end-after.result c.requires.sound c.polygons.invariant c.polygons-test.true
+    c.polygon_end-after.ensures.further c.polygon_end-after.ensures.within c.polygon_end-after.ensures.holes c.polygon_end-after.ensures.ends
     (MatchOption-at_none _ _ c.in_default.is c.in_ok-fault.ensures.valid)
 
 pub returns-clause-valid : goal.returns-clause-valid

@@ -1,7 +1,8 @@
 use Rattle.std.proofs.Common.{sym, ◌∙◌}
 use Rattle.mvt_sweep.specs.Rings.{rings_of}
 use Rattle.mvt_polygon.proofs.ApartFaults.{rings_at, rings_listed}
-use Rattle.mvt_feature.proofs.Placed.AddedPassings.{ends_read, part_read}
+use Rattle.mvt_feature.proofs.Placed.AddedPassings.{ends_read}
+use Rattle.mvt_polygon.proofs.PolygonSlices.{part_read}
 use Rattle.mvt_mend.proofs.kept.find_from.Goals as goal
 
 pub is_part-requires-clause-in_order : goal.is_part-requires-clause-in_order

@@ -109,6 +109,7 @@ fn sides_of(
                     to: corner(rt, placing, to.0, to.1),
                     source,
                     witness: 0,
+                    part: 0,
                 })
                 .expect(rt, "memory");
         }

@@ -3,9 +3,10 @@ use Rattle.mvt_plane.specs.Position.{Position}
 use Rattle.mvt_sweep.specs.Work.{vertex_count}
 use Rattle.mvt_sweep.specs.Meeting.{NoMeeting}
 use Rattle.mvt_sweep.specs.Rings.{rings_of, AreProperRings}
-use Rattle.mvt_feature.proofs.Placed.AddedPassings.{AddsParts, none_reached, no_passings, more_read, more_work, several_more, all_parts, part_read, part_size, ends_read}
+use Rattle.mvt_feature.proofs.Placed.AddedPassings.{AddsParts, none_reached, no_passings, more_read, more_work, several_more, all_parts, part_size, ends_read}
+use Rattle.mvt_polygon.proofs.PolygonSlices.{part_read, proper_part}
 use Rattle.mvt_polygon.proofs.ApartFaults.{rings_at}
-use Rattle.mvt_feature.proofs.Placed.OwnPassings.{proper_part, clear_part}
+use Rattle.mvt_feature.proofs.Placed.OwnPassings.{clear_part}
 use Rattle.mvt_sweep.proofs.Vertices.RingReads.{count_of_rings}
 use Rattle.mvt_sweep.proofs.Sweeps.StatusCounts.{no_work}
 use Rattle.mvt_feature.proofs.feature.passing.passings.Goals as goal

@@ -1,4 +1,4 @@
-use Rattle.std.proofs.Common.{◌≡◌, ◌+◌, ◌-◌, ◌<◌, ℕ, List, length, get_or, Vec, rules, refl, sym, ◌∙◌, subst, arith}
+use Rattle.std.proofs.Common.{◌≡◌, ◌+◌, ◌-◌, ◌^◌, ◌<◌, ℕ, List, length, get_or, Vec, rules, refl, sym, ◌∙◌, subst, arith}
 use Rattle.std.specs.declared.alloc.Global.{Global}
 use Rattle.mvt_rules.specs.Nesting.{IsVertexOf}
 use Rattle.mvt_plane.specs.Position.{Position}
@@ -6,7 +6,8 @@ use Rattle.mvt_polygon.specs.Nesting.{IsFirstOf, IsOfVertex, IsNestFault}
 use Rattle.mvt_polygon.specs.Polygons.{ArePolygons}
 use Rattle.mvt_sweep.specs.Rings.{rings_of, AreProperRings}
 use Rattle.mvt_polygon.specs.declared.nesting.NestFault.{NestFault}
-use Rattle.mvt_feature.proofs.Placed.AddedPassings.{part_read, ends_read}
+use Rattle.mvt_feature.proofs.Placed.AddedPassings.{ends_read}
+use Rattle.mvt_polygon.proofs.PolygonSlices.{nest_rings_known, part_read}
 use Rattle.mvt_polygon.proofs.ApartFaults.{rings_at, rings_listed, ends_within, exterior_read, vertex_there, first_vertex}
 use Rattle.mvt_feature.proofs.Placed.PlacedPolygons.{AreLeftTo, first_of_part, nested_where_left, left_listed, wrong_has_fault, placed_where_none, around_where_some, first_in_slice, some_vertex, exterior_around, part_probes}
 use Rattle.mvt_sweep.proofs.Vertices.RingReads.{count_of_rings}
@@ -66,6 +67,15 @@ returns-in_err-fault-clause-uncounted c =
     absurd (wrong_has_fault rings c.args.passings.now c.args.polygon it c.in-Some.hole c.requires.clear c.requires.drawn (rings_listed rings c.args.polygons.now c.args.polygon c.requires.listed c.requires.there)
     (c.requires.size ∙ sym (count_of_rings c.args.rings.now)) c.requires.passed c.in-Some.ensures.some clear)
 
+pub in_feature-requires : goal.in_feature-requires
+in_feature-requires c =
+    let rings = rings_of c.args.rings.now in
+    let it = rings_at c.args.polygons.now c.args.polygon in
+    let ends = ends_within rings c.args.polygon it (rings_listed rings c.args.polygons.now c.args.polygon c.requires.listed c.requires.there) in
+    let found = subst (λ (part : List (List Position)). IsFirstOf part (IsOfVertex (c.in-Some.hole - it.exterior) 0) c.in_ok-fault.fault) (part_read c.args.rings.now it) c.in_ok-fault.ensures.least in
+    let fits : length c.args.rings.now < 2 ^ 64 = omega arith in
+    nest_rings_known rings it c.in_ok-fault.fault ends (omega (arith, ends, count_of_rings c.args.rings.now, fits)) found.holds
+
 pub returns-in-Some-clause-some : goal.returns-in-Some-clause-some
 returns-in-Some-clause-some c =
     let rings = rings_of c.args.rings.now in
@@ -79,7 +89,11 @@ returns-in-Some-clause-some c =
     let ends = ends_within rings c.args.polygon it is_it in
     let left = left_listed rings c.args.passings.now c.args.polygon it c.in-Some.hole is_it c.requires.passed (omega arith) wrong.first in
     let found = subst (λ (part : List (List Position)). IsFirstOf part (IsOfVertex own 0) c.in_ok-fault.fault) (part_read c.args.rings.now it) c.in_ok-fault.ensures.least in
-    first_of_part rings it own c.in_ok-fault.fault c.requires.clear ends (omega arith) (subst (AreLeftTo rings it) number left) found
+    record {
+      alone = c.in_ok-fault.fault;
+      is = first_of_part rings it own c.in_ok-fault.fault c.requires.clear ends (omega arith) (subst (AreLeftTo rings it) number left) found;
+      moved = c.in_feature.ensures;
+    }
 
 pub returns-in-Some-clause-counted : goal.returns-in-Some-clause-counted
 returns-in-Some-clause-counted c =

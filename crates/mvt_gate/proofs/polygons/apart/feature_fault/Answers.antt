@@ -1,7 +1,7 @@
 use Rattle.std.proofs.Common.{sym, subst}
 use Rattle.mvt_fault.specs.declared.profile.Profile.TheVariants.{Feature}
 use Rattle.mvt_sweep.specs.Rings.{rings_of}
-use Rattle.mvt_gate.proofs.FeatureSearches.{least_for, reportable_for, valid_for}
+use Rattle.mvt_gate.proofs.FeatureSearches.{least_for, valid_for}
 use Rattle.mvt_gate.specs.Calls.Polygons.{IsFeatureAnswerFor, IsFirstOfRingsFor}
 use Rattle.mvt_gate.proofs.polygons.apart.feature_fault.Goals as goal
 
@@ -9,11 +9,6 @@ pub returns-in_default-clause-valid : goal.returns-in_default-clause-valid
 returns-in_default-clause-valid c =
     let answer = subst (IsFeatureAnswerFor c.args.search (rings_of c.args.rings.now)) c.in_default.is c.in_ok-found.ensures in
     valid_for c.args.search (rings_of c.args.rings.now) c.requires.sound answer
-
-pub cause_fault-requires : goal.cause_fault-requires
-cause_fault-requires c =
-    let answer = subst (IsFeatureAnswerFor c.args.search (rings_of c.args.rings.now)) c.in-Some.is c.in_ok-found.ensures in
-    reportable_for c.args.search (rings_of c.args.rings.now) c.args.layer c.args.feature c.in-Some.found answer
 
 pub returns-clause-found : goal.returns-clause-found
 returns-clause-found c =

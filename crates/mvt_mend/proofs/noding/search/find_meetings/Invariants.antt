@@ -3,6 +3,3 @@ use Rattle.mvt_mend.proofs.noding.search.find_meetings.Given as goal
 
 abbrev pub invariant-loop-group : goal.invariant-loop-group
 invariant-loop-group l = l.work ≤ l.fn.work
-
-abbrev pub invariant-loop-number : goal.invariant-loop-number
-invariant-loop-number l = l.work ≤ l.fn.work

@@ -1,0 +1,20 @@
+use Rattle.std.proofs.Common.{inl, inr}
+use Rattle.std.proofs.lemmas.Bool.{both_ways}
+use Rattle.mvt_gate.proofs.Verdicts.{valid_without_fault}
+use Rattle.mvt_gate.proofs.first_walk.first_walk.Goals as goal
+
+pub returns-then-figures : goal.returns-then-figures
+returns-then-figures c = c.in_ok-passes_one_walk.ensures.wire c.if-branch.true
+
+pub returns-then-branch : goal.returns-then-branch
+returns-then-branch c = λ profile.
+    valid_without_fault profile c.args.bytes.now (c.in_ok-passes_one_walk.ensures.wire c.if-branch.true)
+    (λ tile is.
+    let kept = c.in_ok-passes_one_walk.ensures.rules c.if-branch.true tile is in
+    record {
+      parts = kept.parts;
+      features = λ layer feature layer_record it there. elim (kept.features layer feature layer_record it there) [
+        | inl valid ↦ valid profile
+        | inr some ↦ absurd (both_ways _ c.if-figures.false some)
+      ];
+    })

@@ -1,0 +1,17 @@
+-- What is known of the bytes of a tile before its polygons are looked at.
+use Rattle.std.specs.Prelude.{ℕ, List}
+use Rattle.mvt_fault.specs.Place.{IsLeast}
+use Rattle.mvt_fault.specs.declared.profile.Profile.{Profile}
+use Rattle.mvt_rules.specs.Parts.TrueFaults.{IsWireFault}
+use Rattle.mvt_rules.specs.Valid.{ValidBy}
+use Rattle.mvt_rules.specs.WireFault.{WireFault}
+use Rattle.mvt_wire.specs.declared.cause.WireCause.{WireCause}
+use Rattle.mvt_wire.specs.declared.scope.Scope.{Scope}
+use Rattle.mvt_gate.specs.declared.first_walk.FirstWalk.{FirstWalk}
+use Rattle.mvt_gate.specs.declared.first_walk.FirstWalk.TheVariants.{Valid, Faulty, Whole}
+
+-- they are a valid tile by each profile; or this is their first wire fault; or they have none
+abbrev pub IsFirstWalk : List ℕ → FirstWalk → Type 0
+IsFirstWalk bytes Valid = (profile : Profile) → ValidBy profile bytes
+IsFirstWalk bytes (Faulty fault) = IsLeast (IsWireFault bytes) fault
+IsFirstWalk bytes Whole = (scope : Scope) (cause : WireCause) → ¬ WireFault bytes scope cause

@@ -1,0 +1,45 @@
+//! The figures of points and lines, in the walk that passes over polygons.
+ghost use Rattle.std.specs.Prelude.{◌≡◌, false};
+
+use mvt_draw::command_fault;
+use mvt_tile::{FeatureBytes, FeatureTest, Kind};
+
+/// That the geometry of a feature of a known type draws a figure of it (Mapbox Vector Tile
+/// Specification 2.1, section 4.3). Polygons aren't looked at, but that there are some is noted.
+#[derive(Drop)]
+pub(crate) struct FigureTest {
+    pub(crate) has_polygons: bool,
+}
+
+impl FigureTest {
+    /// No feature was seen.
+    pub(crate) fn new() -> FigureTest
+        ensures { result.has_polygons ≡ false }
+    {
+        FigureTest {
+            has_polygons: false,
+        }
+    }
+}
+
+impl FeatureTest for FigureTest {
+    ghost use Rattle.std.specs.Prelude.{◌≡◌, ◌⊎◌, true};
+    ghost use Rattle.mvt_fault.specs.declared.profile.Profile.{Profile};
+    ghost use Rattle.mvt_rules.specs.Valid.{IsValidGeometryBy};
+
+    ghost IsKept = { λ test it. ((profile : Profile) → IsValidGeometryBy profile it)
+        ⊎ (test.has_polygons ≡ true) };
+
+    fn keeps(&mut self, feature: &FeatureBytes<'_>) -> bool {
+        match feature.kind() {
+            Kind::Polygon => {
+                self.has_polygons = true;
+                true
+            }
+            kind => match command_fault(kind, feature.geometry()) {
+                None => true,
+                Some(_) => false,
+            },
+        }
+    }
+}
