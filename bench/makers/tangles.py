@@ -5,7 +5,7 @@ import math
 from typing import NamedTuple
 
 from inputs import CLOSE_PATH, DELIMITED, LINE_TO, MOVE_TO, NAMED, POLYGON, Dice, command, feature, field, one_payload, packed, parameters, ring, varint
-from shapes import REACH, REST, ZERO, drawn, filled, nested, there_and_back
+from shapes import REACH, REST, ZERO, drawn, filled, nested, there_and_back, zigzag_ring
 
 # of a square in which edges take two bytes a number
 SIDE = 4096
@@ -56,11 +56,21 @@ def rings_of(first, rings, size):
 
 
 SPIKE = [(0, 1), (0, -1)]
+# its first edge and its third cross
+BOW = [(0, 0), (2, 2), (0, -2), (-2, 2), *SPIKE, *SPIKE]
 
 
 def bows(size):
-    """Features of one small ring whose first edge and third cross."""
-    return features_of([(0, 0), (2, 2), (0, -2), (-2, 2), *SPIKE, *SPIKE], size)
+    """Features of one small ring that crosses itself."""
+    return features_of(BOW, size)
+
+
+def bow_before_zigzag(size):
+    """One of these, at which `check` ends, and after it a right ring that takes long to judge."""
+    features = [feature(POLYGON, numbers_of([BOW])), feature(POLYGON, zigzag_ring(size - REST, -1))]
+    tile = field(3, DELIMITED, NAMED + b"".join(field(2, DELIMITED, it) for it in features))
+    # (a vertex of the zigzag takes two bytes)
+    return Tangle(tile, len(BOW) + len(features[1]) // 2)
 
 
 def joined_bows(size):
@@ -196,6 +206,6 @@ SIZED = {
     it.__name__: it
     for it in (
         *(bows, joined_bows, random_features, random_edges, crossed_star, fan, diagonals, slanted_teeth, crossed_teeth, long_edges, spikes, stairs),
-        *(square_board, hole_board, nested_backwards, crossed_backwards),
+        *(square_board, hole_board, nested_backwards, crossed_backwards, bow_before_zigzag),
     )
 }
