@@ -11,7 +11,7 @@ use Rattle.mvt_fault.specs.Place.{ComesFirst}
 use Rattle.mvt_fault.specs.declared.ring.RingEdge.{RingEdge}
 use Rattle.mvt_rules.proofs.Rings.PolygonNumbers.{polygon_of_ring}
 use Rattle.mvt_rules.proofs.Rings.PartsOfRings.{number_in_part, meeting_in_part, outside_in_part, in_hole_in_part}
-use Rattle.mvt_rules.specs.Meeting.{EdgeNumber, MeetsWrongly}
+use Rattle.mvt_rules.specs.Meeting.{MeetsWrongly}
 use Rattle.mvt_rules.specs.Nesting.{IsOutside, IsInHole}
 use Rattle.mvt_rules.specs.Parts.Rings.{part_of, in_whole}
 use Rattle.mvt_rules.specs.Polygon.{PolygonRings, IsRingOf, IsHoleOf}
@@ -132,19 +132,19 @@ apart_of_front parts its apart first second point before second_in =
 -- The polygon alone
 
 -- an edge of the polygon, by its numbers in the part
-edge_in_part : (its : PolygonRings) (number : EdgeNumber) → IsRingOf its number.ring → (own : EdgeNumber) × (own.ring < its.after - its.exterior) × (number ≡ in_whole its.exterior own)
+edge_in_part : (its : PolygonRings) (number : RingEdge) → IsRingOf its number.ring → (own : RingEdge) × (own.ring < its.after - its.exterior) × (number ≡ in_whole its.exterior own)
 edge_in_part its number of_it =
     let own = number_in_part its number.ring of_it in
     (record { ring = own.0; edge = number.edge }, own.1, ap (λ (ring : ℕ). record { ring = ring; edge = number.edge }) own.2)
 
 -- where no edges of the part meet wrongly, none of the polygon do
-pub apart_in_whole : (parts : List (List Position)) (its : PolygonRings) → ((first second : EdgeNumber) (point : RationalPoint) → ¬ MeetsWrongly (part_of parts its) first second point) → AreApartBy Polygon parts its
+pub apart_in_whole : (parts : List (List Position)) (its : PolygonRings) → ((first second : RingEdge) (point : RationalPoint) → ¬ MeetsWrongly (part_of parts its) first second point) → AreApartBy Polygon parts its
 apart_in_whole parts its none first second point first_in second_in meets =
     let own = edge_in_part its first first_in in
     let other = edge_in_part its second second_in in
     none own.0 other.0 point ((meeting_in_part parts its own.0 other.0 point own.1 other.1).1
-    (subst (λ (number : EdgeNumber). MeetsWrongly parts (in_whole its.exterior own.0) number point) other.2
-    (subst (λ (number : EdgeNumber). MeetsWrongly parts number second point) own.2 meets)))
+    (subst (λ (number : RingEdge). MeetsWrongly parts (in_whole its.exterior own.0) number point) other.2
+    (subst (λ (number : RingEdge). MeetsWrongly parts number second point) own.2 meets)))
 
 -- Holes
 

@@ -3,7 +3,7 @@ use Rattle.std.specs.Prelude.{◌≡◌, ◌≢◌, ◌-◌, ◌+◌, ◌==◌, 
 use Rattle.mvt_plane.specs.Geometry.CommonPoint.{IsNamed}
 use Rattle.mvt_plane.specs.Geometry.EdgeOrder.{segment_between}
 use Rattle.mvt_plane.specs.Geometry.Measure.{orientation}
-use Rattle.mvt_rules.specs.Meeting.{EdgeNumber}
+use Rattle.mvt_fault.specs.declared.ring.RingEdge.{RingEdge}
 use Rattle.mvt_plane.specs.Position.{Position}
 use Rattle.mvt_plane.specs.Geometry.RationalPoint.{RationalPoint, IsBounded}
 use Rattle.mvt_plane.specs.declared.geometry.edge.Edge.{Edge}
@@ -27,7 +27,7 @@ far_end_of count number = cond (number == 0) (count - 1) (cond (number + 1 == co
 
 -- The vertices of all rings are numbered ring by ring. This number is that of the vertex at this place: the ring, and
 -- the number of the vertex (and of the edge that begins in it) in the ring
-pub record IsNumbered (rings : List (List Position)) (number : ℕ) (place : EdgeNumber) : Type 0 where
+pub record IsNumbered (rings : List (List Position)) (number : ℕ) (place : RingEdge) : Type 0 where
   pub ring : List Position
   pub there : slice_get rings place.ring ≡ Some ring
   pub within : place.edge < length ring
@@ -35,7 +35,7 @@ pub record IsNumbered (rings : List (List Position)) (number : ℕ) (place : Edg
 
 -- What the sweep has by this number is the vertex of the rings that has it
 pub record IsSweepVertexOf (rings : List (List Position)) (number : ℕ) (vertex : SweepVertex) : Type 0 where
-  pub place : EdgeNumber
+  pub place : RingEdge
   pub is : IsNumbered rings number place
   pub here : slice_get is.ring place.edge ≡ Some vertex.position
   pub far_end : vertex.far_end ≡ vertex_count (take place.ring rings) + far_end_of (length is.ring) place.edge
