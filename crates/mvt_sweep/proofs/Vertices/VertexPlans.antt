@@ -1,5 +1,5 @@
 -- The vertices of rings as a plan of a sweep, and what follows for the rings from what the sweep finds of the vertices.
-use Rattle.std.proofs.Common.{◌≡◌, ◌≢◌, ℕ, ◌+◌, ◌<◌, ◌⊎◌, ◌==◌, inl, inr, List, length, take, slice_get, Option, Some, None, IfNone, refl, sym, ◌∙◌, ap, ap₂, subst, arith}
+use Rattle.std.proofs.Common.{◌≡◌, ◌≢◌, ℕ, ◌+◌, ◌<◌, ◌⊎◌, ◌==◌, inl, inr, List, length, take, slice_get, Option, Some, None, IfNone, IfSome, refl, sym, ◌∙◌, ap, ap₂, subst, arith}
 use Rattle.std.proofs.lemmas.Bool.{cases_eq, cond-true, cond-false, eq-eqb, ne_eqb}
 use Rattle.std.proofs.lemmas.Option.{same_Some, none-some, get_or_from_slice_get}
 use Rattle.mvt_plane.specs.Geometry.CommonPoint.{IsNamed}
@@ -14,7 +14,7 @@ use Rattle.mvt_plane.specs.declared.geometry.edge.Edge.{Edge}
 use Rattle.mvt_plane.proofs.Points.CommonPoints.{named_is_common, only_at_the_shared_vertex}
 use Rattle.mvt_plane.proofs.Points.RationalPoints.{lies_on_reversed, begin_lies_on}
 use Rattle.mvt_sweep.specs.Calls.VertexOrder.{AreTogether}
-use Rattle.mvt_sweep.specs.Calls.SweepVertices.{AreSweepVertices, IsListOf, IsNamedFor, IsNamedMeeting, IsNamedPair, IsNumbered, NoneWrong, sweep_vertex_at, sweep_count, edge_at, next_at, plan_of, position_at, shared_at}
+use Rattle.mvt_sweep.specs.Calls.SweepVertices.{AreSweepVertices, IsListOf, IsNamedFor, IsNumbered, IsPointOf, NoneWrong, sweep_vertex_at, sweep_count, edge_at, next_at, plan_of, position_at, shared_at}
 use Rattle.mvt_sweep.specs.Work.{vertex_count}
 use Rattle.mvt_sweep.specs.Calls.Links.{AreLinked, next_in, position_in, previous_in}
 use Rattle.mvt_sweep.specs.Meeting.{IsMeetingOf, first_of, second_of}
@@ -25,7 +25,6 @@ use Rattle.mvt_sweep.specs.declared.meeting.Meeting.{Meeting}
 use Rattle.mvt_sweep.specs.declared.sweep.vertex.SweepVertex.{SweepVertex}
 use Rattle.mvt_sweep.specs.declared.sweep.vertices.SweepVertices.{SweepVertices}
 use Rattle.mvt_sweep.specs.declared.sweep.vertices.Pair.{Pair}
-use Rattle.mvt_sweep.specs.declared.sweep.vertices.NamedPair.{NamedPair}
 use Rattle.mvt_sweep.proofs.Vertices.VertexNumbers.{IsVertex, sweep_vertex_there, vertex_at, numbered_within, one_place, in_order, next_within, previous_within, next_previous, previous_next, next_but_one}
 use Rattle.mvt_sweep.proofs.Vertices.EdgeNumbers.{edge_read, within_ring}
 use Rattle.mvt_sweep.proofs.Vertices.SegmentEnds.{up, down, between_them, rising_between, end_first, end_second}
@@ -219,6 +218,18 @@ tested_by_name vertices first second named point on_first on_second =
     only_at_the_shared_vertex (shared_at vertices first second) (edge_at vertices first) (edge_at vertices second) point named (on_segment_at vertices first point on_first)
     (on_segment_at vertices second point on_second)
 
+-- so they were where the answer is none
+pub tested_if_none : (vertices : SweepVertices) (first second : ℕ) (answer : Option RationalPoint) → IsNamed (shared_at vertices first second) (edge_at vertices first) (edge_at vertices second) answer
+    → IfNone answer (Tested (plan_of vertices) first second)
+tested_if_none vertices first second None named = tested_by_name vertices first second named
+tested_if_none vertices first second (Some point) named = tt
+
+-- and else it is their point
+pub point_by_name : (vertices : SweepVertices) (first second : ℕ) (answer : Option RationalPoint) → IsNamed (shared_at vertices first second) (edge_at vertices first) (edge_at vertices second) answer
+    → IfSome answer IsBounded → IfSome answer (IsPointOf vertices first second)
+point_by_name vertices first second None named bounded = tt
+point_by_name vertices first second (Some point) named bounded = record { named = named; bounded = bounded }
+
 -- where a point is named, they were not tested well
 pub named_not_tested : (vertices : SweepVertices) (first second : ℕ) (point : RationalPoint) → IsNamedFor vertices first second point → ¬ Tested (plan_of vertices) first second
 named_not_tested vertices first second point named tested =
@@ -323,17 +334,13 @@ sharing rings vertices first second one other proper are is its = either (shared
             (next_is_follower rings vertices second first other one proper are its is same (next ∙ ap (λ (r : List Position). next_round (length r) other.edge) (sym alike))))
 
 -- a meeting of vertices is one of the rings
-pub meeting_of_rings : (rings : List (List Position)) (vertices : SweepVertices) (pair : NamedPair) (meeting : Meeting) → AreProperRings rings → AreSweepVertices rings vertices
-    → IsNamedPair vertices pair
-    → IsNamedMeeting rings pair meeting → IsMeetingOf rings meeting
-meeting_of_rings rings vertices pair meeting proper are is named =
-    let one = edge_at vertices pair.first in
-    let other = edge_at vertices pair.second in
-    let shared = shared_at vertices pair.first pair.second in
-    meeting_by_name rings meeting one other shared (in_order rings pair.first pair.second (first_of meeting) (second_of meeting) named.first named.second is.in_order)
-    (edge_of_sweep_vertex rings vertices pair.first (first_of meeting) proper are named.first) (edge_of_sweep_vertex rings vertices pair.second (second_of meeting) proper are named.second)
-    (sharing rings vertices pair.first pair.second (first_of meeting) (second_of meeting) proper are named.first named.second)
-    (subst (λ (point : RationalPoint). IsNamed shared one other (Some point)) (sym named.point) is.named) (subst IsBounded (sym named.point) is.bounded)
+pub meeting_of_rings : (rings : List (List Position)) (vertices : SweepVertices) (first second : ℕ) (meeting : Meeting) → AreProperRings rings → AreSweepVertices rings vertices
+    → first < second → IsPointOf vertices first second meeting.point → IsNumbered rings first (first_of meeting) → IsNumbered rings second (second_of meeting) → IsMeetingOf rings meeting
+meeting_of_rings rings vertices first second meeting proper are before is one other =
+    meeting_by_name rings meeting (edge_at vertices first) (edge_at vertices second) (shared_at vertices first second)
+    (in_order rings first second (first_of meeting) (second_of meeting) one other before)
+    (edge_of_sweep_vertex rings vertices first (first_of meeting) proper are one) (edge_of_sweep_vertex rings vertices second (second_of meeting) proper are other)
+    (sharing rings vertices first second (first_of meeting) (second_of meeting) proper are one other) is.named is.bounded
 
 -- an edge of rings begins in a vertex
 pub record HasSweepVertex (rings : List (List Position)) (vertices : SweepVertices) (number : RingEdge) (it : Edge) : Type 0 where
