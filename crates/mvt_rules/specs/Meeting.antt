@@ -1,6 +1,6 @@
 -- Edges that meet where they may not (Mapbox Vector Tile Specification 2.1, section 4.3.4.4): the rings of a polygon
 -- don't cross, and by this project's choice they don't touch either, not even in one vertex.
-use Rattle.std.specs.Prelude.{◌≡◌, ◌≢◌, ◌<◌, ◌⊎◌, ℕ, List, length, slice_get, Some}
+use Rattle.std.specs.Prelude.{◌≡◌, ◌≢◌, ◌<◌, ◌⊎◌, List, length, slice_get, Some}
 use Rattle.mvt_fault.specs.declared.ring.RingEdge.{RingEdge}
 use Rattle.mvt_plane.specs.Position.{Position}
 use Rattle.mvt_plane.specs.Geometry.RationalPoint.{RationalPoint, LiesOn, IsAt}

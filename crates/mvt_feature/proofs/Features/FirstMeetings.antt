@@ -1,9 +1,9 @@
 -- Wrong meetings of edges of the first rings of a feature.
-use Rattle.std.proofs.Common.{◌≡◌, ℕ, ◌-◌, ◌<◌, ◌≤◌, inl, inr, List, length, slice_get, take, Vec, sym, ◌∙◌, ap, subst, arith}
+use Rattle.std.proofs.Common.{◌≡◌, ℕ, ◌-◌, ◌<◌, ◌≤◌, List, length, slice_get, take, Vec, sym, ◌∙◌, ap, subst, arith}
 use Rattle.std.proofs.lemmas.List.{take-map}
 use Rattle.std.proofs.lemmas.Option.{slice_get_within}
 use Rattle.std.specs.declared.alloc.Global.{Global}
-use Rattle.mvt_rules.specs.Meeting.{ComesBefore, Follows, IsEdgeOf, IsShared, forward, backward, MeetsWrongly}
+use Rattle.mvt_rules.specs.Meeting.{Follows, IsEdgeOf, IsShared, forward, backward, MeetsWrongly}
 use Rattle.mvt_fault.specs.declared.ring.RingEdge.{RingEdge}
 use Rattle.mvt_rules.specs.Parts.Rings.{part_of}
 use Rattle.mvt_rules.specs.Polygon.{PolygonRings}
@@ -52,11 +52,6 @@ meets_there rings others bound first second point same first_within second_withi
   on_other = meets.on_other;
   forbidden = λ vertex shared. meets.forbidden vertex (shared_there others rings bound first second vertex (back rings others bound same) first_within second_within shared);
 }
-
--- edges in order are of rings in order
-pub rings_in_order : (first second : RingEdge) → ComesBefore first second → first.ring ≤ second.ring
-rings_in_order first second (inl before) = omega arith
-rings_in_order first second (inr within) = let same = within.0 in omega arith
 
 -- the meeting that is reported
 pub meeting_there : (rings others : List (List Position)) (bound : ℕ) (meeting : Meeting) → AreSame rings others bound → meeting.second_ring < bound → IsMeetingOf rings meeting → IsMeetingOf others meeting
